@@ -1,0 +1,11 @@
+pub mod Integer
+pub mod Geometry
+pub mod Shape
+pub mod Expression
+pub mod Verdict
+pub mod Rule
+pub mod Grammar
+pub mod Text
+pub mod Report
+pub mod Output
+pub mod Laws
