@@ -40,6 +40,9 @@ pub gcd-zero : (a : ℕ) → gcd a 0 ≡ a
 unfolding gcd
 gcd-zero a = refl
 
+-- for `grind`, in a loop by Euclid's rule: a division, and the end
+pub ruleset euclid = (gcd-mod, gcd-zero)
+
 -- with enough room Euclid's rule gives the greatest common divisor
 gcd_within-is : (room a b : ℕ) → b < room → IsGcd a b (gcd_within room a b)
 gcd_within-is zero a b h = absurd (no_room b h)
@@ -150,6 +153,11 @@ gcd_of-one v = zero-gcd (nat_abs v)
 pub gcd_of-four : (a b c d : ℤ) → gcd_of (a ∷ b ∷ c ∷ d ∷ []) ≡ gcd (gcd (gcd (nat_abs d) (nat_abs c)) (nat_abs b)) (nat_abs a)
 unfolding gcd_of
 gcd_of-four a b c d = ap (λ n. gcd (gcd (gcd n (nat_abs c)) (nat_abs b)) (nat_abs a)) (zero-gcd (nat_abs d))
+
+-- the same, where each size and each greatest common divisor is the result of a call
+pub gcd_of-four_steps : (a b c d : ℤ) {size_a size_b size_c size_d last middle whole : ℕ} → size_a ≡ nat_abs a → size_b ≡ nat_abs b → size_c ≡ nat_abs c → size_d ≡ nat_abs d → last ≡ gcd size_d size_c → middle ≡ gcd last size_b → whole ≡ gcd middle size_a → whole ≡ gcd_of (a ∷ b ∷ c ∷ d ∷ [])
+gcd_of-four_steps a b c d ea eb ec ed l m w =
+    w ∙ (λ i. gcd ((m ∙ (λ j. gcd ((l ∙ (λ k. gcd (ed k) (ec k))) j) (eb j))) i) (ea i)) ∙ sym (gcd_of-four a b c d)
 
 -- n divides every number of the list
 abbrev pub DividesAll : ℕ → List ℤ → Type 0

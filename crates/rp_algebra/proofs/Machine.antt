@@ -1,9 +1,11 @@
 -- Arithmetic of signed machine integers: what a term of the code is, and that no step of it overflows, by bounds that are computed.
 -- A proof finds the term's shape by `search code`, and the rest is a computation: `tt`.
 use Rattle.std.proofs.Common.{◌≡◌, List, ℕ, ◌+◌, ◌*◌, ◌^◌, ◌≤◌, ◌<◌, ℤ, pos, negsuc, neg_ℤ, ◌+ℤ◌, ◌*ℤ◌, unsigned_abs, Bool, true, false, ◌&&◌, refl, sym, ap, ◌∙◌, arith, T, ltb, leb, ltb→lt, leb→le, FitsSigned, to_z, of_z, le_trans, le_of_lt, lt_of_lt_of_le, lt_of_le_of_lt, Fits}
-use Rattle.std.proofs.lemmas.Int.{ints, fits_signed_from_abs, to_z-of_z, to_z_pos}
+use Rattle.std.specs.Prelude.{int_div}
+use Rattle.std.proofs.lemmas.Int.{ints, fits_signed_from_abs, to_z-of_z, to_z_pos, quot_fits}
 use mir.Syntax.{Width}
 use mir.Val.{bits, hbits}
+use Rattle.rp_algebra.specs.Integer.{reduced_by}
 use Rattle.rp_algebra.specs.Within.{IsWithin}
 use Rattle.rp_algebra.proofs.Ring.{same_norm}
 use Rattle.rp_algebra.proofs.Reify.{Is, expr, by_ring_at}
@@ -153,3 +155,19 @@ pub ruleset steps = (written, sum, product, negation, literal, negative)
 
 -- with the numbers that they begin with, by the facts that `search` finds
 pub ruleset code = (steps, natural, known, called, held, at_most, less_than)
+
+-- ---- the code's quotient `v / divisor as i128`, where the divisor is an unsigned number above 0
+-- it fits
+pub machine_quotient_fits : (w : Width) (g : ℕ) (v : ℤ) → FitsSigned w v → 0 < g → g < 2 ^ hbits w → FitsSigned w (int_div (to_z w (of_z w v)) (to_z w g))
+machine_quotient_fits w g v h p s =
+    rw (to_z-of_z w v h, to_z_pos w g s) (quot_fits w v (pos g) h (omega (arith, ints, p)))
+
+-- it is the quotient of the numbers
+pub machine_quotient_is : (w : Width) (g : ℕ) (v : ℤ) → FitsSigned w v → 0 < g → g < 2 ^ hbits w → to_z w (of_z w (int_div (to_z w (of_z w v)) (to_z w g))) ≡ reduced_by g v
+machine_quotient_is w g v h p s =
+    let f = quot_fits w v (pos g) h (omega (arith, ints, p)) in
+    rw (to_z-of_z w v h, to_z_pos w g s) (to_z-of_z w (int_div v (pos g)) f)
+
+-- the code's `unsigned_abs` is the size of the number
+pub machine_size_is : (w : Width) (v : ℤ) {n : ℕ} → FitsSigned w v → n ≡ unsigned_abs (to_z w (of_z w v)) → n ≡ unsigned_abs v
+machine_size_is w v h e = e ∙ ap unsigned_abs (to_z-of_z w v h)
