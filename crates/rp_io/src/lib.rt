@@ -7,7 +7,9 @@
 mod failed;
 mod sink;
 mod source;
+mod standard;
 
 pub use failed::Failed;
-pub use sink::Sink;
-pub use source::Source;
+pub use sink::{MemorySink, QuietSink, Sink};
+pub use source::{MemorySource, QuietSource, Source};
+pub use standard::{StdSink, StdSource};
