@@ -13,3 +13,6 @@ pub use failed::Failed;
 pub use sink::{MemorySink, QuietSink, Sink};
 pub use source::{MemorySource, QuietSource, Source};
 pub use standard::{StdSink, StdSource};
+
+#[cfg(test)]
+mod tests;
