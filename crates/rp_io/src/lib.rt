@@ -1,7 +1,7 @@
 //! Where bytes come from and where they go, with faults.
 //!
-//! A [`Source`] gives bytes and a [`Sink`] takes them. Each counts its faults, the reads or writes that failed,
-//! and answers [`Failed`] only where that count rose in the call.
+//! A [`Source`] gives bytes and a [`Sink`] takes them. Each counts its faults, the reads or writes
+//! that failed, and answers [`Failed`] only where that count rose in the call.
 #![tactic(auto)]
 
 mod failed;

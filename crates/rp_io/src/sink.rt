@@ -9,9 +9,9 @@ use std::marker::Model;
 
 /// Takes bytes in order.
 ///
-/// A contract sees `said`, the bytes so far where the sink tells them, and `faults`, a count of the puts that failed.
-/// The count never falls, and stays at 18446744073709551615. A sink may stop telling its bytes, and does not begin
-/// again.
+/// A contract sees `said`, the bytes so far where the sink tells them, and `faults`, a count of the
+/// puts that failed. The count never falls, and stays at 18446744073709551615. A sink may stop
+/// telling its bytes, and does not begin again.
 pub trait Sink {
     ghost said: { Self → Option (List ℕ) };
 
@@ -19,7 +19,8 @@ pub trait Sink {
 
     /// Appends the piece.
     ///
-    /// Answers [`Failed`] only where the count of faults rose in this call. Then a prefix of the piece was appended.
+    /// Answers [`Failed`] only where the count of faults rose in this call. Then a prefix of the
+    /// piece was appended.
     fn put(&mut self, piece: &[u8]) -> Result<(), Failed>
         ensures counts { faults self.old ≤ faults self.new }
         ensures limit { faults self.new ≤ last_count }
@@ -44,14 +45,22 @@ pub struct MemorySink<'a> {
 impl<'a> Model for MemorySink<'a> {
     ghost Value = { MemoryOutput };
 
-    ghost view = { λ s. record { bytes = s.bytes.items; room = s.room; failing = s.failing.now; calls = s.calls; faults = s.faults } };
+    ghost view = { λ s. record {
+      bytes = s.bytes.items;
+      room = s.room;
+      failing = s.failing.now;
+      calls = s.calls;
+      faults = s.faults;
+    } };
 
-    ghost invariant = { λ s. (vec_len s.bytes ≤ s.room) × (s.room ≤ vec_capacity s.bytes) × (s.faults ≤ last_count) };
+    ghost invariant = { λ s.
+        (vec_len s.bytes ≤ s.room) × (s.room ≤ vec_capacity s.bytes) × (s.faults ≤ last_count) };
 }
 
 impl<'a> MemorySink<'a> {
-    /// A sink with room for so many bytes, whose memory is taken here. Each entry of `failing` is the number of a put
-    /// that fails, counted from 1, and the most bytes that it appends. The first of two entries for one put counts.
+    /// A sink with room for so many bytes, whose memory is taken here. Each entry of `failing` is
+    /// the number of a put that fails, counted from 1, and the most bytes that it appends. The
+    /// first of two entries for one put counts.
     ///
     /// Answers `AllocError` only for want of that memory.
     pub fn new(
@@ -59,7 +68,13 @@ impl<'a> MemorySink<'a> {
         room: usize,
         failing: &'a [(u32, usize)],
     ) -> Result<MemorySink<'a>, AllocError>
-        ensures { IfOk result (λ sink. sink ≡ record { bytes = []; room = room; failing = failing.now; calls = 0; faults = 0 }) }
+        ensures { IfOk result (λ sink. sink ≡ record {
+          bytes = [];
+          room = room;
+          failing = failing.now;
+          calls = 0;
+          faults = 0;
+        }) }
     {
         Ok(MemorySink {
             bytes: Vec::with_capacity(alloc, room)?,
@@ -83,9 +98,9 @@ impl Sink for MemorySink<'_> {
 
     ghost faults = { λ s. s.faults };
 
-    /// Fails exactly where the number of this put is listed or the piece does not fit in the room that is left.
-    /// A listed put appends as many bytes as the least of its entry, the piece's length and the room left, and any
-    /// other appends what fits.
+    /// Fails exactly where the number of this put is listed or the piece does not fit in the room
+    /// that is left. A listed put appends as many bytes as the least of its entry, the piece's
+    /// length and the room left, and any other appends what fits.
     fn put(&mut self, piece: &[u8]) -> Result<(), Failed>
         ensures counts { self.old.faults ≤ self.new.faults }
         ensures limit { self.new.faults ≤ last_count }
@@ -94,9 +109,17 @@ impl Sink for MemorySink<'_> {
         ensures err { OnErr result (AppendsPrefix (Some self.old.bytes) (Some self.new.bytes) piece.now) }
 
         // When it succeeds, and what changed.
-        ensures succeeds { IsOk result ↔ ((next_entry self.old ≡ None) × (length self.old.bytes + length piece.now ≤ self.old.room)) }
-        ensures appended { OnOk result (self.new ≡ record self.old { bytes = self.old.bytes ++ piece.now; calls = next_count self.old.calls }) }
-        ensures cut { OnErr result (self.new ≡ record self.old { bytes = self.old.bytes ++ take (put_count self.old (length piece.now)) piece.now; calls = next_count self.old.calls; faults = next_count self.old.faults }) }
+        ensures succeeds { IsOk result
+            ↔ ((next_entry self.old ≡ None) × (length self.old.bytes + length piece.now ≤ self.old.room)) }
+        ensures appended { OnOk result (self.new ≡ record self.old {
+          bytes = self.old.bytes ++ piece.now;
+          calls = next_count self.old.calls;
+        }) }
+        ensures cut { OnErr result (self.new ≡ record self.old {
+          bytes = self.old.bytes ++ take (put_count self.old (length piece.now)) piece.now;
+          calls = next_count self.old.calls;
+          faults = next_count self.old.faults;
+        }) }
     {
         self.calls = self.calls.saturating_add(1);
         let fitting = piece.len().min(self.room - self.bytes.len());
@@ -162,7 +185,8 @@ impl Sink for QuietSink {
     fn put(&mut self, piece: &[u8]) -> Result<(), Failed>
         ensures succeeds { IsOk result }
         ensures kept { self.new.bytes ≡ take self.old.room (self.old.bytes ++ piece.now) }
-        ensures passed { self.new.is_passed ≡ (self.old.is_passed || nat_lt self.old.room (length self.old.bytes + length piece.now)) }
+        ensures passed { self.new.is_passed
+            ≡ (self.old.is_passed || nat_lt self.old.room (length self.old.bytes + length piece.now)) }
         ensures room { self.new.room ≡ self.old.room }
     {
         let spare = self.room - self.bytes.len();

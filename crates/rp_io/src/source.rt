@@ -8,18 +8,18 @@ use std::marker::Model;
 
 /// Bytes that come in order.
 ///
-/// A contract sees `left`, the bytes still to come where the source tells them, and `faults`, a count of the reads
-/// that failed. The count never falls, and stays at 18446744073709551615.
+/// A contract sees `left`, the bytes still to come where the source tells them, and `faults`, a
+/// count of the reads that failed. The count never falls, and stays at 18446744073709551615.
 pub trait Source {
     ghost left: { Self → Option (List ℕ) };
 
     ghost faults: { Self → ℕ };
 
-    /// Puts the next bytes at the front of `buf` and answers how many they are. `Ok(0)` for a nonempty buffer is the
-    /// end of the input.
+    /// Puts the next bytes at the front of `buf` and answers how many they are. `Ok(0)` for a
+    /// nonempty buffer is the end of the input.
     ///
-    /// Answers [`Failed`] only where the count of faults rose in this call. Then nothing is said of the bytes still to
-    /// come, nor of those in the buffer.
+    /// Answers [`Failed`] only where the count of faults rose in this call. Then nothing is said of
+    /// the bytes still to come, nor of those in the buffer.
     fn read(&mut self, buf: &mut [u8]) -> Result<usize, Failed>
         ensures counts { faults self.old ≤ faults self.new }
         ensures limit { faults self.new ≤ last_count }
@@ -45,17 +45,29 @@ pub struct MemorySource<'a> {
 impl<'a> Model for MemorySource<'a> {
     ghost Value = { MemoryInput };
 
-    ghost view = { λ s. record { left = s.left.now; step = s.step; failing = s.failing.now; calls = s.calls; faults = s.faults } };
+    ghost view = { λ s. record {
+      left = s.left.now;
+      step = s.step;
+      failing = s.failing.now;
+      calls = s.calls;
+      faults = s.faults;
+    } };
 
     ghost invariant = { λ s. (1 ≤ s.step) × (s.faults ≤ last_count) };
 }
 
 impl<'a> MemorySource<'a> {
-    /// A source that gives `bytes`, at most `step` of them in a read. The reads whose numbers are in `failing`,
-    /// counted from 1, fail.
+    /// A source that gives `bytes`, at most `step` of them in a read. The reads whose numbers are
+    /// in `failing`, counted from 1, fail.
     pub fn new(bytes: &'a [u8], step: usize, failing: &'a [u32]) -> MemorySource<'a>
         requires { 1 ≤ step }
-        ensures { result ≡ record { left = bytes.now; step = step; failing = failing.now; calls = 0; faults = 0 } }
+        ensures { result ≡ record {
+          left = bytes.now;
+          step = step;
+          failing = failing.now;
+          calls = 0;
+          faults = 0;
+        } }
     {
         MemorySource {
             left: bytes,
@@ -72,8 +84,9 @@ impl Source for MemorySource<'_> {
 
     ghost faults = { λ s. s.faults };
 
-    /// Fails exactly where the number of this read is listed, and then takes nothing. Otherwise it gives as many bytes
-    /// as the least of the step, the buffer's length and the number of bytes left.
+    /// Fails exactly where the number of this read is listed, and then takes nothing. Otherwise it
+    /// gives as many bytes as the least of the step, the buffer's length and the number of bytes
+    /// left.
     fn read(&mut self, buf: &mut [u8]) -> Result<usize, Failed>
         ensures counts { self.old.faults ≤ self.new.faults }
         ensures limit { self.new.faults ≤ last_count }
@@ -85,11 +98,17 @@ impl Source for MemorySource<'_> {
 
         // When it fails, and what changed.
         ensures listed { IsErr result ↔ IsListed self.old }
-        ensures err { OnErr result (self.new ≡ record self.old { calls = next_count self.old.calls; faults = next_count self.old.faults }) }
+        ensures err { OnErr result (self.new ≡ record self.old {
+          calls = next_count self.old.calls;
+          faults = next_count self.old.faults;
+        }) }
         ensures untouched { OnErr result (buf.new ≡ buf.old) }
         ensures count { IfOk result (λ n. n ≡ read_count self.old (length buf.old)) }
         ensures given { IfOk result (λ n. buf.new ≡ take n self.old.left ++ drop n buf.old) }
-        ensures ok { IfOk result (λ n. self.new ≡ record self.old { left = drop n self.old.left; calls = next_count self.old.calls }) }
+        ensures ok { IfOk result (λ n. self.new ≡ record self.old {
+          left = drop n self.old.left;
+          calls = next_count self.old.calls;
+        }) }
     {
         self.calls = self.calls.saturating_add(1);
         if is_listed(self.failing, self.calls) {
@@ -103,8 +122,8 @@ impl Source for MemorySource<'_> {
     }
 }
 
-/// A source over bytes in memory that never fails. A read gives all bytes that are left, or as many as the buffer has
-/// room for.
+/// A source over bytes in memory that never fails. A read gives all bytes that are left, or as many
+/// as the buffer has room for.
 ///
 /// A contract sees it as the bytes still to come, which it tells. Its count of faults is 0.
 #[derive(Debug, Drop)]

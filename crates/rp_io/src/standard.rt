@@ -50,7 +50,8 @@ impl<R: Read> Source for StdSource<R> {
         // The count, and the bytes where the reader tells them.
         ensures risen { OnErr result (read_faults self.new ≡ next_count (read_faults self.old)) }
         ensures same { OnOk result (read_faults self.new ≡ read_faults self.old) }
-        ensures bytes { ReadConsumes (R.remaining (reader_of self.old)) (R.remaining (reader_of self.new)) result buf.new }
+        ensures bytes { ReadConsumes (R.remaining (reader_of self.old)) (R.remaining (reader_of self.new))
+            result buf.new }
     {
         match self.reader.read(buf) {
             Ok(count) => Ok(count),
@@ -91,8 +92,8 @@ impl<W: Write> Sink for StdSink<W> {
 
     ghost faults = { put_faults };
 
-    /// Writes the piece, in as many writes as it takes, and flushes. An error of any kind is a fault, and so is a write
-    /// that takes nothing of what is left of the piece.
+    /// Writes the piece, in as many writes as it takes, and flushes. An error of any kind is a
+    /// fault, and so is a write that takes nothing of what is left of the piece.
     fn put(&mut self, piece: &[u8]) -> Result<(), Failed>
         ensures counts { put_faults self.old ≤ put_faults self.new }
         ensures limit { put_faults self.new ≤ last_count }
@@ -103,7 +104,8 @@ impl<W: Write> Sink for StdSink<W> {
         // The count, and the bytes where the writer tells them.
         ensures risen { OnErr result (put_faults self.new ≡ next_count (put_faults self.old)) }
         ensures same { OnOk result (put_faults self.new ≡ put_faults self.old) }
-        ensures bytes { PutAppends (W.contents (writer_of self.old)) (W.contents (writer_of self.new)) result piece.now }
+        ensures bytes { PutAppends (W.contents (writer_of self.old)) (W.contents (writer_of self.new))
+            result piece.now }
     {
         let written = write_whole(&mut self.writer, piece);
         if written.is_err() {
