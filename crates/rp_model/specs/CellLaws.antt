@@ -134,7 +134,7 @@ AreRising [] = Unit {0}
 AreRising (i ∷ []) = Unit {0}
 AreRising (i ∷ j ∷ is) = (i < j) × AreRising (j ∷ is)
 
--- one or more positive factors with which the multiples cancel and contradict
+-- one or more positive factors with which the multiples cancel and contradict; no terms at all would add up to 0, a strict contradiction
 abbrev pub Refute : Bool → List Multiple → Type 0
 Refute strict terms = (0 < length terms) × AllByRecursion (λ t. pos 0 <ℤ t.factor) terms × IsTrue (is_balanced terms) × IsTrue (is_contradiction strict terms)
 

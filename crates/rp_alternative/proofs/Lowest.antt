@@ -1,0 +1,158 @@
+-- Terms in lowest terms: dividing all factors by their greatest common divisor keeps a refutation.
+use Rattle.std.proofs.Common.{◌≡◌, ℕ, ◌<◌, ℤ, pos, neg_ℤ, ◌+ℤ◌, ◌*ℤ◌, ◌<ℤ◌, nat_abs, Bool, true, false, List, [], ◌∷◌, map, refl, sym, ap, ◌∙◌, subst, arith}
+use Rattle.std.specs.List.{AllByRecursion}
+use Rattle.std.proofs.lemmas.Int.{ints}
+use Rattle.std.proofs.Math.IntN.{*ℤ-zero}
+use Rattle.rp_algebra.specs.Integer.{is_zero, is_positive, is_negative, gcd_of, reduced_by}
+use Rattle.rp_model.specs.Geometry.{HalfSpace}
+use Rattle.rp_model.specs.Certificate.{Multiple, weighted_sum, is_balanced, is_contradiction}
+use Rattle.rp_model.specs.Elimination.{multiple_of, factors_of, half_spaces_of, reduced_terms, negated_terms, normal_terms, is_refutation}
+use Rattle.rp_algebra.specs.Within.{IsWithin}
+use Rattle.rp_algebra.proofs.IntLaws.{linear, cancel_mul_left_ℤ, pos_of_mul_pos_ℤ, nat_nonneg_ℤ, le_of_mul_le_left_ℤ, lt_of_mul_lt_left_ℤ}
+use Rattle.rp_algebra.proofs.Reify.{by_ring_at, reify}
+use Rattle.rp_alternative.proofs.Combination.{ArePositive, greatest_minor}
+use Rattle.rp_algebra.proofs.Divisors.{DividesAll, gcd_of-divides, divisor_positive}
+use Rattle.rp_algebra.proofs.LowestTerms.{exact_quotient, quotient_size}
+use Rattle.rp_algebra.proofs.Tests.{and_true, is_positive_true, is_negative_true, negative_is, at_most_true, at_most_is, is_zero_true}
+use Rattle.rp_algebra.proofs.Listed.{list_all_true}
+
+-- the factors divided by g
+abbrev pub divided : ℕ → List Multiple → List Multiple
+divided g ts = map (λ t. multiple_of (reduced_by g t.factor) t.of) ts
+
+pub half_spaces_of-divided : (g : ℕ) (ts : List Multiple) → half_spaces_of (divided g ts) ≡ half_spaces_of ts
+half_spaces_of-divided g [] = refl
+half_spaces_of-divided g (t ∷ ts) = ap (λ hs. t.of ∷ hs) (half_spaces_of-divided g ts)
+
+-- factors within the bound of a minor
+abbrev pub AreFactorsSmall : List Multiple → Type 0
+AreFactorsSmall ts = AllByRecursion (λ t. IsWithin greatest_minor t.factor) ts
+
+smaller : (g : ℕ) (v : ℤ) → IsWithin greatest_minor v → IsWithin greatest_minor (reduced_by g v)
+smaller g v h = record { abs_le = (let s = quotient_size g v in let l = h.abs_le in omega (arith, s, l)) }
+
+pub divided_small : (g : ℕ) (ts : List Multiple) → AreFactorsSmall ts → AreFactorsSmall (divided g ts)
+divided_small g [] h = tt
+divided_small g (t ∷ ts) h = (smaller g t.factor h.0, divided_small g ts h.1)
+
+-- ---- positive factors
+positive_quotient : (g : ℕ) (v q : ℤ) → pos 0 <ℤ v → pos g *ℤ q ≡ v → pos 0 <ℤ q
+positive_quotient g v q p e = pos_of_mul_pos_ℤ (pos g) q (nat_nonneg_ℤ g) (subst (λ x. pos 0 <ℤ x) (sym e) p)
+
+pub divided_positive : (g : ℕ) (ts : List Multiple) → DividesAll g (factors_of ts) → ArePositive ts → ArePositive (divided g ts)
+divided_positive g [] d p = tt
+divided_positive g (t ∷ ts) d p = (positive_quotient g t.factor (reduced_by g t.factor) p.0 (exact_quotient g t.factor d.0), divided_positive g ts d.1 p.1)
+
+divided_none : (g : ℤ) → g *ℤ pos 0 ≡ pos 0
+divided_none g = *ℤ-zero g
+
+divided_more : (g q f s : ℤ) → g *ℤ (q *ℤ f +ℤ s) ≡ (g *ℤ q) *ℤ f +ℤ g *ℤ s
+divided_more g q f s = by_ring_at (g ∷ q ∷ f ∷ s ∷ []) (search reify depth 40 fits 100000) tt
+
+pub weighted_sum-divided : (g : ℕ) (F : HalfSpace → ℤ) (ts : List Multiple) → DividesAll g (factors_of ts) → ArePositive ts → pos g *ℤ weighted_sum F (divided g ts) ≡ weighted_sum F ts
+weighted_sum-divided g F [] d p = divided_none (pos g)
+weighted_sum-divided g F (t ∷ ts) d p =
+    divided_more (pos g) (reduced_by g t.factor) (F t.of) (weighted_sum F (divided g ts))
+    ∙ (λ i. exact_quotient g t.factor d.0 i *ℤ F t.of +ℤ weighted_sum-divided g F ts d.1 p.1 i)
+
+-- ---- a refutation, as a fact
+pub record Refutes (strict : Bool) (ts : List Multiple) : Type 0 where
+  pub positive : ArePositive ts
+  pub a : weighted_sum (λ h. h.a) ts ≡ pos 0
+  pub b : weighted_sum (λ h. h.b) ts ≡ pos 0
+  pub c : weighted_sum (λ h. h.c) ts ≡ pos 0
+  pub contradiction : is_contradiction strict ts ≡ true
+
+pub balanced-from : (ts : List Multiple) → weighted_sum (λ h. h.a) ts ≡ pos 0 → weighted_sum (λ h. h.b) ts ≡ pos 0 → weighted_sum (λ h. h.c) ts ≡ pos 0 → is_balanced ts ≡ true
+balanced-from ts a b c =
+    and_true _ (is_zero (weighted_sum (λ h. h.c) ts)) (and_true (is_zero (weighted_sum (λ h. h.a) ts)) (is_zero (weighted_sum (λ h. h.b) ts)) (is_zero_true _ a) (is_zero_true _ b)) (is_zero_true _ c)
+
+pub refutation-from : (strict : Bool) (ts : List Multiple) → Refutes strict ts → is_refutation strict ts ≡ true
+refutation-from strict ts r =
+    and_true _ (is_contradiction strict ts)
+    (and_true _ (is_balanced ts) (list_all_true (λ t. is_positive t.factor) (λ t. pos 0 <ℤ t.factor) (λ t p. is_positive_true t.factor p) ts r.positive) (balanced-from ts r.a r.b r.c))
+    r.contradiction
+
+-- ---- division keeps it
+zero_divided : (g : ℕ) (s t : ℤ) → 0 < g → pos g *ℤ s ≡ t → t ≡ pos 0 → s ≡ pos 0
+zero_divided g s t p e f = cancel_mul_left_ℤ (pos g) s (pos 0) (omega (arith, ints, p)) (e ∙ f ∙ sym (*ℤ-zero (pos g)))
+
+contradiction_divided : (strict : Bool) (g : ℕ) (ts : List Multiple) → 0 < g → DividesAll g (factors_of ts) → ArePositive ts → is_contradiction strict ts ≡ true → is_contradiction strict (divided g ts) ≡ true
+contradiction_divided true g ts p d q e =
+    let same = weighted_sum-divided g (λ h. h.d) ts d q in
+    let low = at_most_is (weighted_sum (λ h. h.d) ts) (pos 0) e in
+    at_most_true (weighted_sum (λ h. h.d) (divided g ts)) (pos 0) (le_of_mul_le_left_ℤ (pos g) (weighted_sum (λ h. h.d) (divided g ts)) (pos 0) (omega (arith, ints, p)) (rw (same, *ℤ-zero (pos g)) low))
+contradiction_divided false g ts p d q e =
+    let same = weighted_sum-divided g (λ h. h.d) ts d q in
+    let low = negative_is (weighted_sum (λ h. h.d) ts) e in
+    is_negative_true (weighted_sum (λ h. h.d) (divided g ts)) (lt_of_mul_lt_left_ℤ (pos g) (weighted_sum (λ h. h.d) (divided g ts)) (pos 0) (nat_nonneg_ℤ g) (rw (same, *ℤ-zero (pos g)) low))
+
+pub refutes_divided : (strict : Bool) (g : ℕ) (ts : List Multiple) → 0 < g → DividesAll g (factors_of ts) → Refutes strict ts → Refutes strict (divided g ts)
+refutes_divided strict g ts p d r = record {
+  positive = divided_positive g ts d r.positive;
+  a = zero_divided g _ _ p (weighted_sum-divided g (λ h. h.a) ts d r.positive) r.a;
+  b = zero_divided g _ _ p (weighted_sum-divided g (λ h. h.b) ts d r.positive) r.b;
+  c = zero_divided g _ _ p (weighted_sum-divided g (λ h. h.c) ts d r.positive) r.c;
+  contradiction = contradiction_divided strict g ts p d r.positive r.contradiction;
+}
+
+size_positive : (v : ℤ) → pos 0 <ℤ v → 0 < nat_abs v
+size_positive v h = omega (arith, ints, h)
+
+pub refutes_reduced : (strict : Bool) (t : Multiple) (ts : List Multiple) → Refutes strict (t ∷ ts) → Refutes strict (reduced_terms (t ∷ ts))
+unfolding reduced_terms
+refutes_reduced strict t ts r =
+    let d = gcd_of-divides (factors_of (t ∷ ts)) in
+    refutes_divided strict (gcd_of (factors_of (t ∷ ts))) (t ∷ ts) (divisor_positive (gcd_of (factors_of (t ∷ ts))) (nat_abs t.factor) (size_positive t.factor r.positive.0) d.0) d r
+
+-- ---- the normal form of terms that refute, or whose negatives do
+not_negative : (v : ℤ) → pos 0 <ℤ v → is_negative v ≡ false
+not_negative v h = grind (arith, ints)
+
+pub refutes_normal : (strict : Bool) (t : Multiple) (ts : List Multiple) → Refutes strict (t ∷ ts) → Refutes strict (normal_terms (t ∷ ts))
+refutes_normal strict t ts r =
+    subst (λ us. Refutes strict us) (λ i. elim (sym (not_negative t.factor r.positive.0) i) [ true ↦ reduced_terms (negated_terms (t ∷ ts)) | false ↦ reduced_terms (t ∷ ts) ]) (refutes_reduced strict t ts r)
+
+negated_positive : (v : ℤ) → pos 0 <ℤ neg_ℤ v → is_negative v ≡ true
+negated_positive v h = is_negative_true v (omega (arith, linear, h))
+
+pub refutes_normal_negated : (strict : Bool) (t : Multiple) (ts : List Multiple) → Refutes strict (negated_terms (t ∷ ts)) → Refutes strict (normal_terms (t ∷ ts))
+refutes_normal_negated strict t ts r =
+    subst (λ us. Refutes strict us) (λ i. elim (sym (negated_positive t.factor r.positive.0) i) [ true ↦ reduced_terms (negated_terms (t ∷ ts)) | false ↦ reduced_terms (t ∷ ts) ])
+    (refutes_reduced strict (multiple_of (neg_ℤ t.factor) t.of) (negated_terms ts) r)
+
+-- ---- the normal form has the same half-spaces, and factors as small
+half_spaces_of-negated : (ts : List Multiple) → half_spaces_of (negated_terms ts) ≡ half_spaces_of ts
+half_spaces_of-negated [] = refl
+half_spaces_of-negated (t ∷ ts) = ap (λ hs. t.of ∷ hs) (half_spaces_of-negated ts)
+
+opposite_small : (v : ℤ) → IsWithin greatest_minor v → IsWithin greatest_minor (neg_ℤ v)
+opposite_small v h = record { abs_le = (let l = h.abs_le in omega (arith, ints, l)) }
+
+negated_small : (ts : List Multiple) → AreFactorsSmall ts → AreFactorsSmall (negated_terms ts)
+negated_small [] h = tt
+negated_small (t ∷ ts) h = (opposite_small t.factor h.0, negated_small ts h.1)
+
+half_spaces_of-reduced : (ts : List Multiple) → half_spaces_of (reduced_terms ts) ≡ half_spaces_of ts
+unfolding reduced_terms
+half_spaces_of-reduced ts = half_spaces_of-divided (gcd_of (factors_of ts)) ts
+
+reduced_small : (ts : List Multiple) → AreFactorsSmall ts → AreFactorsSmall (reduced_terms ts)
+unfolding reduced_terms
+reduced_small ts h = divided_small (gcd_of (factors_of ts)) ts h
+
+pub half_spaces_of-normal : (ts : List Multiple) → half_spaces_of (normal_terms ts) ≡ half_spaces_of ts
+half_spaces_of-normal [] = refl
+half_spaces_of-normal (t ∷ ts) =
+    elim (is_negative t.factor) as (λ b. half_spaces_of (elim b [ true ↦ reduced_terms (negated_terms (t ∷ ts)) | false ↦ reduced_terms (t ∷ ts) ]) ≡ half_spaces_of (t ∷ ts)) [
+      | true ↦ half_spaces_of-reduced (negated_terms (t ∷ ts)) ∙ half_spaces_of-negated (t ∷ ts)
+      | false ↦ half_spaces_of-reduced (t ∷ ts)
+    ]
+
+pub normal_small : (ts : List Multiple) → AreFactorsSmall ts → AreFactorsSmall (normal_terms ts)
+normal_small [] h = tt
+normal_small (t ∷ ts) h =
+    elim (is_negative t.factor) as (λ b. AreFactorsSmall (elim b [ true ↦ reduced_terms (negated_terms (t ∷ ts)) | false ↦ reduced_terms (t ∷ ts) ])) [
+      | true ↦ reduced_small (negated_terms (t ∷ ts)) (negated_small (t ∷ ts) h)
+      | false ↦ reduced_small (t ∷ ts) h
+    ]

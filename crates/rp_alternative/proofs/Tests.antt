@@ -1,0 +1,61 @@
+-- What the tests of a certificate say: of multipliers, and of half-spaces in a list.
+use Rattle.std.proofs.Common.{◌≡◌, ℤ, pos, ◌≤ℤ◌, ◌<ℤ◌, Bool, true, false, ◌&&◌, ◌||◌, List, [], ◌∷◌, ◌⊎◌, inl, inr, ⊎_elim, refl, sym, ap, subst, arith}
+use Rattle.std.specs.Prelude.{int_le}
+use Rattle.std.specs.List.{AllByRecursion, list_all}
+use Rattle.std.proofs.lemmas.Int.{ints}
+use Rattle.std.proofs.lemmas.Bool.Decides.{Decides-int_eq}
+use Rattle.rp_algebra.specs.Integer.{int_eq, is_zero, is_positive, is_negative}
+use Rattle.rp_model.specs.Geometry.{HalfSpace, half_space_eq, is_listed}
+use Rattle.rp_model.specs.Certificate.{is_multiplier}
+use Rattle.rp_algebra.proofs.Tests.{and_true, and_first, and_second, or_cases, or_first, or_second, at_most_is, at_most_true}
+use Rattle.rp_algebra.specs.Within.{IsWithin}
+use Rattle.rp_alternative.proofs.Combination.{Among, none, skip, take, greatest_minor}
+
+-- ---- multipliers
+pub multiplier-from : (v : ℤ) → pos 0 <ℤ v → IsWithin greatest_minor v → is_multiplier v ≡ true
+multiplier-from v p h =
+    let s = h.abs_le in
+    and_true _ _ (at_most_true (pos 1) v (omega (arith, ints))) (at_most_true v (pos 37778931862957161709567) (omega (arith, ints, s)))
+
+pub multiplier-to : (v : ℤ) → is_multiplier v ≡ true → pos 0 <ℤ v
+multiplier-to v e =
+    let l = at_most_is (pos 1) v (and_first _ _ e) in
+    omega (arith, ints, l)
+
+-- ---- half-spaces
+pub half_space_eq-same : (h : HalfSpace) → half_space_eq h h ≡ true
+half_space_eq-same h =
+    and_true _ _ ((Decides-int_eq h.a h.a).1 refl)
+    (and_true _ _ ((Decides-int_eq h.b h.b).1 refl) (and_true _ _ ((Decides-int_eq h.c h.c).1 refl) ((Decides-int_eq h.d h.d).1 refl)))
+
+pub half_space_eq-to : (h k : HalfSpace) → half_space_eq h k ≡ true → k ≡ h
+half_space_eq-to h k e =
+    let bcd = and_second (int_eq h.a k.a) _ e in
+    let cd = and_second (int_eq h.b k.b) _ bcd in
+    let ea = (Decides-int_eq h.a k.a).0 (and_first (int_eq h.a k.a) _ e) in
+    let eb = (Decides-int_eq h.b k.b).0 (and_first (int_eq h.b k.b) _ bcd) in
+    let ec = (Decides-int_eq h.c k.c).0 (and_first (int_eq h.c k.c) _ cd) in
+    let ed = (Decides-int_eq h.d k.d).0 (and_second (int_eq h.c k.c) _ cd) in
+    λ i. record { a = sym ea i; b = sym eb i; c = sym ec i; d = sym ed i }
+
+-- a half-space that is listed has what all of the list have
+pub listed-to : (P : HalfSpace → Type 0) (h : HalfSpace) (hs : List HalfSpace) → is_listed h hs ≡ true → AllByRecursion P hs → P h
+listed-to P h [] e all = absurd (not_true e)
+  where
+    not_true : false ≡ true → ⊥
+    not_true e = cc
+listed-to P h (k ∷ hs) e all =
+    ⊎_elim
+    (λ s. subst P (half_space_eq-to h k s) all.0)
+    (λ t. listed-to P h hs t all.1)
+    (or_cases (half_space_eq h k) (is_listed h hs) e)
+
+-- the half-spaces of a sublist are listed
+listed_more : (k : HalfSpace) (hs : List HalfSpace) (ks : List HalfSpace) → AllByRecursion (λ h. is_listed h hs ≡ true) ks → AllByRecursion (λ h. is_listed h (k ∷ hs) ≡ true) ks
+listed_more k hs [] h = tt
+listed_more k hs (j ∷ ks) h = (or_second (half_space_eq j k) (is_listed j hs) h.0, listed_more k hs ks h.1)
+
+pub listed-from : {ks hs : List HalfSpace} → Among ks hs → AllByRecursion (λ h. is_listed h hs ≡ true) ks
+listed-from none = tt
+listed-from (skip {h} {hs} {ks} m) = listed_more h hs ks (listed-from m)
+listed-from (take {h} {hs} {ks} m) = (or_first (half_space_eq h h) (is_listed h hs) (half_space_eq-same h), listed_more h hs ks (listed-from m))
