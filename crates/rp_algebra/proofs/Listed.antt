@@ -65,6 +65,11 @@ pub all_append : {A : Type 0} (P : A → Type 0) (xs ys : List A) → AllByRecur
 all_append P [] ys h k = k
 all_append P (x ∷ xs) ys h k = (h.0, all_append P xs ys h.1 k)
 
+-- what follows from a fact that is true of all items is true of all
+pub all_map : {A : Type 0} (P Q : A → Type 0) → ((x : A) → P x → Q x) → (xs : List A) → AllByRecursion P xs → AllByRecursion Q xs
+all_map P Q each [] h = tt
+all_map P Q each (x ∷ xs) h = (each x h.0, all_map P Q each xs h.1)
+
 -- all items pass a test of a fact that is true of all of them
 pub list_all_true : {A : Type 0} (test : A → Bool) (P : A → Type 0) → ((x : A) → P x → test x ≡ true) → (xs : List A) → AllByRecursion P xs → list_all test xs ≡ true
 list_all_true test P each [] h = refl

@@ -5,6 +5,17 @@ use Rattle.std.proofs.lemmas.Int.{ints}
 use Rattle.std.proofs.lemmas.Bool.Decides.{Decides-int_eq}
 use Rattle.rp_algebra.specs.Integer.{is_zero, is_positive, is_negative, is_nonnegative}
 
+-- ---- the two answers of a test
+
+-- a test that fails does not pass
+pub false_not_true : (b : Bool) → b ≡ true → b ≡ false → ⊥
+false_not_true b e f = cc
+
+-- a test that cannot pass fails
+pub false_unless : (b : Bool) → (b ≡ true → ⊥) → b ≡ false
+false_unless true n = absurd (n refl)
+false_unless false n = refl
+
 -- ---- above 0
 
 -- a number that passes the test is above 0
@@ -64,10 +75,6 @@ is_zero_true v e = (Decides-int_eq v (pos 0)).1 e
 -- a number other than 0 fails the test
 pub is_zero_false : (v : ℤ) → (v ≡ pos 0 → ⊥) → is_zero v ≡ false
 is_zero_false v n = false_unless (is_zero v) (λ e. n (zero_is v e))
-  where
-    false_unless : (b : Bool) → (b ≡ true → ⊥) → b ≡ false
-    false_unless true f = absurd (f refl)
-    false_unless false f = refl
 
 -- ---- the order
 

@@ -4,15 +4,12 @@ use Rattle.std.specs.Prelude.{Option, Some, None, filter_map}
 use Rattle.std.specs.List.{cons_option}
 use Rattle.rp_model.specs.Search.{first_of, first_of_pairs, first_of_triples, all_of_pairs, all_of_triples}
 use Rattle.rp_algebra.proofs.Listed.{Listed, first, later, listed_cases}
+use Rattle.rp_algebra.proofs.Options.{or_else}
 
 -- the first item of a list
 abbrev pub first_item : {B : Type 0} → List B → Option B
 first_item [] = None
 first_item (y ∷ ys) = Some y
-
--- one answer, or else another
-abbrev or_else : {B : Type 0} → Option B → Option B → Option B
-or_else o p = elim o [ Some y ↦ Some y | None ↦ p ]
 
 first_append : {B : Type 0} (xs ys : List B) → first_item (xs ++ ys) ≡ or_else (first_item xs) (first_item ys)
 first_append [] ys = refl

@@ -8,6 +8,7 @@ use Rattle.rp_algebra.proofs.IntLaws.{nat_nonneg_ℤ}
 use Rattle.rp_algebra.proofs.Tests.{positive_is, is_positive_true, zero_is, and_first, and_second, or_cases}
 use Rattle.rp_algebra.proofs.Listed.{Listed, first, later, all_pass, pass_all, all_of, listed_cases}
 use Rattle.rp_convex.proofs.Room.{refinement, gain, side_moved, refinement_positive, cube_positive, stays_positive, gain_first, gain_second, gain_third, leaves_zero, above_bound, further_x, further_y, further_z}
+use Rattle.rp_model.proofs.Bounds.{with_cube_bounds}
 use Rattle.rp_convex.proofs.Cube.{cube_half_spaces_hold_cube_spec}
 
 -- the point moved by a little: most along x, less along y, least along z
@@ -51,24 +52,9 @@ cell_holds [] p e h l = elim l [ ]
 cell_holds (k ∷ cell) p e h first = and_first _ _ e
 cell_holds (k ∷ cell) p e h (later l) = cell_holds cell p (and_second _ _ e) h l
 
--- the bounds of the half-spaces of a cell, and of the cube
+-- a half-space within the bounds has no coefficient below minus half the edge of the cube
 above_of : (h : HalfSpace) → IsHalfSpace h → AreAbove cube_bound h
 above_of h k = record { a = above_bound half_edge h.a k.a; b = above_bound half_edge h.b k.b; c = above_bound half_edge h.c k.c }
-
-cube_above : (h : HalfSpace) → Listed h cube_half_spaces → AreAbove cube_bound h
-cube_above h l = all_of (AreAbove cube_bound) cube_half_spaces (of more same same, (of less same same, (of same more same, (of same less same, (of same same more, (of same same less, tt)))))) h l
-  where
-    of : {h : HalfSpace} → pos 0 ≤ℤ (cube_bound +ℤ h.a) → pos 0 ≤ℤ (cube_bound +ℤ h.b) → pos 0 ≤ℤ (cube_bound +ℤ h.c) → AreAbove cube_bound h
-    of a b c = record { a = a; b = b; c = c }
-
-    same : pos 0 ≤ℤ (cube_bound +ℤ pos 0)
-    same = nat_nonneg_ℤ half_edge
-
-    more : pos 0 ≤ℤ (cube_bound +ℤ pos 1)
-    more = nat_nonneg_ℤ (half_edge + 1)
-
-    less : pos 0 ≤ℤ (cube_bound +ℤ negsuc 0)
-    less = nat_nonneg_ℤ (half_edge - 1)
 
 -- the half-spaces of the list of a cell hold its members, and have their bounds
 pub member_held : (cell : List HalfSpace) (p : RationalPoint) → IsMember (shape_of_cell cell) p → (h : HalfSpace) → Listed h (with_cube cell) → holds h p ≡ true
@@ -79,7 +65,7 @@ member_held cell p (w, e) h l =
     (listed_cases h cell cube_half_spaces l)
 
 list_above : (cell : List HalfSpace) → AreHalfSpaces cell → (h : HalfSpace) → Listed h (with_cube cell) → AreAbove cube_bound h
-list_above cell k h l = ⊎_elim (λ i. above_of h (all_of IsHalfSpace cell k h i)) (λ i. cube_above h i) (listed_cases h cell cube_half_spaces l)
+list_above cell k h l = above_of h (all_of IsHalfSpace (with_cube cell) (with_cube_bounds cell k) h l)
 
 -- a point at which every half-space of the list is positive, and which lies further along each axis
 pub record MovesInside (cell : List HalfSpace) (p : RationalPoint) : Type 0 where

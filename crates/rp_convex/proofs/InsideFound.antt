@@ -13,14 +13,15 @@ use Rattle.rp_model.specs.Certificate.{is_inside_certificate, is_nonnegative_at_
 use Rattle.rp_model.specs.Vertex.{first_vertex, first_inside, any_point, lifts, flat_half_spaces, complete_points, points_from}
 use Rattle.rp_model.specs.CellLaws.{InsideIsFound, AreHalfSpaces}
 use Rattle.rp_algebra.proofs.Numbers.{zero_between, positive_over}
-use Rattle.rp_algebra.proofs.Tests.{positive_is, is_positive_true, not_positive_is, is_nonnegative_true, and_true}
+use Rattle.rp_algebra.proofs.Tests.{positive_is, is_positive_true, not_positive_is, is_nonnegative_true, and_true, false_not_true, false_unless}
 use Rattle.rp_algebra.proofs.Listed.{Listed, first, later, all_pass, pass_all, listed_left, listed_right, listed_cases}
+use Rattle.rp_algebra.proofs.Options.{none_not_some, same_some, known_some, if_some}
 use Rattle.rp_convex.proofs.Filter.{SomePasses, some_passes, passes_some, kept, keeps, not_longer, shorter}
 use Rattle.rp_convex.proofs.Move.{IsWeak}
 use Rattle.rp_convex.proofs.Corner.{corner}
 use Rattle.rp_convex.proofs.Places.{same_side}
 use Rattle.rp_convex.proofs.Vertex.{with_cube_bounded}
-use Rattle.rp_convex.proofs.WeakPoint.{found_is_vertex, FindsVertex, vertex_is_found, known_some, if_some}
+use Rattle.rp_convex.proofs.WeakPoint.{found_is_vertex, FindsVertex, vertex_is_found}
 use Rattle.rp_convex.proofs.Inside.{member_moves_inside_spec}
 use Rattle.rp_convex.proofs.Certified.{certificate_shows_member}
 use Rattle.rp_convex.proofs.Five.{IsNew, AreNew, at_most_four}
@@ -148,17 +149,11 @@ certified cell taken g =
     (pass_all (λ p. is_nonnegative (side_value h p)) taken (λ p m. is_nonnegative_true (side_value h p) ((g.weak p m).sides h l)))
     (⊎_elim (λ e. e) (λ m. elim m [ ]) (g.covered h l))))
 
-none_is_not_some : {B : Type 0} (v : B) → None ≡ Some v → ⊥
-none_is_not_some v e = cc
-
-same_value : {B : Type 0} (u v : B) → Some u ≡ Some v → u ≡ v
-same_value u v e = cc
-
 -- what the search comes to is a certificate
 pub complete_is : (room : ℕ) (cell flat : List HalfSpace) (taken points : List RationalPoint) → Progress (with_cube cell) flat taken
     → complete_points room (with_cube cell) flat taken ≡ Some points → is_inside_certificate cell points ≡ true
-complete_is room cell [] taken points g e = subst (λ (ps : List RationalPoint). is_inside_certificate cell ps ≡ true) (same_value taken points e) (certified cell taken g)
-complete_is zero cell (h ∷ flat) taken points g e = absurd (none_is_not_some points e)
+complete_is room cell [] taken points g e = subst (λ (ps : List RationalPoint). is_inside_certificate cell ps ≡ true) (same_some taken points e) (certified cell taken g)
+complete_is zero cell (h ∷ flat) taken points g e = absurd (none_not_some points e)
 complete_is (suc room) cell (h ∷ flat) taken points g e =
     by_answer (first_vertex (lifts (h ∷ flat)) (with_cube cell)) refl
     (λ p. complete_is room cell (flat_half_spaces (h ∷ flat) (p ∷ [])) (taken ++ p ∷ []) points) e
@@ -168,7 +163,7 @@ complete_is (suc room) cell (h ∷ flat) taken points g e =
         → complete_points room (with_cube cell) (flat_half_spaces (h ∷ flat) (p ∷ [])) (taken ++ p ∷ []) ≡ Some points → is_inside_certificate cell points ≡ true)
         → elim o [ None ↦ None | Some p ↦ complete_points room (with_cube cell) (flat_half_spaces (h ∷ flat) (p ∷ [])) (taken ++ p ∷ []) ] ≡ Some points
         → is_inside_certificate cell points ≡ true
-    by_answer None is rest k = absurd (none_is_not_some points k)
+    by_answer None is rest k = absurd (none_not_some points k)
     by_answer (Some p) is rest k =
         let v = found_is_vertex (lifts (h ∷ flat)) (with_cube cell) p is in
         rest p (further (with_cube cell) (h ∷ flat) taken p g v.weak v.passes) k
@@ -178,7 +173,7 @@ unfolding first_inside
 inside_is cell points e = by_answer (first_vertex any_point (with_cube cell)) refl e
   where
     by_answer : (o : Option RationalPoint) → first_vertex any_point (with_cube cell) ≡ o → points_from (with_cube cell) o ≡ Some points → is_inside_certificate cell points ≡ true
-    by_answer None is k = absurd (none_is_not_some points k)
+    by_answer None is k = absurd (none_not_some points k)
     by_answer (Some p) is k =
         let v = found_is_vertex any_point (with_cube cell) p is in
         complete_is (length (with_cube cell)) cell (flat_half_spaces (with_cube cell) (p ∷ [])) (p ∷ []) points (started (with_cube cell) p v.weak) k
@@ -253,19 +248,12 @@ some_if_member cell k n = let (p, w, e) = member_moves_inside_spec cell k n in i
 member_if_some : (cell : List HalfSpace) → is_some (first_inside cell) ≡ true → IsNonempty (shape_of_cell cell)
 member_if_some cell e = let s = known_some (first_inside cell) e in certificate_shows_member cell s.value (inside_is cell s.value s.is)
 
-true_is_not_false : (b : Bool) → b ≡ true → b ≡ false → ⊥
-true_is_not_false b e f = cc
-
-false_unless : (b : Bool) → (b ≡ true → ⊥) → b ≡ false
-false_unless true n = absurd (n refl)
-false_unless false n = refl
-
 pub inside_is_found_spec : InsideIsFound
 inside_is_found_spec cell k = record {
   passes = if_some (λ points. is_inside_certificate cell points ≡ true) (first_inside cell) (inside_is cell);
   some = (member_if_some cell, some_if_member cell k);
   none = (
-    λ e p m. true_is_not_false (is_some (first_inside cell)) (some_if_member cell k (p, m)) e,
+    λ e p m. false_not_true (is_some (first_inside cell)) (some_if_member cell k (p, m)) e,
     λ n. false_unless (is_some (first_inside cell)) (λ e. let (p, m) = member_if_some cell e in n p m),
   );
 }

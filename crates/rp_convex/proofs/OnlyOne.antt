@@ -3,7 +3,7 @@ use Rattle.std.proofs.Common.{◌≡◌, ℤ, pos, neg_ℤ, ◌+ℤ◌, ◌-ℤ�
 use Rattle.std.specs.Prelude.{Option, Some, None, IfSome, IfNone}
 use Rattle.std.proofs.lemmas.Int.{ints}
 use Rattle.rp_algebra.proofs.IntLaws.{linear}
-use Rattle.rp_algebra.proofs.Reify.{by_ring_at, eq_by_ring, eq_by_multiple, zeros, reify}
+use Rattle.rp_algebra.proofs.Reify.{by_ring_at, eq_by_ring, eq_by_multiple, zero_sum, zeros, reify}
 use Rattle.rp_algebra.specs.Integer.{is_positive}
 use Rattle.rp_model.specs.Geometry.{RationalPoint, HalfSpace, IsPoint, SamePlace, point_of, side_value, reduced_point}
 use Rattle.rp_model.specs.Vertex.{meeting_weight, cramer_point, negated_point, meeting_point}
@@ -130,9 +130,6 @@ beside p d = point_of (p.x +ℤ d.x) (p.y +ℤ d.y) (p.z +ℤ d.z) p.w
 side_beside : (h : HalfSpace) (p : RationalPoint) (d : Direction) → side_value h (beside p d) ≡ side_value h p +ℤ along h d
 side_beside h p d = by_ring_at (h.a ∷ h.b ∷ h.c ∷ h.d ∷ p.x ∷ p.y ∷ p.z ∷ p.w ∷ d.x ∷ d.y ∷ d.z ∷ []) (search reify depth 40 fits 100000) tt
 
-sum_zero : (u v : ℤ) → u ≡ pos 0 → v ≡ pos 0 → u +ℤ v ≡ pos 0
-sum_zero u v e k = omega (arith, linear, e, k)
-
 -- the same place only if the direction is zero
 no_change : (x d w : ℤ) → pos 0 <ℤ w → (x +ℤ d) *ℤ w ≡ x *ℤ w → d ≡ pos 0
 no_change x d w h e =
@@ -151,9 +148,9 @@ not_only f g h e p only =
     let at = only.0 in
     not_moved p d at.point c.moving (only.1 (beside p d) (record {
       point = at.point;
-      on_first = side_beside f p d ∙ sum_zero (side_value f p) (along f d) at.on_first c.one;
-      on_second = side_beside g p d ∙ sum_zero (side_value g p) (along g d) at.on_second c.two;
-      on_third = side_beside h p d ∙ sum_zero (side_value h p) (along h d) at.on_third c.three;
+      on_first = side_beside f p d ∙ zero_sum (side_value f p) (along f d) at.on_first c.one;
+      on_second = side_beside g p d ∙ zero_sum (side_value g p) (along g d) at.on_second c.two;
+      on_third = side_beside h p d ∙ zero_sum (side_value h p) (along h d) at.on_third c.three;
     }))
 
 -- no meeting point where the weight is zero

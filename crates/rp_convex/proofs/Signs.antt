@@ -7,23 +7,10 @@ use Rattle.rp_algebra.specs.Integer.{is_zero, is_positive}
 use Rattle.rp_model.specs.Geometry.{RationalPoint, HalfSpace, IsPoint, SamePlace, side_value, owns_boundary, holds, all_hold, is_cube_point, cube_half_spaces, box_half_spaces}
 use Rattle.rp_model.specs.Shape.{Shape, passes}
 use Rattle.rp_model.specs.CellLaws.{MembersAreOfPlaces}
-use Rattle.rp_algebra.proofs.Numbers.{positive_over, nonpos_of_neg, nonpos_of_zero, above_not_zero, below_not_zero}
+use Rattle.rp_algebra.proofs.Numbers.{positive_over, negative_over, zero_over, nonpos_of_neg, nonpos_of_zero, above_not_zero, below_not_zero}
 use Rattle.rp_algebra.proofs.Tests.{is_positive_true, is_positive_false, is_zero_true, is_zero_false}
 use Rattle.rp_convex.proofs.Cube.{cube_half_spaces_hold_cube_spec}
 use Rattle.rp_convex.proofs.Places.{same_side}
-
-negative_over : (u v s t : ℤ) → pos 0 <ℤ s → pos 0 <ℤ t → t *ℤ u ≡ s *ℤ v → u <ℤ pos 0 → v <ℤ pos 0
-negative_over u v s t hs ht e h =
-    let d : pos 0 <ℤ neg_ℤ u = omega (arith, ints) in
-    let m : pos 0 <ℤ (t *ℤ neg_ℤ u) = search signs in
-    let x : t *ℤ neg_ℤ u ≡ neg_ℤ (t *ℤ u) = by_ring_at (t ∷ u ∷ []) (search reify depth 40 fits 100000) tt in
-    let n : pos 0 <ℤ neg_ℤ (s *ℤ v) = omega (arith, linear, m, x, e) in
-    lt_by_multiple (s ∷ v ∷ []) {k = s} (search signs) n (search reify depth 40 fits 100000) tt
-
-zero_over : (u v s t : ℤ) → pos 0 <ℤ s → t *ℤ u ≡ s *ℤ v → u ≡ pos 0 → v ≡ pos 0
-zero_over u v s t hs e h =
-    let z : t *ℤ (u -ℤ pos 0) +ℤ neg_ℤ (pos 1) *ℤ (t *ℤ u -ℤ s *ℤ v) ≡ pos 0 = search zeros in
-    eq_by_multiple (u ∷ v ∷ s ∷ t ∷ []) {k = s} (λ (k : s ≡ pos 0). absurd (omega (arith, ints, k))) z (search reify depth 40 fits 100000) tt
 
 -- the two tests of the sign agree
 pub record HaveSameSign (u v : ℤ) : Type 0 where

@@ -4,6 +4,7 @@ use Rattle.std.specs.Int.RustNames.{unsigned_abs}
 use Rattle.std.specs.Prelude.{Option, IfSome}
 use Rattle.std.proofs.lemmas.Int.{ints, unsigned_abs-mul}
 use Rattle.rp_algebra.specs.Within.{IsWithin}
+use Rattle.rp_algebra.proofs.Divisors.{size_zero}
 use Rattle.rp_algebra.proofs.Machine.{code, within_by}
 use Rattle.rp_model.specs.Geometry.{RationalPoint, HalfSpace, IsPoint, IsHalfSpace, IsSmallPoint, half_edge, greatest_offset}
 use Rattle.rp_model.specs.Vertex.{det3, meeting_weight, cramer_point}
@@ -34,9 +35,6 @@ third_within a b c d e f g h i ka kb kc kd ke kf kg kh ki = within_by (search co
 not_greater : (m n : ℕ) → (n ≡ 0 → ⊥) → m ≤ m * n
 not_greater m zero k = absurd (k refl)
 not_greater m (suc n) k = omega arith
-
-size_zero : (k : ℤ) → unsigned_abs k ≡ 0 → k ≡ pos 0
-size_zero k e = omega (arith, ints)
 
 divisor_within : (n : ℕ) (r k p : ℤ) → (k ≡ pos 0 → ⊥) → r *ℤ k ≡ p → IsWithin n p → unsigned_abs r ≤ n
 divisor_within n r k p nonzero e w =

@@ -7,6 +7,7 @@ use Rattle.rp_model.specs.Vertex.{meeting_weight, meeting_point, vertex_at, vert
 use Rattle.rp_model.specs.CellLaws.{WeakPointIsFound}
 use Rattle.rp_algebra.proofs.Tests.{and_first, and_second}
 use Rattle.rp_algebra.proofs.Listed.{Listed}
+use Rattle.rp_algebra.proofs.Options.{none_not_some, same_some, known_some, if_some}
 use Rattle.rp_convex.proofs.Move.{IsWeak}
 use Rattle.rp_convex.proofs.Corner.{Corner, corner}
 use Rattle.rp_convex.proofs.Meeting.{meets}
@@ -25,15 +26,9 @@ pub record IsVertex (test : RationalPoint → Bool) (hs : List HalfSpace) (v : R
 meeting_is_point : (f g h : HalfSpace) (v : RationalPoint) → meeting_point f g h ≡ Some v → IsPoint v
 meeting_is_point f g h v e =
     ⊎_elim
-    (λ (z : meeting_weight f g h ≡ pos 0). absurd (none v (sym (no_meeting f g h z) ∙ e)))
-    (λ (n : meeting_weight f g h ≡ pos 0 → ⊥). let m = meets f g h n in subst (λ (p : RationalPoint). IsPoint p) (same m.at v (sym m.is ∙ e)) m.only.0.point)
+    (λ (z : meeting_weight f g h ≡ pos 0). absurd (none_not_some v (sym (no_meeting f g h z) ∙ e)))
+    (λ (n : meeting_weight f g h ≡ pos 0 → ⊥). let m = meets f g h n in subst (λ (p : RationalPoint). IsPoint p) (same_some m.at v (sym m.is ∙ e)) m.only.0.point)
     (zero_or_not (meeting_weight f g h))
-  where
-    none : (v : RationalPoint) → None ≡ Some v → ⊥
-    none v e = cc
-
-    same : (u v : RationalPoint) → Some u ≡ Some v → u ≡ v
-    same u v e = cc
 
 -- what passes the choice of a vertex
 record Passed (test : RationalPoint → Bool) (hs : List HalfSpace) (o : Option RationalPoint) (v : RationalPoint) : Type 0 where
@@ -42,21 +37,12 @@ record Passed (test : RationalPoint → Bool) (hs : List HalfSpace) (o : Option 
   test_true : test v ≡ true
 
 passed : (test : RationalPoint → Bool) (hs : List HalfSpace) (o : Option RationalPoint) (v : RationalPoint) → vertex_if test hs o ≡ Some v → Passed test hs o v
-passed test hs None v e = absurd (none v e)
-  where
-    none : (v : RationalPoint) → None ≡ Some v → ⊥
-    none v e = cc
+passed test hs None v e = absurd (none_not_some v e)
 passed test hs (Some u) v e = by_test (all_nonnegative hs u && test u) refl e
   where
-    same : (u v : RationalPoint) → Some u ≡ Some v → u ≡ v
-    same u v e = cc
-
-    none : (v : RationalPoint) → None ≡ Some v → ⊥
-    none v e = cc
-
     by_test : (b : Bool) → (all_nonnegative hs u && test u) ≡ b → elim b [ true ↦ Some u | false ↦ None ] ≡ Some v → Passed test hs (Some u) v
-    by_test true t k = subst (λ (p : RationalPoint). Passed test hs (Some u) p) (same u v k) (record { is = refl; weak = and_first (all_nonnegative hs u) (test u) t; test_true = and_second (all_nonnegative hs u) (test u) t })
-    by_test false t k = absurd (none v k)
+    by_test true t k = subst (λ (p : RationalPoint). Passed test hs (Some u) p) (same_some u v k) (record { is = refl; weak = and_first (all_nonnegative hs u) (test u) t; test_true = and_second (all_nonnegative hs u) (test u) t })
+    by_test false t k = absurd (none_not_some v k)
 
 -- the vertices are vertices
 pub listed_is_vertex : (test : RationalPoint → Bool) (hs : List HalfSpace) (v : RationalPoint) → Listed v (all_of_triples (vertex_at test hs) hs) → IsVertex test hs v
@@ -91,19 +77,6 @@ vertex_is_found test hs f p c pass =
 -- any function serves for the walk
 abbrev level : HalfSpace
 level = half_space_of (pos 0) (pos 0) (pos 0) (pos 0)
-
--- a search with a known answer
-pub if_some : {B : Type 0} (P : B → Type 0) (o : Option B) → ((v : B) → o ≡ Some v → P v) → IfSome o P
-if_some P None h = tt
-if_some P (Some v) h = h v refl
-
-pub record KnownSome {B : Type 0} (o : Option B) : Type 0 where
-  pub value : B
-  pub is : o ≡ Some value
-
-pub known_some : {B : Type 0} (o : Option B) → is_some o ≡ true → KnownSome o
-known_some None e = absurd (cc)
-known_some (Some v) e = record { value = v; is = refl }
 
 pub weak_point_is_found_spec : WeakPointIsFound
 unfolding first_weak_point
