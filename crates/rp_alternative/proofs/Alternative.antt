@@ -16,7 +16,7 @@ use Rattle.rp_alternative.proofs.Bounds.{small_with_cube}
 use Rattle.rp_alternative.proofs.Weak.{Point, offset_side, point_or_refutation}
 use Rattle.rp_algebra.proofs.Tests.{and_true, is_positive_true, is_negative_true, at_most_true, is_zero_true}
 use Rattle.rp_algebra.proofs.Listed.{list_all_true}
-use Rattle.rp_alternative.proofs.Tests.{listed-from, multiplier-from}
+use Rattle.rp_alternative.proofs.Tests.{listed-from, multiplier-from, balanced-from}
 use Rattle.rp_alternative.proofs.Never.{never_both}
 
 -- the great number, 2 ^ 77: above the sum of four factors
@@ -85,7 +85,7 @@ certificate-from strict cell r =
     and_true _ (is_contradiction strict ts)
     (and_true _ (is_balanced ts)
     (and_true (is_one_to_four (length ts)) _ (candidate_some r.candidate) (terms-from (with_cube cell) ts r.of.positive r.small (listed-from r.of.among)))
-    (and_true _ (is_zero (weighted_sum (λ h. h.c) ts)) (and_true (is_zero (weighted_sum (λ h. h.a) ts)) (is_zero (weighted_sum (λ h. h.b) ts)) (is_zero_true _ r.of.a) (is_zero_true _ r.of.b)) (is_zero_true _ r.of.c)))
+    (balanced-from ts r.of.a r.of.b r.of.c))
     (contradiction-from strict (with_cube cell) r)
 
 -- ---- the solution

@@ -7,17 +7,20 @@ use Rattle.rp_model.specs.Certificate.{Multiple, weighted_sum}
 use Rattle.rp_algebra.specs.Integer.{gcd_of}
 use Rattle.rp_model.specs.Elimination.{factors_of, half_spaces_of, first_refutation, first_outside}
 use Rattle.rp_model.specs.CellLaws.{AreHalfSpaces, StandAt, ComesBefore, AreRising, Refute, IsFirstOutside, FirstOutsideIsFirst}
+use Rattle.rp_algebra.proofs.Numbers.{same_or_less}
+use Rattle.rp_algebra.proofs.Options.{none_not_some, some_not_none, if_some, or_else, or_else_found}
 use Rattle.rp_alternative.proofs.Combination.{Among, ArePositive, IsSmall}
+use Rattle.rp_alternative.proofs.Sums.{length-half_spaces}
 use Rattle.rp_alternative.proofs.Bounds.{small_with_cube}
 use Rattle.rp_alternative.proofs.Dropped.{among_among}
 use Rattle.rp_alternative.proofs.Leaning.{Leaning, kept, leaned, KeepsPositive}
 use Rattle.rp_alternative.proofs.Settle.{Shorter, LeansAllUp}
-use Rattle.rp_alternative.proofs.Searched.{first_or}
 use Rattle.rp_alternative.proofs.Places.{places, length-places, rising_places, stand_places, embed, among_length, among_whole, places-whole}
-use Rattle.rp_alternative.proofs.Levels.{first_sub, first_of-is, first_of_pairs-is, first_of_triples-is, first_of_quadruples-is, missed_sub, FirstSub, found_sub, hit_sub, first_or-cases}
+use Rattle.rp_alternative.proofs.Levels.{first_sub, first_of-is, first_of_pairs-is, first_of_triples-is, first_of_quadruples-is, missed_sub, FirstSub, found_sub, hit_sub}
 use Rattle.rp_alternative.proofs.Unique.{lowest-gcd, Twins, same_twins, zipped}
 use Rattle.rp_alternative.proofs.Alternative.{offset_of}
-use Rattle.rp_alternative.proofs.Values.{refutation_of, value_of, Hit, hit_contradiction, hit_refute, negative_offset, balanced-to, value_refutes}
+use Rattle.rp_alternative.proofs.Values.{refutation_of, value_of, Hit, hit_contradiction, hit_refute, negative_offset, value_refutes}
+use Rattle.rp_alternative.proofs.Tests.{balanced-to}
 
 -- ---- a sublist with a value, before which none has one
 pub record FirstAll (strict : Bool) (hs : List HalfSpace) (us : List Multiple) : Type 0 where
@@ -25,12 +28,6 @@ pub record FirstAll (strict : Bool) (hs : List HalfSpace) (us : List Multiple) :
   pub at : Among items hs
   pub value : refutation_of strict items ≡ Some us
   pub first : (ks : List HalfSpace) (m : Among ks hs) → ComesBefore (places m) (places at) → refutation_of strict ks ≡ None
-
-not_some : (us : List Multiple) → None ≡ Some us → ⊥
-not_some us e = cc
-
-not_none : (us : List Multiple) → Some us ≡ None → ⊥
-not_none us e = cc
 
 module _ (strict : Bool) (hs : List HalfSpace) where
   abbrev level : ℕ → Option (List Multiple)
@@ -41,8 +38,8 @@ module _ (strict : Bool) (hs : List HalfSpace) where
   NoneBelow k = (j : ℕ) → j < k → level j ≡ None
 
   -- the search by levels
-  by_levels : first_refutation strict hs ≡ first_or (level 1) (first_or (level 2) (first_or (level 3) (level 4)))
-  by_levels = λ i. first_or (first_of-is (refutation_of strict) hs i) (first_or (first_of_pairs-is (refutation_of strict) hs i) (first_or (first_of_triples-is (refutation_of strict) hs i) (first_of_quadruples-is (refutation_of strict) hs i)))
+  by_levels : first_refutation strict hs ≡ or_else (level 1) (or_else (level 2) (or_else (level 3) (level 4)))
+  by_levels = λ i. or_else (first_of-is (refutation_of strict) hs i) (or_else (first_of_pairs-is (refutation_of strict) hs i) (or_else (first_of_triples-is (refutation_of strict) hs i) (first_of_quadruples-is (refutation_of strict) hs i)))
 
   below_one : NoneBelow 1
   below_one zero h = refl
@@ -91,9 +88,9 @@ module _ (strict : Bool) (hs : List HalfSpace) where
         (λ q. ⊎_elim
         (λ s. at_level 3 (below_three r.0 q.0) s)
         (λ p. at_level 4 (below_four r.0 q.0 p.0) p.1)
-        (first_or-cases (level 3) (level 4) us q.1))
-        (first_or-cases (level 2) (first_or (level 3) (level 4)) us r.1))
-        (first_or-cases (level 1) (first_or (level 2) (first_or (level 3) (level 4))) us (sym by_levels ∙ e))
+        (or_else_found (level 3) (level 4) us q.1))
+        (or_else_found (level 2) (or_else (level 3) (level 4)) us r.1))
+        (or_else_found (level 1) (or_else (level 2) (or_else (level 3) (level 4))) us (sym by_levels ∙ e))
 
     -- ---- what is first is found
     as_sub : (r : FirstAll strict hs us) → FirstSub (length r.items) (refutation_of strict) hs us
@@ -112,15 +109,15 @@ module _ (strict : Bool) (hs : List HalfSpace) where
         let l = length-places q.at in
         let n = length-places r.at in
         let many = q.many in
-        absurd (not_some vs (sym (r.first q.items q.at (inl (omega (arith, h, l, n, many)))) ∙ q.value))
+        absurd (none_not_some vs (sym (r.first q.items q.at (inl (omega (arith, h, l, n, many)))) ∙ q.value))
 
-    by_items : (items : List HalfSpace) → refutation_of strict items ≡ Some us → NoneBelow (length items) → level (length items) ≡ Some us → first_or (level 1) (first_or (level 2) (first_or (level 3) (level 4))) ≡ Some us
-    by_items [] v below e = absurd (not_some us v)
-    by_items (h ∷ []) v below e = λ i. first_or (e i) (first_or (level 2) (first_or (level 3) (level 4)))
-    by_items (g ∷ h ∷ []) v below e = λ i. first_or (below 1 (omega arith) i) (first_or (e i) (first_or (level 3) (level 4)))
-    by_items (f ∷ g ∷ h ∷ []) v below e = λ i. first_or (below 1 (omega arith) i) (first_or (below 2 (omega arith) i) (first_or (e i) (level 4)))
-    by_items (d ∷ f ∷ g ∷ h ∷ []) v below e = λ i. first_or (below 1 (omega arith) i) (first_or (below 2 (omega arith) i) (first_or (below 3 (omega arith) i) (e i)))
-    by_items (d ∷ f ∷ g ∷ h ∷ k ∷ ks) v below e = absurd (not_some us v)
+    by_items : (items : List HalfSpace) → refutation_of strict items ≡ Some us → NoneBelow (length items) → level (length items) ≡ Some us → or_else (level 1) (or_else (level 2) (or_else (level 3) (level 4))) ≡ Some us
+    by_items [] v below e = absurd (none_not_some us v)
+    by_items (h ∷ []) v below e = λ i. or_else (e i) (or_else (level 2) (or_else (level 3) (level 4)))
+    by_items (g ∷ h ∷ []) v below e = λ i. or_else (below 1 (omega arith) i) (or_else (e i) (or_else (level 3) (level 4)))
+    by_items (f ∷ g ∷ h ∷ []) v below e = λ i. or_else (below 1 (omega arith) i) (or_else (below 2 (omega arith) i) (or_else (e i) (level 4)))
+    by_items (d ∷ f ∷ g ∷ h ∷ []) v below e = λ i. or_else (below 1 (omega arith) i) (or_else (below 2 (omega arith) i) (or_else (below 3 (omega arith) i) (e i)))
+    by_items (d ∷ f ∷ g ∷ h ∷ k ∷ ks) v below e = absurd (none_not_some us v)
 
     pub hit_all : FirstAll strict hs us → first_refutation strict hs ≡ Some us
     hit_all r =
@@ -136,13 +133,7 @@ part_before {js} {ks} j m qs b =
     ⊎_elim
     (λ same. subst (λ is. ComesBefore is qs) (sym (places-whole j m same)) b)
     (λ fewer. inl (⊎_elim (λ a. omega (arith, a, p, q, fewer)) (λ a. let e = a.0 in omega (arith, e, p, q, fewer)) b))
-    (same_or_fewer (length js) (length ks) l)
-  where
-    same_or_fewer : (m n : ℕ) → m ≤ n → (m ≡ n) ⊎ (m < n)
-    same_or_fewer zero zero h = inl refl
-    same_or_fewer zero (suc n) h = inr (omega arith)
-    same_or_fewer (suc m) zero h = absurd (omega (arith, h))
-    same_or_fewer (suc m) (suc n) h = ⊎_elim (λ e. inl (ap suc e)) (λ l. inr (omega (arith, l))) (same_or_fewer m n (omega (arith, h)))
+    (same_or_less (length js) (length ks) l)
 
 module _ (strict : Bool) (cell : List HalfSpace) (bounds : AreHalfSpaces cell) where
   small : AllByRecursion IsSmall (with_cube cell)
@@ -155,7 +146,7 @@ module _ (strict : Bool) (cell : List HalfSpace) (bounds : AreHalfSpaces cell) w
         let m = embed (with_cube cell) earlier (half_spaces_of others) rising stand in
         let h = hit_refute strict (with_cube cell) small others m.0 refute in
         let b = part_before h.among m.0 (places r.at) (subst (λ is. ComesBefore is (places r.at)) (sym m.1) before) in
-        not_some h.terms (sym (r.first h.items (among_among h.among m.0) b) ∙ h.value)
+        none_not_some h.terms (sym (r.first h.items (among_among h.among m.0) b) ∙ h.value)
 
     is_first : IsFirstOutside strict cell us
     is_first =
@@ -192,20 +183,16 @@ module _ (strict : Bool) (cell : List HalfSpace) (bounds : AreHalfSpaces cell) w
         let p = length-places m in
         let q = length-places s.0 in
         let n = ap length s.1 in
-        not_none us (sym e ∙ no_value ks m (inl (omega (arith, l, p, q, n))) (refutation_of strict ks) refl)
+        some_not_none us (sym e ∙ no_value ks m (inl (omega (arith, l, p, q, n))) (refutation_of strict ks) refl)
 
     no_shorter : Shorter (offset_of strict) (with_cube cell) (length ts) → ⊥
     no_shorter s =
         let h = hit_contradiction strict (with_cube cell) small s.0 in
         let l = among_length h.among in
-        let n = length_of s.0.terms in
-        let k = length_of ts in
+        let n = length-half_spaces s.0.terms in
+        let k = length-half_spaces ts in
         let fewer = s.1 in
         no_part h.items (among_among h.among s.0.among) (omega (arith, l, n, k, fewer)) h.terms h.value
-      where
-        length_of : (us : List Multiple) → length (half_spaces_of us) ≡ length us
-        length_of [] = refl
-        length_of (u ∷ us) = ap suc (length_of us)
 
     whole_hit : Hit strict (half_spaces_of ts)
     whole_hit = hit_refute strict (with_cube cell) small ts standing.0 i.refute
@@ -217,13 +204,7 @@ module _ (strict : Bool) (cell : List HalfSpace) (bounds : AreHalfSpaces cell) w
         ⊎_elim
         (λ same. (h.terms, ap (refutation_of strict) (sym (among_whole h.among same)) ∙ h.value))
         (λ fewer. absurd (no_part h.items (among_among h.among standing.0) fewer h.terms h.value))
-        (same_or_fewer (length h.items) (length (half_spaces_of ts)) l)
-      where
-        same_or_fewer : (m n : ℕ) → m ≤ n → (m ≡ n) ⊎ (m < n)
-        same_or_fewer zero zero h = inl refl
-        same_or_fewer zero (suc n) h = inr (omega arith)
-        same_or_fewer (suc m) zero h = absurd (omega (arith, h))
-        same_or_fewer (suc m) (suc n) h = ⊎_elim (λ e. inl (ap suc e)) (λ l. inr (omega (arith, l))) (same_or_fewer m n (omega (arith, h)))
+        (same_or_less (length h.items) (length (half_spaces_of ts)) l)
 
     module _ (us : List Multiple) (e : refutation_of strict (half_spaces_of ts) ≡ Some us) where
       first_all : FirstAll strict (with_cube cell) us
@@ -263,7 +244,7 @@ module _ (strict : Bool) (cell : List HalfSpace) (bounds : AreHalfSpaces cell) w
             least = λ s. no_shorter (subst (λ vs. Shorter (offset_of strict) (with_cube cell) (length vs)) z.1 s);
           } in
           sym z.1
-          ∙ same_twins (offset_of strict) (with_cube cell) t (ap (λ vs. gcd_of (factors_of vs)) z.1 ∙ lowest-gcd ts i.refute.1 i.lowest) (ap (λ vs. gcd_of (factors_of vs)) z.2 ∙ lowest-gcd us v.refutes.positive v.lowest)
+          ∙ same_twins (offset_of strict) (with_cube cell) t (ap (λ vs. gcd_of (factors_of vs)) z.1 ∙ lowest-gcd ts i.lowest) (ap (λ vs. gcd_of (factors_of vs)) z.2 ∙ lowest-gcd us v.lowest)
           ∙ z.2
 
     pub first-found : first_outside strict cell ≡ Some ts
@@ -272,12 +253,8 @@ module _ (strict : Bool) (cell : List HalfSpace) (bounds : AreHalfSpaces cell) w
         let w = is_whole whole_hit in
         hit_all strict (with_cube cell) w.0 (first_all w.0 w.1) ∙ ap Some (sym (same_as_value w.0 w.1))
 
-  if_first : (o : Option (List Multiple)) → first_outside strict cell ≡ o → IfSome o (λ us. IsFirstOutside strict cell us)
-  if_first (Some us) e = found-first us e
-  if_first None e = tt
-
   pub first_outside_is_first_of : IfSome (first_outside strict cell) (λ us. IsFirstOutside strict cell us) × ((ts : List Multiple) → IsFirstOutside strict cell ts → first_outside strict cell ≡ Some ts)
-  first_outside_is_first_of = (if_first (first_outside strict cell) refl, first-found)
+  first_outside_is_first_of = (if_some (λ us. IsFirstOutside strict cell us) (first_outside strict cell) found-first, first-found)
 
 pub first_outside_is_first_spec : FirstOutsideIsFirst
 first_outside_is_first_spec strict cell bounds = first_outside_is_first_of strict cell bounds

@@ -9,13 +9,15 @@ use Rattle.rp_model.specs.Search.{first_of, first_of_pairs, first_of_triples, fi
 use Rattle.rp_model.specs.Elimination.{multiple_of, half_spaces_of, negated_terms, normal_terms, minors_of_two, minors_of_three, minors_of_four, is_refutation, terms_if, refutation_of_one, refutation_of_two, refutation_of_three, refutation_of_four, first_refutation, first_outside}
 use Rattle.rp_model.specs.CellLaws.{AreHalfSpaces, IsSolution, FindsOutside, OutsideIsFound}
 use Rattle.rp_alternative.proofs.Combination.{Among, IsSmall, IsCandidate, Refutation}
+use Rattle.rp_alternative.proofs.Sums.{length-half_spaces}
 use Rattle.rp_alternative.proofs.Cone.{among_all}
 use Rattle.rp_alternative.proofs.Relations.{minors_of_two-small, minors_of_three-small, minors_of_four-small, small_unit}
-use Rattle.rp_algebra.proofs.Tests.{and_true, and_first, and_second, positive_is}
+use Rattle.rp_algebra.proofs.Tests.{and_true, and_first, and_second, positive_is, false_not_true}
+use Rattle.rp_algebra.proofs.Options.{none_not_some, some_not_none, same_some, if_some, or_else, or_else_found, or_else_none}
 use Rattle.rp_algebra.proofs.Listed.{list_all_is}
 use Rattle.rp_alternative.proofs.Tests.{listed-from}
 use Rattle.rp_alternative.proofs.Lowest.{AreFactorsSmall, Refutes, refutation-from, refutes_normal, refutes_normal_negated, half_spaces_of-normal, normal_small}
-use Rattle.rp_alternative.proofs.Searched.{first_or, first_or-found, first_or-missed, found_one, found_two, found_three, found_four, missed_one, missed_two, missed_three, missed_four}
+use Rattle.rp_alternative.proofs.Searched.{found_one, found_two, found_three, found_four, missed_one, missed_two, missed_three, missed_four}
 use Rattle.rp_alternative.proofs.Bounds.{small_with_cube}
 use Rattle.rp_alternative.proofs.Weak.{point_or_refutation}
 use Rattle.rp_alternative.proofs.Alternative.{offset_of, contradiction-from, terms-from, solution-from}
@@ -29,37 +31,24 @@ pub record Passed (strict : Bool) (hs : List HalfSpace) (ts : List Multiple) : T
   pub small : AreFactorsSmall ts
   pub refutes : is_refutation strict ts ≡ true
 
-not_some : {B : Type 0} (y : B) → None ≡ Some y → ⊥
-not_some y e = cc
-
 pub terms_if-is : (strict : Bool) (ts us : List Multiple) → terms_if strict ts ≡ Some us → (ts ≡ us) × (is_refutation strict ts ≡ true)
 terms_if-is strict ts us e =
     elim (is_refutation strict ts) as (λ b. is_refutation strict ts ≡ b → elim b [ true ↦ Some ts | false ↦ None ] ≡ Some us → (ts ≡ us) × (is_refutation strict ts ≡ true)) [
-      | true ↦ λ t s. (injected ts us s, t)
-      | false ↦ λ t s. absurd (not_some us s)
+      | true ↦ λ t s. (same_some ts us s, t)
+      | false ↦ λ t s. absurd (none_not_some us s)
     ] refl e
-  where
-    injected : (ts us : List Multiple) → Some ts ≡ Some us → ts ≡ us
-    injected ts us e = cc
 
 terms_if-none : (strict : Bool) (ts : List Multiple) → terms_if strict ts ≡ None → is_refutation strict ts ≡ true → ⊥
-terms_if-none strict ts e r = not_none ts ((λ i. elim (sym r i) [ true ↦ Some ts | false ↦ None ]) ∙ e)
-  where
-    not_none : (ts : List Multiple) → Some ts ≡ None → ⊥
-    not_none ts e = cc
+terms_if-none strict ts e r = some_not_none ts ((λ i. elim (sym r i) [ true ↦ Some ts | false ↦ None ]) ∙ e)
 
 -- terms in normal form of some half-spaces
-length_of : (ts : List Multiple) → length (half_spaces_of ts) ≡ length ts
-length_of [] = refl
-length_of (t ∷ ts) = ap suc (length_of ts)
-
 passed_normal : (strict : Bool) (hs ks : List HalfSpace) (ts us : List Multiple) → Among ks hs → half_spaces_of ts ≡ ks → is_one_to_four (length ks) ≡ true → AreFactorsSmall ts → terms_if strict (normal_terms ts) ≡ Some us → Passed strict hs us
 passed_normal strict hs ks ts us m same n small e =
     let r = terms_if-is strict (normal_terms ts) us e in
     let spaces = half_spaces_of-normal ts ∙ same in
     subst (λ vs. Passed strict hs vs) r.0 (record {
       among = subst (λ gs. Among gs hs) (sym spaces) m;
-      some = ap is_one_to_four (sym (length_of (normal_terms ts)) ∙ ap length spaces) ∙ n;
+      some = ap is_one_to_four (sym (length-half_spaces (normal_terms ts)) ∙ ap length spaces) ∙ n;
       small = normal_small ts small;
       refutes = r.1;
     })
@@ -100,10 +89,10 @@ module _ (strict : Bool) (hs : List HalfSpace) (small : AllByRecursion IsSmall h
       (λ s. let r = found_two (refutation_of_two strict) hs us s in passed_two r.0 r.1 r.2 r.3)
       (λ l. ⊎_elim
       (λ s. let r = found_three (refutation_of_three strict) hs us s in passed_three r.0 r.1 r.2 r.3 r.4)
-      (λ s. let r = found_four (refutation_of_four strict) hs us s in passed_four r.0 r.1 r.2 r.3 r.4 r.5)
-      (first_or-found (first_of_triples (refutation_of_three strict) hs) (first_of_quadruples (refutation_of_four strict) hs) us l))
-      (first_or-found (first_of_pairs (refutation_of_two strict) hs) (first_or (first_of_triples (refutation_of_three strict) hs) (first_of_quadruples (refutation_of_four strict) hs)) us l))
-      (first_or-found (first_of (refutation_of_one strict) hs) (first_or (first_of_pairs (refutation_of_two strict) hs) (first_or (first_of_triples (refutation_of_three strict) hs) (first_of_quadruples (refutation_of_four strict) hs))) us e)
+      (λ s. let r = found_four (refutation_of_four strict) hs us s.1 in passed_four r.0 r.1 r.2 r.3 r.4 r.5)
+      (or_else_found (first_of_triples (refutation_of_three strict) hs) (first_of_quadruples (refutation_of_four strict) hs) us l.1))
+      (or_else_found (first_of_pairs (refutation_of_two strict) hs) (or_else (first_of_triples (refutation_of_three strict) hs) (first_of_quadruples (refutation_of_four strict) hs)) us l.1))
+      (or_else_found (first_of (refutation_of_one strict) hs) (or_else (first_of_pairs (refutation_of_two strict) hs) (or_else (first_of_triples (refutation_of_three strict) hs) (first_of_quadruples (refutation_of_four strict) hs))) us e)
 
 -- ---- a find is a certificate
 pub passed-certificate : (strict : Bool) (cell : List HalfSpace) (ts : List Multiple) → Passed strict (with_cube cell) ts → is_outside_certificate strict cell ts ≡ true
@@ -129,9 +118,9 @@ pub record Missed (strict : Bool) (hs : List HalfSpace) : Type 0 where
 
 missed : (strict : Bool) (hs : List HalfSpace) → first_refutation strict hs ≡ None → Missed strict hs
 missed strict hs e =
-    let r = first_or-missed (first_of (refutation_of_one strict) hs) (first_or (first_of_pairs (refutation_of_two strict) hs) (first_or (first_of_triples (refutation_of_three strict) hs) (first_of_quadruples (refutation_of_four strict) hs))) e in
-    let s = first_or-missed (first_of_pairs (refutation_of_two strict) hs) (first_or (first_of_triples (refutation_of_three strict) hs) (first_of_quadruples (refutation_of_four strict) hs)) r.1 in
-    let t = first_or-missed (first_of_triples (refutation_of_three strict) hs) (first_of_quadruples (refutation_of_four strict) hs) s.1 in
+    let r = or_else_none (first_of (refutation_of_one strict) hs) (or_else (first_of_pairs (refutation_of_two strict) hs) (or_else (first_of_triples (refutation_of_three strict) hs) (first_of_quadruples (refutation_of_four strict) hs))) e in
+    let s = or_else_none (first_of_pairs (refutation_of_two strict) hs) (or_else (first_of_triples (refutation_of_three strict) hs) (first_of_quadruples (refutation_of_four strict) hs)) r.1 in
+    let t = or_else_none (first_of_triples (refutation_of_three strict) hs) (first_of_quadruples (refutation_of_four strict) hs) s.1 in
     record { one = r.0; two = s.0; three = t.0; four = t.1 }
 
 -- candidates of given minors, in normal form, or those of their negatives
@@ -158,9 +147,6 @@ not_missed strict hs ts m (IsCandidate.four d f g h j l k n e) a r =
 not_missed strict hs ts m (IsCandidate.four_negated d f g h j l k n e) a r =
     no_normal_negated strict (minors_of_four d f g h) (multiple_of j d) (multiple_of l f ∷ multiple_of k g ∷ multiple_of n h ∷ []) e (missed_four (refutation_of_four strict) hs d f g h m.four a) r
 
-not_true : false ≡ true → ⊥
-not_true e = cc
-
 -- ---- the search
 module _ (strict : Bool) (cell : List HalfSpace) (bounds : AreHalfSpaces cell) where
   found-passes : (us : List Multiple) → first_outside strict cell ≡ Some us → is_outside_certificate strict cell us ≡ true
@@ -176,13 +162,9 @@ module _ (strict : Bool) (cell : List HalfSpace) (bounds : AreHalfSpaces cell) w
       (λ r. absurd (not_missed strict (with_cube cell) r.of.terms (missed strict (with_cube cell) e) r.candidate r.of.among (refuting strict (with_cube cell) r)))
       (point_or_refutation (offset_of strict) (with_cube cell) (small_with_cube cell bounds))
 
-  if_some : (o : Option (List Multiple)) → first_outside strict cell ≡ o → IfSome o (λ us. IsTrue (is_outside_certificate strict cell us))
-  if_some (Some us) e = found-passes us e
-  if_some None e = tt
-
   some-none : (o : Option (List Multiple)) → first_outside strict cell ≡ o → IsSome o → (p : RationalPoint) → ¬ IsSolution strict cell p
   some-none (Some us) e s p x = never_both strict cell p us x (found-passes us e)
-  some-none None e s p x = absurd (not_true s)
+  some-none None e s p x = absurd (false_not_true false s refl)
 
   none-some : (o : Option (List Multiple)) → first_outside strict cell ≡ o → ((p : RationalPoint) → ¬ IsSolution strict cell p) → IsSome o
   none-some (Some us) e n = refl
@@ -190,7 +172,7 @@ module _ (strict : Bool) (cell : List HalfSpace) (bounds : AreHalfSpaces cell) w
 
   pub finds_outside : FindsOutside strict cell
   finds_outside = record {
-    passes = if_some (first_outside strict cell) refl;
+    passes = if_some (λ us. IsTrue (is_outside_certificate strict cell us)) (first_outside strict cell) found-passes;
     some = (some-none (first_outside strict cell) refl, none-some (first_outside strict cell) refl);
   }
 

@@ -3,8 +3,9 @@ use Rattle.std.proofs.Common.{◌≡◌, ℕ, zero, suc, List, [], ◌∷◌, le
 use Rattle.rp_model.specs.Geometry.{HalfSpace}
 use Rattle.rp_model.specs.Search.{first_of, first_of_pairs, first_of_triples, first_of_quadruples}
 use Rattle.rp_model.specs.CellLaws.{StandAt, IsSmallerAt}
+use Rattle.rp_algebra.proofs.Options.{none_not_some, some_not_none, or_else, or_else_found, or_else_none}
 use Rattle.rp_alternative.proofs.Combination.{Among, skip, take}
-use Rattle.rp_alternative.proofs.Searched.{among_none, first_or, first_or-missed}
+use Rattle.rp_alternative.proofs.Searched.{among_none}
 use Rattle.rp_alternative.proofs.Places.{places, length-places, stand_places, places-none, same_stand, smaller_none, smaller_rest, smaller_lowered, not_before_first, smaller_or_same, shifted}
 
 not_suc : (n : ℕ) → suc n ≡ zero → ⊥
@@ -18,24 +19,24 @@ module _ {B : Type 0} where
   abbrev pub first_sub : ℕ → (List HalfSpace → Option B) → List HalfSpace → Option B
   first_sub zero f hs = f []
   first_sub (suc k) f [] = None
-  first_sub (suc k) f (x ∷ hs) = first_or (first_sub k (λ ks. f (x ∷ ks)) hs) (first_sub (suc k) f hs)
+  first_sub (suc k) f (x ∷ hs) = or_else (first_sub k (λ ks. f (x ∷ ks)) hs) (first_sub (suc k) f hs)
 
   -- the searches of the model
   pub first_of-is : (f : List HalfSpace → Option B) (hs : List HalfSpace) → first_of (λ h. f (h ∷ [])) hs ≡ first_sub 1 f hs
   first_of-is f [] = refl
-  first_of-is f (x ∷ hs) = ap (λ r. first_or (f (x ∷ [])) r) (first_of-is f hs)
+  first_of-is f (x ∷ hs) = ap (λ r. or_else (f (x ∷ [])) r) (first_of-is f hs)
 
   pub first_of_pairs-is : (f : List HalfSpace → Option B) (hs : List HalfSpace) → first_of_pairs (λ g h. f (g ∷ h ∷ [])) hs ≡ first_sub 2 f hs
   first_of_pairs-is f [] = refl
-  first_of_pairs-is f (x ∷ hs) = λ i. first_or (first_of-is (λ ks. f (x ∷ ks)) hs i) (first_of_pairs-is f hs i)
+  first_of_pairs-is f (x ∷ hs) = λ i. or_else (first_of-is (λ ks. f (x ∷ ks)) hs i) (first_of_pairs-is f hs i)
 
   pub first_of_triples-is : (f : List HalfSpace → Option B) (hs : List HalfSpace) → first_of_triples (λ e g h. f (e ∷ g ∷ h ∷ [])) hs ≡ first_sub 3 f hs
   first_of_triples-is f [] = refl
-  first_of_triples-is f (x ∷ hs) = λ i. first_or (first_of_pairs-is (λ ks. f (x ∷ ks)) hs i) (first_of_triples-is f hs i)
+  first_of_triples-is f (x ∷ hs) = λ i. or_else (first_of_pairs-is (λ ks. f (x ∷ ks)) hs i) (first_of_triples-is f hs i)
 
   pub first_of_quadruples-is : (f : List HalfSpace → Option B) (hs : List HalfSpace) → first_of_quadruples (λ d e g h. f (d ∷ e ∷ g ∷ h ∷ [])) hs ≡ first_sub 4 f hs
   first_of_quadruples-is f [] = refl
-  first_of_quadruples-is f (x ∷ hs) = λ i. first_or (first_of_triples-is (λ ks. f (x ∷ ks)) hs i) (first_of_quadruples-is f hs i)
+  first_of_quadruples-is f (x ∷ hs) = λ i. or_else (first_of_triples-is (λ ks. f (x ∷ ks)) hs i) (first_of_quadruples-is f hs i)
 
   -- ---- missed
   pub missed_sub : (k : ℕ) (f : List HalfSpace → Option B) (hs : List HalfSpace) → first_sub k f hs ≡ None → (ks : List HalfSpace) → Among ks hs → length ks ≡ k → f ks ≡ None
@@ -43,8 +44,8 @@ module _ {B : Type 0} where
   missed_sub zero f hs e (k ∷ ks) m l = absurd (not_suc (length ks) l)
   missed_sub (suc n) f [] e [] m l = absurd (not_suc n (sym l))
   missed_sub (suc n) f [] e (k ∷ ks) m l = elim m [ ]
-  missed_sub (suc n) f (x ∷ hs) e ks (skip m) l = missed_sub (suc n) f hs (first_or-missed (first_sub n (λ ks. f (x ∷ ks)) hs) (first_sub (suc n) f hs) e).1 ks m l
-  missed_sub (suc n) f (x ∷ hs) e (k ∷ ks) (take m) l = missed_sub n (λ ks. f (x ∷ ks)) hs (first_or-missed (first_sub n (λ ks. f (x ∷ ks)) hs) (first_sub (suc n) f hs) e).0 ks m (same_pred (length ks) n l)
+  missed_sub (suc n) f (x ∷ hs) e ks (skip m) l = missed_sub (suc n) f hs (or_else_none (first_sub n (λ ks. f (x ∷ ks)) hs) (first_sub (suc n) f hs) e).1 ks m l
+  missed_sub (suc n) f (x ∷ hs) e (k ∷ ks) (take m) l = missed_sub n (λ ks. f (x ∷ ks)) hs (or_else_none (first_sub n (λ ks. f (x ∷ ks)) hs) (first_sub (suc n) f hs) e).0 ks m (same_pred (length ks) n l)
 
   -- ---- found
   -- a sublist of k items with the value, before which none has one
@@ -54,19 +55,6 @@ module _ {B : Type 0} where
     pub many : length items ≡ k
     pub value : f items ≡ Some y
     pub first : (ks : List HalfSpace) (m : Among ks hs) → length ks ≡ k → IsSmallerAt (places m) (places at) → f ks ≡ None
-
-  not_some : (y : B) → None ≡ Some y → ⊥
-  not_some y e = cc
-
-  not_none : (y : B) → Some y ≡ None → ⊥
-  not_none y e = cc
-
-  same_some : (y z : B) → Some y ≡ Some z → y ≡ z
-  same_some y z e = cc
-
-  pub first_or-cases : (o rest : Option B) (y : B) → first_or o rest ≡ Some y → (o ≡ Some y) ⊎ ((o ≡ None) × (rest ≡ Some y))
-  first_or-cases (Some x) rest y e = inl e
-  first_or-cases None rest y e = inr (refl, e)
 
   of_no_item : (f : List HalfSpace → Option B) (hs : List HalfSpace) (y : B) → f [] ≡ Some y → FirstSub zero f hs y
   of_no_item f hs y e = record {
@@ -94,27 +82,27 @@ module _ {B : Type 0} where
 
   pub found_sub : (k : ℕ) (f : List HalfSpace → Option B) (hs : List HalfSpace) (y : B) → first_sub k f hs ≡ Some y → FirstSub k f hs y
   found_sub zero f hs y e = of_no_item f hs y e
-  found_sub (suc n) f [] y e = absurd (not_some y e)
+  found_sub (suc n) f [] y e = absurd (none_not_some y e)
   found_sub (suc n) f (x ∷ hs) y e =
       ⊎_elim
       (λ here. found_here n f x hs y (found_sub n (λ ks. f (x ∷ ks)) hs y here))
       (λ later. found_later n f x hs y later.0 (found_sub (suc n) f hs y later.1))
-      (first_or-cases (first_sub n (λ ks. f (x ∷ ks)) hs) (first_sub (suc n) f hs) y e)
+      (or_else_found (first_sub n (λ ks. f (x ∷ ks)) hs) (first_sub (suc n) f hs) y e)
 
   -- ---- the first is found
   module _ (k : ℕ) (f : List HalfSpace → Option B) (hs : List HalfSpace) (y : B) (r : FirstSub k f hs y) where
     same_found : (z : B) (q : FirstSub k f hs z) → Some z ≡ Some y
     same_found z q =
         ⊎_elim
-        (λ before. absurd (not_some z (sym (r.first q.items q.at q.many before) ∙ q.value)))
+        (λ before. absurd (none_not_some z (sym (r.first q.items q.at q.many before) ∙ q.value)))
         (λ m. ⊎_elim
         (λ e. sym q.value ∙ ap f (same_stand hs (places q.at) q.items r.items (stand_places q.at) (subst (λ is. StandAt hs is r.items) (sym e) (stand_places r.at))) ∙ r.value)
-        (λ after. absurd (not_some y (sym (q.first r.items r.at r.many after) ∙ r.value))) m)
+        (λ after. absurd (none_not_some y (sym (q.first r.items r.at r.many after) ∙ r.value))) m)
         (smaller_or_same (places q.at) (places r.at) (length-places q.at ∙ q.many ∙ sym r.many ∙ sym (length-places r.at)))
 
     is_found : (o : Option B) → first_sub k f hs ≡ o → o ≡ Some y
     is_found (Some z) e = same_found z (found_sub k f hs z e)
-    is_found None e = absurd (not_none y (sym r.value ∙ missed_sub k f hs e r.items r.at r.many))
+    is_found None e = absurd (some_not_none y (sym r.value ∙ missed_sub k f hs e r.items r.at r.many))
 
     pub hit_sub : first_sub k f hs ≡ Some y
     hit_sub = is_found (first_sub k f hs) refl

@@ -8,13 +8,15 @@ use Rattle.rp_model.specs.Geometry.{HalfSpace}
 use Rattle.rp_model.specs.Certificate.{Multiple, weighted_sum, is_balanced, is_contradiction}
 use Rattle.rp_model.specs.Elimination.{multiple_of, factors_of, half_spaces_of, reduced_terms, negated_terms, normal_terms, is_refutation}
 use Rattle.rp_algebra.specs.Within.{IsWithin}
-use Rattle.rp_algebra.proofs.IntLaws.{linear, cancel_mul_left_ℤ, pos_of_mul_pos_ℤ, nat_nonneg_ℤ, le_of_mul_le_left_ℤ, lt_of_mul_lt_left_ℤ}
+use Rattle.rp_algebra.proofs.IntLaws.{linear, cancel_mul_left_ℤ, nat_nonneg_ℤ, nonneg_of_pos_ℤ, le_of_mul_le_left_ℤ, lt_of_mul_lt_left_ℤ}
 use Rattle.rp_algebra.proofs.Reify.{by_ring_at, reify}
 use Rattle.rp_alternative.proofs.Combination.{ArePositive, greatest_minor}
-use Rattle.rp_algebra.proofs.Divisors.{DividesAll, gcd_of-divides, divisor_positive}
-use Rattle.rp_algebra.proofs.LowestTerms.{exact_quotient, quotient_size}
-use Rattle.rp_algebra.proofs.Tests.{and_true, is_positive_true, is_negative_true, negative_is, at_most_true, at_most_is, is_zero_true}
+use Rattle.rp_algebra.proofs.Divisors.{DividesAll, gcd_of-divides, gcd_of-positive_head}
+use Rattle.rp_algebra.proofs.LowestTerms.{exact_quotient, quotient_positive, quotient_within}
+use Rattle.rp_algebra.proofs.Numbers.{above_not_zero, opposite_within}
+use Rattle.rp_algebra.proofs.Tests.{and_true, is_positive_true, is_negative_true, is_negative_false, negative_is, at_most_true, at_most_is, is_zero_true}
 use Rattle.rp_algebra.proofs.Listed.{list_all_true}
+use Rattle.rp_alternative.proofs.Tests.{balanced-from}
 
 -- the factors divided by g
 abbrev pub divided : ℕ → List Multiple → List Multiple
@@ -28,29 +30,20 @@ half_spaces_of-divided g (t ∷ ts) = ap (λ hs. t.of ∷ hs) (half_spaces_of-di
 abbrev pub AreFactorsSmall : List Multiple → Type 0
 AreFactorsSmall ts = AllByRecursion (λ t. IsWithin greatest_minor t.factor) ts
 
-smaller : (g : ℕ) (v : ℤ) → IsWithin greatest_minor v → IsWithin greatest_minor (reduced_by g v)
-smaller g v h = record { abs_le = (let s = quotient_size g v in let l = h.abs_le in omega (arith, s, l)) }
-
 pub divided_small : (g : ℕ) (ts : List Multiple) → AreFactorsSmall ts → AreFactorsSmall (divided g ts)
 divided_small g [] h = tt
-divided_small g (t ∷ ts) h = (smaller g t.factor h.0, divided_small g ts h.1)
+divided_small g (t ∷ ts) h = (quotient_within greatest_minor g t.factor h.0, divided_small g ts h.1)
 
 -- ---- positive factors
-positive_quotient : (g : ℕ) (v q : ℤ) → pos 0 <ℤ v → pos g *ℤ q ≡ v → pos 0 <ℤ q
-positive_quotient g v q p e = pos_of_mul_pos_ℤ (pos g) q (nat_nonneg_ℤ g) (subst (λ x. pos 0 <ℤ x) (sym e) p)
-
 pub divided_positive : (g : ℕ) (ts : List Multiple) → DividesAll g (factors_of ts) → ArePositive ts → ArePositive (divided g ts)
 divided_positive g [] d p = tt
-divided_positive g (t ∷ ts) d p = (positive_quotient g t.factor (reduced_by g t.factor) p.0 (exact_quotient g t.factor d.0), divided_positive g ts d.1 p.1)
-
-divided_none : (g : ℤ) → g *ℤ pos 0 ≡ pos 0
-divided_none g = *ℤ-zero g
+divided_positive g (t ∷ ts) d p = (quotient_positive g t.factor d.0 p.0, divided_positive g ts d.1 p.1)
 
 divided_more : (g q f s : ℤ) → g *ℤ (q *ℤ f +ℤ s) ≡ (g *ℤ q) *ℤ f +ℤ g *ℤ s
 divided_more g q f s = by_ring_at (g ∷ q ∷ f ∷ s ∷ []) (search reify depth 40 fits 100000) tt
 
 pub weighted_sum-divided : (g : ℕ) (F : HalfSpace → ℤ) (ts : List Multiple) → DividesAll g (factors_of ts) → ArePositive ts → pos g *ℤ weighted_sum F (divided g ts) ≡ weighted_sum F ts
-weighted_sum-divided g F [] d p = divided_none (pos g)
+weighted_sum-divided g F [] d p = *ℤ-zero (pos g)
 weighted_sum-divided g F (t ∷ ts) d p =
     divided_more (pos g) (reduced_by g t.factor) (F t.of) (weighted_sum F (divided g ts))
     ∙ (λ i. exact_quotient g t.factor d.0 i *ℤ F t.of +ℤ weighted_sum-divided g F ts d.1 p.1 i)
@@ -62,10 +55,6 @@ pub record Refutes (strict : Bool) (ts : List Multiple) : Type 0 where
   pub b : weighted_sum (λ h. h.b) ts ≡ pos 0
   pub c : weighted_sum (λ h. h.c) ts ≡ pos 0
   pub contradiction : is_contradiction strict ts ≡ true
-
-pub balanced-from : (ts : List Multiple) → weighted_sum (λ h. h.a) ts ≡ pos 0 → weighted_sum (λ h. h.b) ts ≡ pos 0 → weighted_sum (λ h. h.c) ts ≡ pos 0 → is_balanced ts ≡ true
-balanced-from ts a b c =
-    and_true _ (is_zero (weighted_sum (λ h. h.c) ts)) (and_true (is_zero (weighted_sum (λ h. h.a) ts)) (is_zero (weighted_sum (λ h. h.b) ts)) (is_zero_true _ a) (is_zero_true _ b)) (is_zero_true _ c)
 
 pub refutation-from : (strict : Bool) (ts : List Multiple) → Refutes strict ts → is_refutation strict ts ≡ true
 refutation-from strict ts r =
@@ -96,22 +85,16 @@ refutes_divided strict g ts p d r = record {
   contradiction = contradiction_divided strict g ts p d r.positive r.contradiction;
 }
 
-size_positive : (v : ℤ) → pos 0 <ℤ v → 0 < nat_abs v
-size_positive v h = omega (arith, ints, h)
-
 pub refutes_reduced : (strict : Bool) (t : Multiple) (ts : List Multiple) → Refutes strict (t ∷ ts) → Refutes strict (reduced_terms (t ∷ ts))
 unfolding reduced_terms
 refutes_reduced strict t ts r =
     let d = gcd_of-divides (factors_of (t ∷ ts)) in
-    refutes_divided strict (gcd_of (factors_of (t ∷ ts))) (t ∷ ts) (divisor_positive (gcd_of (factors_of (t ∷ ts))) (nat_abs t.factor) (size_positive t.factor r.positive.0) d.0) d r
+    refutes_divided strict (gcd_of (factors_of (t ∷ ts))) (t ∷ ts) (gcd_of-positive_head t.factor (factors_of ts) (above_not_zero t.factor r.positive.0)) d r
 
 -- ---- the normal form of terms that refute, or whose negatives do
-not_negative : (v : ℤ) → pos 0 <ℤ v → is_negative v ≡ false
-not_negative v h = grind (arith, ints)
-
 pub refutes_normal : (strict : Bool) (t : Multiple) (ts : List Multiple) → Refutes strict (t ∷ ts) → Refutes strict (normal_terms (t ∷ ts))
 refutes_normal strict t ts r =
-    subst (λ us. Refutes strict us) (λ i. elim (sym (not_negative t.factor r.positive.0) i) [ true ↦ reduced_terms (negated_terms (t ∷ ts)) | false ↦ reduced_terms (t ∷ ts) ]) (refutes_reduced strict t ts r)
+    subst (λ us. Refutes strict us) (λ i. elim (sym (is_negative_false t.factor (nonneg_of_pos_ℤ t.factor r.positive.0)) i) [ true ↦ reduced_terms (negated_terms (t ∷ ts)) | false ↦ reduced_terms (t ∷ ts) ]) (refutes_reduced strict t ts r)
 
 negated_positive : (v : ℤ) → pos 0 <ℤ neg_ℤ v → is_negative v ≡ true
 negated_positive v h = is_negative_true v (omega (arith, linear, h))
@@ -126,12 +109,9 @@ half_spaces_of-negated : (ts : List Multiple) → half_spaces_of (negated_terms 
 half_spaces_of-negated [] = refl
 half_spaces_of-negated (t ∷ ts) = ap (λ hs. t.of ∷ hs) (half_spaces_of-negated ts)
 
-opposite_small : (v : ℤ) → IsWithin greatest_minor v → IsWithin greatest_minor (neg_ℤ v)
-opposite_small v h = record { abs_le = (let l = h.abs_le in omega (arith, ints, l)) }
-
 negated_small : (ts : List Multiple) → AreFactorsSmall ts → AreFactorsSmall (negated_terms ts)
 negated_small [] h = tt
-negated_small (t ∷ ts) h = (opposite_small t.factor h.0, negated_small ts h.1)
+negated_small (t ∷ ts) h = (opposite_within greatest_minor t.factor h.0, negated_small ts h.1)
 
 half_spaces_of-reduced : (ts : List Multiple) → half_spaces_of (reduced_terms ts) ≡ half_spaces_of ts
 unfolding reduced_terms

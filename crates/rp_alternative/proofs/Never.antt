@@ -5,12 +5,15 @@ use Rattle.std.proofs.lemmas.Int.{ints}
 use Rattle.rp_algebra.specs.Integer.{is_zero, is_positive, is_nonnegative}
 use Rattle.rp_model.specs.Geometry.{RationalPoint, HalfSpace, side_value, with_cube, is_listed}
 use Rattle.rp_model.specs.Certificate.{Multiple, weighted_sum, is_balanced, is_contradiction, is_one_to_four, is_multiplier, is_outside_certificate}
+use Rattle.rp_model.specs.Elimination.{half_spaces_of}
 use Rattle.rp_model.specs.CellLaws.{IsSolution}
-use Rattle.rp_algebra.proofs.IntLaws.{linear, signs, mul_pos_ℤ}
+use Rattle.rp_algebra.proofs.IntLaws.{linear, signs, mul_pos_ℤ, nonneg_of_pos_ℤ}
 use Rattle.rp_algebra.proofs.Reify.{by_ring_at, le_by_ring, lt_by_ring, reify}
 use Rattle.rp_algebra.proofs.Tests.{and_first, and_second, positive_is, negative_is, at_most_is, zero_is}
-use Rattle.rp_algebra.proofs.Listed.{list_all_is}
-use Rattle.rp_alternative.proofs.Tests.{listed-to, multiplier-to}
+use Rattle.rp_algebra.proofs.Listed.{all_map, list_all_is}
+use Rattle.rp_alternative.proofs.Combination.{ArePositive}
+use Rattle.rp_alternative.proofs.Cone.{weighted_sum_nonneg}
+use Rattle.rp_alternative.proofs.Tests.{listed-to, multiplier-to, balanced-to}
 
 -- ---- the sum of the sides
 side_none : (x y z w : ℤ) → pos 0 ≡ pos 0 *ℤ x +ℤ pos 0 *ℤ y +ℤ pos 0 *ℤ z +ℤ pos 0 *ℤ w
@@ -31,33 +34,19 @@ only_last a b c d x y z w ea eb ec =
     (λ i. ea i *ℤ x +ℤ eb i *ℤ y +ℤ ec i *ℤ z +ℤ d *ℤ w) ∙ by_ring_at (x ∷ y ∷ z ∷ d ∷ w ∷ []) (search reify depth 40 fits 100000) tt
 
 -- ---- its sign
-more_nonneg : (k s t : ℤ) → pos 0 <ℤ k → pos 0 ≤ℤ s → pos 0 ≤ℤ t → pos 0 ≤ℤ (k *ℤ s +ℤ t)
-more_nonneg k s t p q r = search signs
-
 more_pos : (k s t : ℤ) → pos 0 <ℤ k → pos 0 <ℤ s → pos 0 ≤ℤ t → pos 0 <ℤ (k *ℤ s +ℤ t)
 more_pos k s t p q r = search signs
 
--- a term with a positive factor, of a half-space with a property
-abbrev IsTerm : (HalfSpace → Type 0) → Multiple → Type 0
-IsTerm P t = (pos 0 <ℤ t.factor) × P t.of
-
-sum_nonneg : (F : HalfSpace → ℤ) (ts : List Multiple) → AllByRecursion (IsTerm (λ h. pos 0 ≤ℤ F h)) ts → pos 0 ≤ℤ weighted_sum F ts
-sum_nonneg F [] h = omega (arith, ints)
-sum_nonneg F (t ∷ ts) h = more_nonneg t.factor (F t.of) (weighted_sum F ts) h.0.0 h.0.1 (sum_nonneg F ts h.1)
-
-weaker : (v : ℤ) → pos 0 <ℤ v → pos 0 ≤ℤ v
-weaker v h = omega (arith, linear, h)
-
-weaker_all : (F : HalfSpace → ℤ) (ts : List Multiple) → AllByRecursion (IsTerm (λ h. pos 0 <ℤ F h)) ts → AllByRecursion (IsTerm (λ h. pos 0 ≤ℤ F h)) ts
-weaker_all F [] h = tt
-weaker_all F (t ∷ ts) h = ((h.0.0, weaker (F t.of) h.0.1), weaker_all F ts h.1)
-
+-- no terms are not one to four
 none_not_some : is_one_to_four 0 ≡ true → ⊥
 none_not_some e = cc
 
-sum_pos : (F : HalfSpace → ℤ) (ts : List Multiple) → is_one_to_four (length ts) ≡ true → AllByRecursion (IsTerm (λ h. pos 0 <ℤ F h)) ts → pos 0 <ℤ weighted_sum F ts
-sum_pos F [] e h = absurd (none_not_some e)
-sum_pos F (t ∷ ts) e h = more_pos t.factor (F t.of) (weighted_sum F ts) h.0.0 h.0.1 (sum_nonneg F ts (weaker_all F ts h.1))
+-- a sum of multiples above 0, of one term or more, is above 0
+sum_pos : (F : HalfSpace → ℤ) (ts : List Multiple) → is_one_to_four (length ts) ≡ true → ArePositive ts → AllByRecursion (λ h. pos 0 <ℤ F h) (half_spaces_of ts) → pos 0 <ℤ weighted_sum F ts
+sum_pos F [] e p h = absurd (none_not_some e)
+sum_pos F (t ∷ ts) e p h =
+    more_pos t.factor (F t.of) (weighted_sum F ts) p.0 h.0
+    (weighted_sum_nonneg F ts p.1 (all_map (λ h. pos 0 <ℤ F h) (λ h. pos 0 ≤ℤ F h) (λ h l. nonneg_of_pos_ℤ (F h) l) (half_spaces_of ts) h.1))
 
 not_positive : (d w : ℤ) → d ≤ℤ pos 0 → pos 0 <ℤ w → (d *ℤ w) ≤ℤ pos 0
 not_positive d w n p =
@@ -84,29 +73,35 @@ pub certificate-to : (strict : Bool) (cell : List HalfSpace) (ts : List Multiple
 certificate-to strict cell ts e =
     let abc = and_first _ (is_contradiction strict ts) e in
     let ab = and_first _ (is_balanced ts) abc in
-    let balanced = and_second _ (is_balanced ts) abc in
-    let two = and_first _ (is_zero (weighted_sum (λ h. h.c) ts)) balanced in
+    let b = balanced-to ts (and_second _ (is_balanced ts) abc) in
     record {
       some = and_first (is_one_to_four (length ts)) _ ab;
       terms = and_second (is_one_to_four (length ts)) _ ab;
-      a = zero_is (weighted_sum (λ h. h.a) ts) (and_first (is_zero (weighted_sum (λ h. h.a) ts)) _ two);
-      b = zero_is (weighted_sum (λ h. h.b) ts) (and_second (is_zero (weighted_sum (λ h. h.a) ts)) _ two);
-      c = zero_is (weighted_sum (λ h. h.c) ts) (and_second _ (is_zero (weighted_sum (λ h. h.c) ts)) balanced);
+      a = b.a;
+      b = b.b;
+      c = b.c;
       contradiction = and_second _ (is_contradiction strict ts) e;
     }
 
-module _ (cell : List HalfSpace) (P : HalfSpace → Type 0) (all : AllByRecursion P (with_cube cell)) where
-  term-to : (t : Multiple) → (is_multiplier t.factor && is_listed t.of (with_cube cell)) ≡ true → IsTerm P t
-  term-to t e =
-      (multiplier-to t.factor (and_first (is_multiplier t.factor) _ e), listed-to P t.of (with_cube cell) (and_second (is_multiplier t.factor) _ e) all)
+-- the test of a term of a certificate
+abbrev is_term : List HalfSpace → Multiple → Bool
+is_term hs t = is_multiplier t.factor && is_listed t.of hs
 
-  terms-to : (ts : List Multiple) → list_all (λ t. is_multiplier t.factor && is_listed t.of (with_cube cell)) ts ≡ true → AllByRecursion (IsTerm P) ts
-  terms-to ts e = list_all_is (λ t. is_multiplier t.factor && is_listed t.of (with_cube cell)) (IsTerm P) term-to ts e
+-- the factors of the terms are above 0
+terms_positive : (hs : List HalfSpace) (ts : List Multiple) → list_all (is_term hs) ts ≡ true → ArePositive ts
+terms_positive hs ts e = list_all_is (is_term hs) (λ t. pos 0 <ℤ t.factor) (λ t k. multiplier-to t.factor (and_first (is_multiplier t.factor) _ k)) ts e
+
+-- their half-spaces have what all of the list have
+terms_have : (P : HalfSpace → Type 0) (hs : List HalfSpace) → AllByRecursion P hs → (ts : List Multiple) → list_all (is_term hs) ts ≡ true → AllByRecursion P (half_spaces_of ts)
+terms_have P hs all [] e = tt
+terms_have P hs all (t ∷ ts) e =
+    let here = and_first (is_term hs t) (list_all (is_term hs) ts) e in
+    (listed-to P t.of hs (and_second (is_multiplier t.factor) _ here) all, terms_have P hs all ts (and_second (is_term hs t) (list_all (is_term hs) ts) e))
 
 never_strict : (cell : List HalfSpace) (p : RationalPoint) (ts : List Multiple) → IsSolution true cell p → Certificate true cell ts → ⊥
 never_strict cell p ts s k =
     let all : AllByRecursion (λ h. pos 0 <ℤ side_value h p) (with_cube cell) = list_all_is (λ h. is_positive (side_value h p)) (λ h. pos 0 <ℤ side_value h p) (λ h e. positive_is (side_value h p) e) (with_cube cell) s.1 in
-    let high = sum_pos (λ h. side_value h p) ts k.some (terms-to cell (λ h. pos 0 <ℤ side_value h p) all ts k.terms) in
+    let high = sum_pos (λ h. side_value h p) ts k.some (terms_positive (with_cube cell) ts k.terms) (terms_have (λ h. pos 0 <ℤ side_value h p) (with_cube cell) all ts k.terms) in
     let same = weighted_sum-side p ts in
     let last = only_last (weighted_sum (λ h. h.a) ts) (weighted_sum (λ h. h.b) ts) (weighted_sum (λ h. h.c) ts) (weighted_sum (λ h. h.d) ts) p.x p.y p.z p.w k.a k.b k.c in
     let low = not_positive (weighted_sum (λ h. h.d) ts) p.w (at_most_is (weighted_sum (λ h. h.d) ts) (pos 0) k.contradiction) s.0 in
@@ -118,7 +113,7 @@ never_strict cell p ts s k =
 never_weak : (cell : List HalfSpace) (p : RationalPoint) (ts : List Multiple) → IsSolution false cell p → Certificate false cell ts → ⊥
 never_weak cell p ts s k =
     let all : AllByRecursion (λ h. pos 0 ≤ℤ side_value h p) (with_cube cell) = list_all_is (λ h. is_nonnegative (side_value h p)) (λ h. pos 0 ≤ℤ side_value h p) (λ h e. at_most_is (pos 0) (side_value h p) e) (with_cube cell) s.1 in
-    let high = sum_nonneg (λ h. side_value h p) ts (terms-to cell (λ h. pos 0 ≤ℤ side_value h p) all ts k.terms) in
+    let high = weighted_sum_nonneg (λ h. side_value h p) ts (terms_positive (with_cube cell) ts k.terms) (terms_have (λ h. pos 0 ≤ℤ side_value h p) (with_cube cell) all ts k.terms) in
     let same = weighted_sum-side p ts in
     let last = only_last (weighted_sum (λ h. h.a) ts) (weighted_sum (λ h. h.b) ts) (weighted_sum (λ h. h.c) ts) (weighted_sum (λ h. h.d) ts) p.x p.y p.z p.w k.a k.b k.c in
     let low = is_negative_product (weighted_sum (λ h. h.d) ts) p.w (negative_is (weighted_sum (λ h. h.d) ts) k.contradiction) s.0 in

@@ -3,6 +3,7 @@ use Rattle.std.proofs.Common.{◌≡◌, ℕ, zero, suc, ◌<◌, ◌≤◌, Lis
 use Rattle.std.specs.List.{AllByRecursion}
 use Rattle.rp_model.specs.Geometry.{HalfSpace}
 use Rattle.rp_model.specs.CellLaws.{StandAt, IsSmallerAt, AreRising}
+use Rattle.rp_algebra.proofs.Options.{none_not_some, same_some}
 use Rattle.rp_alternative.proofs.Combination.{Among, none, skip, take}
 use Rattle.rp_alternative.proofs.Dropped.{among_among}
 use Rattle.rp_alternative.proofs.Searched.{among_none}
@@ -98,12 +99,6 @@ pub places-none : (hs : List HalfSpace) → places (among_none hs) ≡ []
 places-none [] = refl
 places-none (h ∷ hs) = ap shifted (places-none hs)
 
-not_there : (k : HalfSpace) → None ≡ Some k → ⊥
-not_there k e = cc
-
-same_item : (x k : HalfSpace) → Some x ≡ Some k → x ≡ k
-same_item x k e = cc
-
 module _ (x : HalfSpace) (hs : List HalfSpace) (rest : (is : List ℕ) (ks : List HalfSpace) → AreRising is → StandAt hs is ks → Embedded hs is ks) where
   -- places that are all above 0
   embed_above : (is : List ℕ) (ks : List HalfSpace) → AllByRecursion (λ i. 0 < i) is → AreRising is → StandAt (x ∷ hs) is ks → (m : Among ks hs) × (shifted (places m) ≡ is)
@@ -127,11 +122,11 @@ pub embed : (hs : List HalfSpace) (is : List ℕ) (ks : List HalfSpace) → AreR
 embed [] [] [] r s = (none, refl)
 embed [] [] (k ∷ ks) r s = absurd s
 embed [] (i ∷ is) [] r s = absurd s
-embed [] (i ∷ is) (k ∷ ks) r s = absurd (not_there k s.0)
+embed [] (i ∷ is) (k ∷ ks) r s = absurd (none_not_some k s.0)
 embed (x ∷ hs) [] [] r s = (among_none (x ∷ hs), places-none (x ∷ hs))
 embed (x ∷ hs) [] (k ∷ ks) r s = absurd s
 embed (x ∷ hs) (i ∷ is) [] r s = absurd s
-embed (x ∷ hs) (zero ∷ is) (k ∷ ks) r s = embed_take x hs (embed hs) is k ks (same_item x k s.0) (above zero is r) (rising_tail zero is r) s.1
+embed (x ∷ hs) (zero ∷ is) (k ∷ ks) r s = embed_take x hs (embed hs) is k ks (same_some x k s.0) (above zero is r) (rising_tail zero is r) s.1
 embed (x ∷ hs) (suc i ∷ is) (k ∷ ks) r s = embed_skip x hs (embed hs) (suc i ∷ is) (k ∷ ks) (suc_above i, above (suc i) is r) r s
 
 -- the same places have the same half-spaces
@@ -141,7 +136,7 @@ same_stand hs [] [] (j ∷ js) s t = absurd t
 same_stand hs [] (k ∷ ks) js s t = absurd s
 same_stand hs (i ∷ is) [] js s t = absurd s
 same_stand hs (i ∷ is) (k ∷ ks) [] s t = absurd t
-same_stand hs (i ∷ is) (k ∷ ks) (j ∷ js) s t = λ n. same_item k j (sym s.0 ∙ t.0) n ∷ same_stand hs is ks js s.1 t.1 n
+same_stand hs (i ∷ is) (k ∷ ks) (j ∷ js) s t = λ n. same_some k j (sym s.0 ∙ t.0) n ∷ same_stand hs is ks js s.1 t.1 n
 
 -- ---- the order of places
 pub smaller_none : (is : List ℕ) → IsSmallerAt is [] → ⊥

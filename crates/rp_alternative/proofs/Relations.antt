@@ -9,27 +9,10 @@ use Rattle.std.specs.List.{AllByRecursion}
 use Rattle.rp_model.specs.Elimination.{half_spaces_of, multiple_of, minors_on_axes, minors_of_two, minors_of_three, minors_of_four}
 use Rattle.rp_algebra.specs.Within.{IsWithin}
 use Rattle.rp_algebra.proofs.Reify.{by_ring_at, eq_by_ring, reify, zeros}
+use Rattle.rp_algebra.proofs.Numbers.{zero_or_not, neg_not_zero, opposite_within}
+use Rattle.rp_algebra.proofs.Tests.{is_zero_true, is_zero_false}
 use Rattle.rp_algebra.proofs.Machine.{within_by, code}
 use Rattle.rp_alternative.proofs.Combination.{IsSmall, greatest_minor}
-
--- ---- tests
-pub zero_or_not : (v : ℤ) → (v ≡ pos 0) ⊎ (v ≡ pos 0 → ⊥)
-zero_or_not v = elim (is_zero v) as (λ t. is_zero v ≡ t → (v ≡ pos 0) ⊎ (v ≡ pos 0 → ⊥)) [
-  | true ↦ λ e. inl (is_zero-true v e)
-  | false ↦ λ e. inr (is_zero-false v e)
-] refl
-  where
-    is_zero-true : (v : ℤ) → is_zero v ≡ true → v ≡ pos 0
-    is_zero-true v e = grind (arith, ints)
-
-    is_zero-false : (v : ℤ) → is_zero v ≡ false → v ≡ pos 0 → ⊥
-    is_zero-false v e z = grind (arith, ints)
-
-pub zero-is : (v : ℤ) → v ≡ pos 0 → is_zero v ≡ true
-zero-is v e = ap is_zero e
-
-pub nonzero-is : (v : ℤ) → (v ≡ pos 0 → ⊥) → is_zero v ≡ false
-nonzero-is v n = grind (arith, ints)
 
 -- ---- which half-spaces depend on each other
 -- the first three coefficients are 0
@@ -87,9 +70,6 @@ last_axis x y u v e =
     let z : pos 1 *ℤ (det2 u x v y -ℤ pos 0) ≡ pos 0 = search zeros in
     eq_by_ring (x ∷ y ∷ u ∷ v ∷ []) z (search reify depth 40 fits 100000) tt
 
-negated_nonzero : (x : ℤ) → (x ≡ pos 0 → ⊥) → neg_ℤ x ≡ pos 0 → ⊥
-negated_nonzero x n e = n (omega (arith, ints))
-
 small_coefficient : (x : ℤ) → IsWithin 16777216 x → IsWithin greatest_minor x
 small_coefficient x h = within_by (search code depth 30 fits 100000) tt
 
@@ -113,38 +93,38 @@ two f g sf sg n p =
     (λ a. ⊎_elim
     (λ b. ⊎_elim
     (λ c. absurd (n (record { a = a; b = b; c = c })))
-    (λ nc. let ta = zero-is f.a a in let tb = zero-is f.b b in record {
+    (λ nc. let ta = is_zero_true f.a a in let tb = is_zero_true f.b b in record {
       m = g.c;
       n = neg_ℤ f.c;
       is = λ i. two_by (ta i) (tb i) f g;
       a = last_axis f.c g.c f.a g.a p.ac;
       b = last_axis f.c g.c f.b g.b p.bc;
       c = own_axis f.c g.c;
-      last = negated_nonzero f.c nc;
+      last = neg_not_zero f.c nc;
       m_small = small_coefficient g.c sg.c;
       n_small = small_negated f.c sf.c;
     })
     (zero_or_not f.c))
-    (λ nb. let ta = zero-is f.a a in let tb = nonzero-is f.b nb in record {
+    (λ nb. let ta = is_zero_true f.a a in let tb = is_zero_false f.b nb in record {
       m = g.b;
       n = neg_ℤ f.b;
       is = λ i. two_by (ta i) (tb i) f g;
       a = last_axis f.b g.b f.a g.a p.ab;
       b = own_axis f.b g.b;
       c = next_axis f.b g.b f.c g.c p.bc;
-      last = negated_nonzero f.b nb;
+      last = neg_not_zero f.b nb;
       m_small = small_coefficient g.b sg.b;
       n_small = small_negated f.b sf.b;
     })
     (zero_or_not f.b))
-    (λ na. let ta = nonzero-is f.a na in record {
+    (λ na. let ta = is_zero_false f.a na in record {
       m = g.a;
       n = neg_ℤ f.a;
       is = λ i. two_by (ta i) (is_zero f.b) f g;
       a = own_axis f.a g.a;
       b = next_axis f.a g.a f.b g.b p.ab;
       c = next_axis f.a g.a f.c g.c p.ac;
-      last = negated_nonzero f.a na;
+      last = neg_not_zero f.a na;
       m_small = small_coefficient g.a sg.a;
       n_small = small_negated f.a sf.a;
     })
@@ -211,7 +191,7 @@ three f g h sf sg sh p z =
     (λ ab. ⊎_elim
     (λ ac. ⊎_elim
     (λ bc. absurd (p (record { ab = ab; ac = ac; bc = bc })))
-    (λ nbc. let t = zero-is (det2 f.a f.b g.a g.b) ab in let u = zero-is (det2 f.a f.c g.a g.c) ac in record {
+    (λ nbc. let t = is_zero_true (det2 f.a f.b g.a g.b) ab in let u = is_zero_true (det2 f.a f.c g.a g.c) ac in record {
       l = det2 g.b g.c h.b h.c;
       m = neg_ℤ (det2 f.b f.c h.b h.c);
       n = det2 f.b f.c g.b g.c;
@@ -225,7 +205,7 @@ three f g h sf sg sh p z =
       n_small = small_det2 f.b f.c g.b g.c sf.b sf.c sg.b sg.c;
     })
     (zero_or_not (det2 f.b f.c g.b g.c)))
-    (λ nac. let t = zero-is (det2 f.a f.b g.a g.b) ab in let u = nonzero-is (det2 f.a f.c g.a g.c) nac in record {
+    (λ nac. let t = is_zero_true (det2 f.a f.b g.a g.b) ab in let u = is_zero_false (det2 f.a f.c g.a g.c) nac in record {
       l = det2 g.a g.c h.a h.c;
       m = neg_ℤ (det2 f.a f.c h.a h.c);
       n = det2 f.a f.c g.a g.c;
@@ -239,7 +219,7 @@ three f g h sf sg sh p z =
       n_small = small_det2 f.a f.c g.a g.c sf.a sf.c sg.a sg.c;
     })
     (zero_or_not (det2 f.a f.c g.a g.c)))
-    (λ nab. let t = nonzero-is (det2 f.a f.b g.a g.b) nab in record {
+    (λ nab. let t = is_zero_false (det2 f.a f.b g.a g.b) nab in record {
       l = det2 g.a g.b h.a h.b;
       m = neg_ℤ (det2 f.a f.b h.a h.b);
       n = det2 f.a f.b g.a g.b;
@@ -287,9 +267,6 @@ small_weight f g h sf sg sh = small_det3 f.a f.b f.c g.a g.b g.c h.a h.b h.c sf.
     small_det3 : (a b c d e f g h i : ℤ) → IsWithin 16777216 a → IsWithin 16777216 b → IsWithin 16777216 c → IsWithin 16777216 d → IsWithin 16777216 e → IsWithin 16777216 f → IsWithin 16777216 g → IsWithin 16777216 h → IsWithin 16777216 i → IsWithin greatest_minor (det3 a b c d e f g h i)
     small_det3 a b c d e f g h i ha hb hc hd he hf hg hh hi = within_by (search code depth 30 fits 100000) tt
 
-small_opposite : (x : ℤ) → IsWithin greatest_minor x → IsWithin greatest_minor (neg_ℤ x)
-small_opposite x h = within_by (search code depth 30 fits 100000) tt
-
 pub four : (e f g h : HalfSpace) → IsSmall e → IsSmall f → IsSmall g → IsSmall h → (meeting_weight e f g ≡ pos 0 → ⊥) → Four e f g h
 four e f g h se sf sg sh n = record {
   k = meeting_weight f g h;
@@ -300,11 +277,11 @@ four e f g h se sf sg sh n = record {
   a = first_sum e.a e.b e.c f.a f.b f.c g.a g.b g.c h.a h.b h.c;
   b = second_sum e.a e.b e.c f.a f.b f.c g.a g.b g.c h.a h.b h.c;
   c = third_sum e.a e.b e.c f.a f.b f.c g.a g.b g.c h.a h.b h.c;
-  last = negated_nonzero (meeting_weight e f g) n;
+  last = neg_not_zero (meeting_weight e f g) n;
   k_small = small_weight f g h sf sg sh;
-  l_small = small_opposite (meeting_weight e g h) (small_weight e g h se sg sh);
+  l_small = opposite_within greatest_minor (meeting_weight e g h) (small_weight e g h se sg sh);
   m_small = small_weight e f h se sf sh;
-  n_small = small_opposite (meeting_weight e f g) (small_weight e f g se sf sg);
+  n_small = opposite_within greatest_minor (meeting_weight e f g) (small_weight e f g se sf sg);
 }
 
 -- ---- the factors are small in any case, and their half-spaces are the given ones
@@ -333,4 +310,4 @@ minors_of_three-small f g h sf sg sh = three_by-small (is_zero (det2 f.a f.b g.a
 
 pub minors_of_four-small : (e f g h : HalfSpace) → IsSmall e → IsSmall f → IsSmall g → IsSmall h → AllByRecursion (λ t. IsWithin greatest_minor t.factor) (minors_of_four e f g h)
 minors_of_four-small e f g h se sf sg sh =
-    (small_weight f g h sf sg sh, (small_opposite (meeting_weight e g h) (small_weight e g h se sg sh), (small_weight e f h se sf sh, (small_opposite (meeting_weight e f g) (small_weight e f g se sf sg), tt))))
+    (small_weight f g h sf sg sh, (opposite_within greatest_minor (meeting_weight e g h) (small_weight e g h se sg sh), (small_weight e f h se sf sh, (opposite_within greatest_minor (meeting_weight e f g) (small_weight e f g se sf sg), tt))))

@@ -11,24 +11,21 @@ use Rattle.rp_model.specs.Certificate.{Multiple, weighted_sum}
 use Rattle.rp_model.specs.Elimination.{multiple_of, factors_of, half_spaces_of}
 use Rattle.rp_algebra.proofs.IntLaws.{linear, cancel_mul_left_ℤ, abs_mul}
 use Rattle.rp_alternative.proofs.Combination.{Among, ArePositive}
-use Rattle.rp_alternative.proofs.Relations.{zero_or_not}
 use Rattle.rp_alternative.proofs.Dropped.{HasZero}
 use Rattle.rp_alternative.proofs.Leaning.{Leaning, kept, leaned, cut, weighted_sum-cut, KeepsPositive, LeansDown, Cut, tightest}
 use Rattle.rp_alternative.proofs.Settle.{Related, Outcome, shorter, up, down, settle, Shorter, LeansAllUp, LeansAllDown, cut_zero}
-use Rattle.rp_algebra.proofs.Divisors.{DividesAll, gcd_of-divides, gcd_of-times}
-use Rattle.rp_algebra.proofs.LowestTerms.{exact_quotient}
+use Rattle.rp_algebra.proofs.Divisors.{gcd_of-divides, gcd_of-times}
+use Rattle.rp_algebra.proofs.LowestTerms.{AreMultiples, multiples_from_divides}
+use Rattle.rp_algebra.proofs.Numbers.{zero_or_not}
 
 -- ---- the lowest terms
 -- the factors have no common divisor but 1
 abbrev pub IsLowest : List Multiple → Type 0
-IsLowest ts = (d : ℕ) → AllByRecursion (λ v. (k : ℤ) × (v ≡ pos d *ℤ k)) (factors_of ts) → d ≡ 1
+IsLowest ts = (d : ℕ) → AreMultiples d (factors_of ts) → d ≡ 1
 
-all_quotients : (g : ℕ) (ts : List Multiple) → ArePositive ts → DividesAll g (factors_of ts) → AllByRecursion (λ v. (k : ℤ) × (v ≡ pos g *ℤ k)) (factors_of ts)
-all_quotients g [] p d = tt
-all_quotients g (t ∷ ts) p d = ((reduced_by g t.factor, sym (exact_quotient g t.factor d.0)), all_quotients g ts p.1 d.1)
-
-pub lowest-gcd : (ts : List Multiple) → ArePositive ts → IsLowest ts → gcd_of (factors_of ts) ≡ 1
-lowest-gcd ts p l = l (gcd_of (factors_of ts)) (all_quotients (gcd_of (factors_of ts)) ts p (gcd_of-divides (factors_of ts)))
+-- their greatest common divisor is 1
+pub lowest-gcd : (ts : List Multiple) → IsLowest ts → gcd_of (factors_of ts) ≡ 1
+lowest-gcd ts l = l (gcd_of (factors_of ts)) (multiples_from_divides (gcd_of (factors_of ts)) (factors_of ts) (gcd_of-divides (factors_of ts)))
 
 -- ---- proportional factors
 -- s times each factor of the sum is k times that of the relation

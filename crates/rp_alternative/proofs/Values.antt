@@ -10,17 +10,20 @@ use Rattle.rp_model.specs.Certificate.{Multiple, weighted_sum, is_balanced, is_c
 use Rattle.rp_model.specs.Vertex.{det2}
 use Rattle.rp_model.specs.Elimination.{multiple_of, factors_of, half_spaces_of, negated_terms, reduced_terms, normal_terms, minors_of_two, minors_of_three, minors_of_four, is_refutation, terms_if, refutation_of_one, refutation_of_two, refutation_of_three, refutation_of_four}
 use Rattle.rp_model.specs.CellLaws.{Refute}
-use Rattle.rp_algebra.proofs.IntLaws.{linear, abs_mul}
+use Rattle.rp_algebra.proofs.IntLaws.{nonneg_of_pos_ℤ}
 use Rattle.rp_alternative.proofs.Combination.{Among, none, take, ArePositive, IsSmall, Contradiction, IsCandidate}
-use Rattle.rp_alternative.proofs.Sums.{weighted_sum-mixed}
+use Rattle.rp_alternative.proofs.Sums.{weighted_sum-mixed, length-half_spaces}
 use Rattle.rp_alternative.proofs.Cone.{among_all}
 use Rattle.rp_alternative.proofs.Relations.{two_by, three_by}
 use Rattle.rp_alternative.proofs.Reduction.{reduce}
 use Rattle.rp_algebra.proofs.Tests.{and_first, and_second, positive_is, negative_is, at_most_is, zero_is}
 use Rattle.rp_algebra.proofs.Listed.{list_all_is}
-use Rattle.rp_algebra.proofs.Divisors.{DividesAll, gcd_of-divides, gcd_of-greatest, divisor_positive}
-use Rattle.rp_algebra.proofs.LowestTerms.{exact_quotient}
-use Rattle.rp_alternative.proofs.Lowest.{divided, Refutes, refutation-from, balanced-from, refutes_normal, refutes_normal_negated, half_spaces_of-normal}
+use Rattle.rp_algebra.proofs.Numbers.{above_not_zero}
+use Rattle.rp_algebra.proofs.Options.{none_not_some}
+use Rattle.rp_algebra.proofs.Divisors.{gcd_of-one, gcd_of-positive_head}
+use Rattle.rp_algebra.proofs.LowestTerms.{quotients, quotient_of_zero, lowest-gcd, one_from_lowest, divides_from_multiples}
+use Rattle.rp_alternative.proofs.Tests.{balanced-from, balanced-to}
+use Rattle.rp_alternative.proofs.Lowest.{divided, Refutes, refutation-from, refutes_normal, refutes_normal_negated, half_spaces_of-normal}
 use Rattle.rp_alternative.proofs.Unique.{IsLowest}
 use Rattle.rp_alternative.proofs.Alternative.{great, offset_of}
 use Rattle.rp_alternative.proofs.Found.{terms_if-is, refuting}
@@ -35,45 +38,23 @@ refutation_of strict (e ∷ f ∷ g ∷ h ∷ []) = refutation_of_four strict e 
 refutation_of strict (e ∷ f ∷ g ∷ h ∷ i ∷ hs) = None
 
 -- ---- lowest terms
-quotient_positive : (g : ℕ) (v : ℤ) → pos 0 <ℤ reduced_by g v → pos 0 <ℤ v
-quotient_positive g (pos n) p = let s = div-le_self n g in omega (arith, ints, s, p)
-quotient_positive g (negsuc n) p = let s = div-le_self (suc n) g in absurd (omega (arith, ints, s, p))
+-- the factors of the divided terms are the quotients of the factors
+factors_of-divided : (g : ℕ) (ts : List Multiple) → factors_of (divided g ts) ≡ quotients g (factors_of ts)
+factors_of-divided g [] = refl
+factors_of-divided g (t ∷ ts) = ap (λ vs. reduced_by g t.factor ∷ vs) (factors_of-divided g ts)
 
-undivided_positive : (g : ℕ) (ts : List Multiple) → ArePositive (divided g ts) → ArePositive ts
-undivided_positive g [] p = tt
-undivided_positive g (t ∷ ts) p = (quotient_positive g t.factor p.0, undivided_positive g ts p.1)
+-- a factor whose quotient is above 0 is not 0
+not_zero_divided : (g : ℕ) (v : ℤ) → pos 0 <ℤ reduced_by g v → v ≡ pos 0 → ⊥
+not_zero_divided g v p e = above_not_zero (reduced_by g v) p (ap (reduced_by g) e ∙ quotient_of_zero g)
 
--- d times g divides a number whose quotient by g is d times k
-multiple_divides : (d g : ℕ) (v q k : ℤ) → pos g *ℤ q ≡ v → q ≡ pos d *ℤ k → d * g ∣ nat_abs v
-multiple_divides d g v q k e f =
-    let a = abs_mul (pos g) q in
-    let b = abs_mul (pos d) k in
-    subst (λ x. d * g ∣ x) (joined (nat_abs k) (nat_abs q) (nat_abs v) (sym (ap nat_abs e) ∙ a) (ap nat_abs f ∙ b)) (dvd-mul_right (d * g) (nat_abs k))
-  where
-    regroup : (k : ℕ) → d * g * k ≡ g * (d * k)
-    regroup k = omega arith
-
-    joined : (k q v : ℕ) → v ≡ g * q → q ≡ d * k → d * g * k ≡ v
-    joined k q v e f = regroup k ∙ sym (ap (λ x. g * x) f) ∙ sym e
-
-all_multiples : (d g : ℕ) (ts : List Multiple) → ArePositive ts → DividesAll g (factors_of ts) → AllByRecursion (λ v. (k : ℤ) × (v ≡ pos d *ℤ k)) (factors_of (divided g ts)) → DividesAll (d * g) (factors_of ts)
-all_multiples d g [] p h m = tt
-all_multiples d g (t ∷ ts) p h m = (multiple_divides d g t.factor (reduced_by g t.factor) m.0.0 (exact_quotient g t.factor h.0) m.0.1, all_multiples d g ts p.1 h.1 m.1)
-
-size_positive : (v : ℤ) → pos 0 <ℤ v → 0 < nat_abs v
-size_positive v h = omega (arith, ints, h)
-
-one_time : (g : ℕ) → g ≡ 1 * g
-one_time g = omega arith
-
+-- terms divided by the greatest common divisor of their factors are in lowest terms
 lowest_reduced : (t : Multiple) (ts : List Multiple) → ArePositive (reduced_terms (t ∷ ts)) → IsLowest (reduced_terms (t ∷ ts))
 unfolding reduced_terms
 lowest_reduced t ts p d m =
-    let g = gcd_of (factors_of (t ∷ ts)) in
-    let divides = gcd_of-divides (factors_of (t ∷ ts)) in
-    let raw = undivided_positive g (t ∷ ts) p in
-    let whole = gcd_of-greatest (d * g) (factors_of (t ∷ ts)) (all_multiples d g (t ∷ ts) raw divides m) in
-    eq-one_of_dvd-one (dvd_of_mul-dvd-mul_right d (divisor_positive g (nat_abs t.factor) (size_positive t.factor raw.0) divides.0) (subst (λ x. d * g ∣ x) (one_time g) whole))
+    let vs = factors_of (t ∷ ts) in
+    let g = gcd_of vs in
+    let one = ap gcd_of (factors_of-divided g (t ∷ ts)) ∙ lowest-gcd vs (gcd_of-positive_head t.factor (factors_of ts) (not_zero_divided g t.factor p.0)) in
+    one_from_lowest d (factors_of (divided g (t ∷ ts))) one (divides_from_multiples d (factors_of (divided g (t ∷ ts))) m)
 
 lowest_normal : (t : Multiple) (ts : List Multiple) → ArePositive (normal_terms (t ∷ ts)) → IsLowest (normal_terms (t ∷ ts))
 lowest_normal t ts =
@@ -83,22 +64,18 @@ lowest_normal t ts =
     ]
 
 lowest_one : (h : HalfSpace) → IsLowest (multiple_of (pos 1) h ∷ [])
-lowest_one h d m = eq-one_of_dvd-one (one_multiple d m.0.0 m.0.1)
-  where
-    one_multiple : (d : ℕ) (k : ℤ) → pos 1 ≡ pos d *ℤ k → d ∣ 1
-    one_multiple d k e = subst (λ x. d ∣ x) (sym (ap nat_abs e ∙ abs_mul (pos d) k)) (dvd-mul_right d (nat_abs k))
+lowest_one h d m = one_from_lowest d (pos 1 ∷ []) (gcd_of-one (pos 1)) (divides_from_multiples d (pos 1 ∷ []) m)
 
 -- ---- the value
 refutation-to : (strict : Bool) (ts : List Multiple) → is_refutation strict ts ≡ true → Refutes strict ts
 refutation-to strict ts e =
     let pb = and_first _ (is_contradiction strict ts) e in
-    let balanced = and_second _ (is_balanced ts) pb in
-    let two = and_first _ (is_zero (weighted_sum (λ h. h.c) ts)) balanced in
+    let b = balanced-to ts (and_second _ (is_balanced ts) pb) in
     record {
       positive = list_all_is (λ t. is_positive t.factor) (λ t. pos 0 <ℤ t.factor) (λ t f. positive_is t.factor f) ts (and_first _ (is_balanced ts) pb);
-      a = zero_is (weighted_sum (λ h. h.a) ts) (and_first (is_zero (weighted_sum (λ h. h.a) ts)) _ two);
-      b = zero_is (weighted_sum (λ h. h.b) ts) (and_second (is_zero (weighted_sum (λ h. h.a) ts)) _ two);
-      c = zero_is (weighted_sum (λ h. h.c) ts) (and_second _ (is_zero (weighted_sum (λ h. h.c) ts)) balanced);
+      a = b.a;
+      b = b.b;
+      c = b.c;
       contradiction = and_second _ (is_contradiction strict ts) e;
     }
 
@@ -130,19 +107,16 @@ three_by-of false t f g h = refl
 three_by-of true false f g h = refl
 three_by-of true true f g h = refl
 
-not_some : (us : List Multiple) → None ≡ Some us → ⊥
-not_some us e = cc
-
 pub value_of : (strict : Bool) (ks : List HalfSpace) (us : List Multiple) → refutation_of strict ks ≡ Some us → Value strict ks us
 unfolding refutation_of_one refutation_of_two refutation_of_three refutation_of_four
-value_of strict [] us e = absurd (not_some us e)
+value_of strict [] us e = absurd (none_not_some us e)
 value_of strict (h ∷ []) us e =
     let r = terms_if-is strict (multiple_of (pos 1) h ∷ []) us e in
     subst (λ vs. Value strict (h ∷ []) vs) r.0 (record { same = refl; some = omega arith; refutes = refutation-to strict (multiple_of (pos 1) h ∷ []) r.1; lowest = lowest_one h })
 value_of strict (g ∷ h ∷ []) us e = value_normal strict (g ∷ h ∷ []) (minors_of_two g h) us (two_by-of (is_zero g.a) (is_zero g.b) g h) (omega arith) e
 value_of strict (f ∷ g ∷ h ∷ []) us e = value_normal strict (f ∷ g ∷ h ∷ []) (minors_of_three f g h) us (three_by-of (is_zero (det2 f.a f.b g.a g.b)) (is_zero (det2 f.a f.c g.a g.c)) f g h) (omega arith) e
 value_of strict (d ∷ f ∷ g ∷ h ∷ []) us e = value_normal strict (d ∷ f ∷ g ∷ h ∷ []) (minors_of_four d f g h) us refl (omega arith) e
-value_of strict (d ∷ f ∷ g ∷ h ∷ i ∷ hs) us e = absurd (not_some us e)
+value_of strict (d ∷ f ∷ g ∷ h ∷ i ∷ hs) us e = absurd (none_not_some us e)
 
 -- ---- where there is a value
 terms_if-hit : (strict : Bool) (ts : List Multiple) → is_refutation strict ts ≡ true → terms_if strict ts ≡ Some ts
@@ -184,10 +158,7 @@ one_more v s p n = omega (arith, ints)
 
 factors_nonneg : (ts : List Multiple) → ArePositive ts → pos 0 ≤ℤ weighted_sum (λ h. pos 1) ts
 factors_nonneg [] p = omega (arith, ints)
-factors_nonneg (t ∷ ts) p = weaker _ (one_more t.factor (weighted_sum (λ h. pos 1) ts) p.0 (factors_nonneg ts p.1))
-  where
-    weaker : (v : ℤ) → pos 0 <ℤ v → pos 0 ≤ℤ v
-    weaker v h = omega (arith, linear, h)
+factors_nonneg (t ∷ ts) p = nonneg_of_pos_ℤ _ (one_more t.factor (weighted_sum (λ h. pos 1) ts) p.0 (factors_nonneg ts p.1))
 
 factors_positive : (ts : List Multiple) → 0 < length ts → ArePositive ts → pos 0 <ℤ weighted_sum (λ h. pos 1) ts
 factors_positive [] n p = absurd (omega (arith, n))
@@ -201,20 +172,6 @@ negative_offset true ts r =
     subst (λ v. v <ℤ pos 0) (sym (weighted_sum-mixed great (negsuc 0) (λ h. h.d) (λ h. pos 1) ts))
     (low_offset (weighted_sum (λ h. h.d) ts) (weighted_sum (λ h. pos 1) ts) (at_most_is (weighted_sum (λ h. h.d) ts) (pos 0) r.3) (factors_positive ts r.0 r.1))
 negative_offset false ts r = negative_is (weighted_sum (λ h. h.d) ts) r.3
-
-pub record Balanced (ts : List Multiple) : Type 0 where
-  pub a : weighted_sum (λ h. h.a) ts ≡ pos 0
-  pub b : weighted_sum (λ h. h.b) ts ≡ pos 0
-  pub c : weighted_sum (λ h. h.c) ts ≡ pos 0
-
-pub balanced-to : (ts : List Multiple) → is_balanced ts ≡ true → Balanced ts
-balanced-to ts e =
-    let two = and_first _ (is_zero (weighted_sum (λ h. h.c) ts)) e in
-    record {
-      a = zero_is (weighted_sum (λ h. h.a) ts) (and_first (is_zero (weighted_sum (λ h. h.a) ts)) _ two);
-      b = zero_is (weighted_sum (λ h. h.b) ts) (and_second (is_zero (weighted_sum (λ h. h.a) ts)) _ two);
-      c = zero_is (weighted_sum (λ h. h.c) ts) (and_second _ (is_zero (weighted_sum (λ h. h.c) ts)) e);
-    }
 
 pub hit_contradiction : (strict : Bool) (hs : List HalfSpace) → AllByRecursion IsSmall hs → (m : Contradiction (offset_of strict) hs) → Hit strict (half_spaces_of m.terms)
 hit_contradiction strict hs small m =
@@ -233,13 +190,9 @@ pub hit_refute : (strict : Bool) (hs : List HalfSpace) → AllByRecursion IsSmal
 unfolding contradiction_of
 hit_refute strict hs small ts m r = hit_contradiction strict hs small (contradiction_of strict hs ts m r)
 
-length_of : (ts : List Multiple) → length (half_spaces_of ts) ≡ length ts
-length_of [] = refl
-length_of (t ∷ ts) = ap suc (length_of ts)
-
 -- a value refutes
 pub value_refutes : (strict : Bool) (ks : List HalfSpace) (us : List Multiple) → Value strict ks us → Refute strict us
 value_refutes strict ks us v =
     let n = v.some in
-    let l = sym (length_of us) ∙ ap length v.same in
+    let l = sym (length-half_spaces us) ∙ ap length v.same in
     (subst (λ x. 0 < x) (sym l) n, v.refutes.positive, balanced-from us v.refutes.a v.refutes.b v.refutes.c, v.refutes.contradiction)
