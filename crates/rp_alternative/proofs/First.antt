@@ -1,5 +1,5 @@
 -- The search finds the first outside certificate, and it is the only first one.
-use Rattle.std.proofs.Common.{◌≡◌, ℕ, zero, suc, ◌<◌, ◌≤◌, pos, ◌<ℤ◌, Bool, List, [], ◌∷◌, length, ◌⊎◌, inl, inr, ⊎_elim, Option, Some, None, refl, sym, ap, ◌∙◌, subst, arith}
+use Rattle.std.proofs.Common.{◌≡◌, ℕ, zero, suc, ◌<◌, pos, ◌<ℤ◌, Bool, List, [], ◌∷◌, length, inl, inr, ⊎_elim, Option, Some, None, refl, sym, ap, ◌∙◌, subst, arith}
 use Rattle.std.specs.Prelude.{IfSome}
 use Rattle.std.specs.List.{AllByRecursion}
 use Rattle.rp_model.specs.Geometry.{HalfSpace, with_cube}
@@ -22,7 +22,7 @@ use Rattle.rp_alternative.proofs.Alternative.{offset_of}
 use Rattle.rp_alternative.proofs.Values.{refutation_of, value_of, Hit, hit_contradiction, hit_refute, negative_offset, value_refutes}
 use Rattle.rp_alternative.proofs.Tests.{balanced-to}
 
--- ---- a sublist with a value, before which none has one
+-- a sublist with a value, before which none has one
 pub record FirstAll (strict : Bool) (hs : List HalfSpace) (us : List Multiple) : Type 0 where
   pub items : List HalfSpace
   pub at : Among items hs
@@ -30,6 +30,7 @@ pub record FirstAll (strict : Bool) (hs : List HalfSpace) (us : List Multiple) :
   pub first : (ks : List HalfSpace) (m : Among ks hs) → ComesBefore (places m) (places at) → refutation_of strict ks ≡ None
 
 module _ (strict : Bool) (hs : List HalfSpace) where
+  -- the search of a level
   abbrev level : ℕ → Option (List Multiple)
   level k = first_sub k (refutation_of strict) hs
 
@@ -41,21 +42,25 @@ module _ (strict : Bool) (hs : List HalfSpace) where
   by_levels : first_refutation strict hs ≡ or_else (level 1) (or_else (level 2) (or_else (level 3) (level 4)))
   by_levels = λ i. or_else (first_of-is (refutation_of strict) hs i) (or_else (first_of_pairs-is (refutation_of strict) hs i) (or_else (first_of_triples-is (refutation_of strict) hs i) (first_of_quadruples-is (refutation_of strict) hs i)))
 
+  -- level 0 has no value
   below_one : NoneBelow 1
   below_one zero h = refl
   below_one (suc j) h = absurd (omega (arith, h))
 
+  -- level 1 is the only one before level 2 to ask
   below_two : level 1 ≡ None → NoneBelow 2
   below_two e zero h = refl
   below_two e (suc zero) h = e
   below_two e (suc (suc j)) h = absurd (omega (arith, h))
 
+  -- the levels below 3
   below_three : level 1 ≡ None → level 2 ≡ None → NoneBelow 3
   below_three e f zero h = refl
   below_three e f (suc zero) h = e
   below_three e f (suc (suc zero)) h = f
   below_three e f (suc (suc (suc j))) h = absurd (omega (arith, h))
 
+  -- the levels below 4
   below_four : level 1 ≡ None → level 2 ≡ None → level 3 ≡ None → NoneBelow 4
   below_four e f g zero h = refl
   below_four e f g (suc zero) h = e
@@ -65,6 +70,7 @@ module _ (strict : Bool) (hs : List HalfSpace) where
 
   module _ (us : List Multiple) where
     -- ---- what the search finds
+    -- what is found at a level is before all others
     none_before : (k : ℕ) → NoneBelow k → (r : FirstSub k (refutation_of strict) hs us) (ks : List HalfSpace) (m : Among ks hs) → ComesBefore (places m) (places r.at) → refutation_of strict ks ≡ None
     none_before k below r ks m b =
         let l = length-places m in
@@ -74,11 +80,13 @@ module _ (strict : Bool) (hs : List HalfSpace) where
         (λ fewer. missed_sub (length ks) (refutation_of strict) hs (below (length ks) (omega (arith, fewer, l, n, many))) ks m refl)
         (λ s. r.first ks m (sym l ∙ s.0 ∙ n ∙ many) s.1) b
 
+    -- so it is the first of all
     at_level : (k : ℕ) → NoneBelow k → level k ≡ Some us → FirstAll strict hs us
     at_level k below e =
         let r = found_sub k (refutation_of strict) hs us e in
         record { items = r.items; at = r.at; value = r.value; first = none_before k below r }
 
+    -- what the search finds is the first of all
     pub found_all : first_refutation strict hs ≡ Some us → FirstAll strict hs us
     found_all e =
         ⊎_elim
@@ -93,6 +101,7 @@ module _ (strict : Bool) (hs : List HalfSpace) where
         (or_else_found (level 1) (or_else (level 2) (or_else (level 3) (level 4))) us (sym by_levels ∙ e))
 
     -- ---- what is first is found
+    -- the first of all is the first of its level
     as_sub : (r : FirstAll strict hs us) → FirstSub (length r.items) (refutation_of strict) hs us
     as_sub r = record {
       items = r.items;
@@ -102,6 +111,7 @@ module _ (strict : Bool) (hs : List HalfSpace) where
       first = λ ks m l s. r.first ks m (inr (length-places m ∙ l ∙ sym (length-places r.at), s));
     }
 
+    -- a smaller level has no value
     no_level : (r : FirstAll strict hs us) (j : ℕ) → j < length r.items → (o : Option (List Multiple)) → level j ≡ o → level j ≡ None
     no_level r j h None e = e
     no_level r j h (Some vs) e =
@@ -111,6 +121,7 @@ module _ (strict : Bool) (hs : List HalfSpace) where
         let many = q.many in
         absurd (none_not_some vs (sym (r.first q.items q.at (inl (omega (arith, h, l, n, many)))) ∙ q.value))
 
+    -- the search comes to the level of its number of items
     by_items : (items : List HalfSpace) → refutation_of strict items ≡ Some us → NoneBelow (length items) → level (length items) ≡ Some us → or_else (level 1) (or_else (level 2) (or_else (level 3) (level 4))) ≡ Some us
     by_items [] v below e = absurd (none_not_some us v)
     by_items (h ∷ []) v below e = λ i. or_else (e i) (or_else (level 2) (or_else (level 3) (level 4)))
@@ -119,12 +130,14 @@ module _ (strict : Bool) (hs : List HalfSpace) where
     by_items (d ∷ f ∷ g ∷ h ∷ []) v below e = λ i. or_else (below 1 (omega arith) i) (or_else (below 2 (omega arith) i) (or_else (below 3 (omega arith) i) (e i)))
     by_items (d ∷ f ∷ g ∷ h ∷ k ∷ ks) v below e = absurd (none_not_some us v)
 
+    -- the first of all is found
     pub hit_all : FirstAll strict hs us → first_refutation strict hs ≡ Some us
     hit_all r =
         by_levels
         ∙ by_items r.items r.value (λ j h. no_level r j h (level j) refl) (hit_sub (length r.items) (refutation_of strict) hs us (as_sub r))
 
 -- ---- a part of earlier places has earlier places
+-- a part of a list at earlier places stands at earlier places
 part_before : {js ks hs : List HalfSpace} (j : Among js ks) (m : Among ks hs) (qs : List ℕ) → ComesBefore (places m) qs → ComesBefore (places (among_among j m)) qs
 part_before {js} {ks} j m qs b =
     let l = among_length j in
@@ -136,11 +149,13 @@ part_before {js} {ks} j m qs b =
     (same_or_less (length js) (length ks) l)
 
 module _ (strict : Bool) (cell : List HalfSpace) (bounds : AreHalfSpaces cell) where
+  -- the half-spaces of the list are small
   small : AllByRecursion IsSmall (with_cube cell)
   small = small_with_cube cell bounds
 
   -- ---- what is found is first
   module _ (us : List Multiple) (r : FirstAll strict (with_cube cell) us) where
+    -- no factors at earlier places refute
     none_refutes : (earlier : List ℕ) (others : List Multiple) → AreRising earlier → ComesBefore earlier (places r.at) → StandAt (with_cube cell) earlier (half_spaces_of others) → Refute strict others → ⊥
     none_refutes earlier others rising before stand refute =
         let m = embed (with_cube cell) earlier (half_spaces_of others) rising stand in
@@ -148,6 +163,7 @@ module _ (strict : Bool) (cell : List HalfSpace) (bounds : AreHalfSpaces cell) w
         let b = part_before h.among m.0 (places r.at) (subst (λ is. ComesBefore is (places r.at)) (sym m.1) before) in
         none_not_some h.terms (sym (r.first h.items (among_among h.among m.0) b) ∙ h.value)
 
+    -- so it is the first outside certificate
     is_first : IsFirstOutside strict cell us
     is_first =
         let v = value_of strict r.items us r.value in
@@ -160,6 +176,7 @@ module _ (strict : Bool) (cell : List HalfSpace) (bounds : AreHalfSpaces cell) w
           first = none_refutes;
         }
 
+  -- what the search finds is first
   pub found-first : (us : List Multiple) → first_outside strict cell ≡ Some us → IsFirstOutside strict cell us
   unfolding first_outside
   found-first us e = is_first us (found_all strict (with_cube cell) us e)
@@ -173,6 +190,7 @@ module _ (strict : Bool) (cell : List HalfSpace) (bounds : AreHalfSpaces cell) w
         let v = value_of strict ks vs e in
         absurd (i.first (places m) vs (rising_places m) b (subst (λ gs. StandAt (with_cube cell) (places m) gs) (sym v.same) (stand_places m)) (value_refutes strict ks vs v))
 
+    -- the half-spaces of the terms stand in the list at their places
     standing : (m : Among (half_spaces_of ts) (with_cube cell)) × (places m ≡ i.places)
     standing = embed (with_cube cell) i.places (half_spaces_of ts) i.rising i.stand
 
@@ -185,6 +203,7 @@ module _ (strict : Bool) (cell : List HalfSpace) (bounds : AreHalfSpaces cell) w
         let n = ap length s.1 in
         some_not_none us (sym e ∙ no_value ks m (inl (omega (arith, l, p, q, n))) (refutation_of strict ks) refl)
 
+    -- no contradiction has fewer terms
     no_shorter : Shorter (offset_of strict) (with_cube cell) (length ts) → ⊥
     no_shorter s =
         let h = hit_contradiction strict (with_cube cell) small s.0 in
@@ -194,6 +213,7 @@ module _ (strict : Bool) (cell : List HalfSpace) (bounds : AreHalfSpaces cell) w
         let fewer = s.1 in
         no_part h.items (among_among h.among s.0.among) (omega (arith, l, n, k, fewer)) h.terms h.value
 
+    -- some part of the terms has a value
     whole_hit : Hit strict (half_spaces_of ts)
     whole_hit = hit_refute strict (with_cube cell) small ts standing.0 i.refute
 
@@ -207,6 +227,7 @@ module _ (strict : Bool) (cell : List HalfSpace) (bounds : AreHalfSpaces cell) w
         (same_or_less (length h.items) (length (half_spaces_of ts)) l)
 
     module _ (us : List Multiple) (e : refutation_of strict (half_spaces_of ts) ≡ Some us) where
+      -- the value is the first of all
       first_all : FirstAll strict (with_cube cell) us
       first_all = record {
         items = half_spaces_of ts;
@@ -215,10 +236,12 @@ module _ (strict : Bool) (cell : List HalfSpace) (bounds : AreHalfSpaces cell) w
         first = λ ks m b. no_value ks m (subst (λ is. ComesBefore (places m) is) standing.1 b) (refutation_of strict ks) refl;
       }
 
+      -- positive factors of the sum
       keeps_from : (es : List Leaning) → ArePositive (kept es) → KeepsPositive es
       keeps_from [] p = tt
       keeps_from (x ∷ es) p = (p.0, keeps_from es p.1)
 
+      -- positive factors of the relation
       leans_from : (es : List Leaning) → ArePositive (leaned es) → LeansAllUp es
       leans_from [] p = tt
       leans_from (x ∷ es) p = (p.0, leans_from es p.1)
@@ -247,14 +270,17 @@ module _ (strict : Bool) (cell : List HalfSpace) (bounds : AreHalfSpaces cell) w
           ∙ same_twins (offset_of strict) (with_cube cell) t (ap (λ vs. gcd_of (factors_of vs)) z.1 ∙ lowest-gcd ts i.lowest) (ap (λ vs. gcd_of (factors_of vs)) z.2 ∙ lowest-gcd us v.lowest)
           ∙ z.2
 
+    -- the first outside certificate is found
     pub first-found : first_outside strict cell ≡ Some ts
     unfolding first_outside
     first-found =
         let w = is_whole whole_hit in
         hit_all strict (with_cube cell) w.0 (first_all w.0 w.1) ∙ ap Some (sym (same_as_value w.0 w.1))
 
+  -- both halves, of one cell
   pub first_outside_is_first_of : IfSome (first_outside strict cell) (λ us. IsFirstOutside strict cell us) × ((ts : List Multiple) → IsFirstOutside strict cell ts → first_outside strict cell ≡ Some ts)
   first_outside_is_first_of = (if_some (λ us. IsFirstOutside strict cell us) (first_outside strict cell) found-first, first-found)
 
+-- the law
 pub first_outside_is_first_spec : FirstOutsideIsFirst
 first_outside_is_first_spec strict cell bounds = first_outside_is_first_of strict cell bounds

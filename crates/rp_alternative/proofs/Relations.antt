@@ -1,6 +1,5 @@
 -- Relations between the first three coefficients of two, three and four half-spaces: the signed minors.
-use Rattle.std.proofs.Common.{◌≡◌, ℤ, pos, negsuc, neg_ℤ, ◌+ℤ◌, ◌-ℤ◌, ◌*ℤ◌, Bool, true, false, List, [], ◌∷◌, ◌⊎◌, inl, inr, ⊎_elim, refl, ap, arith}
-use Rattle.std.proofs.lemmas.Int.{ints}
+use Rattle.std.proofs.Common.{◌≡◌, ℤ, pos, negsuc, neg_ℤ, ◌+ℤ◌, ◌-ℤ◌, ◌*ℤ◌, Bool, true, false, List, [], ◌∷◌, ◌⊎◌, inl, inr, ⊎_elim, refl}
 use Rattle.rp_algebra.specs.Integer.{is_zero}
 use Rattle.rp_model.specs.Geometry.{HalfSpace}
 use Rattle.rp_model.specs.Certificate.{Multiple}
@@ -27,6 +26,7 @@ pub record AreParallel (f g : HalfSpace) : Type 0 where
   pub ac : det2 f.a f.c g.a g.c ≡ pos 0
   pub bc : det2 f.b f.c g.b g.c ≡ pos 0
 
+-- a half-space is flat or not
 pub flat_or_not : (f : HalfSpace) → IsFlat f ⊎ (IsFlat f → ⊥)
 flat_or_not f =
     ⊎_elim
@@ -35,6 +35,7 @@ flat_or_not f =
     (λ n. inr (λ h. n h.b)) (zero_or_not f.b))
     (λ n. inr (λ h. n h.a)) (zero_or_not f.a)
 
+-- two half-spaces are parallel or not
 pub parallel_or_not : (f g : HalfSpace) → AreParallel f g ⊎ (AreParallel f g → ⊥)
 parallel_or_not f g =
     ⊎_elim
@@ -56,23 +57,27 @@ pub record Two (f g : HalfSpace) : Type 0 where
   pub m_small : IsWithin greatest_minor m
   pub n_small : IsWithin greatest_minor n
 
--- on its own axis, and on the next and the one before
+-- on its own axis the factors cancel
 own_axis : (x y : ℤ) → y *ℤ x +ℤ (neg_ℤ x *ℤ y +ℤ pos 0) ≡ pos 0
 own_axis x y = by_ring_at (x ∷ y ∷ []) (search reify depth 40 fits 100000) tt
 
+-- on the next axis
 next_axis : (x y u v : ℤ) → det2 x u y v ≡ pos 0 → y *ℤ u +ℤ (neg_ℤ x *ℤ v +ℤ pos 0) ≡ pos 0
 next_axis x y u v e =
     let z : negsuc 0 *ℤ (det2 x u y v -ℤ pos 0) ≡ pos 0 = search zeros in
     eq_by_ring (x ∷ y ∷ u ∷ v ∷ []) z (search reify depth 40 fits 100000) tt
 
+-- on the axis before
 last_axis : (x y u v : ℤ) → det2 u x v y ≡ pos 0 → y *ℤ u +ℤ (neg_ℤ x *ℤ v +ℤ pos 0) ≡ pos 0
 last_axis x y u v e =
     let z : pos 1 *ℤ (det2 u x v y -ℤ pos 0) ≡ pos 0 = search zeros in
     eq_by_ring (x ∷ y ∷ u ∷ v ∷ []) z (search reify depth 40 fits 100000) tt
 
+-- a coefficient is small
 small_coefficient : (x : ℤ) → IsWithin 16777216 x → IsWithin greatest_minor x
 small_coefficient x h = within_by (search code depth 30 fits 100000) tt
 
+-- so is its negative
 small_negated : (x : ℤ) → IsWithin 16777216 x → IsWithin greatest_minor (neg_ℤ x)
 small_negated x h = within_by (search code depth 30 fits 100000) tt
 
@@ -87,6 +92,7 @@ two_by s t f g =
       ]
     ]
 
+-- two parallel half-spaces, of which the first is not flat
 pub two : (f g : HalfSpace) → IsSmall f → IsSmall g → (IsFlat f → ⊥) → AreParallel f g → Two f g
 two f g sf sg n p =
     ⊎_elim
@@ -145,32 +151,37 @@ pub record Three (f g h : HalfSpace) : Type 0 where
   pub m_small : IsWithin greatest_minor m
   pub n_small : IsWithin greatest_minor n
 
--- the sums with the minors on the axes u and v: of u, of v, and of another one, where it is the determinant
+-- the sum on the first of two axes
 first_of_axes : (u v w s x y : ℤ) → det2 w s x y *ℤ u +ℤ (neg_ℤ (det2 u v x y) *ℤ w +ℤ (det2 u v w s *ℤ x +ℤ pos 0)) ≡ pos 0
 first_of_axes u v w s x y = by_ring_at (u ∷ v ∷ w ∷ s ∷ x ∷ y ∷ []) (search reify depth 40 fits 100000) tt
 
+-- the sum on the second
 second_of_axes : (u v w s x y : ℤ) → det2 w s x y *ℤ v +ℤ (neg_ℤ (det2 u v x y) *ℤ s +ℤ (det2 u v w s *ℤ y +ℤ pos 0)) ≡ pos 0
 second_of_axes u v w s x y = by_ring_at (u ∷ v ∷ w ∷ s ∷ x ∷ y ∷ []) (search reify depth 40 fits 100000) tt
 
--- the axes are b and c, a and c, a and b
+-- the sum on the axis of x, by minors on the others
 axis_a : (a b c d e f g h i : ℤ) → det3 a b c d e f g h i ≡ pos 0 → det2 e f h i *ℤ a +ℤ (neg_ℤ (det2 b c h i) *ℤ d +ℤ (det2 b c e f *ℤ g +ℤ pos 0)) ≡ pos 0
 axis_a a b c d e f g h i z =
     let w : pos 1 *ℤ (det3 a b c d e f g h i -ℤ pos 0) ≡ pos 0 = search zeros in
     eq_by_ring (a ∷ b ∷ c ∷ d ∷ e ∷ f ∷ g ∷ h ∷ i ∷ []) w (search reify depth 40 fits 100000) tt
 
+-- the sum on the axis of y
 axis_b : (a b c d e f g h i : ℤ) → det3 a b c d e f g h i ≡ pos 0 → det2 d f g i *ℤ b +ℤ (neg_ℤ (det2 a c g i) *ℤ e +ℤ (det2 a c d f *ℤ h +ℤ pos 0)) ≡ pos 0
 axis_b a b c d e f g h i z =
     let w : negsuc 0 *ℤ (det3 a b c d e f g h i -ℤ pos 0) ≡ pos 0 = search zeros in
     eq_by_ring (a ∷ b ∷ c ∷ d ∷ e ∷ f ∷ g ∷ h ∷ i ∷ []) w (search reify depth 40 fits 100000) tt
 
+-- the sum on the axis of z
 axis_c : (a b c d e f g h i : ℤ) → det3 a b c d e f g h i ≡ pos 0 → det2 d e g h *ℤ c +ℤ (neg_ℤ (det2 a b g h) *ℤ f +ℤ (det2 a b d e *ℤ i +ℤ pos 0)) ≡ pos 0
 axis_c a b c d e f g h i z =
     let w : pos 1 *ℤ (det3 a b c d e f g h i -ℤ pos 0) ≡ pos 0 = search zeros in
     eq_by_ring (a ∷ b ∷ c ∷ d ∷ e ∷ f ∷ g ∷ h ∷ i ∷ []) w (search reify depth 40 fits 100000) tt
 
+-- a minor of second order is small
 small_det2 : (x y u v : ℤ) → IsWithin 16777216 x → IsWithin 16777216 y → IsWithin 16777216 u → IsWithin 16777216 v → IsWithin greatest_minor (det2 x y u v)
 small_det2 x y u v hx hy hu hv = within_by (search code depth 30 fits 100000) tt
 
+-- so is its negative
 small_det2_negated : (x y u v : ℤ) → IsWithin 16777216 x → IsWithin 16777216 y → IsWithin 16777216 u → IsWithin 16777216 v → IsWithin greatest_minor (neg_ℤ (det2 x y u v))
 small_det2_negated x y u v hx hy hu hv = within_by (search code depth 30 fits 100000) tt
 
@@ -185,6 +196,7 @@ three_by s t f g h =
       ]
     ]
 
+-- three half-spaces with the determinant 0, of which the first two are not parallel
 pub three : (f g h : HalfSpace) → IsSmall f → IsSmall g → IsSmall h → (AreParallel f g → ⊥) → meeting_weight f g h ≡ pos 0 → Three f g h
 three f g h sf sg sh p z =
     ⊎_elim
@@ -252,21 +264,26 @@ pub record Four (e f g h : HalfSpace) : Type 0 where
   pub n_small : IsWithin greatest_minor n
 
 module _ (ea eb ec fa fb fc ga gb gc ha hb hc : ℤ) where
+  -- the sum of the first coefficients
   first_sum : det3 fa fb fc ga gb gc ha hb hc *ℤ ea +ℤ (neg_ℤ (det3 ea eb ec ga gb gc ha hb hc) *ℤ fa +ℤ (det3 ea eb ec fa fb fc ha hb hc *ℤ ga +ℤ (neg_ℤ (det3 ea eb ec fa fb fc ga gb gc) *ℤ ha +ℤ pos 0))) ≡ pos 0
   first_sum = by_ring_at (ea ∷ eb ∷ ec ∷ fa ∷ fb ∷ fc ∷ ga ∷ gb ∷ gc ∷ ha ∷ hb ∷ hc ∷ []) (search reify depth 40 fits 100000) tt
 
+  -- the sum of the second coefficients
   second_sum : det3 fa fb fc ga gb gc ha hb hc *ℤ eb +ℤ (neg_ℤ (det3 ea eb ec ga gb gc ha hb hc) *ℤ fb +ℤ (det3 ea eb ec fa fb fc ha hb hc *ℤ gb +ℤ (neg_ℤ (det3 ea eb ec fa fb fc ga gb gc) *ℤ hb +ℤ pos 0))) ≡ pos 0
   second_sum = by_ring_at (ea ∷ eb ∷ ec ∷ fa ∷ fb ∷ fc ∷ ga ∷ gb ∷ gc ∷ ha ∷ hb ∷ hc ∷ []) (search reify depth 40 fits 100000) tt
 
+  -- the sum of the third coefficients
   third_sum : det3 fa fb fc ga gb gc ha hb hc *ℤ ec +ℤ (neg_ℤ (det3 ea eb ec ga gb gc ha hb hc) *ℤ fc +ℤ (det3 ea eb ec fa fb fc ha hb hc *ℤ gc +ℤ (neg_ℤ (det3 ea eb ec fa fb fc ga gb gc) *ℤ hc +ℤ pos 0))) ≡ pos 0
   third_sum = by_ring_at (ea ∷ eb ∷ ec ∷ fa ∷ fb ∷ fc ∷ ga ∷ gb ∷ gc ∷ ha ∷ hb ∷ hc ∷ []) (search reify depth 40 fits 100000) tt
 
+-- a determinant is small
 small_weight : (f g h : HalfSpace) → IsSmall f → IsSmall g → IsSmall h → IsWithin greatest_minor (meeting_weight f g h)
 small_weight f g h sf sg sh = small_det3 f.a f.b f.c g.a g.b g.c h.a h.b h.c sf.a sf.b sf.c sg.a sg.b sg.c sh.a sh.b sh.c
   where
     small_det3 : (a b c d e f g h i : ℤ) → IsWithin 16777216 a → IsWithin 16777216 b → IsWithin 16777216 c → IsWithin 16777216 d → IsWithin 16777216 e → IsWithin 16777216 f → IsWithin 16777216 g → IsWithin 16777216 h → IsWithin 16777216 i → IsWithin greatest_minor (det3 a b c d e f g h i)
     small_det3 a b c d e f g h i ha hb hc hd he hf hg hh hi = within_by (search code depth 30 fits 100000) tt
 
+-- four half-spaces, of which the first three are independent
 pub four : (e f g h : HalfSpace) → IsSmall e → IsSmall f → IsSmall g → IsSmall h → (meeting_weight e f g ≡ pos 0 → ⊥) → Four e f g h
 four e f g h se sf sg sh n = record {
   k = meeting_weight f g h;
@@ -285,6 +302,7 @@ four e f g h se sf sg sh n = record {
 }
 
 -- ---- the factors are small in any case, and their half-spaces are the given ones
+-- 1 is small
 pub small_unit : IsWithin greatest_minor (pos 1)
 small_unit = within_by (search code depth 30 fits 100000) tt
 
@@ -292,22 +310,27 @@ small_unit = within_by (search code depth 30 fits 100000) tt
 abbrev pub AreSmallTermsOf : List HalfSpace → List Multiple → Type 0
 AreSmallTermsOf hs ts = (half_spaces_of ts ≡ hs) × AllByRecursion (λ t. IsWithin greatest_minor t.factor) ts
 
+-- the choice for two has small factors
 two_by-small : (s t : Bool) (f g : HalfSpace) → IsSmall f → IsSmall g → AreSmallTermsOf (f ∷ g ∷ []) (two_by s t f g)
 two_by-small false t f g sf sg = (refl, (small_coefficient g.a sg.a, (small_negated f.a sf.a, tt)))
 two_by-small true false f g sf sg = (refl, (small_coefficient g.b sg.b, (small_negated f.b sf.b, tt)))
 two_by-small true true f g sf sg = (refl, (small_coefficient g.c sg.c, (small_negated f.c sf.c, tt)))
 
+-- so have the minors of two
 pub minors_of_two-small : (f g : HalfSpace) → IsSmall f → IsSmall g → AreSmallTermsOf (f ∷ g ∷ []) (minors_of_two f g)
 minors_of_two-small f g sf sg = two_by-small (is_zero f.a) (is_zero f.b) f g sf sg
 
+-- the choice for three has small factors
 three_by-small : (s t : Bool) (f g h : HalfSpace) → IsSmall f → IsSmall g → IsSmall h → AreSmallTermsOf (f ∷ g ∷ h ∷ []) (three_by s t f g h)
 three_by-small false t f g h sf sg sh = (refl, (small_det2 g.a g.b h.a h.b sg.a sg.b sh.a sh.b, (small_det2_negated f.a f.b h.a h.b sf.a sf.b sh.a sh.b, (small_det2 f.a f.b g.a g.b sf.a sf.b sg.a sg.b, tt))))
 three_by-small true false f g h sf sg sh = (refl, (small_det2 g.a g.c h.a h.c sg.a sg.c sh.a sh.c, (small_det2_negated f.a f.c h.a h.c sf.a sf.c sh.a sh.c, (small_det2 f.a f.c g.a g.c sf.a sf.c sg.a sg.c, tt))))
 three_by-small true true f g h sf sg sh = (refl, (small_det2 g.b g.c h.b h.c sg.b sg.c sh.b sh.c, (small_det2_negated f.b f.c h.b h.c sf.b sf.c sh.b sh.c, (small_det2 f.b f.c g.b g.c sf.b sf.c sg.b sg.c, tt))))
 
+-- so have the minors of three
 pub minors_of_three-small : (f g h : HalfSpace) → IsSmall f → IsSmall g → IsSmall h → AreSmallTermsOf (f ∷ g ∷ h ∷ []) (minors_of_three f g h)
 minors_of_three-small f g h sf sg sh = three_by-small (is_zero (det2 f.a f.b g.a g.b)) (is_zero (det2 f.a f.c g.a g.c)) f g h sf sg sh
 
+-- so have the minors of four
 pub minors_of_four-small : (e f g h : HalfSpace) → IsSmall e → IsSmall f → IsSmall g → IsSmall h → AllByRecursion (λ t. IsWithin greatest_minor t.factor) (minors_of_four e f g h)
 minors_of_four-small e f g h se sf sg sh =
     (small_weight f g h sf sg sh, (opposite_within greatest_minor (meeting_weight e g h) (small_weight e g h se sg sh), (small_weight e f h se sf sh, (opposite_within greatest_minor (meeting_weight e f g) (small_weight e f g se sf sg), tt))))

@@ -1,8 +1,6 @@
 -- The value of the search at a sublist of one to four half-spaces: it refutes, and is in lowest terms. Where a sublist refutes, some part of it has a value.
-use Rattle.std.proofs.Common.{◌≡◌, ℕ, suc, ◌*◌, ◌<◌, ℤ, pos, negsuc, neg_ℤ, ◌+ℤ◌, ◌*ℤ◌, ◌≤ℤ◌, ◌<ℤ◌, nat_abs, Bool, true, false, List, [], ◌∷◌, length, Option, Some, None, refl, sym, ap, ◌∙◌, subst, arith}
-use Rattle.std.specs.Int.{◌∣◌}
+use Rattle.std.proofs.Common.{◌≡◌, ℕ, ◌<◌, ℤ, pos, negsuc, neg_ℤ, ◌+ℤ◌, ◌*ℤ◌, ◌≤ℤ◌, ◌<ℤ◌, Bool, true, false, List, [], ◌∷◌, length, Option, Some, None, refl, sym, ap, ◌∙◌, subst, arith}
 use Rattle.std.specs.List.{AllByRecursion}
-use Rattle.std.proofs.Math.Nat.{div-le_self, dvd-mul_right, dvd_of_mul-dvd-mul_right, eq-one_of_dvd-one}
 use Rattle.std.proofs.lemmas.Int.{ints}
 use Rattle.rp_algebra.specs.Integer.{is_zero, is_positive, is_negative, gcd_of, reduced_by}
 use Rattle.rp_model.specs.Geometry.{HalfSpace}
@@ -16,7 +14,7 @@ use Rattle.rp_alternative.proofs.Sums.{weighted_sum-mixed, length-half_spaces}
 use Rattle.rp_alternative.proofs.Cone.{among_all}
 use Rattle.rp_alternative.proofs.Relations.{two_by, three_by}
 use Rattle.rp_alternative.proofs.Reduction.{reduce}
-use Rattle.rp_algebra.proofs.Tests.{and_first, and_second, positive_is, negative_is, at_most_is, zero_is}
+use Rattle.rp_algebra.proofs.Tests.{and_first, and_second, positive_is, negative_is, at_most_is}
 use Rattle.rp_algebra.proofs.Listed.{list_all_is}
 use Rattle.rp_algebra.proofs.Numbers.{above_not_zero}
 use Rattle.rp_algebra.proofs.Options.{none_not_some}
@@ -56,6 +54,7 @@ lowest_reduced t ts p d m =
     let one = ap gcd_of (factors_of-divided g (t ∷ ts)) ∙ lowest-gcd vs (gcd_of-positive_head t.factor (factors_of ts) (not_zero_divided g t.factor p.0)) in
     one_from_lowest d (factors_of (divided g (t ∷ ts))) one (divides_from_multiples d (factors_of (divided g (t ∷ ts))) m)
 
+-- the normal form is in lowest terms
 lowest_normal : (t : Multiple) (ts : List Multiple) → ArePositive (normal_terms (t ∷ ts)) → IsLowest (normal_terms (t ∷ ts))
 lowest_normal t ts =
     elim (is_negative t.factor) as (λ b. ArePositive (elim b [ true ↦ reduced_terms (negated_terms (t ∷ ts)) | false ↦ reduced_terms (t ∷ ts) ]) → IsLowest (elim b [ true ↦ reduced_terms (negated_terms (t ∷ ts)) | false ↦ reduced_terms (t ∷ ts) ])) [
@@ -63,10 +62,12 @@ lowest_normal t ts =
       | false ↦ λ p. lowest_reduced t ts p
     ]
 
+-- 1 is in lowest terms
 lowest_one : (h : HalfSpace) → IsLowest (multiple_of (pos 1) h ∷ [])
 lowest_one h d m = one_from_lowest d (pos 1 ∷ []) (gcd_of-one (pos 1)) (divides_from_multiples d (pos 1 ∷ []) m)
 
 -- ---- the value
+-- terms that pass the test refute
 refutation-to : (strict : Bool) (ts : List Multiple) → is_refutation strict ts ≡ true → Refutes strict ts
 refutation-to strict ts e =
     let pb = and_first _ (is_contradiction strict ts) e in
@@ -86,6 +87,7 @@ pub record Value (strict : Bool) (ks : List HalfSpace) (us : List Multiple) : Ty
   pub refutes : Refutes strict us
   pub lowest : IsLowest us
 
+-- a value in normal form
 value_normal : (strict : Bool) (ks : List HalfSpace) (ms us : List Multiple) → half_spaces_of ms ≡ ks → 0 < length ks → terms_if strict (normal_terms ms) ≡ Some us → Value strict ks us
 value_normal strict ks [] us same n e = absurd (nothing ks same n)
   where
@@ -97,16 +99,19 @@ value_normal strict ks (t ∷ ts) us same n e =
     let refutes = refutation-to strict (normal_terms (t ∷ ts)) r.1 in
     subst (λ vs. Value strict ks vs) r.0 (record { same = half_spaces_of-normal (t ∷ ts) ∙ same; some = n; refutes = refutes; lowest = lowest_normal t ts refutes.positive })
 
+-- the choice for two has the two half-spaces
 two_by-of : (s t : Bool) (f g : HalfSpace) → half_spaces_of (two_by s t f g) ≡ f ∷ g ∷ []
 two_by-of false t f g = refl
 two_by-of true false f g = refl
 two_by-of true true f g = refl
 
+-- the choice for three has the three half-spaces
 three_by-of : (s t : Bool) (f g h : HalfSpace) → half_spaces_of (three_by s t f g h) ≡ f ∷ g ∷ h ∷ []
 three_by-of false t f g h = refl
 three_by-of true false f g h = refl
 three_by-of true true f g h = refl
 
+-- what the search has at a sublist is a value
 pub value_of : (strict : Bool) (ks : List HalfSpace) (us : List Multiple) → refutation_of strict ks ≡ Some us → Value strict ks us
 unfolding refutation_of_one refutation_of_two refutation_of_three refutation_of_four
 value_of strict [] us e = absurd (none_not_some us e)
@@ -119,18 +124,23 @@ value_of strict (d ∷ f ∷ g ∷ h ∷ []) us e = value_normal strict (d ∷ f
 value_of strict (d ∷ f ∷ g ∷ h ∷ i ∷ hs) us e = absurd (none_not_some us e)
 
 -- ---- where there is a value
+-- terms that pass are given
 terms_if-hit : (strict : Bool) (ts : List Multiple) → is_refutation strict ts ≡ true → terms_if strict ts ≡ Some ts
 terms_if-hit strict ts e = λ i. elim (e i) [ true ↦ Some ts | false ↦ None ]
 
+-- the search has a value there
 abbrev HasValue : Bool → List HalfSpace → Type 0
 HasValue strict ks = (us : List Multiple) × (refutation_of strict ks ≡ Some us)
 
+-- the normal form of terms that refute is given
 normal_hit : (strict : Bool) (ms : List Multiple) (t : Multiple) (ts : List Multiple) → ms ≡ t ∷ ts → Refutes strict (t ∷ ts) → terms_if strict (normal_terms ms) ≡ Some (normal_terms ms)
 normal_hit strict ms t ts e r = terms_if-hit strict (normal_terms ms) (refutation-from strict (normal_terms ms) (subst (λ us. Refutes strict (normal_terms us)) (sym e) (refutes_normal strict t ts r)))
 
+-- so is that of terms whose negatives refute
 negated_hit : (strict : Bool) (ms : List Multiple) (t : Multiple) (ts : List Multiple) → ms ≡ t ∷ ts → Refutes strict (negated_terms (t ∷ ts)) → terms_if strict (normal_terms ms) ≡ Some (normal_terms ms)
 negated_hit strict ms t ts e r = terms_if-hit strict (normal_terms ms) (refutation-from strict (normal_terms ms) (subst (λ us. Refutes strict (normal_terms us)) (sym e) (refutes_normal_negated strict t ts r)))
 
+-- at the half-spaces of a candidate that refutes there is a value
 candidate_hit : (strict : Bool) (ts : List Multiple) → IsCandidate ts → Refutes strict ts → HasValue strict (half_spaces_of ts)
 unfolding refutation_of_one refutation_of_two refutation_of_three refutation_of_four
 candidate_hit strict ts (IsCandidate.one h) r = (multiple_of (pos 1) h ∷ [], terms_if-hit strict (multiple_of (pos 1) h ∷ []) (refutation-from strict (multiple_of (pos 1) h ∷ []) r))
@@ -149,30 +159,37 @@ pub record Hit (strict : Bool) (ks : List HalfSpace) : Type 0 where
   pub value : refutation_of strict items ≡ Some terms
 
 -- ---- from factors that refute to a value
+-- a list is a part of itself
 among_self : (hs : List HalfSpace) → Among hs hs
 among_self [] = none
 among_self (h ∷ hs) = take (among_self hs)
 
+-- one positive factor more
 one_more : (v s : ℤ) → pos 0 <ℤ v → pos 0 ≤ℤ s → pos 0 <ℤ (v *ℤ pos 1 +ℤ s)
 one_more v s p n = omega (arith, ints)
 
+-- positive factors add up to at least 0
 factors_nonneg : (ts : List Multiple) → ArePositive ts → pos 0 ≤ℤ weighted_sum (λ h. pos 1) ts
 factors_nonneg [] p = omega (arith, ints)
 factors_nonneg (t ∷ ts) p = nonneg_of_pos_ℤ _ (one_more t.factor (weighted_sum (λ h. pos 1) ts) p.0 (factors_nonneg ts p.1))
 
+-- one or more add up to more than 0
 factors_positive : (ts : List Multiple) → 0 < length ts → ArePositive ts → pos 0 <ℤ weighted_sum (λ h. pos 1) ts
 factors_positive [] n p = absurd (omega (arith, n))
 factors_positive (t ∷ ts) n p = one_more t.factor (weighted_sum (λ h. pos 1) ts) p.0 (factors_nonneg ts p.1)
 
+-- N times a number at most 0, less one above 0, is below 0
 low_offset : (s k : ℤ) → s ≤ℤ pos 0 → pos 0 <ℤ k → (great *ℤ s +ℤ k *ℤ negsuc 0) <ℤ pos 0
 low_offset s k h l = omega (arith, ints)
 
+-- where factors refute, the offsets add up to less than 0
 pub negative_offset : (strict : Bool) (ts : List Multiple) → Refute strict ts → weighted_sum (offset_of strict) ts <ℤ pos 0
 negative_offset true ts r =
     subst (λ v. v <ℤ pos 0) (sym (weighted_sum-mixed great (negsuc 0) (λ h. h.d) (λ h. pos 1) ts))
     (low_offset (weighted_sum (λ h. h.d) ts) (weighted_sum (λ h. pos 1) ts) (at_most_is (weighted_sum (λ h. h.d) ts) (pos 0) r.3) (factors_positive ts r.0 r.1))
 negative_offset false ts r = negative_is (weighted_sum (λ h. h.d) ts) r.3
 
+-- a part of a contradiction has a value
 pub hit_contradiction : (strict : Bool) (hs : List HalfSpace) → AllByRecursion IsSmall hs → (m : Contradiction (offset_of strict) hs) → Hit strict (half_spaces_of m.terms)
 hit_contradiction strict hs small m =
     let ks = half_spaces_of m.terms in
@@ -180,6 +197,7 @@ hit_contradiction strict hs small m =
     let v = candidate_hit strict r.of.terms r.candidate (refuting strict ks r) in
     record { items = half_spaces_of r.of.terms; among = r.of.among; terms = v.0; value = v.1 }
 
+-- factors that refute are a contradiction
 contradiction_of : (strict : Bool) (hs : List HalfSpace) (ts : List Multiple) → Among (half_spaces_of ts) hs → Refute strict ts → Contradiction (offset_of strict) hs
 contradiction_of strict hs ts m r =
     let b = balanced-to ts r.2 in

@@ -19,24 +19,31 @@ abbrev pub sum_point : List RationalPoint → RationalPoint
 sum_point [] = point_of (pos 0) (pos 0) (pos 0) (pos 0)
 sum_point (p ∷ ps) = point_of (p.x +ℤ (sum_point ps).x) (p.y +ℤ (sum_point ps).y) (p.z +ℤ (sum_point ps).z) (p.w +ℤ (sum_point ps).w)
 
+-- the sum of no points has the value 0
 side_none : (h : HalfSpace) → side_value h (sum_point []) ≡ pos 0
 side_none h = by_ring_at (h.a ∷ h.b ∷ h.c ∷ h.d ∷ []) (search reify depth 40 fits 100000) tt
 
+-- the value at a sum of two points is the sum of the values
 side_more_of : (a b c d x y z w s t u v : ℤ) → a *ℤ (x +ℤ s) +ℤ b *ℤ (y +ℤ t) +ℤ c *ℤ (z +ℤ u) +ℤ d *ℤ (w +ℤ v) ≡ (a *ℤ x +ℤ b *ℤ y +ℤ c *ℤ z +ℤ d *ℤ w) +ℤ (a *ℤ s +ℤ b *ℤ t +ℤ c *ℤ u +ℤ d *ℤ v)
 side_more_of a b c d x y z w s t u v = by_ring_at (a ∷ b ∷ c ∷ d ∷ x ∷ y ∷ z ∷ w ∷ s ∷ t ∷ u ∷ v ∷ []) (search reify depth 40 fits 100000) tt
 
+-- the value at the sum of one point more
 side_more : (h : HalfSpace) (p : RationalPoint) (ps : List RationalPoint) → side_value h (sum_point (p ∷ ps)) ≡ side_value h p +ℤ side_value h (sum_point ps)
 side_more h p ps = side_more_of h.a h.b h.c h.d p.x p.y p.z p.w (sum_point ps).x (sum_point ps).y (sum_point ps).z (sum_point ps).w
 
+-- a sum of numbers at least 0 is at least 0
 sum_at_least : (s u v : ℤ) → s ≡ u +ℤ v → pos 0 ≤ℤ u → pos 0 ≤ℤ v → pos 0 ≤ℤ s
 sum_at_least s u v e h k = omega (arith, linear, e)
 
+-- a sum is above 0 where the first number is and the second is at least 0
 sum_above_first : (s u v : ℤ) → s ≡ u +ℤ v → pos 0 <ℤ u → pos 0 ≤ℤ v → pos 0 <ℤ s
 sum_above_first s u v e h k = omega (arith, linear, e)
 
+-- a sum is above 0 where the second number is and the first is at least 0
 sum_above_second : (s u v : ℤ) → s ≡ u +ℤ v → pos 0 ≤ℤ u → pos 0 <ℤ v → pos 0 <ℤ s
 sum_above_second s u v e h k = omega (arith, linear, e)
 
+-- a half-space that is negative at none of the points is not negative at their sum
 sum_nonnegative : (h : HalfSpace) (ps : List RationalPoint) → is_nonnegative_at_all ps h ≡ true → pos 0 ≤ℤ side_value h (sum_point ps)
 sum_nonnegative h [] e = nonneg_of_zero (side_value h (sum_point [])) (side_none h)
 sum_nonnegative h (p ∷ ps) e =
@@ -44,6 +51,7 @@ sum_nonnegative h (p ∷ ps) e =
     (nonnegative_is (side_value h p) (and_first (is_nonnegative (side_value h p)) (is_nonnegative_at_all ps h) e))
     (sum_nonnegative h ps (and_second (is_nonnegative (side_value h p)) (is_nonnegative_at_all ps h) e))
 
+-- a half-space that is also positive at one of them is positive at their sum
 sum_positive : (h : HalfSpace) (ps : List RationalPoint) → is_nonnegative_at_all ps h ≡ true → is_positive_at_some ps h ≡ true → pos 0 <ℤ side_value h (sum_point ps)
 sum_positive h [] e k = absurd (cc)
 sum_positive h (p ∷ ps) e k =
@@ -56,13 +64,16 @@ sum_positive h (p ∷ ps) e k =
 
 -- ---- a point at which all half-spaces of the list are positive is a member
 
+-- a half-space that is positive at a point holds it
 pub held_by_positive : (h : HalfSpace) (p : RationalPoint) → pos 0 <ℤ side_value h p → holds h p ≡ true
 held_by_positive h p k = let e = is_positive_true (side_value h p) k in rw e
 
+-- a point that all half-spaces of a cell hold passes the test of the cell
 pub cell_passes : (cell : List HalfSpace) (p : RationalPoint) → ((h : HalfSpace) → Listed h cell → holds h p ≡ true) → passes (shape_of_cell cell) p ≡ true
 cell_passes [] p k = refl
 cell_passes (h ∷ cell) p k = and_true (holds h p) (passes (shape_of_cell cell) p) (k h first) (cell_passes cell p (λ g l. k g (later l)))
 
+-- a point at which all half-spaces of the list are positive is a member of the cell
 pub positive_is_member : (cell : List HalfSpace) (p : RationalPoint) → IsPoint p → ((h : HalfSpace) → Listed h (with_cube cell) → pos 0 <ℤ side_value h p) → IsMember (shape_of_cell cell) p
 positive_is_member cell p w k = (
   w,
@@ -78,6 +89,7 @@ weight_of m x y z w hm h k =
     let both : pos 0 ≤ℤ (m +ℤ m) = search signs in
     pos_of_mul_pos_ℤ (m +ℤ m) w both (omega (arith, linear, e, h, k))
 
+-- the sum of the points of an inside certificate is a member of the cell
 pub certificate_shows_member : (cell : List HalfSpace) (points : List RationalPoint) → is_inside_certificate cell points ≡ true → IsNonempty (shape_of_cell cell)
 certificate_shows_member cell points e = (q, positive_is_member cell q weight each)
   where

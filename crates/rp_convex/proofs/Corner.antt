@@ -20,21 +20,27 @@ pub record Falls (d : Direction) : Type 0 where
   pub listed : Listed plane cube_half_spaces
   pub falls : along plane d <ℤ pos 0
 
+-- the lower side of x falls where x does
 falls_x : (x y z : ℤ) → x <ℤ pos 0 → (pos 1 *ℤ x +ℤ pos 0 *ℤ y +ℤ pos 0 *ℤ z) <ℤ pos 0
 falls_x x y z h = omega (arith, ints)
 
+-- the upper side of x falls where x rises
 rises_x : (x y z : ℤ) → pos 0 <ℤ x → (negsuc 0 *ℤ x +ℤ pos 0 *ℤ y +ℤ pos 0 *ℤ z) <ℤ pos 0
 rises_x x y z h = omega (arith, ints)
 
+-- the lower side of y falls where y does
 falls_y : (x y z : ℤ) → y <ℤ pos 0 → (pos 0 *ℤ x +ℤ pos 1 *ℤ y +ℤ pos 0 *ℤ z) <ℤ pos 0
 falls_y x y z h = omega (arith, ints)
 
+-- the upper side of y falls where y rises
 rises_y : (x y z : ℤ) → pos 0 <ℤ y → (pos 0 *ℤ x +ℤ negsuc 0 *ℤ y +ℤ pos 0 *ℤ z) <ℤ pos 0
 rises_y x y z h = omega (arith, ints)
 
+-- the lower side of z falls where z does
 falls_z : (x y z : ℤ) → z <ℤ pos 0 → (pos 0 *ℤ x +ℤ pos 0 *ℤ y +ℤ pos 1 *ℤ z) <ℤ pos 0
 falls_z x y z h = omega (arith, ints)
 
+-- the upper side of z falls where z rises
 rises_z : (x y z : ℤ) → pos 0 <ℤ z → (pos 0 *ℤ x +ℤ pos 0 *ℤ y +ℤ negsuc 0 *ℤ z) <ℤ pos 0
 rises_z x y z h = omega (arith, ints)
 
@@ -56,12 +62,15 @@ cube_falls d (by_z n) =
     (⊎_elim (λ e. absurd (n e)) (λ g. record { plane = _; listed = later (later (later (later (later first)))); falls = rises_z d.x d.y d.z g }))
     (trichotomy_ℤ d.z (pos 0))
 
+-- the change along the opposite direction, over plain numbers
 turned_along : (a b c x y z : ℤ) → a *ℤ neg_ℤ x +ℤ b *ℤ neg_ℤ y +ℤ c *ℤ neg_ℤ z ≡ neg_ℤ (a *ℤ x +ℤ b *ℤ y +ℤ c *ℤ z)
 turned_along a b c x y z = by_ring_at (a ∷ b ∷ c ∷ x ∷ y ∷ z ∷ []) (search reify depth 40 fits 100000) tt
 
+-- along the opposite direction a half-space changes by the opposite
 pub along-turned : (h : HalfSpace) (d : Direction) → along h (turned d) ≡ neg_ℤ (along h d)
 along-turned h d = turned_along h.a h.b h.c d.x d.y d.z
 
+-- the opposite of a direction that is not zero is not zero
 turned_moving : (d : Direction) → IsMoving d → IsMoving (turned d)
 turned_moving d (by_x n) = by_x (λ e. n (zero_of_neg d.x e))
 turned_moving d (by_y n) = by_y (λ e. n (zero_of_neg d.y e))
@@ -117,6 +126,7 @@ as_great_further u v t w s r hw hs hr h k =
     let m : pos 0 ≤ℤ (r *ℤ (v *ℤ w -ℤ u *ℤ s) +ℤ w *ℤ (t *ℤ s -ℤ v *ℤ r)) = search signs in
     le_by_multiple (u ∷ v ∷ t ∷ w ∷ s ∷ r ∷ []) {k = s} hs m (search reify depth 40 fits 100000) tt
 
+-- as great is transitive over points
 pub across_further : (f : HalfSpace) (p q r : RationalPoint) → IsPoint p → IsPoint q → IsPoint r
     → value_across f p q ≤ℤ value_across f q p → value_across f q r ≤ℤ value_across f r q → value_across f p r ≤ℤ value_across f r p
 across_further f p q r hp hq hr h k = as_great_further (side_value f p) (side_value f q) (side_value f r) p.w q.w r.w hp hq hr h k
@@ -125,6 +135,7 @@ across_further f p q r hp hq hr h k = as_great_further (side_value f p) (side_va
 abbrev along_x : Direction
 along_x = record { x = pos 1; y = pos 0; z = pos 0 }
 
+-- along x a half-space changes by its first coefficient
 change_x : (a b c : ℤ) → a *ℤ pos 1 +ℤ b *ℤ pos 0 +ℤ c *ℤ pos 0 ≡ a
 change_x a b c = by_ring_at (a ∷ b ∷ c ∷ []) (search reify depth 40 fits 100000) tt
 
@@ -132,9 +143,11 @@ change_x a b c = by_ring_at (a ∷ b ∷ c ∷ []) (search reify depth 40 fits 1
 abbrev pub in_plane : HalfSpace → Direction
 in_plane g = record { x = neg_ℤ g.b; y = g.a; z = pos 0 }
 
+-- the plane itself does not change along it
 pub in_plane_flat : (g : HalfSpace) → along g (in_plane g) ≡ pos 0
 in_plane_flat g = by_ring_at (g.a ∷ g.b ∷ g.c ∷ []) (search reify depth 40 fits 100000) tt
 
+-- another plane changes along it by the determinant of the first two coefficients
 in_plane_change : (a b u v t : ℤ) → u *ℤ neg_ℤ b +ℤ v *ℤ a +ℤ t *ℤ pos 0 ≡ a *ℤ v -ℤ b *ℤ u
 in_plane_change a b u v t = by_ring_at (a ∷ b ∷ u ∷ v ∷ t ∷ []) (search reify depth 40 fits 100000) tt
 
@@ -142,15 +155,19 @@ in_plane_change a b u v t = by_ring_at (a ∷ b ∷ u ∷ v ∷ t ∷ []) (searc
 abbrev pub along_line : HalfSpace → HalfSpace → Direction
 along_line g h = record { x = g.b *ℤ h.c -ℤ g.c *ℤ h.b; y = g.c *ℤ h.a -ℤ g.a *ℤ h.c; z = g.a *ℤ h.b -ℤ g.b *ℤ h.a }
 
+-- the first plane does not change along the line
 pub line_in_first : (f g : HalfSpace) → along f (along_line f g) ≡ pos 0
 line_in_first f g = by_ring_at (f.a ∷ f.b ∷ f.c ∷ g.a ∷ g.b ∷ g.c ∷ []) (search reify depth 40 fits 100000) tt
 
+-- the second plane does not change along the line
 pub line_in_second : (f g : HalfSpace) → along g (along_line f g) ≡ pos 0
 line_in_second f g = by_ring_at (f.a ∷ f.b ∷ f.c ∷ g.a ∷ g.b ∷ g.c ∷ []) (search reify depth 40 fits 100000) tt
 
+-- a third plane changes along the line by the determinant of the three
 pub line_change : (f g h : HalfSpace) → along h (along_line f g) ≡ meeting_weight f g h
 line_change f g h = by_ring_at (f.a ∷ f.b ∷ f.c ∷ g.a ∷ g.b ∷ g.c ∷ h.a ∷ h.b ∷ h.c ∷ []) (search reify depth 40 fits 100000) tt
 
+-- so where it changes, the determinant is not zero
 independent_of : (f g h : HalfSpace) → (along h (along_line f g) ≡ pos 0 → ⊥) → meeting_weight f g h ≡ pos 0 → ⊥
 independent_of f g h n e = n (line_change f g h ∙ e)
 

@@ -23,16 +23,19 @@ combined : (h : HalfSpace) (u v t s : Direction) →
     turn u v t *ℤ along h s ≡ along h u *ℤ turn s v t +ℤ along h v *ℤ turn u s t +ℤ along h t *ℤ turn u v s
 combined h u v t s = by_ring_at (h.a ∷ h.b ∷ h.c ∷ u.x ∷ u.y ∷ u.z ∷ v.x ∷ v.y ∷ v.z ∷ t.x ∷ t.y ∷ t.z ∷ s.x ∷ s.y ∷ s.z ∷ []) (search reify depth 40 fits 100000) tt
 
--- the determinant of a triangle of numbers
+-- the determinant of a triangle of numbers is their product
 triangle : (a b c d e f g h i : ℤ) → b ≡ pos 0 → c ≡ pos 0 → f ≡ pos 0 → det3 a b c d e f g h i ≡ a *ℤ e *ℤ i
 triangle a b c d e f g h i eb ec ef = rw (eb, ec, ef) (by_ring_at (a ∷ d ∷ e ∷ g ∷ h ∷ i ∷ []) (search reify depth 40 fits 100000) tt)
 
+-- the product of three numbers above 0 is above 0
 positive_product : (a e i : ℤ) → pos 0 <ℤ a → pos 0 <ℤ e → pos 0 <ℤ i → pos 0 <ℤ (a *ℤ e *ℤ i)
 positive_product a e i ha he hi = search signs
 
+-- a multiple of 0 is 0
 zero_product : (m k : ℤ) → k ≡ pos 0 → m *ℤ k ≡ pos 0
 zero_product m k e = rw e (by_ring_at (m ∷ []) (search reify depth 40 fits 100000) tt)
 
+-- a factor of 0 is 0 where the other is not
 swapped_zero : (t v : ℤ) → (v ≡ pos 0 → ⊥) → t *ℤ v ≡ pos 0 → t ≡ pos 0
 swapped_zero t v n e = cancel_mul_ne_ℤ v t n (by_ring_at (t ∷ v ∷ []) (search reify depth 40 fits 100000) tt ∙ e)
 
@@ -50,21 +53,26 @@ no_four f g h k u v t s fu gu gv hu hv ht ku kv kt ks =
 abbrev toward : RationalPoint → RationalPoint → Direction
 toward p q = record { x = p.w *ℤ q.x -ℤ q.w *ℤ p.x; y = p.w *ℤ q.y -ℤ q.w *ℤ p.y; z = p.w *ℤ q.z -ℤ q.w *ℤ p.z }
 
+-- how a half-space changes from one point to another
 along_toward : (h : HalfSpace) (p q : RationalPoint) → along h (toward p q) ≡ p.w *ℤ side_value h q -ℤ q.w *ℤ side_value h p
 along_toward h p q = by_ring_at (h.a ∷ h.b ∷ h.c ∷ h.d ∷ p.x ∷ p.y ∷ p.z ∷ p.w ∷ q.x ∷ q.y ∷ q.z ∷ q.w ∷ []) (search reify depth 40 fits 100000) tt
 
+-- a difference of multiples of 0 is 0
 level_of : (w s v u : ℤ) → s ≡ pos 0 → u ≡ pos 0 → w *ℤ s -ℤ v *ℤ u ≡ pos 0
 level_of w s v u es eu = rw (es, eu) (by_ring_at (w ∷ v ∷ []) (search reify depth 40 fits 100000) tt)
 
+-- a positive multiple less a multiple of 0 is positive
 rising_of : (w s v u : ℤ) → pos 0 <ℤ w → pos 0 <ℤ s → u ≡ pos 0 → pos 0 <ℤ (w *ℤ s -ℤ v *ℤ u)
 rising_of w s v u hw hs eu =
     let p : pos 0 <ℤ (w *ℤ s) = search signs in
     let z : v *ℤ u ≡ pos 0 = zero_product v u eu in
     omega (arith, linear, p, z)
 
+-- a half-space that is 0 at both points does not change between them
 level : (h : HalfSpace) (p q : RationalPoint) → side_value h p ≡ pos 0 → side_value h q ≡ pos 0 → along h (toward p q) ≡ pos 0
 level h p q e k = along_toward h p q ∙ level_of p.w (side_value h q) q.w (side_value h p) k e
 
+-- a half-space that is 0 at the first and positive at the second rises between them
 rising : (h : HalfSpace) (p q : RationalPoint) → IsPoint p → side_value h p ≡ pos 0 → pos 0 <ℤ side_value h q → pos 0 <ℤ along h (toward p q)
 rising h p q w e k = subst (λ (v : ℤ). pos 0 <ℤ v) (sym (along_toward h p q)) (rising_of p.w (side_value h q) q.w (side_value h p) w k e)
 
@@ -80,6 +88,7 @@ abbrev pub AreNew : List RationalPoint → Type 0
 AreNew [] = Unit {0}
 AreNew (p ∷ ps) = IsNew p ps × AreNew ps
 
+-- five points that are new one after the other contradict each other
 no_five : (p q r s t : RationalPoint) (ps : List RationalPoint) → AreNew (t ∷ s ∷ r ∷ q ∷ p ∷ ps) → ⊥
 no_five p q r s t ps (nt, (ns, (nr, (nq, (np, others))))) =
     no_four nq.plane nr.plane ns.plane nt.plane (toward p q) (toward p r) (toward p s) (toward p t)
@@ -94,6 +103,7 @@ no_five p q r s t ps (nt, (ns, (nr, (nq, (np, others))))) =
     (level nt.plane p s (nt.zero p (later (later (later first)))) (nt.zero s first))
     (rising nt.plane p t np.point (nt.zero p (later (later (later first)))) nt.positive)
 
+-- so there are at most four
 pub at_most_four : (ps : List RationalPoint) → AreNew ps → length ps ≤ 4
 at_most_four [] n = omega arith
 at_most_four (p ∷ []) n = omega arith

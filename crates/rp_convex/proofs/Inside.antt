@@ -1,5 +1,5 @@
 -- From a member of a cell to a point at which every half-space of its list is positive.
-use Rattle.std.proofs.Common.{◌≡◌, ℤ, pos, negsuc, ◌+◌, ◌-◌, ◌+ℤ◌, ◌*ℤ◌, ◌≤ℤ◌, ◌<ℤ◌, true, ◌&&◌, ◌⊎◌, inl, inr, ⊎_elim, List, [], ◌∷◌, sym, ◌∙◌, subst}
+use Rattle.std.proofs.Common.{◌≡◌, ℤ, pos, ◌+ℤ◌, ◌*ℤ◌, ◌≤ℤ◌, ◌<ℤ◌, true, ◌&&◌, ◌⊎◌, inl, inr, ⊎_elim, List, [], ◌∷◌, sym, ◌∙◌, subst}
 use Rattle.rp_algebra.specs.Integer.{is_zero, is_positive}
 use Rattle.rp_model.specs.Geometry.{RationalPoint, HalfSpace, IsPoint, IsHalfSpace, point_of, half_edge, cube_bound, side_value, owns_boundary, holds, with_cube, cube_half_spaces, is_cube_point}
 use Rattle.rp_model.specs.Shape.{passes, shape_of_cell, IsMember}
@@ -64,6 +64,7 @@ member_held cell p (w, e) h l =
     (λ i. all_pass (λ h. holds h p) cube_half_spaces (cube_half_spaces_hold_cube_spec p w ∙ and_first (is_cube_point p) (passes (shape_of_cell cell) p) e) h i)
     (listed_cases h cell cube_half_spaces l)
 
+-- the same of all half-spaces of the list of a cell
 list_above : (cell : List HalfSpace) → AreHalfSpaces cell → (h : HalfSpace) → Listed h (with_cube cell) → AreAbove cube_bound h
 list_above cell k h l = above_of h (all_of IsHalfSpace (with_cube cell) (with_cube_bounds cell k) h l)
 
@@ -76,6 +77,7 @@ pub record MovesInside (cell : List HalfSpace) (p : RationalPoint) : Type 0 wher
   pub y : (p.y *ℤ to.w) <ℤ (to.y *ℤ p.w)
   pub z : (p.z *ℤ to.w) <ℤ (to.z *ℤ p.w)
 
+-- each member moves inside
 pub moves_from : (cell : List HalfSpace) (p : RationalPoint) → AreHalfSpaces cell → IsMember (shape_of_cell cell) p → MovesInside cell p
 moves_from cell p k (w, e) = record {
   to = moved r p;
@@ -95,6 +97,7 @@ moves_from cell p k (w, e) = record {
     each : (h : HalfSpace) → Listed h (with_cube cell) → pos 0 <ℤ side_value h (moved r p)
     each h l = moves_inside h p cube_bound (list_above cell k h l) bound w (member_held cell p (w, e) h l)
 
+-- the law
 pub member_moves_inside_spec : MemberMovesInside
 member_moves_inside_spec cell k (p, m) =
     let q = moves_from cell p k m in

@@ -42,12 +42,15 @@ pub record Progress (hs flat : List HalfSpace) (taken : List RationalPoint) : Ty
 abbrev stays_flat : RationalPoint → HalfSpace → Bool
 stays_flat p h = not (is_positive_at_some (p ∷ []) h)
 
+-- a half-space that is positive at a point is so at one of the points
 rises_there : (h : HalfSpace) (p : RationalPoint) → is_positive (side_value h p) ≡ true → is_positive_at_some (p ∷ []) h ≡ true
 rises_there h p e = rw e
 
+-- such a half-space does not stay flat
 not_flat : (h : HalfSpace) (p : RationalPoint) → is_positive (side_value h p) ≡ true → stays_flat p h ≡ false
 not_flat h p e = rw e
 
+-- one that stays flat is not positive
 flat_not_positive : (b : Bool) → not (b || false) ≡ true → b ≡ false
 flat_not_positive true e = absurd (cc)
 flat_not_positive false e = refl
@@ -65,6 +68,7 @@ rises_or_stays flat p h l = by_test (is_positive (side_value h p)) refl
     by_test true e = inl e
     by_test false e = inr (keeps (stays_flat p) flat h l (ap (λ b. not (b || false)) e))
 
+-- the half-space w > 0 has the weight as its value
 weight_side : (x y z w : ℤ) → pos 0 *ℤ x +ℤ pos 0 *ℤ y +ℤ pos 0 *ℤ z +ℤ pos 1 *ℤ w ≡ w
 weight_side x y z w = by_ring_at (x ∷ y ∷ z ∷ w ∷ []) (search reify depth 40 fits 100000) tt
 
@@ -98,11 +102,13 @@ at_end x y xs l = ⊎_elim inl (λ k. inr (only x y k)) (listed_cases x xs (y �
     only x y first = refl
     only x y (later l) = elim l [ ]
 
+-- a half-space that is positive at a point taken is so after one more
 some_more : (taken : List RationalPoint) (p : RationalPoint) (h : HalfSpace) → is_positive_at_some taken h ≡ true → is_positive_at_some (taken ++ p ∷ []) h ≡ true
 some_more taken p h e =
     let s = some_passes (λ q. is_positive (side_value h q)) taken e in
     passes_some (λ q. is_positive (side_value h q)) (taken ++ p ∷ []) s.item (listed_left s.item taken (p ∷ []) s.listed) s.passes
 
+-- one that is positive at the last point is positive at one of them
 some_last : (taken : List RationalPoint) (p : RationalPoint) (h : HalfSpace) → is_positive (side_value h p) ≡ true → is_positive_at_some (taken ++ p ∷ []) h ≡ true
 some_last taken p h e = passes_some (λ q. is_positive (side_value h q)) (taken ++ p ∷ []) p (listed_right p taken (p ∷ []) first) e
 
@@ -136,6 +142,7 @@ further hs flat taken p g k e = record {
     latest_here q first = listed_right q taken (q ∷ []) first
     latest_here q (later l) = listed_left q taken (p ∷ []) (g.latest_listed q l)
 
+-- a number above 0 and at most 4 passes the test
 one_to_four : (n : ℕ) → 0 < n → n ≤ 4 → is_one_to_four n ≡ true
 one_to_four n h k = grind (arith, nat_tests)
 
@@ -168,6 +175,7 @@ complete_is (suc room) cell (h ∷ flat) taken points g e =
         let v = found_is_vertex (lifts (h ∷ flat)) (with_cube cell) p is in
         rest p (further (with_cube cell) (h ∷ flat) taken p g v.weak v.passes) k
 
+-- what the search finds is an inside certificate
 pub inside_is : (cell : List HalfSpace) (points : List RationalPoint) → first_inside cell ≡ Some points → is_inside_certificate cell points ≡ true
 unfolding first_inside
 inside_is cell points e = by_answer (first_vertex any_point (with_cube cell)) refl e
@@ -185,6 +193,7 @@ pub record IsStrict (hs : List HalfSpace) (p : RationalPoint) : Type 0 where
   pub point : IsPoint p
   pub sides : (h : HalfSpace) → Listed h hs → pos 0 <ℤ side_value h p
 
+-- such a point is in the weak system
 strict_is_weak : (hs : List HalfSpace) (p : RationalPoint) → IsStrict hs p → IsWeak hs p
 strict_is_weak hs p s = record { point = s.point; sides = λ h l. nonneg_of_pos_ℤ (side_value h p) (s.sides h l) }
 
@@ -199,6 +208,7 @@ greater_positive u v w s hu hw hs h =
 lifts_first : (h : HalfSpace) (flat : List HalfSpace) (v : RationalPoint) → pos 0 <ℤ side_value h v → lifts (h ∷ flat) v ≡ true
 lifts_first h flat v k = let e = is_positive_true (side_value h v) k in rw e
 
+-- a vertex is found that lifts the first of the flat half-spaces
 some_lifts : (cell flat : List HalfSpace) (p : RationalPoint) (h : HalfSpace) → IsStrict (with_cube cell) p → Listed h (with_cube cell) → FindsVertex (lifts (h ∷ flat)) (with_cube cell)
 some_lifts cell flat p h s l =
     let c = corner (with_cube cell) h p (with_cube_bounded cell) (strict_is_weak (with_cube cell) p s) in
@@ -215,6 +225,7 @@ fewer flat p room e h =
     below : (m n r : ℕ) → m < n → n ≤ suc r → m ≤ r
     below m n r h k = omega arith
 
+-- so the search ends with points
 pub complete_some : (room : ℕ) (cell flat : List HalfSpace) (taken : List RationalPoint) (p : RationalPoint) → IsStrict (with_cube cell) p
     → ((h : HalfSpace) → Listed h flat → Listed h (with_cube cell)) → length flat ≤ room → is_some (complete_points room (with_cube cell) flat taken) ≡ true
 complete_some room cell [] taken p s l h = refl
@@ -229,9 +240,11 @@ complete_some (suc room) cell (k ∷ flat) taken p s l h =
     ∙ complete_some room cell (flat_half_spaces (k ∷ flat) (f.value ∷ [])) (taken ++ f.value ∷ []) p s
     (λ g m. l g (kept (stays_flat f.value) (k ∷ flat) g m).listed) (fewer (k ∷ flat) f.value room v.passes h)
 
+-- the test of such a point
 strict_of : (cell : List HalfSpace) (p : RationalPoint) → IsPoint p → all_positive (with_cube cell) p ≡ true → IsStrict (with_cube cell) p
 strict_of cell p w e = record { point = w; sides = λ h l. positive_is (side_value h p) (all_pass (λ h. is_positive (side_value h p)) (with_cube cell) e h l) }
 
+-- the search finds points where there is such a point
 pub inside_some : (cell : List HalfSpace) (p : RationalPoint) → IsStrict (with_cube cell) p → is_some (first_inside cell) ≡ true
 unfolding first_inside
 inside_some cell p s =
@@ -241,13 +254,15 @@ inside_some cell p s =
     ∙ complete_some (length (with_cube cell)) cell (flat_half_spaces (with_cube cell) (f.value ∷ [])) (f.value ∷ []) p s
     (λ g m. (kept (stays_flat f.value) (with_cube cell) g m).listed) (not_longer (stays_flat f.value) (with_cube cell))
 
--- the four facts of the search
+-- where the cell has a member the search finds points
 some_if_member : (cell : List HalfSpace) → AreHalfSpaces cell → IsNonempty (shape_of_cell cell) → is_some (first_inside cell) ≡ true
 some_if_member cell k n = let (p, w, e) = member_moves_inside_spec cell k n in inside_some cell p (strict_of cell p w e)
 
+-- where the search finds points the cell has a member
 member_if_some : (cell : List HalfSpace) → is_some (first_inside cell) ≡ true → IsNonempty (shape_of_cell cell)
 member_if_some cell e = let s = known_some (first_inside cell) e in certificate_shows_member cell s.value (inside_is cell s.value s.is)
 
+-- the law
 pub inside_is_found_spec : InsideIsFound
 inside_is_found_spec cell k = record {
   passes = if_some (λ points. is_inside_certificate cell points ≡ true) (first_inside cell) (inside_is cell);

@@ -14,12 +14,12 @@ pub record IsMultipleOf (p r : RationalPoint) : Type 0 where
   pub z : r.z *ℤ factor ≡ p.z
   pub w : r.w *ℤ factor ≡ p.w
 
--- a point in lowest terms is the point
+-- r is a point, and p is a multiple of it
 pub record IsReduced (p r : RationalPoint) : Type 0 where
   pub point : IsPoint r
   pub multiple : IsMultipleOf p r
 
--- the lowest terms of a point are its lowest terms
+-- a point, divided by the greatest common divisor of its numbers, is one of which it is a multiple
 pub reduced_is : (p : RationalPoint) → IsPoint p → IsReduced p (reduced_point p)
 unfolding reduced_point
 reduced_is p h =

@@ -49,6 +49,7 @@ pub record Step (hs : List HalfSpace) (f : HalfSpace) (p : RationalPoint) (d : D
 abbrev pub gone : ℤ → ℤ → RationalPoint → Direction → RationalPoint
 gone u c p d = point_of (neg_ℤ c *ℤ p.x +ℤ u *ℤ d.x) (neg_ℤ c *ℤ p.y +ℤ u *ℤ d.y) (neg_ℤ c *ℤ p.z +ℤ u *ℤ d.z) (neg_ℤ c *ℤ p.w)
 
+-- the value where a plane is met, over plain numbers
 side_gone_of : (ha hb hc hd x y z w dx dy dz u c : ℤ) →
     ha *ℤ (neg_ℤ c *ℤ x +ℤ u *ℤ dx) +ℤ hb *ℤ (neg_ℤ c *ℤ y +ℤ u *ℤ dy) +ℤ hc *ℤ (neg_ℤ c *ℤ z +ℤ u *ℤ dz) +ℤ hd *ℤ (neg_ℤ c *ℤ w)
     ≡ left_at u c (ha *ℤ x +ℤ hb *ℤ y +ℤ hc *ℤ z +ℤ hd *ℤ w) (ha *ℤ dx +ℤ hb *ℤ dy +ℤ hc *ℤ dz)
@@ -58,17 +59,21 @@ side_gone_of ha hb hc hd x y z w dx dy dz u c = by_ring_at (ha ∷ hb ∷ hc ∷
 pub side_gone : (h : HalfSpace) (p : RationalPoint) (d : Direction) (u c : ℤ) → side_value h (gone u c p d) ≡ left_at u c (side_value h p) (along h d)
 side_gone h p d u c = side_gone_of h.a h.b h.c h.d p.x p.y p.z p.w d.x d.y d.z u c
 
+-- the weight there is above 0
 weight_gone : (c w : ℤ) → c <ℤ pos 0 → pos 0 <ℤ w → pos 0 <ℤ (neg_ℤ c *ℤ w)
 weight_gone c w hc hw =
     let n : pos 0 <ℤ neg_ℤ c = omega (arith, ints) in
     search signs
 
+-- the plane that is met comes to 0
 own_left : (u c : ℤ) → left_at u c u c ≡ pos 0
 own_left u c = by_ring_at (u ∷ c ∷ []) (search reify depth 40 fits 100000) tt
 
+-- a plane along the direction through the point stays at 0
 none_left : (u c v e : ℤ) → v ≡ pos 0 → e ≡ pos 0 → left_at u c v e ≡ pos 0
 none_left u c v e hv he = rw (hv, he) (by_ring_at (u ∷ c ∷ []) (search reify depth 40 fits 100000) tt)
 
+-- a function that does not fall is at least as great there
 not_fallen : (v u c e w : ℤ) → pos 0 ≤ℤ u → pos 0 ≤ℤ e → pos 0 <ℤ w → (v *ℤ (neg_ℤ c *ℤ w)) ≤ℤ (left_at u c v e *ℤ w)
 not_fallen v u c e w hu he hw =
     let s : pos 0 ≤ℤ (u *ℤ e *ℤ w) = search signs in

@@ -2,7 +2,6 @@
 use Rattle.std.proofs.Common.{◌≡◌, ℤ, pos, neg_ℤ, ◌+ℤ◌, ◌-ℤ◌, ◌*ℤ◌, ◌<ℤ◌, ◌⊎◌, inl, inr, ⊎_elim, true, false, [], ◌∷◌, sym, ◌∙◌, subst, arith}
 use Rattle.std.specs.Prelude.{Option, Some, None, IfSome, IfNone}
 use Rattle.std.proofs.lemmas.Int.{ints}
-use Rattle.rp_algebra.proofs.IntLaws.{linear}
 use Rattle.rp_algebra.proofs.Reify.{by_ring_at, eq_by_ring, eq_by_multiple, zero_sum, zeros, reify}
 use Rattle.rp_algebra.specs.Integer.{is_positive}
 use Rattle.rp_model.specs.Geometry.{RationalPoint, HalfSpace, IsPoint, SamePlace, point_of, side_value, reduced_point}
@@ -20,6 +19,7 @@ pub record IsStill (d : Direction) : Type 0 where
   pub y : d.y ≡ pos 0
   pub z : d.z ≡ pos 0
 
+-- a direction is zero or not
 pub moving_or_still : (d : Direction) → IsMoving d ⊎ IsStill d
 moving_or_still d =
     ⊎_elim
@@ -42,15 +42,19 @@ pub record CommonDirection (f g h : HalfSpace) : Type 0 where
 abbrev normal : HalfSpace → Direction
 normal h = record { x = h.a; y = h.b; z = h.c }
 
+-- a plane parallel to the first in x and y does not change along (-b, a, 0)
 flat_two : (a b u v t : ℤ) → a *ℤ v -ℤ b *ℤ u ≡ pos 0 → u *ℤ neg_ℤ b +ℤ v *ℤ a +ℤ t *ℤ pos 0 ≡ pos 0
 flat_two a b u v t e = eq_by_ring (a ∷ b ∷ u ∷ v ∷ t ∷ []) e (search reify depth 40 fits 100000) tt
 
+-- the first plane does not change along (c, 0, -a)
 steep_one : (a b c : ℤ) → a *ℤ c +ℤ b *ℤ pos 0 +ℤ c *ℤ neg_ℤ a ≡ pos 0
 steep_one a b c = by_ring_at (a ∷ b ∷ c ∷ []) (search reify depth 40 fits 100000) tt
 
+-- nor does one that is parallel to it in x and z
 steep_two : (a c u v t : ℤ) → c *ℤ u -ℤ a *ℤ t ≡ pos 0 → u *ℤ c +ℤ v *ℤ pos 0 +ℤ t *ℤ neg_ℤ a ≡ pos 0
 steep_two a c u v t e = eq_by_ring (a ∷ c ∷ u ∷ v ∷ t ∷ []) e (search reify depth 40 fits 100000) tt
 
+-- three parallel planes, of which the first has a normal, have a common direction
 parallel : (f g h : HalfSpace) → IsStill (along_line f g) → IsStill (along_line f h) → IsMoving (normal f) → CommonDirection f g h
 parallel f g h s t (by_x n) = record {
   direction = in_plane f;
@@ -74,25 +78,30 @@ parallel f g h s t (by_z n) = record {
   three = steep_two f.a f.c h.a h.b h.c t.y;
 }
 
+-- the determinant with the rows exchanged is 0 too
 reverse_zero : (a b c d : ℤ) → a *ℤ b -ℤ c *ℤ d ≡ pos 0 → d *ℤ c -ℤ b *ℤ a ≡ pos 0
 reverse_zero a b c d e =
     let z : neg_ℤ (pos 1) *ℤ (a *ℤ b -ℤ c *ℤ d -ℤ pos 0) ≡ pos 0 = search zeros in
     eq_by_ring (a ∷ b ∷ c ∷ d ∷ []) z (search reify depth 40 fits 100000) tt
 
+-- two planes are parallel in either order
 still_back : (f g : HalfSpace) → IsStill (along_line f g) → IsStill (along_line g f)
 still_back f g s = record { x = reverse_zero f.b g.c f.c g.b s.x; y = reverse_zero f.c g.a f.a g.c s.y; z = reverse_zero f.a g.b f.b g.a s.z }
 
+-- a half-space with no normal does not change along any direction
 still_along : (h : HalfSpace) (d : Direction) → IsStill (normal h) → along h d ≡ pos 0
 still_along h d s = zero_of h.a h.b h.c d.x d.y d.z s.x s.y s.z
   where
     zero_of : (a b c x y z : ℤ) → a ≡ pos 0 → b ≡ pos 0 → c ≡ pos 0 → a *ℤ x +ℤ b *ℤ y +ℤ c *ℤ z ≡ pos 0
     zero_of a b c x y z ea eb ec = rw (ea, eb, ec) (by_ring_at (x ∷ y ∷ z ∷ []) (search reify depth 40 fits 100000) tt)
 
+-- the second plane does not change along the line of the first and the third
 weight_last : (f g h : HalfSpace) → meeting_weight f g h ≡ pos 0 → along g (along_line f h) ≡ pos 0
 weight_last f g h e =
     let z : neg_ℤ (pos 1) *ℤ (meeting_weight f g h -ℤ pos 0) ≡ pos 0 = search zeros in
     eq_by_ring (f.a ∷ f.b ∷ f.c ∷ g.a ∷ g.b ∷ g.c ∷ h.a ∷ h.b ∷ h.c ∷ []) z (search reify depth 40 fits 100000) tt
 
+-- the first does not change along the line of the others
 weight_first : (f g h : HalfSpace) → meeting_weight f g h ≡ pos 0 → along f (along_line g h) ≡ pos 0
 weight_first f g h e = eq_by_ring (f.a ∷ f.b ∷ f.c ∷ g.a ∷ g.b ∷ g.c ∷ h.a ∷ h.b ∷ h.c ∷ []) e (search reify depth 40 fits 100000) tt
 
@@ -110,6 +119,7 @@ all_parallel f g h s t u =
     (moving_or_still (normal g)))
     (moving_or_still (normal f))
 
+-- where the determinant is 0 the three planes have a common direction
 pub common_direction : (f g h : HalfSpace) → meeting_weight f g h ≡ pos 0 → CommonDirection f g h
 common_direction f g h e =
     ⊎_elim
@@ -127,6 +137,7 @@ common_direction f g h e =
 abbrev beside : RationalPoint → Direction → RationalPoint
 beside p d = point_of (p.x +ℤ d.x) (p.y +ℤ d.y) (p.z +ℤ d.z) p.w
 
+-- the value at a point beside another
 side_beside : (h : HalfSpace) (p : RationalPoint) (d : Direction) → side_value h (beside p d) ≡ side_value h p +ℤ along h d
 side_beside h p d = by_ring_at (h.a ∷ h.b ∷ h.c ∷ h.d ∷ p.x ∷ p.y ∷ p.z ∷ p.w ∷ d.x ∷ d.y ∷ d.z ∷ []) (search reify depth 40 fits 100000) tt
 
@@ -136,11 +147,13 @@ no_change x d w h e =
     let z : pos 1 *ℤ ((x +ℤ d) *ℤ w -ℤ x *ℤ w) ≡ pos 0 = search zeros in
     eq_by_multiple (x ∷ d ∷ w ∷ []) {k = w} (λ (k : w ≡ pos 0). absurd (omega (arith, ints, k))) z (search reify depth 40 fits 100000) tt
 
+-- a point moved along a direction that is not zero is at another place
 not_moved : (p : RationalPoint) (d : Direction) → IsPoint p → IsMoving d → SamePlace (beside p d) p → ⊥
 not_moved p d h (by_x n) s = n (no_change p.x d.x p.w h s.x)
 not_moved p d h (by_y n) s = n (no_change p.y d.y p.w h s.y)
 not_moved p d h (by_z n) s = n (no_change p.z d.z p.w h s.z)
 
+-- so no point is the only one on the planes
 pub not_only : (f g h : HalfSpace) → meeting_weight f g h ≡ pos 0 → (p : RationalPoint) → MeetsOnlyAt f g h p → ⊥
 not_only f g h e p only =
     let c = common_direction f g h e in
@@ -162,6 +175,7 @@ no_meeting f g h e = λ i. elim (is_zero_true (meeting_weight f g h) e i) [ true
 abbrev Wanted : HalfSpace → HalfSpace → HalfSpace → Option RationalPoint → Type 0
 Wanted f g h o = IfSome o (λ p. MeetsOnlyAt f g h p) × IfNone o ((p : RationalPoint) → MeetsOnlyAt f g h p → ⊥)
 
+-- the law
 pub meeting_point_is_the_only_one_spec : MeetingPointIsTheOnlyOne
 meeting_point_is_the_only_one_spec f g h =
     ⊎_elim

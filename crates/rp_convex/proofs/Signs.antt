@@ -1,8 +1,6 @@
 -- Two numbers of the same sign pass the same tests; so points of one place are members of the same shapes.
-use Rattle.std.proofs.Common.{◌≡◌, ℤ, pos, neg_ℤ, ◌+ℤ◌, ◌-ℤ◌, ◌*ℤ◌, ◌<ℤ◌, ⊎_elim, not, ◌&&◌, ◌||◌, List, [], ◌∷◌, refl, sym, ap, ◌∙◌, arith}
-use Rattle.std.proofs.lemmas.Int.{ints}
-use Rattle.rp_algebra.proofs.IntLaws.{linear, signs, trichotomy_ℤ}
-use Rattle.rp_algebra.proofs.Reify.{by_ring_at, lt_by_multiple, eq_by_multiple, zeros, reify}
+use Rattle.std.proofs.Common.{◌≡◌, ℤ, pos, ◌*ℤ◌, ◌<ℤ◌, ⊎_elim, not, ◌&&◌, ◌||◌, List, [], ◌∷◌, refl, sym, ap, ◌∙◌}
+use Rattle.rp_algebra.proofs.IntLaws.{trichotomy_ℤ}
 use Rattle.rp_algebra.specs.Integer.{is_zero, is_positive}
 use Rattle.rp_model.specs.Geometry.{RationalPoint, HalfSpace, IsPoint, SamePlace, side_value, owns_boundary, holds, all_hold, is_cube_point, cube_half_spaces, box_half_spaces}
 use Rattle.rp_model.specs.Shape.{Shape, passes}
@@ -17,6 +15,7 @@ pub record HaveSameSign (u v : ℤ) : Type 0 where
   pub positive : is_positive u ≡ is_positive v
   pub zero : is_zero u ≡ is_zero v
 
+-- two numbers of which multiples by numbers above 0 are equal have the same sign
 pub same_sign : (u v s t : ℤ) → pos 0 <ℤ s → pos 0 <ℤ t → t *ℤ u ≡ s *ℤ v → HaveSameSign u v
 same_sign u v s t hs ht e =
     ⊎_elim
@@ -41,10 +40,12 @@ holds_same h p q hp hq s =
     let k = same_sign (side_value h p) (side_value h q) p.w q.w hp hq (same_side h p q s) in
     λ i. k.positive i || (k.zero i && owns_boundary h)
 
+-- half-spaces all hold both of two points of one place, or not all hold either
 all_hold_same : (hs : List HalfSpace) (p q : RationalPoint) → IsPoint p → IsPoint q → SamePlace p q → all_hold hs p ≡ all_hold hs q
 all_hold_same [] p q hp hq s = refl
 all_hold_same (h ∷ hs) p q hp hq s = λ i. holds_same h p q hp hq s i && all_hold_same hs p q hp hq s i
 
+-- both pass the test of a shape, or neither does
 passes_same : (t : Shape) (p q : RationalPoint) → IsPoint p → IsPoint q → SamePlace p q → passes t p ≡ passes t q
 passes_same (Shape.half_space h) p q hp hq s = holds_same h p q hp hq s
 passes_same (Shape.box b) p q hp hq s = all_hold_same (box_half_spaces b) p q hp hq s
@@ -55,8 +56,10 @@ passes_same (Shape.union t u) p q hp hq s = λ i. passes_same t p q hp hq s i ||
 passes_same (Shape.difference t u) p q hp hq s = λ i. passes_same t p q hp hq s i && not (passes_same u p q hp hq s i)
 passes_same (Shape.opposite t) p q hp hq s = ap not (passes_same t p q hp hq s)
 
+-- both are cube points, or neither is
 cube_point_same : (p q : RationalPoint) → IsPoint p → IsPoint q → SamePlace p q → is_cube_point p ≡ is_cube_point q
 cube_point_same p q hp hq s = sym (cube_half_spaces_hold_cube_spec p hp) ∙ all_hold_same cube_half_spaces p q hp hq s ∙ cube_half_spaces_hold_cube_spec q hq
 
+-- the law
 pub members_are_of_places_spec : MembersAreOfPlaces
 members_are_of_places_spec t p q hp hq s = λ i. cube_point_same p q hp hq s i && passes_same t p q hp hq s i

@@ -17,15 +17,19 @@ pub record Has {B : Type 0} (Q : B → Type 0) (ys : List B) : Type 0 where
   pub listed : Listed value ys
   pub so : Q value
 
+-- an item of the first list is one of both
 has_left : {B : Type 0} (Q : B → Type 0) (xs ys : List B) → Has Q xs → Has Q (xs ++ ys)
 has_left Q xs ys h = record { value = h.value; listed = listed_left h.value xs ys h.listed; so = h.so }
 
+-- an item of the second list is one of both
 has_right : {B : Type 0} (Q : B → Type 0) (xs ys : List B) → Has Q ys → Has Q (xs ++ ys)
 has_right Q xs ys h = record { value = h.value; listed = listed_right h.value xs ys h.listed; so = h.so }
 
+-- an answer that is put in front is there
 put_first : {B : Type 0} (Q : B → Type 0) (o : Option B) (ys : List B) → Gives o Q → Has Q (cons_option o ys)
 put_first Q o ys g = record { value = g.value; listed = subst (λ o. Listed g.value (cons_option o ys)) (sym g.is) first; so = g.so }
 
+-- an item stays where an answer, or none, is put in front
 put_later : {B : Type 0} (Q : B → Type 0) (o : Option B) (ys : List B) → Has Q ys → Has Q (cons_option o ys)
 put_later Q None ys h = h
 put_later Q (Some y) ys h = record { value = h.value; listed = later h.listed; so = h.so }
@@ -52,6 +56,7 @@ pub record IsSymmetric {A : Type 0} (P : A → A → A → Type 0) : Type 0 wher
   pub last_two : (x y z : A) → P x y z → P x z y
   pub no_twice : (x z : A) → P x x z → ⊥
 
+-- three such items in the list, in any order, have an answer
 pub found_three : {A B : Type 0} (Q : B → Type 0) (F : A → A → A → Option B) (P : A → A → A → Type 0)
     → IsSymmetric P → ((x y z : A) → P x y z → Gives (F x y z) Q)
     → (xs : List A) (x y z : A) → Listed x xs → Listed y xs → Listed z xs → P x y z → Has Q (all_of_triples F xs)

@@ -16,10 +16,11 @@ use Rattle.rp_convex.proofs.Places.{same_side, nonnegative_same}
 use Rattle.rp_convex.proofs.Meeting.{meets}
 use Rattle.rp_convex.proofs.Triples.{Gives, IsSymmetric, found_three}
 
--- the test of the weak system
+-- a point that passes the test is in the weak system
 pub weak_is : (hs : List HalfSpace) (p : RationalPoint) → IsPoint p → all_nonnegative hs p ≡ true → IsWeak hs p
 weak_is hs p w e = record { point = w; sides = λ h l. nonnegative_is (side_value h p) (all_pass (λ h. is_nonnegative (side_value h p)) hs e h l) }
 
+-- a point in the weak system passes the test
 pub weak_true : (hs : List HalfSpace) (p : RationalPoint) → IsWeak hs p → all_nonnegative hs p ≡ true
 weak_true hs p k = pass_all (λ h. is_nonnegative (side_value h p)) hs (λ h l. is_nonnegative_true (side_value h p) (k.sides h l))
 
@@ -34,15 +35,19 @@ pub record AreTightAt (q : RationalPoint) (f g h : HalfSpace) : Type 0 where
   pub second : side_value g q ≡ pos 0
   pub third : side_value h q ≡ pos 0
 
+-- the determinant with the first two planes exchanged
 exchanged : (f g h : HalfSpace) → meeting_weight f g h ≡ neg_ℤ (meeting_weight g f h)
 exchanged f g h = by_ring_at (f.a ∷ f.b ∷ f.c ∷ g.a ∷ g.b ∷ g.c ∷ h.a ∷ h.b ∷ h.c ∷ []) (search reify depth 40 fits 100000) tt
 
+-- the determinant with the last two exchanged
 exchanged_last : (f g h : HalfSpace) → meeting_weight f g h ≡ neg_ℤ (meeting_weight f h g)
 exchanged_last f g h = by_ring_at (f.a ∷ f.b ∷ f.c ∷ g.a ∷ g.b ∷ g.c ∷ h.a ∷ h.b ∷ h.c ∷ []) (search reify depth 40 fits 100000) tt
 
+-- the determinant with a plane twice is 0
 twice : (f h : HalfSpace) → meeting_weight f f h ≡ pos 0
 twice f h = by_ring_at (f.a ∷ f.b ∷ f.c ∷ h.a ∷ h.b ∷ h.c ∷ []) (search reify depth 40 fits 100000) tt
 
+-- the order of the three planes does not matter
 pub tight_symmetric : (q : RationalPoint) → IsSymmetric (AreTightAt q)
 tight_symmetric q = record {
   first_two = λ f g h k. record { independent = λ e. k.independent (exchanged f g h ∙ neg_zero (meeting_weight g f h) e); first = k.second; second = k.first; third = k.third };
@@ -84,6 +89,7 @@ pub record GreatVertex (cell : List HalfSpace) (f : HalfSpace) (p : RationalPoin
   pub point : IsPoint vertex
   pub as_great : value_across f p vertex ≤ℤ value_across f vertex p
 
+-- where the weak system has a point, a function is at least as great at some vertex
 pub great_vertex : (cell : List HalfSpace) (f : HalfSpace) (p : RationalPoint) → IsWeak (with_cube cell) p → GreatVertex cell f p
 unfolding vertices
 great_vertex cell f p weak =
@@ -99,6 +105,7 @@ great_vertex cell f p weak =
       as_great = across_further f p c.at v weak.point c.weak.point found.so.point c.as_great (across_same f c.at v found.so.same);
     }
 
+-- the law
 pub vertex_is_as_great_spec : VertexIsAsGreat
 vertex_is_as_great_spec cell bounds p w e f =
     let g = great_vertex cell f p (weak_is (with_cube cell) p w e) in

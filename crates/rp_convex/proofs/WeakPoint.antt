@@ -1,6 +1,6 @@
 -- The search for a vertex finds one exactly where the weak system has a point.
 use Rattle.std.proofs.Common.{◌≡◌, pos, ⊎_elim, Bool, true, false, ◌&&◌, List, refl, sym, ap, ◌∙◌, subst}
-use Rattle.std.specs.Prelude.{Option, Some, None, IfSome, is_some}
+use Rattle.std.specs.Prelude.{Option, Some, None, is_some}
 use Rattle.rp_model.specs.Geometry.{RationalPoint, HalfSpace, IsPoint, with_cube, all_nonnegative, half_space_of}
 use Rattle.rp_model.specs.Search.{all_of_triples}
 use Rattle.rp_model.specs.Vertex.{meeting_weight, meeting_point, vertex_at, vertex_if, any_point, vertices, first_vertex, first_weak_point}
@@ -36,6 +36,7 @@ record Passed (test : RationalPoint → Bool) (hs : List HalfSpace) (o : Option 
   weak : all_nonnegative hs v ≡ true
   test_true : test v ≡ true
 
+-- what the choice of a vertex gives has passed
 passed : (test : RationalPoint → Bool) (hs : List HalfSpace) (o : Option RationalPoint) (v : RationalPoint) → vertex_if test hs o ≡ Some v → Passed test hs o v
 passed test hs None v e = absurd (none_not_some v e)
 passed test hs (Some u) v e = by_test (all_nonnegative hs u && test u) refl e
@@ -44,13 +45,14 @@ passed test hs (Some u) v e = by_test (all_nonnegative hs u && test u) refl e
     by_test true t k = subst (λ (p : RationalPoint). Passed test hs (Some u) p) (same_some u v k) (record { is = refl; weak = and_first (all_nonnegative hs u) (test u) t; test_true = and_second (all_nonnegative hs u) (test u) t })
     by_test false t k = absurd (none_not_some v k)
 
--- the vertices are vertices
+-- the vertices are points of the weak system that pass
 pub listed_is_vertex : (test : RationalPoint → Bool) (hs : List HalfSpace) (v : RationalPoint) → Listed v (all_of_triples (vertex_at test hs) hs) → IsVertex test hs v
 listed_is_vertex test hs v l =
     let c = comes_from (vertex_at test hs) hs v l in
     let p = passed test hs (meeting_point c.one c.two c.three) v c.is in
     record { weak = weak_is hs v (meeting_is_point c.one c.two c.three v p.is) p.weak; passes = p.test_true }
 
+-- so a vertex of a cell is in its weak system
 pub vertex_is_weak : (cell : List HalfSpace) (v : RationalPoint) → Listed v (vertices cell) → IsWeak (with_cube cell) v
 unfolding vertices
 vertex_is_weak cell v l = (listed_is_vertex any_point (with_cube cell) v l).weak
@@ -78,6 +80,7 @@ vertex_is_found test hs f p c pass =
 abbrev level : HalfSpace
 level = half_space_of (pos 0) (pos 0) (pos 0) (pos 0)
 
+-- the law
 pub weak_point_is_found_spec : WeakPointIsFound
 unfolding first_weak_point
 weak_point_is_found_spec cell bounds = record {

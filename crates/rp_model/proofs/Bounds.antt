@@ -1,5 +1,5 @@
 -- The half-spaces of the list of a cell keep the bounds of half-spaces, the cube's six included.
-use Rattle.std.proofs.Common.{◌≡◌, ◌≤◌, ◌&&◌, false, T, List, leb, leb→le, refl}
+use Rattle.std.proofs.Common.{◌≡◌, false, T, List, leb, leb→le, refl}
 use Rattle.std.specs.Prelude.{unsigned_abs}
 use Rattle.rp_algebra.proofs.Listed.{all_append}
 use Rattle.rp_model.specs.Geometry.{HalfSpace, IsHalfSpace, is_zero_half_space, cube_half_spaces, with_cube, half_edge, greatest_offset}
