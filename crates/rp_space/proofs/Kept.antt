@@ -1,14 +1,17 @@
 -- Numbers in lowest terms keep their bounds, and reducing twice is reducing once.
-use Rattle.std.proofs.Common.{◌≡◌, ℕ, zero, suc, ◌<◌, ◌≤◌, ℤ, pos, neg_ℤ, ◌<ℤ◌, nat_abs, le_trans, Bool, true, false, ◌&&◌, List, [], ◌∷◌, refl, sym, ap, ◌∙◌, subst, arith}
+use Rattle.std.proofs.Common.{◌≡◌, ℕ, zero, suc, ◌<◌, ◌≤◌, ◌^◌, ℤ, pos, neg_ℤ, ◌-ℤ◌, ◌<ℤ◌, nat_abs, to_z, of_z, le_trans, Bool, true, false, ◌&&◌, List, [], ◌∷◌, refl, sym, ap, ◌∙◌, subst, arith}
 use Rattle.std.specs.Int.{◌∣◌}
 use Rattle.std.specs.List.{AllByRecursion}
-use Rattle.std.specs.Int.RustNames.{unsigned_abs}
-use Rattle.std.proofs.lemmas.Int.{ints}
+use Rattle.std.specs.Int.RustNames.{unsigned_abs, FitsSigned}
+use mir.Syntax.{Width, w64, w128}
+use Rattle.std.proofs.lemmas.Int.{ints, to_z-of_z}
 use Rattle.std.proofs.lemmas.Bool.Decides.{Decides-int_eq}
 use Rattle.rp_algebra.specs.Integer.{is_zero, gcd, gcd_of, reduced_by}
 use Rattle.rp_algebra.proofs.Divisors.{gcd_of-divides, gcd_of-positive, gcd_of-positive_four, gcd_of-at_most_four, gcd_of-nil, gcd_of-cons, gcd_of-four, gcd-zero, gcd-at_most_right}
 use Rattle.rp_algebra.proofs.LowestTerms.{quotient_size, quotient_of_zero, zero_from_quotient, quotient_positive, lowest-gcd, lowest-twice, quotient_by_one, same_four}
-use Rattle.rp_model.specs.Geometry.{HalfSpace, is_within_bound, is_half_space_in_bounds, is_zero_half_space, IsHalfSpace, reduced_half_space, IsKeptHalfSpace, complement, RationalPoint, IsPoint, IsSmallPoint, reduced_point, IsKeptPoint}
+use Rattle.std.specs.Prelude.{int_lt, int_le}
+use Rattle.rp_algebra.proofs.Machine.{code, is_by}
+use Rattle.rp_model.specs.Geometry.{half_space_of, point_of, is_point_in_bounds, HalfSpace, is_within_bound, is_half_space_in_bounds, is_zero_half_space, IsHalfSpace, reduced_half_space, IsKeptHalfSpace, complement, RationalPoint, IsPoint, IsSmallPoint, reduced_point, IsKeptPoint}
 
 -- the size of a number within bounds
 pub size_at_most : (n : ℕ) (v : ℤ) → is_within_bound (pos n) v ≡ true → unsigned_abs v ≤ n
@@ -37,7 +40,7 @@ zeros_pass : (a b c d : ℤ) → a ≡ pos 0 → b ≡ pos 0 → c ≡ pos 0 →
 zeros_pass a b c d ea eb ec ed = λ i. is_zero (ea i) && is_zero (eb i) && is_zero (ec i) && is_zero (ed i)
 
 -- the divisor of numbers that are not all zero is above zero
-divisor_above : (h : HalfSpace) → is_zero_half_space h ≡ false → 0 < gcd_of (h.a ∷ h.b ∷ h.c ∷ h.d ∷ [])
+pub divisor_above : (h : HalfSpace) → is_zero_half_space h ≡ false → 0 < gcd_of (h.a ∷ h.b ∷ h.c ∷ h.d ∷ [])
 divisor_above h n =
     gcd_of-positive (h.a ∷ h.b ∷ h.c ∷ h.d ∷ []) (λ z. let e = zeros_pass h.a h.b h.c h.d z.0 z.1.0 z.1.1.0 z.1.1.1.0 in let f : true ≡ false = sym e ∙ n in cc)
 
@@ -147,13 +150,13 @@ kept_complement h k =
     }
 
 -- the divisor of the numbers of a point with a weight above zero
-point_divisor_above : (p : RationalPoint) → IsPoint p → 0 < gcd_of (p.x ∷ p.y ∷ p.z ∷ p.w ∷ [])
+pub point_divisor_above : (p : RationalPoint) → IsPoint p → 0 < gcd_of (p.x ∷ p.y ∷ p.z ∷ p.w ∷ [])
 point_divisor_above p w = gcd_of-positive_four p.x p.y p.z p.w (not_zero p.w w)
   where
     not_zero : (v : ℤ) → pos 0 <ℤ v → v ≡ pos 0 → ⊥
     not_zero v h e = omega (arith, ints)
 
--- it is at most the weight
+-- the divisor of the numbers of a point is at most its weight
 pub point_divisor : (p : RationalPoint) → IsPoint p → gcd_of (p.x ∷ p.y ∷ p.z ∷ p.w ∷ []) ≤ nat_abs p.w
 point_divisor p w = gcd_of-at_most_four p.x p.y p.z p.w (not_zero p.w w)
   where
@@ -185,3 +188,79 @@ kept_point p k =
       };
       lowest = λ i. record { x = four.0 i; y = four.1 i; z = four.2 i; w = four.3 i };
     }
+
+-- a quotient as the machine hands it on
+pub read_quotient : (w : Width) (r v : ℤ) (n g : ℕ) → FitsSigned w r → FitsSigned w v → r ≡ reduced_by n (to_z w (of_z w v)) → n ≡ g → to_z w (of_z w r) ≡ reduced_by g v
+read_quotient w r v n g fr fv e d = to_z-of_z w r fr ∙ e ∙ (λ i. reduced_by (d i) (to_z-of_z w v fv i))
+
+-- four numbers as the machine hands them on
+pub read_half_space : (w : Width) (a b c d : ℤ) → FitsSigned w a → FitsSigned w b → FitsSigned w c → FitsSigned w d
+    → half_space_of (to_z w (of_z w a)) (to_z w (of_z w b)) (to_z w (of_z w c)) (to_z w (of_z w d)) ≡ half_space_of a b c d
+read_half_space w a b c d fa fb fc fd = λ i. half_space_of (to_z-of_z w a fa i) (to_z-of_z w b fb i) (to_z-of_z w c fc i) (to_z-of_z w d fd i)
+
+-- the same of a point
+pub read_point : (w : Width) (x y z v : ℤ) → FitsSigned w x → FitsSigned w y → FitsSigned w z → FitsSigned w v
+    → point_of (to_z w (of_z w x)) (to_z w (of_z w y)) (to_z w (of_z w z)) (to_z w (of_z w v)) ≡ point_of x y z v
+read_point w x y z v fx fy fz fv = λ i. point_of (to_z-of_z w x fx i) (to_z-of_z w y fy i) (to_z-of_z w z fz i) (to_z-of_z w v fv i)
+
+-- a coefficient as the machine widens it
+pub widened : (v : ℤ) → FitsSigned w64 v → to_z w128 (of_z w128 (to_z w64 (of_z w64 v))) ≡ v
+widened v f = ap (λ (x : ℤ). to_z w128 (of_z w128 x)) (to_z-of_z w64 v f) ∙ to_z-of_z w128 v (wide v f)
+  where
+    wide : (v : ℤ) → FitsSigned w64 v → FitsSigned w128 v
+    wide v f = omega (arith, ints)
+
+-- a whole number from 1 on whose upper bounds are kept makes a small point
+pub small_point : (p : RationalPoint) → int_le (pos 1) p.w ≡ true → is_point_in_bounds p ≡ true → IsSmallPoint p
+small_point p positive inside =
+    let xyz = both _ _ inside in
+    let xy = both _ _ xyz.0 in
+    let x = both _ _ xy.0 in
+    let size_x = size_at_most 2535301200456458802993406410751 p.x x.0 in
+    let size_y = size_at_most 2535301200456458802993406410751 p.y x.1 in
+    let size_z = size_at_most 2535301200456458802993406410751 p.z xy.1 in
+    record {
+      positive = above p.w positive;
+      x = omega (arith, size_x);
+      y = omega (arith, size_y);
+      z = omega (arith, size_z);
+      w = weight_size p.w positive xyz.1;
+    }
+  where
+    above : (v : ℤ) → int_le (pos 1) v ≡ true → pos 0 <ℤ v
+    above v e = grind (arith, ints)
+
+    weight_size : (v : ℤ) → int_le (pos 1) v ≡ true → int_le v (pos 37778931862957161709567) ≡ true → unsigned_abs v < 2 ^ 75
+    weight_size v e f = grind (arith, ints)
+
+-- a negative as the machine makes it
+pub negated : (v : ℤ) → unsigned_abs v ≤ 844424930131968 → to_z w64 (of_z w64 (pos 0 -ℤ to_z w64 (of_z w64 v))) ≡ neg_ℤ v
+negated v h = is_by (search code depth 30 fits 100000) tt ∙ from_zero v
+  where
+    from_zero : (v : ℤ) → pos 0 -ℤ v ≡ neg_ℤ v
+    from_zero v = omega (arith, ints)
+
+-- the negatives of a half-space's numbers as the machine makes them
+pub half_space_negated : (h : HalfSpace) → IsHalfSpace h
+    → half_space_of (to_z w64 (of_z w64 (pos 0 -ℤ to_z w64 (of_z w64 h.a)))) (to_z w64 (of_z w64 (pos 0 -ℤ to_z w64 (of_z w64 h.b)))) (to_z w64 (of_z w64 (pos 0 -ℤ to_z w64 (of_z w64 h.c)))) (to_z w64 (of_z w64 (pos 0 -ℤ to_z w64 (of_z w64 h.d)))) ≡ complement h
+half_space_negated h k =
+    let size_a = k.a in
+    let size_b = k.b in
+    let size_c = k.c in
+    let na = negated h.a (omega (arith, size_a)) in
+    let nb = negated h.b (omega (arith, size_b)) in
+    let nc = negated h.c (omega (arith, size_c)) in
+    let nd = negated h.d k.d in
+    λ i. half_space_of (na i) (nb i) (nc i) (nd i)
+
+-- the divisor of four numbers as the machine hands them on
+pub read_divisor : (w : Width) (a b c d : ℤ) → FitsSigned w a → FitsSigned w b → FitsSigned w c → FitsSigned w d
+    → gcd_of (to_z w (of_z w a) ∷ to_z w (of_z w b) ∷ to_z w (of_z w c) ∷ to_z w (of_z w d) ∷ []) ≡ gcd_of (a ∷ b ∷ c ∷ d ∷ [])
+read_divisor w a b c d fa fb fc fd = λ i. gcd_of (to_z-of_z w a fa i ∷ to_z-of_z w b fb i ∷ to_z-of_z w c fc i ∷ to_z-of_z w d fd i ∷ [])
+
+-- a number that the machine does not find below 1 is at least 1
+pub from_one_on : (v : ℤ) → FitsSigned w128 v → int_lt (to_z w128 (of_z w128 v)) (pos 1) ≡ false → int_le (pos 1) v ≡ true
+from_one_on v f e = at_least v (ap (λ (x : ℤ). int_lt x (pos 1)) (sym (to_z-of_z w128 v f)) ∙ e)
+  where
+    at_least : (v : ℤ) → int_lt v (pos 1) ≡ false → int_le (pos 1) v ≡ true
+    at_least v e = grind (arith, ints)

@@ -1,9 +1,10 @@
 //! Half-spaces in lowest terms.
-ghost use Rattle.std.specs.Prelude.{◌≡◌, true, false, pos, ◌≤ℤ◌};
+ghost use Rattle.std.specs.Prelude.{◌≡◌, ◌<◌, ◌^◌, true, false, pos, ◌≤ℤ◌, [], ◌∷◌};
+ghost use Rattle.rp_algebra.specs.Integer.{gcd_of, is_zero};
 ghost use Rattle.rp_model.specs.Geometry.{half_space_of, side_value, owns_boundary, holds, complement, is_within_bound, is_half_space_in_bounds, is_zero_half_space, reduced_half_space};
 ghost use Rattle.rp_space.specs.MadeHalfSpace.{made_half_space};
 
-use crate::divisor::common_divisor;
+use crate::divisor::{common_divisor, short_quotient};
 use crate::point::Point;
 use std::marker::Model;
 use thiserror::Error;
@@ -123,11 +124,18 @@ fn is_in_bounds(a: i64, b: i64, c: i64, d: i64) -> bool
         && is_within(MAX_OFFSET, d)
 }
 
+/// Whether a number is 0.
+fn is_zero(v: i64) -> bool
+    ensures { result ≡ is_zero v }
+{
+    v == 0
+}
+
 /// Whether all four numbers are 0.
 fn are_zero(a: i64, b: i64, c: i64, d: i64) -> bool
     ensures { result ≡ is_zero_half_space (half_space_of a b c d) }
 {
-    a == 0 && b == 0 && c == 0 && d == 0
+    is_zero(a) && is_zero(b) && is_zero(c) && is_zero(d)
 }
 
 /// Four numbers divided by their greatest common divisor.
@@ -136,11 +144,22 @@ fn reduced(a: i64, b: i64, c: i64, d: i64) -> Half
     requires nonzero { is_zero_half_space (half_space_of a b c d) ≡ false }
     ensures { result ≡ reduced_half_space (half_space_of a b c d) }
 {
-    let divisor = common_divisor(a as i128, b as i128, c as i128, d as i128) as i64;
+    let divisor = divisor_of(a, b, c, d);
     Half {
-        a: a / divisor,
-        b: b / divisor,
-        c: c / divisor,
-        d: d / divisor,
+        a: short_quotient(a, divisor),
+        b: short_quotient(b, divisor),
+        c: short_quotient(c, divisor),
+        d: short_quotient(d, divisor),
     }
+}
+
+/// The greatest common divisor of the four numbers of a half-space.
+fn divisor_of(a: i64, b: i64, c: i64, d: i64) -> u128
+    requires bounds { is_half_space_in_bounds (half_space_of a b c d) ≡ true }
+    requires nonzero { is_zero_half_space (half_space_of a b c d) ≡ false }
+    ensures value { result ≡ gcd_of (a ∷ b ∷ c ∷ d ∷ []) }
+    ensures positive { 0 < result }
+    ensures small { result < 2 ^ 63 }
+{
+    common_divisor(a as i128, b as i128, c as i128, d as i128)
 }

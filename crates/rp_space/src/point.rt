@@ -1,9 +1,10 @@
 //! Rational points in lowest terms.
-ghost use Rattle.std.specs.Prelude.{◌≡◌};
+ghost use Rattle.std.specs.Prelude.{◌≡◌, ◌<◌, ◌^◌, [], ◌∷◌};
+ghost use Rattle.rp_algebra.specs.Integer.{gcd_of};
 ghost use Rattle.rp_model.specs.Geometry.{point_of, IsSmallPoint, coordinate_bound, is_within_bound, is_point_in_bounds, reduced_point};
 ghost use Rattle.rp_space.specs.MadePoint.{made_point};
 
-use crate::divisor::common_divisor;
+use crate::divisor::{common_divisor, quotient};
 
 use std::marker::Model;
 use thiserror::Error;
@@ -89,11 +90,21 @@ fn reduced(x: i128, y: i128, z: i128, w: i128) -> Point
     requires { IsSmallPoint (point_of x y z w) }
     ensures { result ≡ reduced_point (point_of x y z w) }
 {
-    let divisor = common_divisor(x, y, z, w) as i128;
+    let divisor = divisor_of(x, y, z, w);
     Point {
-        x: x / divisor,
-        y: y / divisor,
-        z: z / divisor,
-        w: w / divisor,
+        x: quotient(x, divisor),
+        y: quotient(y, divisor),
+        z: quotient(z, divisor),
+        w: quotient(w, divisor),
     }
+}
+
+/// The greatest common divisor of the four numbers of a point.
+fn divisor_of(x: i128, y: i128, z: i128, w: i128) -> u128
+    requires { IsSmallPoint (point_of x y z w) }
+    ensures value { result ≡ gcd_of (x ∷ y ∷ z ∷ w ∷ []) }
+    ensures positive { 0 < result }
+    ensures small { result < 2 ^ 127 }
+{
+    common_divisor(x, y, z, w)
 }
