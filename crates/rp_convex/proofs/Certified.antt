@@ -8,7 +8,7 @@ use Rattle.rp_model.specs.Geometry.{RationalPoint, HalfSpace, IsPoint, point_of,
 use Rattle.rp_model.specs.Shape.{IsMember, passes, shape_of_cell}
 use Rattle.rp_model.specs.Sets.{IsNonempty}
 use Rattle.rp_model.specs.Certificate.{is_inside_certificate, is_nonnegative_at_all, is_positive_at_some, is_one_to_four}
-use Rattle.rp_model.specs.CellLaws.{InsideCertificateShowsMember}
+use Rattle.rp_model.specs.CellLaws.{InsideCertificateShowsMember, StrictSolutionIsMember}
 use Rattle.rp_algebra.proofs.Numbers.{nat_positive, nonneg_of_zero}
 use Rattle.rp_algebra.proofs.Tests.{positive_is, is_positive_true, nonnegative_is, and_first, and_second, and_true, or_cases}
 use Rattle.rp_algebra.proofs.Listed.{Listed, first, later, all_pass, pass_all, listed_left, listed_right}
@@ -81,6 +81,13 @@ positive_is_member cell p w k = (
       (sym (cube_half_spaces_hold_cube_spec p w) ∙ pass_all (λ h. holds h p) cube_half_spaces (λ h l. held_by_positive h p (k h (listed_right h cell cube_half_spaces l))))
       (cell_passes cell p (λ h l. held_by_positive h p (k h (listed_left h cell cube_half_spaces l)))),
 )
+
+-- the law
+pub strict_solution_is_member_spec : StrictSolutionIsMember
+strict_solution_is_member_spec cell p (w, e) =
+    positive_is_member cell p w (λ h l. positive_is (side_value h p) (all_pass (λ h. is_positive (side_value h p)) (with_cube cell) e h l))
+
+-- ---- the sum of the points of a certificate is such a point
 
 -- the weight is positive, since the values of opposite sides of the cube are
 weight_of : (m x y z w : ℤ) → pos 0 <ℤ m → pos 0 <ℤ (pos 1 *ℤ x +ℤ pos 0 *ℤ y +ℤ pos 0 *ℤ z +ℤ m *ℤ w) → pos 0 <ℤ (negsuc 0 *ℤ x +ℤ pos 0 *ℤ y +ℤ pos 0 *ℤ z +ℤ m *ℤ w) → pos 0 <ℤ w

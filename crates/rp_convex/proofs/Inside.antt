@@ -101,4 +101,4 @@ moves_from cell p k (w, e) = record {
 pub member_moves_inside_spec : MemberMovesInside
 member_moves_inside_spec cell k (p, m) =
     let q = moves_from cell p k m in
-    (q.to, q.point, pass_all (λ h. is_positive (side_value h q.to)) (with_cube cell) (λ h l. is_positive_true (side_value h q.to) (q.sides h l)))
+    (q.to, (q.point, pass_all (λ h. is_positive (side_value h q.to)) (with_cube cell) (λ h l. is_positive_true (side_value h q.to) (q.sides h l))))

@@ -256,7 +256,7 @@ inside_some cell p s =
 
 -- where the cell has a member the search finds points
 some_if_member : (cell : List HalfSpace) → AreHalfSpaces cell → IsNonempty (shape_of_cell cell) → is_some (first_inside cell) ≡ true
-some_if_member cell k n = let (p, w, e) = member_moves_inside_spec cell k n in inside_some cell p (strict_of cell p w e)
+some_if_member cell k n = let s = member_moves_inside_spec cell k n in inside_some cell s.0 (strict_of cell s.0 s.1.0 s.1.1)
 
 -- where the search finds points the cell has a member
 member_if_some : (cell : List HalfSpace) → is_some (first_inside cell) ≡ true → IsNonempty (shape_of_cell cell)

@@ -2,7 +2,7 @@
 //! Each function is a law over the definitions of `rp_model`: its contract is the law, and its body is empty.
 #![tactic(auto)]
 
-ghost use Rattle.rp_model.specs.CellLaws.{CubeHalfSpacesHoldCube, InsideCertificateShowsMember, InsideIsFound, LowestTermsAreOne, MeetingPointIsSmall, MeetingPointIsTheOnlyOne, MemberMovesInside, MembersAreOfPlaces, VertexIsAsGreat, WeakPointIsFound};
+ghost use Rattle.rp_model.specs.CellLaws.{CubeHalfSpacesHoldCube, InsideCertificateShowsMember, InsideIsFound, LowestTermsAreOne, MeetingPointIsSmall, MeetingPointIsTheOnlyOne, MemberMovesInside, MembersAreOfPlaces, StrictSolutionIsMember, VertexIsAsGreat, WeakPointIsFound};
 
 /// The cube's six half-spaces hold exactly the points of the cube.
 pub fn cube_half_spaces_hold_cube()
@@ -32,6 +32,11 @@ pub fn meeting_point_is_small()
 /// A cell with a member has a point at which every half-space of its list is positive.
 pub fn member_moves_inside()
     ensures { MemberMovesInside }
+{}
+
+/// A point at which every half-space of the list of a cell is positive is a member of the cell.
+pub fn strict_solution_is_member()
+    ensures { StrictSolutionIsMember }
 {}
 
 /// Where the weak system of a cell has a point, every linear function is at least as great at some vertex.

@@ -2,7 +2,7 @@
 use Rattle.std.specs.Prelude.{◌≡◌, ℕ, ◌<◌, Bool, true, false, IsTrue, ◌⊎◌, ◌↔◌, ℤ, pos, ◌*ℤ◌, ◌≤ℤ◌, ◌<ℤ◌, List, [], ◌∷◌, length, Some, IfSome, IfNone, IsSome, IsNone}
 use Rattle.std.specs.List.{AllByRecursion, slice_get}
 use Rattle.rp_model.specs.Geometry.{RationalPoint, HalfSpace, IsPoint, IsHalfSpace, IsSmallPoint, SamePlace, side_value, reduced_point, is_cube_point, all_hold, cube_half_spaces, with_cube, all_positive, is_in_weak_system}
-use Rattle.rp_model.specs.Shape.{Shape, is_member, shape_of_cell}
+use Rattle.rp_model.specs.Shape.{Shape, is_member, IsMember, shape_of_cell}
 use Rattle.rp_model.specs.Sets.{IsNonempty, IsEmpty}
 use Rattle.rp_model.specs.Certificate.{Multiple, is_inside_certificate, is_weak_point, is_outside_certificate, is_balanced, is_contradiction}
 use Rattle.rp_model.specs.Vertex.{meeting_point, vertices, first_inside, first_weak_point}
@@ -48,10 +48,18 @@ LowestTermsAreOne = (p q : RationalPoint) → IsPoint p → IsPoint q → SamePl
 
 -- ---- cells
 
--- a cell with a member has a point at which every half-space of its list is positive
+-- a strict or a weak solution of the list of a cell
+abbrev pub IsSolution : Bool → List HalfSpace → RationalPoint → Type 0
+IsSolution true cell p = IsPoint p × IsTrue (all_positive (with_cube cell) p)
+IsSolution false cell p = IsPoint p × IsTrue (is_in_weak_system cell p)
+
+-- a strict solution of the list of a cell is a member of the cell
+abbrev pub StrictSolutionIsMember : Type 0
+StrictSolutionIsMember = (cell : List HalfSpace) (p : RationalPoint) → IsSolution true cell p → IsMember (shape_of_cell cell) p
+
+-- a cell with a member has a strict solution: a point at which every half-space of its list is positive
 abbrev pub MemberMovesInside : Type 0
-MemberMovesInside = (cell : List HalfSpace) → AreHalfSpaces cell → IsNonempty (shape_of_cell cell)
-    → (p : RationalPoint) × IsPoint p × IsTrue (all_positive (with_cube cell) p)
+MemberMovesInside = (cell : List HalfSpace) → AreHalfSpaces cell → IsNonempty (shape_of_cell cell) → (p : RationalPoint) × IsSolution true cell p
 
 -- the value of a linear function at a point, times the weight of another
 abbrev pub value_across : HalfSpace → RationalPoint → RationalPoint → ℤ
@@ -88,11 +96,6 @@ abbrev pub WeakPointIsFound : Type 0
 WeakPointIsFound = (cell : List HalfSpace) → AreHalfSpaces cell → FindsWeakPoint cell
 
 -- ---- outside certificates
-
--- a strict or a weak solution of the list of a cell
-abbrev pub IsSolution : Bool → List HalfSpace → RationalPoint → Type 0
-IsSolution true cell p = IsPoint p × IsTrue (all_positive (with_cube cell) p)
-IsSolution false cell p = IsPoint p × IsTrue (is_in_weak_system cell p)
 
 -- either there is a solution or an outside certificate, never both
 abbrev pub SolutionOrCertificate : Type 0
