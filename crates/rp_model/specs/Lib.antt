@@ -5,10 +5,12 @@ pub mod Search
 pub mod Certificate
 pub mod Vertex
 pub mod Elimination
+pub mod Name
 pub mod Expression
-pub mod Verdict
-pub mod Rule
 pub mod Grammar
+pub mod Verdict
+pub mod State
+pub mod Rule
 pub mod Text
 pub mod Report
 pub mod Output

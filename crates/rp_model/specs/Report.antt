@@ -2,9 +2,10 @@
 use Rattle.std.specs.Prelude.{◌≡◌, ℕ, suc, ◌-◌, true, false, ◌==◌, List, [], ◌∷◌, ◌++◌, length, take, slice_index}
 use Rattle.std.specs.List.{slice_split}
 use Rattle.rp_model.specs.Expression.{Command}
-use Rattle.rp_model.specs.Verdict.{refused, unbuilt}
-use Rattle.rp_model.specs.Rule.{IsVerdict}
-use Rattle.rp_model.specs.Grammar.{Reading, blank, command, not_built, reading}
+use Rattle.rp_model.specs.State.{State, opening}
+use Rattle.rp_model.specs.Verdict.{Refusal, refused}
+use Rattle.rp_model.specs.Rule.{rule_of, after_command}
+use Rattle.rp_model.specs.Grammar.{Fault, too_long, Reading, blank, command, bad, reading}
 use Rattle.rp_model.specs.Text.{Answer, answer_lines, line_end}
 
 -- ---- the lines of a script
@@ -30,28 +31,42 @@ script_lines bytes = lines_of_pieces (slice_split (λ b. b == line_end) bytes)
 
 -- ---- the machine of sets
 
--- the answer to a command, with a verdict by the rule of sets
-pub record IsAnswer (n : ℕ) (line : List ℕ) (c : Command) (a : Answer) : Type 0 where
+-- what is echoed of a bad line: nothing of a line that is too long
+abbrev pub echoed : Fault → List ℕ → List ℕ
+echoed too_long line = []
+echoed _ line = line
+
+-- the answer to a blank line: it says nothing
+abbrev pub blank_answer : ℕ → Answer
+blank_answer n = record { number = n; echo = []; verdicts = [] }
+
+-- the answer to a bad line
+abbrev pub bad_answer : ℕ → List ℕ → Fault → Answer
+bad_answer n line f = record { number = n; echo = echoed f line; verdicts = refused (Refusal.bad f) ∷ [] }
+
+-- the answer to a command, with verdicts by the rule of sets
+pub record AnswersCommand (s : State) (n : ℕ) (line : List ℕ) (c : Command) (a : Answer) : Type 0 where
   pub number : a.number ≡ n
   pub echo : a.echo ≡ line
-  pub verdicts : IsVerdict c a.verdicts
+  pub verdicts : rule_of s c a.verdicts
 
--- the answer to a line that is not built yet
-abbrev pub unbuilt_answer : ℕ → List ℕ → Answer
-unbuilt_answer n line = record { number = n; echo = line; verdicts = refused unbuilt ∷ [] }
+-- the answer to the line with the number, as it is read
+abbrev pub IsAnswerTo : State → ℕ → List ℕ → Reading → Answer → Type 0
+IsAnswerTo s n line blank a = a ≡ blank_answer n
+IsAnswerTo s n line (bad f) a = a ≡ bad_answer n line f
+IsAnswerTo s n line (command c) a = AnswersCommand s n line c a
 
--- the report lines of a line of the script, as it is read: none of a blank line
-abbrev pub AreLinesOf : ℕ → List ℕ → Reading → List (List ℕ) → Type 0
-AreLinesOf n line blank told = told ≡ []
-AreLinesOf n line not_built told = told ≡ answer_lines (unbuilt_answer n line)
-AreLinesOf n line (command c) told = (a : Answer) × IsAnswer n line c a × (told ≡ answer_lines a)
+-- the state after a line, as it is read
+abbrev pub after_reading : State → Reading → State
+after_reading s (command c) = after_command s c
+after_reading s _ = s
 
--- the report lines of some lines of a script, of which the first has the number
-abbrev pub IsReportFrom : ℕ → List (List ℕ) → List (List ℕ) → Type 0
-IsReportFrom n [] told = told ≡ []
-IsReportFrom n (line ∷ lines) told =
-    (first : List (List ℕ)) × (rest : List (List ℕ)) × AreLinesOf n line (reading line) first × IsReportFrom (suc n) lines rest × (told ≡ first ++ rest)
+-- the report lines of some lines of a script from a state on; the first of them has the number
+abbrev pub IsReportFrom : State → ℕ → List (List ℕ) → List (List ℕ) → Type 0
+IsReportFrom s n [] told = told ≡ []
+IsReportFrom s n (line ∷ lines) told =
+    (a : Answer) × (rest : List (List ℕ)) × IsAnswerTo s n line (reading line) a × IsReportFrom (after_reading s (reading line)) (suc n) lines rest × (told ≡ answer_lines a ++ rest)
 
 -- the report lines of a script
 abbrev pub IsReport : List ℕ → List (List ℕ) → Type 0
-IsReport bytes told = IsReportFrom 1 (script_lines bytes) told
+IsReport bytes told = IsReportFrom opening 1 (script_lines bytes) told
