@@ -1,6 +1,11 @@
 pub mod Geometry
 pub mod Name
 pub mod Shape
+pub mod Sets
+pub mod Search
+pub mod Certificate
+pub mod Vertex
+pub mod Elimination
 pub mod Expression
 pub mod Verdict
 pub mod Rule
@@ -9,3 +14,4 @@ pub mod Text
 pub mod Report
 pub mod Output
 pub mod Laws
+pub mod CellLaws
