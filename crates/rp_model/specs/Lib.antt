@@ -1,4 +1,5 @@
 pub mod Geometry
+pub mod Name
 pub mod Shape
 pub mod Sets
 pub mod Search
