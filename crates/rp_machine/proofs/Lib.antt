@@ -1,1 +1,2 @@
 mod Between
+mod OneState

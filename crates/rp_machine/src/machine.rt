@@ -37,7 +37,11 @@ fn membership(region: &Expr, point: &Point) -> Verdict
     if let Some(name) = first_unknown(region) {
         return Verdict::Refused(Refusal::Unknown(name));
     }
-    if is_member(region, point) { Verdict::Yes } else { Verdict::No }
+    if is_member(region, point) {
+        Verdict::Yes
+    } else {
+        Verdict::No
+    }
 }
 
 impl Machine {
@@ -60,7 +64,13 @@ impl Machine {
 
     /// The answer to the line with the number `n`, and what it changes. A blank line has an answer without echo and verdicts.
     /// Answers `AllocError` only for want of memory; the machine isn't used further then.
-    pub fn step<R: Threads + Sync>(&mut self, _rt: &R, alloc: Global, n: u32, line: &[u8]) -> Result<Answer, AllocError>
+    pub fn step<R: Threads + Sync>(
+        &mut self,
+        _rt: &R,
+        alloc: Global,
+        n: u32,
+        line: &[u8],
+    ) -> Result<Answer, AllocError>
         ensures answer { IfOk result (λ a. IsAnswerTo self.old n line.now (reading line.now) (answer_of a)) }
         ensures state { OnOk result (self.new ≡ after_reading self.old (reading line.now)) }
     {

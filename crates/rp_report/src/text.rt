@@ -42,7 +42,16 @@ fn write_echo(n: u32, echo: &[u8], out: &mut Vec<u8>) -> Result<(), AllocError>
     if echo.is_empty() {
         append_all(out, &[b"> ".as_slice(), number, b"\n".as_slice()])
     } else {
-        append_all(out, &[b"> ".as_slice(), number, b" ".as_slice(), echo, b"\n".as_slice()])
+        append_all(
+            out,
+            &[
+                b"> ".as_slice(),
+                number,
+                b" ".as_slice(),
+                echo,
+                b"\n".as_slice(),
+            ],
+        )
     }
 }
 
@@ -55,10 +64,20 @@ fn write_verdict(verdict: &Verdict, out: &mut Vec<u8>) -> Result<(), AllocError>
         Verdict::No => append_all(out, &[b"= no\n".as_slice()]),
         Verdict::Unbuilt => append_all(out, &[b"= refused unbuilt\n".as_slice()]),
         Verdict::Refused(Refusal::Bad(why)) => {
-            append_all(out, &[b"= refused ".as_slice(), fault_word(*why), b"\n".as_slice()])
+            append_all(
+                out,
+                &[b"= refused ".as_slice(), fault_word(*why), b"\n".as_slice()],
+            )
         }
         Verdict::Refused(Refusal::Unknown(name)) => {
-            append_all(out, &[b"= refused unknown ".as_slice(), name.bytes(), b"\n".as_slice()])
+            append_all(
+                out,
+                &[
+                    b"= refused unknown ".as_slice(),
+                    name.bytes(),
+                    b"\n".as_slice(),
+                ],
+            )
         }
     }
 }
