@@ -2,3 +2,5 @@ pub mod Bounds
 pub mod Complement
 mod OneReport
 pub mod Places
+mod ReadAgain
+mod Decimal
