@@ -4,3 +4,6 @@ mod OneReport
 pub mod Places
 mod ReadAgain
 mod Decimal
+mod WordsAgain
+mod InLowestTerms
+mod ShapesAgain
