@@ -7,3 +7,4 @@ mod Decimal
 mod WordsAgain
 mod InLowestTerms
 mod ShapesAgain
+mod ExpressionsAgain

@@ -65,3 +65,48 @@ again_then first next p q o part value before between behind x y =
 pub again_gives : {A : Type 0} (x value : A) (p q : Place) (behind : List Word) → gives x p ≡ Ok (value, q) → Again (gives x) p value q behind behind
 again_gives x value p q behind e =
     subst (λ (r : _ × Place). Again (gives x) p r.0 r.1 behind behind) (same_success e) (record { reads = refl; shorter = omega arith; plain = λ h. h })
+
+-- whatever the reader reads it reads again from the words of the value, in front of any other words
+abbrev pub ReadsItself : {A : Type 0} → Reader A → (A → List Word) → Type 0
+ReadsItself reader words = (p : Place) (value : _) (q : Place) (behind : List Word) → reader p ≡ Ok (value, q) → Again reader p value q (words value ++ behind) behind
+
+-- a value made of one that was read
+pub record OneRead {A C : Type 0} (first : Reader A) (make : A → C) (words : A → List Word) (p : Place) (value : C) (q : Place) : Type 0 where
+  pub one : A
+  pub is : make one ≡ value
+  pub again : (behind : List Word) → Again (first >>= λ x. gives (make x)) p (make one) q (words one ++ behind) behind
+
+-- a value made of one that was read is read again
+pub one_read : {A C : Type 0} (first : Reader A) (make : A → C) (words : A → List Word) → ReadsItself first words → (p : Place) (value : C) (q : Place) → (first >>= λ x. gives (make x)) p ≡ Ok (value, q) → OneRead first make words p value q
+one_read first make words itself p value q e =
+    let s = steps first (λ x. gives (make x)) p value q e in
+    let same = same_success s.behind in
+    record {
+      one = s.part;
+      is = λ i. (same i).0;
+      again = λ behind.
+        again_then first (λ x. gives (make x)) p s.between q s.part (make s.part) (words s.part ++ behind) behind behind (itself p s.part s.between behind s.before)
+          (again_gives (make s.part) (make s.part) s.between q behind (λ i. Ok (make s.part, (same i).1)));
+    }
+
+-- a value made of two that were read, one behind the other
+pub record TwoRead {A B C : Type 0} (first : Reader A) (second : Reader B) (make : A → B → C) (words : A → List Word) (others : B → List Word) (p : Place) (value : C) (q : Place) : Type 0 where
+  pub one : A
+  pub two : B
+  pub is : make one two ≡ value
+  pub again : (behind : List Word) → Again (first >>= λ x. second >>= λ y. gives (make x y)) p (make one two) q (words one ++ (others two ++ behind)) behind
+
+-- a value made of two that were read is read again
+pub two_read : {A B C : Type 0} (first : Reader A) (second : Reader B) (make : A → B → C) (words : A → List Word) (others : B → List Word) → ReadsItself first words → ReadsItself second others
+    → (p : Place) (value : C) (q : Place) → (first >>= λ x. second >>= λ y. gives (make x y)) p ≡ Ok (value, q) → TwoRead first second make words others p value q
+two_read first second make words others itself itself_too p value q e =
+    let s = steps first (λ x. second >>= λ y. gives (make x y)) p value q e in
+    let r = one_read second (make s.part) others itself_too s.between value q s.behind in
+    record {
+      one = s.part;
+      two = r.one;
+      is = r.is;
+      again = λ behind.
+        again_then first (λ x. second >>= λ y. gives (make x y)) p s.between q s.part (make s.part r.one) (words s.part ++ (others r.one ++ behind)) (others r.one ++ behind) behind
+          (itself p s.part s.between (others r.one ++ behind) s.before) (r.again behind);
+    }

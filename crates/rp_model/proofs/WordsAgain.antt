@@ -1,9 +1,9 @@
 -- Readers of one word read the spelling of what they read.
-use Rattle.std.proofs.Common.{◌≡◌, ℕ, suc, ◌+◌, ◌^◌, ◌<◌, ◌≤◌, Bool, true, false, ◌&&◌, ◌==◌, ℤ, pos, nat_abs, List, [], ◌∷◌, ◌++◌, length, Option, Some, None, Result, Ok, Err, refl, ap, ◌∙◌, sym, subst, arith}
+use Rattle.std.proofs.Common.{◌≡◌, ℕ, suc, ◌+◌, ◌^◌, ◌<◌, ◌≤◌, Bool, true, false, not, ◌&&◌, ◌==◌, ℤ, pos, nat_abs, List, [], ◌∷◌, ◌++◌, length, Option, Some, None, Result, Ok, Err, refl, ap, ◌∙◌, sym, subst, arith}
 use Rattle.std.specs.Prelude.{int_le}
 use Rattle.std.specs.Fmt.{signed_decimal}
 use Rattle.std.specs.List.{AllByRecursion, list_all}
-use Rattle.std.proofs.lemmas.Bool.{and_parts}
+use Rattle.std.proofs.lemmas.Bool.{and_parts, not-true}
 use Rattle.std.proofs.lemmas.Slice.Eq.{bytes_eq-Decides}
 use Rattle.rp_model.specs.Name.{Label, is_name, is_letter, is_name_byte, label_eq}
 use Rattle.rp_model.specs.Grammar.{Word, space, Place, Reader, Fault, bad_syntax, out_of_range, gives, fails, read_on, ◌>>=◌, next_word, next_word_of, or_fault, in_bounds, number, number_spelled, named_word, name, looked_up, keyword}
@@ -41,7 +41,7 @@ again_word p word q other behind t le plain =
     }
 
 -- a check that stays where it is
-again_check : {A : Type 0} (check : Reader A) (p q : Place) (value : A) (behind : List Word) → p ≡ q → ((o : Place) → check o ≡ Ok (value, o)) → Again check p value q behind behind
+pub again_check : {A : Type 0} (check : Reader A) (p q : Place) (value : A) (behind : List Word) → p ≡ q → ((o : Place) → check o ≡ Ok (value, o)) → Again check p value q behind behind
 again_check check p q value behind stays always =
     subst (λ (o : Place). Again check p value o behind behind) stays (record { reads = always (record { words = behind; nodes = p.nodes }); shorter = omega arith; plain = λ h. h })
 
@@ -100,23 +100,31 @@ again_name p x q behind e =
 -- ---- words of a table
 
 -- each entry has the word of its value, and no word has a space
-abbrev pub IsTableOf : {A : Type 0} → (A → Word) → List (Word × A) → Type 0
-IsTableOf word_of table = AllByRecursion (λ entry. (entry.0 ≡ word_of entry.1) × HasNoSpace entry.0) table
+abbrev pub fits_table : {A : Type 0} → (A → Word) → List (Word × A) → Bool
+fits_table word_of table = list_all (λ entry. label_eq entry.0 (word_of entry.1) && list_all (λ b. not (b == space)) entry.0) table
+
+-- a word has no space if each of its bytes is tested
+no_space : (word : Word) → list_all (λ b. not (b == space)) word ≡ true → HasNoSpace word
+no_space [] e = tt
+no_space (b ∷ bs) e = let parts = and_parts _ _ e in (not-true _ parts.0, no_space bs parts.1)
 
 -- a word that was looked up is the word of its value, and has no space
-found_word : {A : Type 0} (word_of : A → Word) (table : List (Word × A)) (word : Word) (value : A) → IsTableOf word_of table → looked_up word table ≡ Some value → (word ≡ word_of value) × HasNoSpace word
+found_word : {A : Type 0} (word_of : A → Word) (table : List (Word × A)) (word : Word) (value : A) → fits_table word_of table ≡ true → looked_up word table ≡ Some value → (word ≡ word_of value) × HasNoSpace word
 found_word word_of [] word value t e = absurd (cc)
-found_word {A} word_of (entry ∷ table) word value t e = of_test (label_eq word entry.0) refl (found_word word_of table word value t.1) e
+found_word {A} word_of (entry ∷ table) word value t e =
+    let parts = and_parts _ _ t in
+    of_test (and_parts _ _ parts.0) (label_eq word entry.0) refl (found_word word_of table word value parts.1) e
   where
-    of_test : (test : Bool) → label_eq word entry.0 ≡ test → (looked_up word table ≡ Some value → (word ≡ word_of value) × HasNoSpace word)
+    of_test : (label_eq entry.0 (word_of entry.1) ≡ true) × (list_all (λ b. not (b == space)) entry.0 ≡ true) → (test : Bool) → label_eq word entry.0 ≡ test
+        → (looked_up word table ≡ Some value → (word ≡ word_of value) × HasNoSpace word)
         → elim test as (λ _. Option A) [ true ↦ Some entry.1 | false ↦ looked_up word table ] ≡ Some value → (word ≡ word_of value) × HasNoSpace word
-    of_test true is later e =
+    of_test fits true is later e =
         let same : word ≡ entry.0 = (bytes_eq-Decides word entry.0).0 is in
-        (same ∙ t.0.0 ∙ ap word_of (same_some e), subst HasNoSpace (sym same) t.0.1)
-    of_test false is later e = later e
+        (same ∙ (bytes_eq-Decides entry.0 (word_of entry.1)).0 fits.0 ∙ ap word_of (same_some e), subst HasNoSpace (sym same) (no_space entry.0 fits.1))
+    of_test fits false is later e = later e
 
 -- a word of a table is read again
-pub again_keyword : {A : Type 0} (word_of : A → Word) (table : List (Word × A)) (p : Place) (value : A) (q : Place) (behind : List Word) → IsTableOf word_of table → keyword table p ≡ Ok (value, q) → Again (keyword table) p value q (word_of value ∷ behind) behind
+pub again_keyword : {A : Type 0} (word_of : A → Word) (table : List (Word × A)) (p : Place) (value : A) (q : Place) (behind : List Word) → fits_table word_of table ≡ true → keyword table p ≡ Ok (value, q) → Again (keyword table) p value q (word_of value ∷ behind) behind
 again_keyword word_of table p value q behind t e =
     let check = λ (word : Word). or_fault bad_syntax (looked_up word table) in
     let s = steps next_word check p value q e in
