@@ -1,6 +1,6 @@
 -- Decimals: what is spelled is read again, and the decimal of a smaller number is no longer than digits that stand for the greater one.
-use Rattle.std.proofs.Common.{◌≡◌, ℕ, zero, suc, ◌+◌, ◌-◌, ◌*◌, ◌/◌, ◌%◌, ◌^◌, ◌<◌, ◌≤◌, Bool, true, false, not, ◌&&◌, ◌||◌, ◌==◌, ℤ, pos, negsuc, neg_ℤ, nat_abs, ◌≤ℤ◌, ◌⊎◌, ⊎_elim, List, [], ◌∷◌, ◌++◌, length, Option, Some, None, refl, sym, ap, ◌∙◌, subst, arith, fold}
-use Rattle.std.specs.List.{AllByRecursion, list_all}
+use Rattle.std.proofs.Common.{◌≡◌, ℕ, zero, suc, ◌+◌, ◌-◌, ◌*◌, ◌/◌, ◌%◌, ◌^◌, ◌<◌, ◌≤◌, Bool, true, false, ◌==◌, ℤ, pos, negsuc, neg_ℤ, nat_abs, ◌≤ℤ◌, ⊎_elim, List, [], ◌∷◌, ◌++◌, length, Option, Some, None, refl, sym, ap, ◌∙◌, subst, arith, fold}
+use Rattle.std.specs.List.{list_all}
 use Rattle.std.specs.Char.{is_ascii_digit}
 use Rattle.std.specs.Fmt.{decimal, signed_decimal}
 use Rattle.std.proofs.lemmas.Fmt.{decimal_by_steps_wide, length-decimal-le_wide}
@@ -59,14 +59,14 @@ above_push (d ∷ ds) b h e =
 
 -- one more digit
 spells_more : (n : ℕ) (ds : List ℕ) → 10 ≤ n → Spells (n / 10) ds → Spells n (ds ++ ((48 + n % 10) ∷ []))
-spells_more n ds h s = 
-  let value = s.value in
-  record {
-    value = fold_push step 0 ds (48 + n % 10) ∙ omega arith;
-    above = λ some. above_push ds (48 + n % 10) (s.above (omega arith)) (digit_below_ten (n % 10) (omega arith));
-    lone = λ e. absurd (omega arith);
-    plain = plain_push ds (48 + n % 10) s.plain (digit_no_space (n % 10));
-  }
+spells_more n ds h s =
+    let value = s.value in
+    record {
+      value = fold_push step 0 ds (48 + n % 10) ∙ omega arith;
+      above = λ some. above_push ds (48 + n % 10) (s.above (omega arith)) (digit_below_ten (n % 10) (omega arith));
+      lone = λ e. absurd (omega arith);
+      plain = plain_push ds (48 + n % 10) s.plain (digit_no_space (n % 10));
+    }
 
 -- the decimal of a number
 spells_decimal : (n : ℕ) → n < 10 ^ 64 → Spells n (decimal n)
@@ -158,6 +158,7 @@ natural_no_longer word u v e h small = from_natural (natural_spelled word) refl 
     from_natural : (o : Option ℕ) → natural_spelled word ≡ o → as_whole o ≡ Some v → length (signed_decimal u) ≤ length word
     from_natural None is e = absurd (cc)
     from_natural (Some n) is e = by_sign u n (natural_is word n is) (subst (λ (x : ℤ). IsNoGreater u x) (sym (same_some e)) h) small
+
 -- the spelling of a number that stands in for the number that a word spells is no longer than the word
 pub spelling_no_longer : (word : Word) (u v : ℤ) → number_spelled word ≡ Some v → IsNoGreater u v → nat_abs u < 10 ^ 64 → length (signed_decimal u) ≤ length word
 spelling_no_longer [] u v e h small = absurd (cc)

@@ -1,11 +1,8 @@
 -- Expressions are read again from their spelling.
-use Rattle.std.proofs.Common.{◌≡◌, ℕ, zero, suc, ◌+◌, ◌≤◌, Bool, true, false, not, nat_lt, ◌==◌, List, [], ◌∷◌, ◌++◌, Result, Ok, Err, codes, refl, ap, ◌∙◌, sym, subst, arith, append_assoc}
-use Rattle.std.specs.List.{AllByRecursion, list_all}
-use Rattle.std.proofs.lemmas.Bool.{and_parts, not-true}
-use Rattle.rp_model.specs.Name.{Label}
+use Rattle.std.proofs.Common.{◌≡◌, ℕ, zero, suc, ◌+◌, Bool, true, false, nat_lt, List, [], ◌∷◌, ◌++◌, Result, Ok, Err, codes, refl, sym, subst, arith, append_assoc}
 use Rattle.rp_model.specs.Expression.{Expression, half_space, box, everything, nothing, named, lot, intersection, union, difference, opposite}
-use Rattle.rp_model.specs.Grammar.{Word, space, Place, Reader, Fault, too_many_nodes, gives, ◌>>=◌, ◌>>◌, name, keyword, Node, half_node, box_node, all_node, none_node, name_node, lot_node, and_node, or_node, minus_node, not_node, node_table, most_nodes, count_node, one_operand, two_operands, node_words, expression_within, expression, expression_words, half_space_numbers, half_space_words, box_numbers, box_words}
-use Rattle.rp_model.proofs.ReadAgain.{HasNoSpace, Again, again_then, Steps, steps, same_success, no_success, ReadsItself, OneRead, one_read, TwoRead, two_read}
+use Rattle.rp_model.specs.Grammar.{Word, Place, Reader, Fault, too_many_nodes, gives, ◌>>=◌, ◌>>◌, name, keyword, Node, half_node, box_node, all_node, none_node, name_node, lot_node, and_node, or_node, minus_node, not_node, node_table, most_nodes, count_node, two_operands, node_words, expression_within, expression, expression_words, half_space_numbers, half_space_words, box_numbers, box_words}
+use Rattle.rp_model.proofs.ReadAgain.{Again, again_then, steps, same_success, no_success, ReadsItself, one_read, two_read}
 use Rattle.rp_model.proofs.WordsAgain.{again_check, again_name, again_keyword}
 use Rattle.rp_model.proofs.ShapesAgain.{again_half_space, again_box}
 
@@ -40,7 +37,7 @@ again_count p value q behind e = of_test (nat_lt p.nodes most_nodes) refl e
     of_test false is e = absurd (no_success e)
     of_test true is e =
         subst (λ (r : Unit {0} × Place). Again count_node p r.0 r.1 behind behind) (same_success e)
-          (record { reads = counts behind (nat_lt p.nodes most_nodes) is; shorter = omega arith; plain = λ h. h })
+        (record { reads = counts behind (nat_lt p.nodes most_nodes) is; shorter = omega arith; plain = λ h. h })
 
 -- what follows the word of a node is read again
 record AfterNode (reader : Reader Expression) (node : Node) (p : Place) (e : Expression) (q : Place) : Type 0 where
@@ -60,7 +57,7 @@ after_none : (node : Node) (made : Expression) → expression_words made ≡ wor
 after_none node made spelled p e q h =
     let same = same_success h in
     subst (λ (f : Expression). AfterNode (gives made) node p f q) (λ i. (same i).0)
-      (record { rest = []; spelled = spelled; again = λ behind. again_check (gives made) p q made behind (λ i. (same i).1) (λ o. refl) })
+    (record { rest = []; spelled = spelled; again = λ behind. again_check (gives made) p q made behind (λ i. (same i).1) (λ o. refl) })
 
 -- a node of two expressions
 after_two : (operand : Reader Expression) → ReadsItself operand expression_words → (node : Node) (make : Expression → Expression → Expression)
@@ -69,14 +66,14 @@ after_two : (operand : Reader Expression) → ReadsItself operand expression_wor
 after_two operand itself node make spelled p e q h =
     let r = two_read operand operand make expression_words expression_words itself itself p e q h in
     subst (λ (f : Expression). AfterNode (two_operands operand make) node p f q) r.is
-      (record {
-        rest = expression_words r.one ++ expression_words r.two;
-        spelled = spelled r.one r.two;
-        again = λ behind. subst (λ (words : List Word). Again (two_operands operand make) p (make r.one r.two) q words behind) (sym (append_assoc (expression_words r.one) (expression_words r.two) behind)) (r.again behind);
-      })
+    (record {
+      rest = expression_words r.one ++ expression_words r.two;
+      spelled = spelled r.one r.two;
+      again = λ behind. subst (λ (words : List Word). Again (two_operands operand make) p (make r.one r.two) q words behind) (sym (append_assoc (expression_words r.one) (expression_words r.two) behind)) (r.again behind);
+    })
 
 -- names are read again
-name_itself : ReadsItself name (λ x. x ∷ [])
+pub name_itself : ReadsItself name (λ x. x ∷ [])
 name_itself p x q behind e = again_name p x q behind e
 
 -- what follows the word of each node
@@ -102,8 +99,8 @@ within_itself (suc n) p e q behind h =
     let t = steps count_node (λ _. node_words (expression_within n) s.part) s.between e q s.behind in
     let after = after_node (expression_within n) (within_itself n) s.part t.between e q t.behind in
     subst (λ (words : List Word). Again (expression_within (suc n)) p e q (words ++ behind) behind) (sym after.spelled)
-      (again_then (keyword node_table) _ p s.between q s.part e _ (after.rest ++ behind) behind (again_keyword word_of_node node_table p s.part s.between (after.rest ++ behind) refl s.before)
-        (again_then count_node (λ _. node_words (expression_within n) s.part) s.between t.between q t.part e _ (after.rest ++ behind) behind (again_count s.between t.part t.between (after.rest ++ behind) t.before) (after.again behind)))
+    (again_then (keyword node_table) _ p s.between q s.part e _ (after.rest ++ behind) behind (again_keyword word_of_node node_table p s.part s.between (after.rest ++ behind) refl s.before)
+    (again_then count_node (λ _. node_words (expression_within n) s.part) s.between t.between q t.part e _ (after.rest ++ behind) behind (again_count s.between t.part t.between (after.rest ++ behind) t.before) (after.again behind)))
 
 -- expressions are read again
 pub expression_itself : ReadsItself expression expression_words

@@ -1,5 +1,5 @@
 -- Half-spaces and points in lowest terms: reducing twice is reducing once, and the numbers stay within their bounds.
-use Rattle.std.proofs.Common.{◌≡◌, ℕ, ◌+◌, ◌^◌, ◌<◌, ◌≤◌, Bool, true, false, ◌&&◌, ℤ, pos, negsuc, neg_ℤ, nat_abs, ◌<ℤ◌, ◌≤ℤ◌, List, [], ◌∷◌, refl, ap, ◌∙◌, sym, subst, arith}
+use Rattle.std.proofs.Common.{◌≡◌, ℕ, ◌<◌, ◌≤◌, Bool, true, false, ◌&&◌, ℤ, pos, negsuc, neg_ℤ, nat_abs, ◌<ℤ◌, ◌≤ℤ◌, [], ◌∷◌, refl, ap, ◌∙◌, sym, arith}
 use Rattle.std.specs.Prelude.{int_le}
 use Rattle.std.specs.Int.{◌∣◌}
 use Rattle.std.proofs.lemmas.Int.{ints}

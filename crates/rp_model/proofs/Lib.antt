@@ -8,3 +8,5 @@ mod WordsAgain
 mod InLowestTerms
 mod ShapesAgain
 mod ExpressionsAgain
+mod CommandsAgain
+mod Spelling

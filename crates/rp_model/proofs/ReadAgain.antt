@@ -1,7 +1,7 @@
 -- Readers that read the spelling of what they read: one step after the other, from left to right.
-use Rattle.std.proofs.Common.{◌≡◌, ℕ, suc, ◌+◌, ◌≤◌, Bool, false, ◌==◌, List, [], ◌∷◌, ◌++◌, length, Option, Some, Result, Ok, Err, refl, ap, ◌∙◌, sym, subst, arith}
+use Rattle.std.proofs.Common.{◌≡◌, ℕ, suc, ◌+◌, ◌≤◌, false, ◌==◌, List, [], ◌∷◌, ◌++◌, length, Option, Some, Result, Ok, Err, refl, ap, ◌∙◌, subst, arith}
 use Rattle.std.specs.List.{AllByRecursion}
-use Rattle.rp_model.specs.Grammar.{Word, space, Place, Reader, Fault, gives, read_on, ◌>>=◌, ◌>>◌}
+use Rattle.rp_model.specs.Grammar.{Word, space, Place, Reader, Fault, gives, read_on, ◌>>=◌}
 
 -- how many bytes words take, each with one space behind it
 abbrev pub room : List Word → ℕ
@@ -85,7 +85,7 @@ one_read first make words itself p value q e =
       one = s.part;
       is = λ i. (same i).0;
       again = λ behind.
-        again_then first (λ x. gives (make x)) p s.between q s.part (make s.part) (words s.part ++ behind) behind behind (itself p s.part s.between behind s.before)
+          again_then first (λ x. gives (make x)) p s.between q s.part (make s.part) (words s.part ++ behind) behind behind (itself p s.part s.between behind s.before)
           (again_gives (make s.part) (make s.part) s.between q behind (λ i. Ok (make s.part, (same i).1)));
     }
 
@@ -107,6 +107,6 @@ two_read first second make words others itself itself_too p value q e =
       two = r.one;
       is = r.is;
       again = λ behind.
-        again_then first (λ x. second >>= λ y. gives (make x y)) p s.between q s.part (make s.part r.one) (words s.part ++ (others r.one ++ behind)) (others r.one ++ behind) behind
+          again_then first (λ x. second >>= λ y. gives (make x y)) p s.between q s.part (make s.part r.one) (words s.part ++ (others r.one ++ behind)) (others r.one ++ behind) behind
           (itself p s.part s.between (others r.one ++ behind) s.before) (r.again behind);
     }

@@ -1,12 +1,11 @@
 -- Half-spaces, boxes and points are read again from their spelling.
-use Rattle.std.proofs.Common.{◌≡◌, ℕ, ◌+◌, ◌^◌, ◌<◌, ◌≤◌, Bool, true, false, ◌&&◌, ℤ, pos, negsuc, neg_ℤ, nat_abs, ◌<ℤ◌, ◌≤ℤ◌, List, [], ◌∷◌, ◌++◌, Ok, Err, refl, ap, ◌∙◌, sym, subst, arith}
+use Rattle.std.proofs.Common.{◌≡◌, ℕ, ◌^◌, ◌<◌, ◌≤◌, Bool, true, false, ◌&&◌, ℤ, pos, neg_ℤ, nat_abs, ◌<ℤ◌, List, ◌∷◌, ◌++◌, Ok, refl, ap, ◌∙◌, subst, arith}
 use Rattle.std.specs.Prelude.{int_le}
 use Rattle.std.specs.Fmt.{signed_decimal}
 use Rattle.std.proofs.lemmas.Int.{ints}
-use Rattle.std.proofs.lemmas.Bool.{and_parts}
-use Rattle.rp_model.specs.Geometry.{HalfSpace, RationalPoint, IntegerBox, IsPoint, half_space_of, point_of, is_zero_half_space, reduced_half_space, reduced_point, cube_bound, offset_bound, coordinate_bound, weight_bound}
-use Rattle.rp_model.specs.Grammar.{Word, Place, Reader, Fault, zero_half_space, gives, fails, ◌>>=◌, number, coefficient, nonzero_half_space, half_space_numbers, half_space_words, box_numbers, box_words, point, point_words}
-use Rattle.rp_model.proofs.ReadAgain.{Again, again_then, again_gives, Steps, steps, same_success, no_success}
+use Rattle.rp_model.specs.Geometry.{HalfSpace, RationalPoint, IntegerBox, half_space_of, point_of, is_zero_half_space, reduced_half_space, reduced_point, offset_bound, coordinate_bound, weight_bound}
+use Rattle.rp_model.specs.Grammar.{Word, Place, Reader, Fault, zero_half_space, gives, fails, number, coefficient, nonzero_half_space, half_space_numbers, half_space_words, box_numbers, box_words, point, point_words}
+use Rattle.rp_model.proofs.ReadAgain.{Again, again_then, steps, same_success, no_success}
 use Rattle.rp_model.proofs.WordsAgain.{again_check, number_read, again_number}
 use Rattle.rp_model.proofs.Decimal.{IsNoGreater, no_greater_itself}
 use Rattle.rp_model.proofs.InLowestTerms.{IsReducedHalfSpace, reduced_half_space_is, IsReducedPoint, reduced_point_is, within_still, size_within}
@@ -51,10 +50,10 @@ again_half_space p h q behind e =
     let end = checked_unless (is_zero_half_space k) (reduced_half_space k) h zero_half_space four.between q four.behind in
     let is = subst (λ (r : HalfSpace). IsReducedHalfSpace r k) end.1 (reduced_half_space_is k end.0) in
     again_then coefficient _ p one.between q h.a h _ _ behind (again_coefficient p h.a one.part one.between _ one.before is.a)
-      (again_then coefficient _ one.between two.between q h.b h _ _ behind (again_coefficient one.between h.b two.part two.between _ two.before is.b)
-        (again_then coefficient _ two.between three.between q h.c h _ _ behind (again_coefficient two.between h.c three.part three.between _ three.before is.c)
-          (again_then (number (neg_ℤ offset_bound) offset_bound) _ three.between four.between q h.d h _ _ behind (again_within 844424930131968 (omega arith) three.between h.d four.part four.between behind four.before is.d)
-            (again_check (nonzero_half_space h) four.between q h behind end.2 (nonzero_gives h k is)))))
+    (again_then coefficient _ one.between two.between q h.b h _ _ behind (again_coefficient one.between h.b two.part two.between _ two.before is.b)
+    (again_then coefficient _ two.between three.between q h.c h _ _ behind (again_coefficient two.between h.c three.part three.between _ three.before is.c)
+    (again_then (number (neg_ℤ offset_bound) offset_bound) _ three.between four.between q h.d h _ _ behind (again_within 844424930131968 (omega arith) three.between h.d four.part four.between behind four.before is.d)
+    (again_check (nonzero_half_space h) four.between q h behind end.2 (nonzero_gives h k is)))))
 
 -- ---- boxes
 
@@ -75,13 +74,13 @@ again_box p b q behind e =
     let made : IntegerBox = record { x1 = x1.part; y1 = y1.part; z1 = z1.part; x2 = x2.part; y2 = y2.part; z2 = z2.part } in
     let same = same_success z2.behind in
     subst (λ (c : IntegerBox). Again box_numbers p c q (box_words c ++ behind) behind) (λ i. (same i).0)
-      (again_then coefficient _ p x1.between q x1.part made _ _ behind (coefficient_again p x1.part x1.between _ x1.before)
-        (again_then coefficient _ x1.between y1.between q y1.part made _ _ behind (coefficient_again x1.between y1.part y1.between _ y1.before)
-          (again_then coefficient _ y1.between z1.between q z1.part made _ _ behind (coefficient_again y1.between z1.part z1.between _ z1.before)
-            (again_then coefficient _ z1.between x2.between q x2.part made _ _ behind (coefficient_again z1.between x2.part x2.between _ x2.before)
-              (again_then coefficient _ x2.between y2.between q y2.part made _ _ behind (coefficient_again x2.between y2.part y2.between _ y2.before)
-                (again_then coefficient _ y2.between z2.between q z2.part made _ _ behind (coefficient_again y2.between z2.part z2.between _ z2.before)
-                  (again_check (gives made) z2.between q made behind (λ i. (same i).1) (λ o. refl))))))))
+    (again_then coefficient _ p x1.between q x1.part made _ _ behind (coefficient_again p x1.part x1.between _ x1.before)
+    (again_then coefficient _ x1.between y1.between q y1.part made _ _ behind (coefficient_again x1.between y1.part y1.between _ y1.before)
+    (again_then coefficient _ y1.between z1.between q z1.part made _ _ behind (coefficient_again y1.between z1.part z1.between _ z1.before)
+    (again_then coefficient _ z1.between x2.between q x2.part made _ _ behind (coefficient_again z1.between x2.part x2.between _ x2.before)
+    (again_then coefficient _ x2.between y2.between q y2.part made _ _ behind (coefficient_again x2.between y2.part y2.between _ y2.before)
+    (again_then coefficient _ y2.between z2.between q z2.part made _ _ behind (coefficient_again y2.between z2.part z2.between _ z2.before)
+    (again_check (gives made) z2.between q made behind (λ i. (same i).1) (λ o. refl))))))))
 
 -- ---- points
 
@@ -123,7 +122,7 @@ again_point p r q behind e =
     let weight = number_read (pos 1) weight_bound z.between w.part w.between w.before in
     let is = subst (λ (s : RationalPoint). IsReducedPoint s k) (λ i. (same i).0) (reduced_point_is k (weight_above w.part weight.bounds)) in
     again_then coordinate _ p x.between q r.x r _ _ behind (again_coordinate p r.x x.part x.between _ x.before is.x)
-      (again_then coordinate _ x.between y.between q r.y r _ _ behind (again_coordinate x.between r.y y.part y.between _ y.before is.y)
-        (again_then coordinate _ y.between z.between q r.z r _ _ behind (again_coordinate y.between r.z z.part z.between _ z.before is.z)
-          (again_then (number (pos 1) weight_bound) _ z.between w.between q r.w r _ _ behind (again_weight z.between r.w w.part w.between behind w.before is.w is.positive)
-            (again_check (gives (reduced_point r)) w.between q r behind (λ i. (same i).1) (λ o. ap (λ (s : RationalPoint). Ok (s, o)) is.lowest)))))
+    (again_then coordinate _ x.between y.between q r.y r _ _ behind (again_coordinate x.between r.y y.part y.between _ y.before is.y)
+    (again_then coordinate _ y.between z.between q r.z r _ _ behind (again_coordinate y.between r.z z.part z.between _ z.before is.z)
+    (again_then (number (pos 1) weight_bound) _ z.between w.between q r.w r _ _ behind (again_weight z.between r.w w.part w.between behind w.before is.w is.positive)
+    (again_check (gives (reduced_point r)) w.between q r behind (λ i. (same i).1) (λ o. ap (λ (s : RationalPoint). Ok (s, o)) is.lowest)))))

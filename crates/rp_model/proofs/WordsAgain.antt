@@ -1,13 +1,13 @@
 -- Readers of one word read the spelling of what they read.
-use Rattle.std.proofs.Common.{◌≡◌, ℕ, suc, ◌+◌, ◌^◌, ◌<◌, ◌≤◌, Bool, true, false, not, ◌&&◌, ◌==◌, ℤ, pos, nat_abs, List, [], ◌∷◌, ◌++◌, length, Option, Some, None, Result, Ok, Err, refl, ap, ◌∙◌, sym, subst, arith}
+use Rattle.std.proofs.Common.{◌≡◌, ℕ, suc, ◌+◌, ◌^◌, ◌<◌, ◌≤◌, Bool, true, false, not, ◌&&◌, ◌==◌, ℤ, nat_abs, List, [], ◌∷◌, length, Option, Some, None, Ok, refl, ap, ◌∙◌, sym, subst, arith}
 use Rattle.std.specs.Prelude.{int_le}
 use Rattle.std.specs.Fmt.{signed_decimal}
-use Rattle.std.specs.List.{AllByRecursion, list_all}
+use Rattle.std.specs.List.{list_all}
 use Rattle.std.proofs.lemmas.Bool.{and_parts, not-true}
 use Rattle.std.proofs.lemmas.Slice.Eq.{bytes_eq-Decides}
 use Rattle.rp_model.specs.Name.{Label, is_name, is_letter, is_name_byte, label_eq}
 use Rattle.rp_model.specs.Grammar.{Word, space, Place, Reader, Fault, bad_syntax, out_of_range, gives, fails, read_on, ◌>>=◌, next_word, next_word_of, or_fault, in_bounds, number, number_spelled, named_word, name, looked_up, keyword}
-use Rattle.rp_model.proofs.ReadAgain.{room, HasNoSpace, HaveNoSpace, Again, again_then, Steps, steps, same_success, same_some, no_success}
+use Rattle.rp_model.proofs.ReadAgain.{room, HasNoSpace, Again, again_then, steps, same_success, same_some, no_success}
 use Rattle.rp_model.proofs.Decimal.{IsNoGreater, spelling_no_longer, number_of_spelling, spelling_has_no_space}
 
 -- the word is the first one that is left at p, and q is behind it
@@ -131,7 +131,7 @@ again_keyword word_of table p value q behind t e =
     let c = checked_some (looked_up s.part table) value bad_syntax s.between q s.behind in
     let found = found_word word_of table s.part value t c.0 in
     subst (λ (w : Word). Again (keyword table) p value q (w ∷ behind) behind) found.0
-      (again_checked check p s.between q s.part s.part value behind (takes_word p s.part s.between s.before) c.1 (omega arith) found.1 (λ o. ap (λ (x : Option _). or_fault bad_syntax x o) c.0))
+    (again_checked check p s.between q s.part s.part value behind (takes_word p s.part s.between s.before) c.1 (omega arith) found.1 (λ o. ap (λ (x : Option _). or_fault bad_syntax x o) c.0))
 
 -- ---- numbers
 
@@ -163,5 +163,5 @@ pub again_number : (least greatest : ℤ) (p : Place) (u v : ℤ) (q : Place) (b
 unfolding number
 again_number least greatest p u v q behind r le bounds small =
     again_checked (λ word. or_fault bad_syntax (number_spelled word) >>= in_bounds least greatest) p q q r.word (signed_decimal u) u behind r.takes refl
-      (spelling_no_longer r.word u v r.spelled le small) (spelling_has_no_space u small)
-      (λ o. ap (λ (x : Option ℤ). read_on (in_bounds least greatest) (or_fault bad_syntax x o)) (number_of_spelling u small) ∙ gives_if (int_le least u && int_le u greatest) u out_of_range o bounds)
+    (spelling_no_longer r.word u v r.spelled le small) (spelling_has_no_space u small)
+    (λ o. ap (λ (x : Option ℤ). read_on (in_bounds least greatest) (or_fault bad_syntax x o)) (number_of_spelling u small) ∙ gives_if (int_le least u && int_le u greatest) u out_of_range o bounds)

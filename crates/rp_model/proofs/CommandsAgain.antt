@@ -1,0 +1,245 @@
+-- Commands are read again from their spelling.
+use Rattle.std.proofs.Common.{◌≡◌, ℕ, zero, suc, ◌^◌, ◌<◌, ◌≤◌, true, ◌&&◌, ℤ, pos, negsuc, nat_abs, List, [], ◌∷◌, ◌++◌, length, Ok, codes, refl, ap, ◌∙◌, sym, subst, arith, append_assoc, append-nil}
+use Rattle.std.specs.Prelude.{int_le}
+use Rattle.std.specs.List.{flat_map}
+use Rattle.std.specs.Fmt.{decimal}
+use Rattle.std.proofs.lemmas.Int.{ints}
+use Rattle.std.proofs.lemmas.Slice.Eq.{bytes_eq-Decides}
+use Rattle.rp_model.specs.Name.{Label, label_eq}
+use Rattle.rp_model.specs.Expression.{Child, Command, define, ask_member, ask_empty, ask_pieces, ask_show, ask_equal, ask_within, ask_overlap, ask_contact, ask_relation, register, cut, subdivide, consolidate, retire, ask_neighbours, ask_history, ask_at, ask_as_of, ask_audit, ask_list}
+use Rattle.rp_model.specs.Grammar.{Word, Place, Reader, bad_syntax, gives, ◌>>=◌, ◌>>◌, next_word, name, keyword, number, count_to, point, point_words, expression, expression_words, child, many, equals_sign, end_of, end_of_line, let_words, cut_words, Verb, let_verb, member_verb, empty_verb, pieces_verb, show_verb, equal_verb, within_verb, overlap_verb, contact_verb, rcc_verb, register_verb, cut_verb, subdivide_verb, consolidate_verb, retire_verb, neighbours_verb, history_verb, at_verb, asof_verb, audit_verb, list_verb, verb_table, verb_words, command_words, words_of_command}
+use Rattle.rp_model.proofs.ReadAgain.{Again, again_then, steps, same_success, no_success, ReadsItself, one_read, two_read}
+use Rattle.rp_model.proofs.WordsAgain.{Takes, takes_word, again_word, again_check, checked_if, again_keyword, NumberRead, number_read, again_number}
+use Rattle.rp_model.proofs.Decimal.{no_greater_itself}
+use Rattle.rp_model.proofs.ShapesAgain.{again_point}
+use Rattle.rp_model.proofs.ExpressionsAgain.{name_itself, expression_itself}
+
+-- ---- counts and lists
+
+-- a count within its bound
+count_at_most : (k n : ℕ) → (int_le (pos 0) (pos k) && int_le (pos k) (pos n)) ≡ true → k ≤ n
+count_at_most k n e = grind (arith, ints)
+
+-- a number that was read from 0 on is read again as a count
+count_of_number : (greatest : ℕ) → greatest < 10 ^ 64 → (p : Place) (v : ℤ) (q : Place) (behind : List Word) → NumberRead (pos 0) (pos greatest) p v q → Again (count_to greatest) p (nat_abs v) q (decimal (nat_abs v) ∷ behind) behind
+count_of_number greatest small p (negsuc k) q behind r = absurd (let bounds = r.bounds in cc)
+count_of_number greatest small p (pos k) q behind r =
+    let at_most = count_at_most k greatest r.bounds in
+    again_then (number (pos 0) (pos greatest)) (λ v. gives (nat_abs v)) p q q (pos k) k (decimal k ∷ behind) behind behind
+    (again_number (pos 0) (pos greatest) p (pos k) (pos k) q behind r (no_greater_itself (pos k)) r.bounds (omega arith))
+    (again_check (gives k) q q k behind refl (λ o. refl))
+
+-- a number that counts is read again
+count_itself : (greatest : ℕ) → greatest < 10 ^ 64 → ReadsItself (count_to greatest) (λ n. decimal n ∷ [])
+count_itself greatest small p n q behind e =
+    let s = steps (number (pos 0) (pos greatest)) (λ v. gives (nat_abs v)) p n q e in
+    let same = same_success s.behind in
+    subst (λ (r : ℕ × Place). Again (count_to greatest) p r.0 r.1 (decimal r.0 ∷ behind) behind) same
+    (count_of_number greatest small p s.part s.between behind (number_read (pos 0) (pos greatest) p s.part s.between s.before))
+
+-- so many items are read again
+many_itself : {A : Type 0} (item : Reader A) (words : A → List Word) → ReadsItself item words → (n : ℕ) → ReadsItself (many n item) (flat_map words)
+many_itself item words itself zero p xs q behind e =
+    let same = same_success e in
+    subst (λ (ys : List _). Again (many zero item) p ys q (flat_map words ys ++ behind) behind) (λ i. (same i).0) (again_check (gives []) p q [] behind (λ i. (same i).1) (λ o. refl))
+many_itself item words itself (suc n) p xs q behind e =
+    let r = two_read item (many n item) ◌∷◌ words (flat_map words) itself (many_itself item words itself n) p xs q e in
+    subst (λ (ys : List _). Again (many (suc n) item) p ys q (flat_map words ys ++ behind) behind) r.is
+    (subst (λ (before : List Word). Again (many (suc n) item) p (r.one ∷ r.two) q before behind) (sym (append_assoc (words r.one) (flat_map words r.two) behind)) (r.again behind))
+
+-- as many items are read as were asked for
+many_length : {A : Type 0} (item : Reader A) (n : ℕ) (p : Place) (xs : List A) (q : Place) → many n item p ≡ Ok (xs, q) → length xs ≡ n
+many_length item zero p xs q e = let same = same_success e in λ i. length (sym same i).0
+many_length item (suc n) p xs q e =
+    let s = steps item (λ first. many n item >>= λ rest. gives (first ∷ rest)) p xs q e in
+    let t = steps (many n item) (λ rest. gives (s.part ∷ rest)) s.between xs q s.behind in
+    let same = same_success t.behind in
+    (λ i. length (sym same i).0) ∙ ap suc (many_length item n s.between t.part t.between t.before)
+
+-- lists of one word each, joined
+joined_singles : (xs : List Word) → flat_map (λ x. x ∷ []) xs ≡ xs
+joined_singles [] = refl
+joined_singles (x ∷ xs) = ap (λ (ys : List Word). x ∷ ys) (joined_singles xs)
+
+-- the words of a child
+abbrev child_words : Child → List Word
+child_words c = c.id ∷ expression_words c.shape
+
+-- a child is read again
+child_itself : ReadsItself child child_words
+child_itself p c q behind e =
+    let r = two_read name expression (λ x f. record { id = x; shape = f }) (λ x. x ∷ []) expression_words name_itself expression_itself p c q e in
+    subst (λ (d : Child). Again child p d q (child_words d ++ behind) behind) r.is (r.again behind)
+
+-- ---- commands
+
+-- the word that begins a command
+abbrev word_of_verb : Verb → Word
+word_of_verb let_verb = codes "let"
+word_of_verb member_verb = codes "member"
+word_of_verb empty_verb = codes "empty"
+word_of_verb pieces_verb = codes "pieces"
+word_of_verb show_verb = codes "show"
+word_of_verb equal_verb = codes "equal"
+word_of_verb within_verb = codes "within"
+word_of_verb overlap_verb = codes "overlap"
+word_of_verb contact_verb = codes "contact"
+word_of_verb rcc_verb = codes "rcc"
+word_of_verb register_verb = codes "register"
+word_of_verb cut_verb = codes "cut"
+word_of_verb subdivide_verb = codes "subdivide"
+word_of_verb consolidate_verb = codes "consolidate"
+word_of_verb retire_verb = codes "retire"
+word_of_verb neighbours_verb = codes "neighbours"
+word_of_verb history_verb = codes "history"
+word_of_verb at_verb = codes "at"
+word_of_verb asof_verb = codes "asof"
+word_of_verb audit_verb = codes "audit"
+word_of_verb list_verb = codes "list"
+
+-- what follows the word of a command is read again
+record AfterVerb (reader : Reader Command) (verb : Verb) (p : Place) (c : Command) (q : Place) : Type 0 where
+  rest : List Word
+  spelled : words_of_command c ≡ word_of_verb verb ∷ rest
+  again : (behind : List Word) → Again reader p c q (rest ++ behind) behind
+
+-- a command of nothing that is read
+after_none : (verb : Verb) (made : Command) → words_of_command made ≡ word_of_verb verb ∷ [] → (p : Place) (c : Command) (q : Place) → gives made p ≡ Ok (c, q) → AfterVerb (gives made) verb p c q
+after_none verb made spelled p c q h =
+    let same = same_success h in
+    subst (λ (d : Command). AfterVerb (gives made) verb p d q) (λ i. (same i).0)
+    (record { rest = []; spelled = spelled; again = λ behind. again_check (gives made) p q made behind (λ i. (same i).1) (λ o. refl) })
+
+-- a command of one thing that is read
+after_one : {A : Type 0} (verb : Verb) (first : Reader A) (make : A → Command) (words : A → List Word) → ReadsItself first words → ((x : A) → words_of_command (make x) ≡ word_of_verb verb ∷ words x)
+    → (p : Place) (c : Command) (q : Place) → (first >>= λ x. gives (make x)) p ≡ Ok (c, q) → AfterVerb (first >>= λ x. gives (make x)) verb p c q
+after_one verb first make words itself spelled p c q h =
+    let r = one_read first make words itself p c q h in
+    subst (λ (d : Command). AfterVerb (first >>= λ x. gives (make x)) verb p d q) r.is (record { rest = words r.one; spelled = spelled r.one; again = r.again })
+
+-- a command of two things that are read
+after_two : {A B : Type 0} (verb : Verb) (first : Reader A) (second : Reader B) (make : A → B → Command) (words : A → List Word) (others : B → List Word) → ReadsItself first words → ReadsItself second others
+    → ((x : A) (y : B) → words_of_command (make x y) ≡ word_of_verb verb ∷ (words x ++ others y))
+    → (p : Place) (c : Command) (q : Place) → (first >>= λ x. second >>= λ y. gives (make x y)) p ≡ Ok (c, q) → AfterVerb (first >>= λ x. second >>= λ y. gives (make x y)) verb p c q
+after_two verb first second make words others itself itself_too spelled p c q h =
+    let r = two_read first second make words others itself itself_too p c q h in
+    subst (λ (d : Command). AfterVerb (first >>= λ x. second >>= λ y. gives (make x y)) verb p d q) r.is
+    (record {
+      rest = words r.one ++ others r.two;
+      spelled = spelled r.one r.two;
+      again = λ behind.
+          subst (λ (before : List Word). Again (first >>= λ x. second >>= λ y. gives (make x y)) p (make r.one r.two) q before behind) (sym (append_assoc (words r.one) (others r.two) behind)) (r.again behind);
+    })
+
+-- what follows the word of a definition
+after_let : (p : Place) (c : Command) (q : Place) → let_words p ≡ Ok (c, q) → AfterVerb let_words let_verb p c q
+after_let p c q h =
+    let x = steps name _ p c q h in
+    let sign = steps next_word _ x.between c q x.behind in
+    let checked = steps (equals_sign sign.part) (λ _. expression >>= λ e. gives (define x.part e)) sign.between c q sign.behind in
+    let test = checked_if (label_eq sign.part (codes "=")) tt checked.part bad_syntax sign.between checked.between checked.before in
+    let r = one_read expression (define x.part) expression_words expression_itself checked.between c q checked.behind in
+    let is : sign.part ≡ codes "=" = (bytes_eq-Decides sign.part (codes "=")).0 test.0 in
+    let taken = subst (λ (w : Word). Takes x.between w sign.between) is (takes_word x.between sign.part sign.between sign.before) in
+    subst (λ (d : Command). AfterVerb let_words let_verb p d q) r.is
+    (record {
+      rest = x.part ∷ codes "=" ∷ expression_words r.one;
+      spelled = refl;
+      again = λ behind.
+          again_then name _ p x.between q x.part (define x.part r.one) _ _ behind (name_itself p x.part x.between (codes "=" ∷ (expression_words r.one ++ behind)) x.before)
+          (again_then next_word (λ word. equals_sign word >> (expression >>= λ e. gives (define x.part e))) x.between sign.between q (codes "=") (define x.part r.one) _ (expression_words r.one ++ behind) behind
+          (again_word x.between (codes "=") sign.between (codes "=") (expression_words r.one ++ behind) taken (omega arith) (refl, tt))
+          (again_then (equals_sign (codes "=")) (λ _. expression >>= λ e. gives (define x.part e)) sign.between checked.between q tt (define x.part r.one) _ (expression_words r.one ++ behind) behind
+          (again_check (equals_sign (codes "=")) sign.between checked.between tt (expression_words r.one ++ behind) test.2 (λ o. refl)) (r.again behind)));
+    })
+
+-- what follows the word of a cut
+after_cut : (p : Place) (c : Command) (q : Place) → cut_words p ≡ Ok (c, q) → AfterVerb cut_words cut_verb p c q
+after_cut p c q h =
+    let x = steps name _ p c q h in
+    let e = steps expression _ x.between c q x.behind in
+    let r = two_read name name (cut x.part e.part) (λ y. y ∷ []) (λ y. y ∷ []) name_itself name_itself e.between c q e.behind in
+    subst (λ (d : Command). AfterVerb cut_words cut_verb p d q) r.is
+    (record {
+      rest = x.part ∷ (expression_words e.part ++ r.one ∷ r.two ∷ []);
+      spelled = refl;
+      again = λ behind.
+          again_then name _ p x.between q x.part (cut x.part e.part r.one r.two) _ _ behind (name_itself p x.part x.between ((expression_words e.part ++ r.one ∷ r.two ∷ []) ++ behind) x.before)
+          (subst (λ (before : List Word). Again (expression >>= λ f. name >>= λ first. name >>= λ second. gives (cut x.part f first second)) x.between (cut x.part e.part r.one r.two) q before behind)
+          (sym (append_assoc (expression_words e.part) (r.one ∷ r.two ∷ []) behind))
+          (again_then expression _ x.between e.between q e.part (cut x.part e.part r.one r.two) _ (r.one ∷ r.two ∷ behind) behind (expression_itself x.between e.part e.between (r.one ∷ r.two ∷ behind) e.before) (r.again behind)));
+    })
+
+-- a name, a count, and as many items
+after_count : {A : Type 0} (verb : Verb) (greatest : ℕ) → greatest < 10 ^ 64 → (item : Reader A) (make : Label → List A → Command) (words : A → List Word) → ReadsItself item words
+    → ((x : Label) (ys : List A) → words_of_command (make x ys) ≡ word_of_verb verb ∷ x ∷ decimal (length ys) ∷ flat_map words ys)
+    → (p : Place) (c : Command) (q : Place) → (name >>= λ x. count_to greatest >>= λ n. many n item >>= λ ys. gives (make x ys)) p ≡ Ok (c, q)
+    → AfterVerb (name >>= λ x. count_to greatest >>= λ n. many n item >>= λ ys. gives (make x ys)) verb p c q
+after_count {A} verb greatest small item make words itself spelled p c q h =
+    let x = steps name _ p c q h in
+    let n = steps (count_to greatest) (λ k. many k item >>= λ ys. gives (make x.part ys)) x.between c q x.behind in
+    let ys = steps (many n.part item) (λ zs. gives (make x.part zs)) n.between c q n.behind in
+    let same = same_success ys.behind in
+    let made = make x.part ys.part in
+    let long = many_length item n.part n.between ys.part ys.between ys.before in
+    subst (λ (d : Command). AfterVerb (name >>= λ x. count_to greatest >>= λ n. many n item >>= λ ys. gives (make x ys)) verb p d q) (λ i. (same i).0)
+    (record {
+      rest = x.part ∷ decimal (length ys.part) ∷ flat_map words ys.part;
+      spelled = spelled x.part ys.part;
+      again = λ behind.
+          again_then name (λ x. count_to greatest >>= λ n. many n item >>= λ ys. gives (make x ys)) p x.between q x.part made _ _ behind (name_itself p x.part x.between (decimal (length ys.part) ∷ (flat_map words ys.part ++ behind)) x.before)
+          (again_then (count_to greatest) (λ k. many k item >>= λ ys. gives (make x.part ys)) x.between n.between q n.part made _ (flat_map words ys.part ++ behind) behind
+          (subst (λ (k : ℕ). Again (count_to greatest) x.between n.part n.between (decimal k ∷ (flat_map words ys.part ++ behind)) (flat_map words ys.part ++ behind)) (sym long)
+          (count_itself greatest small x.between n.part n.between (flat_map words ys.part ++ behind) n.before))
+          (again_then (many n.part item) (λ zs. gives (make x.part zs)) n.between ys.between q ys.part made _ behind behind (many_itself item words itself n.part n.between ys.part ys.between behind ys.before)
+          (again_check (gives made) ys.between q made behind (λ i. (same i).1) (λ o. refl))));
+    })
+
+-- what follows the word of each command
+after_verb : (verb : Verb) (p : Place) (c : Command) (q : Place) → verb_words verb p ≡ Ok (c, q) → AfterVerb (verb_words verb) verb p c q
+after_verb let_verb p c q h = after_let p c q h
+after_verb member_verb p c q h = after_two member_verb expression point ask_member expression_words point_words expression_itself again_point (λ x y. refl) p c q h
+after_verb empty_verb p c q h = after_one empty_verb expression ask_empty expression_words expression_itself (λ x. refl) p c q h
+after_verb pieces_verb p c q h = after_one pieces_verb expression ask_pieces expression_words expression_itself (λ x. refl) p c q h
+after_verb show_verb p c q h = after_one show_verb expression ask_show expression_words expression_itself (λ x. refl) p c q h
+after_verb equal_verb p c q h = after_two equal_verb expression expression ask_equal expression_words expression_words expression_itself expression_itself (λ x y. refl) p c q h
+after_verb within_verb p c q h = after_two within_verb expression expression ask_within expression_words expression_words expression_itself expression_itself (λ x y. refl) p c q h
+after_verb overlap_verb p c q h = after_two overlap_verb expression expression ask_overlap expression_words expression_words expression_itself expression_itself (λ x y. refl) p c q h
+after_verb contact_verb p c q h = after_two contact_verb expression expression ask_contact expression_words expression_words expression_itself expression_itself (λ x y. refl) p c q h
+after_verb rcc_verb p c q h = after_two rcc_verb expression expression ask_relation expression_words expression_words expression_itself expression_itself (λ x y. refl) p c q h
+after_verb register_verb p c q h = after_two register_verb name expression register (λ x. x ∷ []) expression_words name_itself expression_itself (λ x y. refl) p c q h
+after_verb cut_verb p c q h = after_cut p c q h
+after_verb subdivide_verb p c q h = after_count subdivide_verb 1024 (omega arith) child subdivide child_words child_itself (λ x ys. refl) p c q h
+after_verb consolidate_verb p c q h = after_count consolidate_verb 65536 (omega arith) name consolidate (λ x. x ∷ []) name_itself (λ x ys. ap (λ (zs : List Word). codes "consolidate" ∷ x ∷ decimal (length ys) ∷ zs) (sym (joined_singles ys))) p c q h
+after_verb retire_verb p c q h = after_one retire_verb name retire (λ x. x ∷ []) name_itself (λ x. refl) p c q h
+after_verb neighbours_verb p c q h = after_one neighbours_verb name ask_neighbours (λ x. x ∷ []) name_itself (λ x. refl) p c q h
+after_verb history_verb p c q h = after_one history_verb name ask_history (λ x. x ∷ []) name_itself (λ x. refl) p c q h
+after_verb at_verb p c q h = after_one at_verb point ask_at point_words again_point (λ x. refl) p c q h
+after_verb asof_verb p c q h = after_two asof_verb (count_to 16777216) point ask_as_of (λ n. decimal n ∷ []) point_words (count_itself 16777216 (omega arith)) again_point (λ x y. refl) p c q h
+after_verb audit_verb p c q h = after_none audit_verb ask_audit refl p c q h
+after_verb list_verb p c q h = after_none list_verb ask_list refl p c q h
+
+-- the end of the line is read again where no word is left
+again_end : (p : Place) (value : Unit {0}) (q : Place) → end_of_line p ≡ Ok (value, q) → Again end_of_line p value q [] []
+again_end p value q e = of_words p.words e
+  where
+    of_words : (words : List Word) → end_of words p ≡ Ok (value, q) → Again end_of_line p value q [] []
+    of_words (word ∷ words) e = absurd (no_success e)
+    of_words [] e = subst (λ (r : Unit {0} × Place). Again end_of_line p r.0 r.1 [] []) (same_success e) (record { reads = refl; shorter = omega arith; plain = λ h. h })
+
+-- a command is read again from its words, which are no longer than the words that were read
+pub again_command : (p : Place) (c : Command) (q : Place) → command_words p ≡ Ok (c, q) → Again command_words p c q (words_of_command c) []
+unfolding command_words
+again_command p c q h =
+    let verb = steps (keyword verb_table) (λ v. verb_words v >>= λ d. end_of_line >> gives d) p c q h in
+    let body = steps (verb_words verb.part) (λ d. end_of_line >> gives d) verb.between c q verb.behind in
+    let end = steps end_of_line (λ _. gives body.part) body.between c q body.behind in
+    let same = same_success end.behind in
+    let is : body.part ≡ c = λ i. (same i).0 in
+    let after = subst (λ (d : Command). AfterVerb (verb_words verb.part) verb.part verb.between d body.between) is (after_verb verb.part verb.between body.part body.between body.before) in
+    subst (λ (words : List Word). Again command_words p c q words []) (sym (after.spelled ∙ ap (λ (ws : List Word). word_of_verb verb.part ∷ ws) (sym (append-nil after.rest))))
+    (again_then (keyword verb_table) (λ v. verb_words v >>= λ d. end_of_line >> gives d) p verb.between q verb.part c _ (after.rest ++ []) []
+    (again_keyword word_of_verb verb_table p verb.part verb.between (after.rest ++ []) refl verb.before)
+    (again_then (verb_words verb.part) (λ d. end_of_line >> gives d) verb.between body.between q c c (after.rest ++ []) [] [] (after.again [])
+    (again_then end_of_line (λ _. gives c) body.between end.between q end.part c [] [] [] (again_end body.between end.part end.between end.before)
+    (again_check (gives c) end.between q c [] (λ i. (same i).1) (λ o. refl)))))
