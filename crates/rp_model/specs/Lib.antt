@@ -1,11 +1,11 @@
 pub mod Geometry
+pub mod Name
 pub mod Shape
 pub mod Sets
 pub mod Search
 pub mod Certificate
 pub mod Vertex
 pub mod Elimination
-pub mod Name
 pub mod Expression
 pub mod Grammar
 pub mod Verdict

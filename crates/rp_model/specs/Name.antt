@@ -1,5 +1,5 @@
 -- Names: what is a name, and when two are the same.
-use Rattle.std.specs.Prelude.{ℕ, Bool, false, ◌&&◌, ◌||◌, ◌==◌, nat_le, List, [], ◌∷◌, length}
+use Rattle.std.specs.Prelude.{ℕ, Bool, true, false, ◌&&◌, ◌||◌, ◌==◌, nat_le, List, [], ◌∷◌, length, Option, Some, None}
 use Rattle.std.specs.List.{list_all}
 use Rattle.std.specs.Char.{is_ascii_digit}
 use Rattle.std.specs.Str.{bytes_eq}
@@ -24,3 +24,7 @@ is_name_byte b = is_letter b || is_ascii_digit b || b == 95 || b == 45 || b == 4
 abbrev pub is_name : Label → Bool
 is_name [] = false
 is_name (b ∷ bs) = is_letter b && list_all is_name_byte bs && nat_le (length (b ∷ bs)) 32
+
+-- the name of these bytes; none where they are no name
+abbrev pub name_of : List ℕ → Option Label
+name_of bytes = elim (is_name bytes) [ true ↦ Some bytes | false ↦ None ]

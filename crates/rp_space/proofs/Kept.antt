@@ -31,7 +31,7 @@ is_zero-quotient g v d =
     (λ e. (Decides-int_eq (reduced_by g v) (pos 0)).1 (ap (reduced_by g) ((Decides-int_eq v (pos 0)).0 e) ∙ quotient_of_zero g))
 
 -- the two parts of a conjunction
-both : (a b : Bool) → (a && b) ≡ true → (a ≡ true) × (b ≡ true)
+pub both : (a b : Bool) → (a && b) ≡ true → (a ≡ true) × (b ≡ true)
 both true b e = (refl, e)
 both false b e = absurd (cc)
 
@@ -119,7 +119,7 @@ is_zero-neg v =
     to_neg v e = omega (arith, ints)
 
 -- a quadruple with the divisor 1 is in lowest terms
-lowest_by_one : (h : HalfSpace) → gcd_of (h.a ∷ h.b ∷ h.c ∷ h.d ∷ []) ≡ 1 → reduced_half_space h ≡ h
+pub lowest_by_one : (h : HalfSpace) → gcd_of (h.a ∷ h.b ∷ h.c ∷ h.d ∷ []) ≡ 1 → reduced_half_space h ≡ h
 unfolding reduced_half_space
 lowest_by_one h e =
     ap (λ (g : ℕ). record { a = reduced_by g h.a; b = reduced_by g h.b; c = reduced_by g h.c; d = reduced_by g h.d }) e

@@ -1,7 +1,7 @@
 //! Half-spaces in lowest terms.
 ghost use Rattle.std.specs.Prelude.{◌≡◌, ◌<◌, ◌^◌, true, false, pos, ◌≤ℤ◌, [], ◌∷◌};
 ghost use Rattle.rp_algebra.specs.Integer.{gcd_of, is_zero};
-ghost use Rattle.rp_model.specs.Geometry.{half_space_of, side_value, owns_boundary, holds, complement, is_within_bound, is_half_space_in_bounds, is_zero_half_space, reduced_half_space};
+ghost use Rattle.rp_model.specs.Geometry.{half_space_of, side_value, owns_boundary, holds, complement, is_within_bound, is_half_space_in_bounds, is_zero_half_space, reduced_half_space, IsKeptHalfSpace};
 ghost use Rattle.rp_space.specs.MadeHalfSpace.{made_half_space};
 
 use crate::divisor::{common_divisor, short_quotient};
@@ -61,6 +61,14 @@ impl Half {
             return Err(HalfFault::Zero);
         }
         Ok(reduced(a, b, c, d))
+    }
+
+    /// The half-space of a side of a box: four numbers that are in lowest terms as they stand.
+    pub(crate) fn of_side(a: i64, b: i64, c: i64, d: i64) -> Half
+        requires { IsKeptHalfSpace (half_space_of a b c d) }
+        ensures { result ≡ half_space_of a b c d }
+    {
+        Half { a, b, c, d }
     }
 
     /// The half-space that holds exactly the other points.

@@ -6,12 +6,17 @@ ghost use Rattle.rp_model.specs.Grammar.{reading, is_blank};
 ghost use Rattle.rp_syntax.specs.Views.{line_of};
 
 mod command;
+mod commands;
+mod expression;
 mod fault;
+mod keywords;
 mod number;
+mod numbers;
 mod space;
 mod words;
 
-pub use command::{Command, Expr, Line, Why};
+pub use command::{Command, Entries, Expr, Line, Why};
+use fault::ReadFault;
 use std::alloc::{AllocError, Global};
 use words::Words;
 
@@ -28,20 +33,23 @@ fn is_blank(line: &[u8]) -> bool
     }
 }
 
-/// What a line says, without its ending: nothing, a command, or something that is not built yet.
+/// What a line says, without its ending: nothing, a command, or the first fault in reading order.
+///
+/// `Long` where it has more than 65,536 bytes. Answers `AllocError` only for want of memory.
 #[tactic(auto, unfolding(rp_model::specs::Grammar::reading))]
-pub fn read_line(_alloc: Global, line: &[u8]) -> Result<Line, AllocError>
+pub fn read_line(alloc: Global, line: &[u8]) -> Result<Line, AllocError>
     ensures { IfOk result (λ l. line_of l ≡ reading line.now) }
 {
     if line.len() > MAX_LINE {
-        return Ok(Line::Bad(Why::Unbuilt));
+        return Ok(Line::Bad(Why::Long));
     }
     if is_blank(line) {
         return Ok(Line::Blank);
     }
     let mut words = Words::new(line);
-    match words.command() {
+    match words.command(alloc) {
         Ok(command) => Ok(Line::Cmd(command)),
-        Err(_) => Ok(Line::Bad(Why::Unbuilt)),
+        Err(ReadFault::Bad(why)) => Ok(Line::Bad(why)),
+        Err(ReadFault::Memory(error)) => Err(error),
     }
 }

@@ -1,0 +1,68 @@
+//! Lists that grow, whose room contracts see.
+ghost use Rattle.std.specs.Prelude.{◌≡◌, OnOk, OnErr, [], ◌∷◌, ◌++◌, ◌≤◌, ◌<◌, ◌+◌};
+
+use crate::half::Half;
+use crate::name::Name;
+use std::alloc::{AllocError, Global};
+use std::marker::Model;
+
+/// A list that grows at its end. A contract sees its `items`, and in `spare` how many more it has room for.
+#[derive(Debug, Drop)]
+pub struct Listed<T> {
+    items: Vec<T>,
+}
+
+impl<T> Model for Listed<T> {
+    ghost use Rattle.std.specs.Prelude.{◌-◌, vec_len, vec_capacity};
+    ghost use Rattle.rp_space.specs.Listed.{Listed};
+
+    ghost Value = { Listed T };
+
+    ghost view = { λ a. record { items = a.items.items; spare = vec_capacity a.items - vec_len a.items } };
+}
+
+impl<T: Drop> Listed<T> {
+    /// The empty list, which keeps the allocator and takes no memory.
+    pub fn new(alloc: Global) -> Listed<T>
+        ensures { result.items ≡ [] }
+    {
+        Listed {
+            items: Vec::new(alloc),
+        }
+    }
+
+    /// Appends an item. Answers `AllocError` only for want of memory, and then the items stay.
+    /// Where there is room to spare it succeeds, and takes one place of it at most.
+    pub fn push(&mut self, x: T) -> Result<(), AllocError>
+        ensures ok { OnOk result (self.new.items ≡ self.old.items ++ x ∷ []) }
+        ensures err { OnErr result (self.new.items ≡ self.old.items) }
+        ensures room { 0 < self.old.spare → OnOk result (self.old.spare ≤ self.new.spare + 1) }
+    {
+        self.items.push(x)?;
+        Ok(())
+    }
+
+    /// Makes room for so many more items. Answers `AllocError` only for want of memory; the items stay in any case.
+    pub fn reserve(&mut self, n: usize) -> Result<(), AllocError>
+        ensures items { self.new.items ≡ self.old.items }
+        ensures ok { OnOk result (n ≤ self.new.spare) }
+    {
+        self.items.reserve(n)
+    }
+
+    /// The items in order.
+    pub fn items(&self) -> &[T]
+        ensures { result.now ≡ self.now.items }
+    {
+        &self.items
+    }
+}
+
+/// A list of names.
+pub type Names = Listed<Name>;
+
+/// A list of numbers.
+pub type Numbers = Listed<u32>;
+
+/// A list of half-spaces.
+pub type Halves = Listed<Half>;

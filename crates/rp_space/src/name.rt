@@ -1,0 +1,91 @@
+//! Names of regions and lots.
+ghost use Rattle.std.specs.Prelude.{◌≡◌, true};
+ghost use Rattle.std.specs.List.{list_all};
+ghost use Rattle.rp_model.specs.Name.{is_letter, is_name_byte, is_name, name_of};
+
+use std::marker::Model;
+
+/// The greatest number of bytes of a name.
+const MAX_NAME: usize = 32;
+
+/// A name of 1 to 32 bytes: letters `a` to `z` and `A` to `Z`, digits, `_`, `-` and `.`, the first of them a letter.
+/// A contract sees the list of its bytes.
+#[derive(Clone, Copy, Debug, PartialEq, Eq)]
+pub struct Name {
+    bytes: [u8; 32],
+    len: u8,
+}
+
+impl Model for Name {
+    ghost use Rattle.std.specs.Prelude.{List, ℕ};
+
+    ghost Value = { List ℕ };
+
+    ghost use Rattle.rp_space.specs.NameBytes.{kept_bytes, name_back, IsNameInside, kept_back};
+
+    ghost view = { kept_bytes };
+
+    ghost invariant = { IsNameInside };
+
+    ghost inverse = { name_back };
+
+    ghost inverse_ok = { λ a h. kept_back a h };
+}
+
+impl Name {
+    /// The name of these bytes. `None` exactly where they are no name.
+    pub fn new(bytes: &[u8]) -> Option<Name>
+        ensures { result ≡ name_of bytes.now }
+    {
+        if !is_name(bytes) {
+            return None;
+        }
+        let mut kept = [0; MAX_NAME];
+        kept[..bytes.len()].copy_from_slice(bytes);
+        Some(Name {
+            bytes: kept,
+            len: bytes.len() as u8,
+        })
+    }
+
+    /// The bytes of the name.
+    pub fn bytes(&self) -> &[u8]
+        ensures value { result.now ≡ self.now }
+        ensures name { is_name result.now ≡ true }
+    {
+        &self.bytes[..self.len as usize]
+    }
+}
+
+/// Whether a byte is a letter.
+fn is_letter(byte: u8) -> bool
+    ensures { result ≡ is_letter byte }
+{
+    (97 <= byte && byte <= 122) || (65 <= byte && byte <= 90)
+}
+
+/// Whether a byte may stand in a name.
+fn is_name_byte(byte: u8) -> bool
+    ensures { result ≡ is_name_byte byte }
+{
+    is_letter(byte) || byte.is_ascii_digit() || byte == b'_' || byte == b'-' || byte == b'.'
+}
+
+/// Whether all bytes may stand in a name.
+fn are_name_bytes(bytes: &[u8]) -> bool
+    ensures { result ≡ list_all is_name_byte bytes.now }
+{
+    bytes.iter().all(|byte| is_name_byte(*byte))
+}
+
+/// Whether the bytes are a name.
+fn is_name(bytes: &[u8]) -> bool
+    ensures { result ≡ is_name bytes.now }
+{
+    match bytes {
+        [] => false,
+        [first, rest @ ..] => {
+            is_letter(*first) && are_name_bytes(rest) && bytes.len() <= MAX_NAME
+        }
+    }
+}

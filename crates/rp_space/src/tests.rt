@@ -1,0 +1,95 @@
+use crate::{Half, Halves, IntBox, Name, Names, Numbers, Point, box_halves, cube};
+use std::test::Fail;
+
+/// Shows that a type may be sent to other threads and shared with them.
+fn needs_send_sync<T: Send + Sync>() {}
+
+#[test]
+fn types_cross_threads() {
+    needs_send_sync::<Half>();
+    needs_send_sync::<Point>();
+    needs_send_sync::<IntBox>();
+    needs_send_sync::<Name>();
+    needs_send_sync::<Names>();
+    needs_send_sync::<Numbers>();
+    needs_send_sync::<Halves>();
+}
+
+#[test]
+fn names_are_told_from_others(rt: HostRuntime) {
+    let names = [
+        b"a".as_slice(),
+        b"Z".as_slice(),
+        b"Lot_12-b.3".as_slice(),
+        b"a2345678901234567890123456789012".as_slice(),
+    ];
+    for name in names {
+        assert!(rt; Name::new(name).is_some());
+    }
+    let others = [
+        b"".as_slice(),
+        b"1a".as_slice(),
+        b"_a".as_slice(),
+        b"a b".as_slice(),
+        b"a+".as_slice(),
+        b"a\xc3\xa9".as_slice(),
+        b"a23456789012345678901234567890123".as_slice(),
+    ];
+    for other in others {
+        assert!(rt; Name::new(other).is_none());
+    }
+}
+
+#[test]
+fn a_name_gives_its_bytes(rt: HostRuntime) -> Result<(), Fail> {
+    let name = Name::new(b"tower.2").ok_or("no name")?;
+    assert_eq!(rt; name.bytes(), b"tower.2".as_slice());
+    Ok(())
+}
+
+#[test]
+fn lists_grow(rt: HostRuntime) -> Result<(), Fail> {
+    let mut numbers = Numbers::new(rt.alloc());
+    numbers.reserve(2)?;
+    numbers.push(7)?;
+    numbers.push(9)?;
+    assert_eq!(rt; numbers.items(), [7, 9].as_slice());
+    let mut names = Names::new(rt.alloc());
+    names.push(Name::new(b"a").ok_or("no name")?)?;
+    assert_eq!(rt; names.items().len(), 1);
+    let mut halves = Halves::new(rt.alloc());
+    halves.push(Half::new(2, 0, 0, -4).ok().ok_or("no half-space")?)?;
+    assert_eq!(rt; halves.items().len(), 1);
+    Ok(())
+}
+
+#[test]
+fn half_spaces_and_points_are_kept_in_lowest_terms(rt: HostRuntime) -> Result<(), Fail> {
+    let half = Half::new(2, 0, 0, -4).ok().ok_or("no half-space")?;
+    assert_eq!(rt; half.numbers(), (1, 0, 0, -2));
+    assert_eq!(rt; half.not().numbers(), (-1, 0, 0, 2));
+    let point = Point::new(4, 6, 8, 2).ok().ok_or("no point")?;
+    assert_eq!(rt; point.numbers(), (2, 3, 4, 1));
+    assert_eq!(rt; half.side(&point), 0);
+    assert!(rt; half.holds(&point));
+    assert!(rt; !half.not().holds(&point));
+    Ok(())
+}
+
+#[test]
+fn boxes_have_six_sides(rt: HostRuntime) {
+    let bounds = IntBox {
+        lo: [1, 2, 3],
+        hi: [4, 5, 6],
+    };
+    let [x1, x2, y1, y2, z1, z2] = box_halves(&bounds);
+    assert_eq!(rt; x1.numbers(), (1, 0, 0, -1));
+    assert_eq!(rt; x2.numbers(), (-1, 0, 0, 4));
+    assert_eq!(rt; y1.numbers(), (0, 1, 0, -2));
+    assert_eq!(rt; y2.numbers(), (0, -1, 0, 5));
+    assert_eq!(rt; z1.numbers(), (0, 0, 1, -3));
+    assert_eq!(rt; z2.numbers(), (0, 0, -1, 6));
+    let [first, second, ..] = cube();
+    assert_eq!(rt; first.numbers(), (1, 0, 0, 16777216));
+    assert_eq!(rt; second.numbers(), (-1, 0, 0, 16777216));
+}
