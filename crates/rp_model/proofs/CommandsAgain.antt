@@ -7,9 +7,9 @@ use Rattle.std.proofs.lemmas.Int.{ints}
 use Rattle.std.proofs.lemmas.Slice.Eq.{bytes_eq-Decides}
 use Rattle.rp_model.specs.Name.{Label, label_eq}
 use Rattle.rp_model.specs.Expression.{Child, Command, define, ask_member, ask_empty, ask_pieces, ask_show, ask_equal, ask_within, ask_overlap, ask_contact, ask_relation, register, cut, subdivide, consolidate, retire, ask_neighbours, ask_history, ask_at, ask_as_of, ask_audit, ask_list}
-use Rattle.rp_model.specs.Grammar.{Word, Place, Reader, bad_syntax, gives, ◌>>=◌, ◌>>◌, next_word, name, keyword, number, count_to, point, point_words, expression, expression_words, child, many, equals_sign, end_of, end_of_line, let_words, cut_words, Verb, let_verb, member_verb, empty_verb, pieces_verb, show_verb, equal_verb, within_verb, overlap_verb, contact_verb, rcc_verb, register_verb, cut_verb, subdivide_verb, consolidate_verb, retire_verb, neighbours_verb, history_verb, at_verb, asof_verb, audit_verb, list_verb, verb_table, verb_words, command_words, words_of_command}
+use Rattle.rp_model.specs.Grammar.{Word, Place, Reader, bad_syntax, gives, ◌>>=◌, ◌>>◌, next_word, name, keyword, number, count_to, point, point_words, expression, expression_words, child, many, equals_sign, equals_word, end_of, end_of_line, let_words, cut_words, Verb, let_verb, member_verb, empty_verb, pieces_verb, show_verb, equal_verb, within_verb, overlap_verb, contact_verb, rcc_verb, register_verb, cut_verb, subdivide_verb, consolidate_verb, retire_verb, neighbours_verb, history_verb, at_verb, asof_verb, audit_verb, list_verb, verb_table, verb_words, command_words, words_of_command}
 use Rattle.rp_model.proofs.ReadAgain.{Again, again_then, steps, same_success, no_success, ReadsItself, one_read, two_read}
-use Rattle.rp_model.proofs.WordsAgain.{Takes, takes_word, again_word, again_check, checked_if, again_keyword, NumberRead, number_read, again_number}
+use Rattle.rp_model.proofs.WordsAgain.{Takes, takes_word, again_check, again_checked, checked_if, again_keyword, NumberRead, number_read, again_number}
 use Rattle.rp_model.proofs.Decimal.{no_greater_itself}
 use Rattle.rp_model.proofs.ShapesAgain.{again_point}
 use Rattle.rp_model.proofs.ExpressionsAgain.{name_itself, expression_itself}
@@ -131,27 +131,30 @@ after_two verb first second make words others itself itself_too spelled p c q h 
           subst (λ (before : List Word). Again (first >>= λ x. second >>= λ y. gives (make x y)) p (make r.one r.two) q before behind) (sym (append_assoc (words r.one) (others r.two) behind)) (r.again behind);
     })
 
+-- the word between a name and what it is to name is read again
+again_equals : (p : Place) (value : Unit {0}) (q : Place) (behind : List Word) → equals_word p ≡ Ok (value, q) → Again equals_word p value q (codes "=" ∷ behind) behind
+again_equals p value q behind e =
+    let s = steps next_word equals_sign p value q e in
+    let test = checked_if (label_eq s.part (codes "=")) tt value bad_syntax s.between q s.behind in
+    let taken = subst (λ (w : Word). Takes p w s.between) ((bytes_eq-Decides s.part (codes "=")).0 test.0) (takes_word p s.part s.between s.before) in
+    again_checked equals_sign p s.between q (codes "=") (codes "=") value behind taken test.2 (omega arith) (refl, tt) (λ o. refl)
+
 -- what follows the word of a definition
 after_let : (p : Place) (c : Command) (q : Place) → let_words p ≡ Ok (c, q) → AfterVerb let_words let_verb p c q
 after_let p c q h =
-    let x = steps name _ p c q h in
-    let sign = steps next_word _ x.between c q x.behind in
-    let checked = steps (equals_sign sign.part) (λ _. expression >>= λ e. gives (define x.part e)) sign.between c q sign.behind in
-    let test = checked_if (label_eq sign.part (codes "=")) tt checked.part bad_syntax sign.between checked.between checked.before in
-    let r = one_read expression (define x.part) expression_words expression_itself checked.between c q checked.behind in
-    let is : sign.part ≡ codes "=" = (bytes_eq-Decides sign.part (codes "=")).0 test.0 in
-    let taken = subst (λ (w : Word). Takes x.between w sign.between) is (takes_word x.between sign.part sign.between sign.before) in
+    let x = steps name (λ y. equals_word >> (expression >>= λ e. gives (define y e))) p c q h in
+    let sign = steps equals_word (λ _. expression >>= λ e. gives (define x.part e)) x.between c q x.behind in
+    let r = one_read expression (define x.part) expression_words expression_itself sign.between c q sign.behind in
+    let made = define x.part r.one in
     subst (λ (d : Command). AfterVerb let_words let_verb p d q) r.is
-    (record {
-      rest = x.part ∷ codes "=" ∷ expression_words r.one;
-      spelled = refl;
-      again = λ behind.
-          again_then name _ p x.between q x.part (define x.part r.one) _ _ behind (name_itself p x.part x.between (codes "=" ∷ (expression_words r.one ++ behind)) x.before)
-          (again_then next_word (λ word. equals_sign word >> (expression >>= λ e. gives (define x.part e))) x.between sign.between q (codes "=") (define x.part r.one) _ (expression_words r.one ++ behind) behind
-          (again_word x.between (codes "=") sign.between (codes "=") (expression_words r.one ++ behind) taken (omega arith) (refl, tt))
-          (again_then (equals_sign (codes "=")) (λ _. expression >>= λ e. gives (define x.part e)) sign.between checked.between q tt (define x.part r.one) _ (expression_words r.one ++ behind) behind
-          (again_check (equals_sign (codes "=")) sign.between checked.between tt (expression_words r.one ++ behind) test.2 (λ o. refl)) (r.again behind)));
-    })
+      (record {
+        rest = x.part ∷ codes "=" ∷ expression_words r.one;
+        spelled = refl;
+        again = λ behind.
+          let rest = expression_words r.one ++ behind in
+          again_then name (λ y. equals_word >> (expression >>= λ e. gives (define y e))) p x.between q x.part made (x.part ∷ codes "=" ∷ rest) (codes "=" ∷ rest) behind (name_itself p x.part x.between (codes "=" ∷ rest) x.before)
+            (again_then equals_word (λ _. expression >>= λ e. gives (define x.part e)) x.between sign.between q sign.part made (codes "=" ∷ rest) rest behind (again_equals x.between sign.part sign.between rest sign.before) (r.again behind));
+      })
 
 -- what follows the word of a cut
 after_cut : (p : Place) (c : Command) (q : Place) → cut_words p ≡ Ok (c, q) → AfterVerb cut_words cut_verb p c q
