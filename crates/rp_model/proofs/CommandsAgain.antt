@@ -8,8 +8,8 @@ use Rattle.std.proofs.lemmas.Slice.Eq.{bytes_eq-Decides}
 use Rattle.rp_model.specs.Name.{Label, label_eq}
 use Rattle.rp_model.specs.Expression.{Child, Command, define, ask_member, ask_empty, ask_pieces, ask_show, ask_equal, ask_within, ask_overlap, ask_contact, ask_relation, register, cut, subdivide, consolidate, retire, ask_neighbours, ask_history, ask_at, ask_as_of, ask_audit, ask_list}
 use Rattle.rp_model.specs.Grammar.{Word, Place, Reader, bad_syntax, gives, ◌>>=◌, ◌>>◌, next_word, name, keyword, number, count_to, point, point_words, expression, expression_words, child, many, equals_sign, equals_word, end_of, end_of_line, let_words, cut_words, Verb, let_verb, member_verb, empty_verb, pieces_verb, show_verb, equal_verb, within_verb, overlap_verb, contact_verb, rcc_verb, register_verb, cut_verb, subdivide_verb, consolidate_verb, retire_verb, neighbours_verb, history_verb, at_verb, asof_verb, audit_verb, list_verb, verb_table, verb_words, command_words, words_of_command}
-use Rattle.rp_model.proofs.ReadAgain.{Again, again_then, steps, same_success, no_success, ReadsItself, one_read, two_read}
-use Rattle.rp_model.proofs.WordsAgain.{Takes, takes_word, again_check, again_checked, checked_if, again_keyword, NumberRead, number_read, again_number}
+use Rattle.rp_model.proofs.ReadAgain.{Again, again_then, given, again_check, again_gives, steps, same_success, no_success, ReadsItself, one_read, two_read}
+use Rattle.rp_model.proofs.WordsAgain.{Takes, takes_word, again_checked, checked_if, again_keyword, NumberRead, number_read, again_number}
 use Rattle.rp_model.proofs.Decimal.{no_greater_itself}
 use Rattle.rp_model.proofs.ShapesAgain.{again_point}
 use Rattle.rp_model.proofs.ExpressionsAgain.{name_itself, expression_itself}
@@ -27,7 +27,7 @@ count_of_number greatest small p (pos k) q behind r =
     let at_most = count_at_most k greatest r.bounds in
     again_then (number (pos 0) (pos greatest)) (λ v. gives (nat_abs v)) p q q (pos k) k (decimal k ∷ behind) behind behind
     (again_number (pos 0) (pos greatest) p (pos k) (pos k) q behind r (no_greater_itself (pos k)) r.bounds (omega arith))
-    (again_check (gives k) q q k behind refl (λ o. refl))
+    (again_gives k q q behind refl)
 
 -- a number that counts is read again
 count_itself : (greatest : ℕ) → greatest < 10 ^ 64 → ReadsItself (count_to greatest) (λ n. decimal n ∷ [])
@@ -40,8 +40,8 @@ count_itself greatest small p n q behind e =
 -- so many items are read again
 many_itself : {A : Type 0} (item : Reader A) (words : A → List Word) → ReadsItself item words → (n : ℕ) → ReadsItself (many n item) (flat_map words)
 many_itself item words itself zero p xs q behind e =
-    let same = same_success e in
-    subst (λ (ys : List _). Again (many zero item) p ys q (flat_map words ys ++ behind) behind) (λ i. (same i).0) (again_check (gives []) p q [] behind (λ i. (same i).1) (λ o. refl))
+    let same = given [] xs p q e in
+    subst (λ (ys : List _). Again (many zero item) p ys q (flat_map words ys ++ behind) behind) same.0 (again_gives [] p q behind same.1)
 many_itself item words itself (suc n) p xs q behind e =
     let r = two_read item (many n item) ◌∷◌ words (flat_map words) itself (many_itself item words itself n) p xs q e in
     subst (λ (ys : List _). Again (many (suc n) item) p ys q (flat_map words ys ++ behind) behind) r.is
@@ -49,12 +49,11 @@ many_itself item words itself (suc n) p xs q behind e =
 
 -- as many items are read as were asked for
 many_length : {A : Type 0} (item : Reader A) (n : ℕ) (p : Place) (xs : List A) (q : Place) → many n item p ≡ Ok (xs, q) → length xs ≡ n
-many_length item zero p xs q e = let same = same_success e in λ i. length (sym same i).0
+many_length item zero p xs q e = ap length (sym (given [] xs p q e).0)
 many_length item (suc n) p xs q e =
     let s = steps item (λ first. many n item >>= λ rest. gives (first ∷ rest)) p xs q e in
     let t = steps (many n item) (λ rest. gives (s.part ∷ rest)) s.between xs q s.behind in
-    let same = same_success t.behind in
-    (λ i. length (sym same i).0) ∙ ap suc (many_length item n s.between t.part t.between t.before)
+    ap length (sym (given (s.part ∷ t.part) xs t.between q t.behind).0) ∙ ap suc (many_length item n s.between t.part t.between t.before)
 
 -- lists of one word each, joined
 joined_singles : (xs : List Word) → flat_map (λ x. x ∷ []) xs ≡ xs
@@ -106,9 +105,9 @@ record AfterVerb (reader : Reader Command) (verb : Verb) (p : Place) (c : Comman
 -- a command of nothing that is read
 after_none : (verb : Verb) (made : Command) → words_of_command made ≡ word_of_verb verb ∷ [] → (p : Place) (c : Command) (q : Place) → gives made p ≡ Ok (c, q) → AfterVerb (gives made) verb p c q
 after_none verb made spelled p c q h =
-    let same = same_success h in
-    subst (λ (d : Command). AfterVerb (gives made) verb p d q) (λ i. (same i).0)
-    (record { rest = []; spelled = spelled; again = λ behind. again_check (gives made) p q made behind (λ i. (same i).1) (λ o. refl) })
+    let same = given made c p q h in
+    subst (λ (d : Command). AfterVerb (gives made) verb p d q) same.0
+    (record { rest = []; spelled = spelled; again = λ behind. again_gives made p q behind same.1 })
 
 -- a command of one thing that is read
 after_one : {A : Type 0} (verb : Verb) (first : Reader A) (make : A → Command) (words : A → List Word) → ReadsItself first words → ((x : A) → words_of_command (make x) ≡ word_of_verb verb ∷ words x)
@@ -147,55 +146,64 @@ after_let p c q h =
     let r = one_read expression (define x.part) expression_words expression_itself sign.between c q sign.behind in
     let made = define x.part r.one in
     subst (λ (d : Command). AfterVerb let_words let_verb p d q) r.is
-      (record {
-        rest = x.part ∷ codes "=" ∷ expression_words r.one;
-        spelled = refl;
-        again = λ behind.
+    (record {
+      rest = x.part ∷ codes "=" ∷ expression_words r.one;
+      spelled = refl;
+      again = λ behind.
           let rest = expression_words r.one ++ behind in
           again_then name (λ y. equals_word >> (expression >>= λ e. gives (define y e))) p x.between q x.part made (x.part ∷ codes "=" ∷ rest) (codes "=" ∷ rest) behind (name_itself p x.part x.between (codes "=" ∷ rest) x.before)
-            (again_then equals_word (λ _. expression >>= λ e. gives (define x.part e)) x.between sign.between q sign.part made (codes "=" ∷ rest) rest behind (again_equals x.between sign.part sign.between rest sign.before) (r.again behind));
-      })
+          (again_then equals_word (λ _. expression >>= λ e. gives (define x.part e)) x.between sign.between q sign.part made (codes "=" ∷ rest) rest behind (again_equals x.between sign.part sign.between rest sign.before) (r.again behind));
+    })
 
 -- what follows the word of a cut
 after_cut : (p : Place) (c : Command) (q : Place) → cut_words p ≡ Ok (c, q) → AfterVerb cut_words cut_verb p c q
 after_cut p c q h =
-    let x = steps name _ p c q h in
-    let e = steps expression _ x.between c q x.behind in
+    let on_name = λ (y : Label). expression >>= λ f. name >>= λ first. name >>= λ second. gives (cut y f first second) in
+    let x = steps name on_name p c q h in
+    let on_both = λ (f : Expression). name >>= λ first. name >>= λ second. gives (cut x.part f first second) in
+    let e = steps expression on_both x.between c q x.behind in
     let r = two_read name name (cut x.part e.part) (λ y. y ∷ []) (λ y. y ∷ []) name_itself name_itself e.between c q e.behind in
+    let made = cut x.part e.part r.one r.two in
+    let ends = r.one ∷ r.two ∷ [] in
     subst (λ (d : Command). AfterVerb cut_words cut_verb p d q) r.is
     (record {
-      rest = x.part ∷ (expression_words e.part ++ r.one ∷ r.two ∷ []);
+      rest = x.part ∷ (expression_words e.part ++ ends);
       spelled = refl;
       again = λ behind.
-          again_then name _ p x.between q x.part (cut x.part e.part r.one r.two) _ _ behind (name_itself p x.part x.between ((expression_words e.part ++ r.one ∷ r.two ∷ []) ++ behind) x.before)
-          (subst (λ (before : List Word). Again (expression >>= λ f. name >>= λ first. name >>= λ second. gives (cut x.part f first second)) x.between (cut x.part e.part r.one r.two) q before behind)
-          (sym (append_assoc (expression_words e.part) (r.one ∷ r.two ∷ []) behind))
-          (again_then expression _ x.between e.between q e.part (cut x.part e.part r.one r.two) _ (r.one ∷ r.two ∷ behind) behind (expression_itself x.between e.part e.between (r.one ∷ r.two ∷ behind) e.before) (r.again behind)));
+          let joined = append_assoc (expression_words e.part) ends behind in
+          again_then name on_name p x.between q x.part made (x.part ∷ ((expression_words e.part ++ ends) ++ behind)) ((expression_words e.part ++ ends) ++ behind) behind
+          (name_itself p x.part x.between ((expression_words e.part ++ ends) ++ behind) x.before)
+          (subst (λ (before : List Word). Again (on_name x.part) x.between made q before behind) (sym joined)
+          (again_then expression on_both x.between e.between q e.part made (expression_words e.part ++ (ends ++ behind)) (ends ++ behind) behind
+          (expression_itself x.between e.part e.between (ends ++ behind) e.before) (r.again behind)));
     })
 
--- a name, a count, and as many items
+-- what follows the word of a command with a name, a count, and as many items
 after_count : {A : Type 0} (verb : Verb) (greatest : ℕ) → greatest < 10 ^ 64 → (item : Reader A) (make : Label → List A → Command) (words : A → List Word) → ReadsItself item words
     → ((x : Label) (ys : List A) → words_of_command (make x ys) ≡ word_of_verb verb ∷ x ∷ decimal (length ys) ∷ flat_map words ys)
     → (p : Place) (c : Command) (q : Place) → (name >>= λ x. count_to greatest >>= λ n. many n item >>= λ ys. gives (make x ys)) p ≡ Ok (c, q)
     → AfterVerb (name >>= λ x. count_to greatest >>= λ n. many n item >>= λ ys. gives (make x ys)) verb p c q
 after_count {A} verb greatest small item make words itself spelled p c q h =
-    let x = steps name _ p c q h in
-    let n = steps (count_to greatest) (λ k. many k item >>= λ ys. gives (make x.part ys)) x.between c q x.behind in
+    let on_name = λ (y : Label). count_to greatest >>= λ k. many k item >>= λ zs. gives (make y zs) in
+    let x = steps name on_name p c q h in
+    let on_count = λ (k : ℕ). many k item >>= λ zs. gives (make x.part zs) in
+    let n = steps (count_to greatest) on_count x.between c q x.behind in
     let ys = steps (many n.part item) (λ zs. gives (make x.part zs)) n.between c q n.behind in
-    let same = same_success ys.behind in
     let made = make x.part ys.part in
+    let same = given made c ys.between q ys.behind in
     let long = many_length item n.part n.between ys.part ys.between ys.before in
-    subst (λ (d : Command). AfterVerb (name >>= λ x. count_to greatest >>= λ n. many n item >>= λ ys. gives (make x ys)) verb p d q) (λ i. (same i).0)
+    subst (λ (d : Command). AfterVerb (name >>= on_name) verb p d q) same.0
     (record {
       rest = x.part ∷ decimal (length ys.part) ∷ flat_map words ys.part;
       spelled = spelled x.part ys.part;
       again = λ behind.
-          again_then name (λ x. count_to greatest >>= λ n. many n item >>= λ ys. gives (make x ys)) p x.between q x.part made _ _ behind (name_itself p x.part x.between (decimal (length ys.part) ∷ (flat_map words ys.part ++ behind)) x.before)
-          (again_then (count_to greatest) (λ k. many k item >>= λ ys. gives (make x.part ys)) x.between n.between q n.part made _ (flat_map words ys.part ++ behind) behind
-          (subst (λ (k : ℕ). Again (count_to greatest) x.between n.part n.between (decimal k ∷ (flat_map words ys.part ++ behind)) (flat_map words ys.part ++ behind)) (sym long)
-          (count_itself greatest small x.between n.part n.between (flat_map words ys.part ++ behind) n.before))
-          (again_then (many n.part item) (λ zs. gives (make x.part zs)) n.between ys.between q ys.part made _ behind behind (many_itself item words itself n.part n.between ys.part ys.between behind ys.before)
-          (again_check (gives made) ys.between q made behind (λ i. (same i).1) (λ o. refl))));
+          let items = flat_map words ys.part ++ behind in
+          let counted = decimal (length ys.part) ∷ items in
+          again_then name on_name p x.between q x.part made (x.part ∷ counted) counted behind (name_itself p x.part x.between counted x.before)
+          (again_then (count_to greatest) on_count x.between n.between q n.part made counted items behind
+          (subst (λ (k : ℕ). Again (count_to greatest) x.between n.part n.between (decimal k ∷ items) items) (sym long) (count_itself greatest small x.between n.part n.between items n.before))
+          (again_then (many n.part item) (λ zs. gives (make x.part zs)) n.between ys.between q ys.part made items behind behind
+          (many_itself item words itself n.part n.between ys.part ys.between behind ys.before) (again_gives made ys.between q behind same.1)));
     })
 
 -- what follows the word of each command
@@ -237,12 +245,11 @@ again_command p c q h =
     let verb = steps (keyword verb_table) (λ v. verb_words v >>= λ d. end_of_line >> gives d) p c q h in
     let body = steps (verb_words verb.part) (λ d. end_of_line >> gives d) verb.between c q verb.behind in
     let end = steps end_of_line (λ _. gives body.part) body.between c q body.behind in
-    let same = same_success end.behind in
-    let is : body.part ≡ c = λ i. (same i).0 in
-    let after = subst (λ (d : Command). AfterVerb (verb_words verb.part) verb.part verb.between d body.between) is (after_verb verb.part verb.between body.part body.between body.before) in
+    let same = given body.part c end.between q end.behind in
+    let after = subst (λ (d : Command). AfterVerb (verb_words verb.part) verb.part verb.between d body.between) same.0 (after_verb verb.part verb.between body.part body.between body.before) in
     subst (λ (words : List Word). Again command_words p c q words []) (sym (after.spelled ∙ ap (λ (ws : List Word). word_of_verb verb.part ∷ ws) (sym (append-nil after.rest))))
     (again_then (keyword verb_table) (λ v. verb_words v >>= λ d. end_of_line >> gives d) p verb.between q verb.part c _ (after.rest ++ []) []
     (again_keyword word_of_verb verb_table p verb.part verb.between (after.rest ++ []) refl verb.before)
     (again_then (verb_words verb.part) (λ d. end_of_line >> gives d) verb.between body.between q c c (after.rest ++ []) [] [] (after.again [])
     (again_then end_of_line (λ _. gives c) body.between end.between q end.part c [] [] [] (again_end body.between end.part end.between end.before)
-    (again_check (gives c) end.between q c [] (λ i. (same i).1) (λ o. refl)))))
+    (again_gives c end.between q [] same.1))))

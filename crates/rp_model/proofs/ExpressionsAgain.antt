@@ -2,8 +2,8 @@
 use Rattle.std.proofs.Common.{◌≡◌, ℕ, zero, suc, ◌+◌, Bool, true, false, nat_lt, List, [], ◌∷◌, ◌++◌, Result, Ok, Err, codes, refl, sym, subst, arith, append_assoc}
 use Rattle.rp_model.specs.Expression.{Expression, half_space, box, everything, nothing, named, lot, intersection, union, difference, opposite}
 use Rattle.rp_model.specs.Grammar.{Word, Place, Reader, Fault, too_many_nodes, gives, ◌>>=◌, ◌>>◌, name, keyword, Node, half_node, box_node, all_node, none_node, name_node, lot_node, and_node, or_node, minus_node, not_node, node_table, most_nodes, count_node, two_operands, node_words, expression_within, expression, expression_words, half_space_numbers, half_space_words, box_numbers, box_words}
-use Rattle.rp_model.proofs.ReadAgain.{Again, again_then, steps, same_success, no_success, ReadsItself, one_read, two_read}
-use Rattle.rp_model.proofs.WordsAgain.{again_check, again_name, again_keyword}
+use Rattle.rp_model.proofs.ReadAgain.{Again, again_then, given, again_gives, steps, same_success, no_success, ReadsItself, one_read, two_read}
+use Rattle.rp_model.proofs.WordsAgain.{again_name, again_keyword}
 use Rattle.rp_model.proofs.ShapesAgain.{again_half_space, again_box}
 
 -- ---- the words of the table
@@ -55,9 +55,9 @@ after_one node first make words itself spelled p e q h =
 -- a node of nothing that is read
 after_none : (node : Node) (made : Expression) → expression_words made ≡ word_of_node node ∷ [] → (p : Place) (e : Expression) (q : Place) → gives made p ≡ Ok (e, q) → AfterNode (gives made) node p e q
 after_none node made spelled p e q h =
-    let same = same_success h in
-    subst (λ (f : Expression). AfterNode (gives made) node p f q) (λ i. (same i).0)
-    (record { rest = []; spelled = spelled; again = λ behind. again_check (gives made) p q made behind (λ i. (same i).1) (λ o. refl) })
+    let same = given made e p q h in
+    subst (λ (f : Expression). AfterNode (gives made) node p f q) same.0
+    (record { rest = []; spelled = spelled; again = λ behind. again_gives made p q behind same.1 })
 
 -- a node of two expressions
 after_two : (operand : Reader Expression) → ReadsItself operand expression_words → (node : Node) (make : Expression → Expression → Expression)

@@ -61,10 +61,18 @@ again_then first next p q o part value before between behind x y =
       plain = λ h. x.plain (y.plain h);
     }
 
--- what reads no word is read again from no word
-pub again_gives : {A : Type 0} (x value : A) (p q : Place) (behind : List Word) → gives x p ≡ Ok (value, q) → Again (gives x) p value q behind behind
-again_gives x value p q behind e =
-    subst (λ (r : _ × Place). Again (gives x) p r.0 r.1 behind behind) (same_success e) (record { reads = refl; shorter = omega arith; plain = λ h. h })
+-- what is given is the value, and no word is read
+pub given : {A : Type 0} (x value : A) (p q : Place) → gives x p ≡ Ok (value, q) → (x ≡ value) × (p ≡ q)
+given x value p q e = let same = same_success e in ((λ i. (same i).0), (λ i. (same i).1))
+
+-- a reader that reads no word, and gives the value at each place, gives it again
+pub again_check : {A : Type 0} (check : Reader A) (p q : Place) (value : A) (behind : List Word) → p ≡ q → ((o : Place) → check o ≡ Ok (value, o)) → Again check p value q behind behind
+again_check check p q value behind stays always =
+    subst (λ (o : Place). Again check p value o behind behind) stays (record { reads = always (record { words = behind; nodes = p.nodes }); shorter = omega arith; plain = λ h. h })
+
+-- what is given is given again
+pub again_gives : {A : Type 0} (x : A) (p q : Place) (behind : List Word) → p ≡ q → Again (gives x) p x q behind behind
+again_gives x p q behind stays = again_check (gives x) p q x behind stays (λ o. refl)
 
 -- whatever the reader reads it reads again from the words of the value, in front of any other words
 abbrev pub ReadsItself : {A : Type 0} → Reader A → (A → List Word) → Type 0
@@ -80,13 +88,13 @@ pub record OneRead {A C : Type 0} (first : Reader A) (make : A → C) (words : A
 pub one_read : {A C : Type 0} (first : Reader A) (make : A → C) (words : A → List Word) → ReadsItself first words → (p : Place) (value : C) (q : Place) → (first >>= λ x. gives (make x)) p ≡ Ok (value, q) → OneRead first make words p value q
 one_read first make words itself p value q e =
     let s = steps first (λ x. gives (make x)) p value q e in
-    let same = same_success s.behind in
+    let same = given (make s.part) value s.between q s.behind in
     record {
       one = s.part;
-      is = λ i. (same i).0;
+      is = same.0;
       again = λ behind.
           again_then first (λ x. gives (make x)) p s.between q s.part (make s.part) (words s.part ++ behind) behind behind (itself p s.part s.between behind s.before)
-          (again_gives (make s.part) (make s.part) s.between q behind (λ i. Ok (make s.part, (same i).1)));
+          (again_gives (make s.part) s.between q behind same.1);
     }
 
 -- a value made of two that were read, one behind the other

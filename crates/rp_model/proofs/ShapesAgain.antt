@@ -5,8 +5,8 @@ use Rattle.std.specs.Fmt.{signed_decimal}
 use Rattle.std.proofs.lemmas.Int.{ints}
 use Rattle.rp_model.specs.Geometry.{HalfSpace, RationalPoint, IntegerBox, half_space_of, point_of, is_zero_half_space, reduced_half_space, reduced_point, offset_bound, coordinate_bound, weight_bound}
 use Rattle.rp_model.specs.Grammar.{Word, Place, Reader, Fault, zero_half_space, gives, fails, number, coefficient, nonzero_half_space, half_space_numbers, half_space_words, box_numbers, box_words, point, point_words}
-use Rattle.rp_model.proofs.ReadAgain.{Again, again_then, steps, same_success, no_success}
-use Rattle.rp_model.proofs.WordsAgain.{again_check, number_read, again_number}
+use Rattle.rp_model.proofs.ReadAgain.{Again, again_then, given, again_check, again_gives, steps, same_success, no_success}
+use Rattle.rp_model.proofs.WordsAgain.{number_read, again_number}
 use Rattle.rp_model.proofs.Decimal.{IsNoGreater, no_greater_itself}
 use Rattle.rp_model.proofs.InLowestTerms.{IsReducedHalfSpace, reduced_half_space_is, IsReducedPoint, reduced_point_is, within_still, size_within}
 
@@ -27,7 +27,7 @@ again_coefficient p u v q behind e h = again_within 16777216 (omega arith) p u v
 -- what is given where a test fails
 checked_unless : {A : Type 0} (test : Bool) (x value : A) (f : Fault) (p q : Place) → (elim test as (λ _. Reader A) [ true ↦ fails f | false ↦ gives x ]) p ≡ Ok (value, q) → (test ≡ false) × (x ≡ value) × (p ≡ q)
 checked_unless true x value f p q e = absurd (no_success e)
-checked_unless false x value f p q e = let same = same_success e in (refl, (λ i. (same i).0), (λ i. (same i).1))
+checked_unless false x value f p q e = let same = given x value p q e in (refl, same.0, same.1)
 
 -- the test fails, so the value is given
 gives_unless : {A : Type 0} (test : Bool) (x : A) (f : Fault) (p : Place) → test ≡ false → (elim test as (λ _. Reader A) [ true ↦ fails f | false ↦ gives x ]) p ≡ Ok (x, p)
@@ -72,15 +72,15 @@ again_box p b q behind e =
     let y2 = steps coefficient _ x2.between b q x2.behind in
     let z2 = steps coefficient _ y2.between b q y2.behind in
     let made : IntegerBox = record { x1 = x1.part; y1 = y1.part; z1 = z1.part; x2 = x2.part; y2 = y2.part; z2 = z2.part } in
-    let same = same_success z2.behind in
-    subst (λ (c : IntegerBox). Again box_numbers p c q (box_words c ++ behind) behind) (λ i. (same i).0)
+    let same = given made b z2.between q z2.behind in
+    subst (λ (c : IntegerBox). Again box_numbers p c q (box_words c ++ behind) behind) same.0
     (again_then coefficient _ p x1.between q x1.part made _ _ behind (coefficient_again p x1.part x1.between _ x1.before)
     (again_then coefficient _ x1.between y1.between q y1.part made _ _ behind (coefficient_again x1.between y1.part y1.between _ y1.before)
     (again_then coefficient _ y1.between z1.between q z1.part made _ _ behind (coefficient_again y1.between z1.part z1.between _ z1.before)
     (again_then coefficient _ z1.between x2.between q x2.part made _ _ behind (coefficient_again z1.between x2.part x2.between _ x2.before)
     (again_then coefficient _ x2.between y2.between q y2.part made _ _ behind (coefficient_again x2.between y2.part y2.between _ y2.before)
     (again_then coefficient _ y2.between z2.between q z2.part made _ _ behind (coefficient_again y2.between z2.part z2.between _ z2.before)
-    (again_check (gives made) z2.between q made behind (λ i. (same i).1) (λ o. refl))))))))
+    (again_gives made z2.between q behind same.1)))))))
 
 -- ---- points
 
@@ -118,11 +118,11 @@ again_point p r q behind e =
     let z = steps coordinate _ y.between r q y.behind in
     let w = steps (number (pos 1) weight_bound) _ z.between r q z.behind in
     let k = point_of x.part y.part z.part w.part in
-    let same = same_success w.behind in
+    let same = given (reduced_point k) r w.between q w.behind in
     let weight = number_read (pos 1) weight_bound z.between w.part w.between w.before in
-    let is = subst (λ (s : RationalPoint). IsReducedPoint s k) (λ i. (same i).0) (reduced_point_is k (weight_above w.part weight.bounds)) in
+    let is = subst (λ (s : RationalPoint). IsReducedPoint s k) same.0 (reduced_point_is k (weight_above w.part weight.bounds)) in
     again_then coordinate _ p x.between q r.x r _ _ behind (again_coordinate p r.x x.part x.between _ x.before is.x)
     (again_then coordinate _ x.between y.between q r.y r _ _ behind (again_coordinate x.between r.y y.part y.between _ y.before is.y)
     (again_then coordinate _ y.between z.between q r.z r _ _ behind (again_coordinate y.between r.z z.part z.between _ z.before is.z)
     (again_then (number (pos 1) weight_bound) _ z.between w.between q r.w r _ _ behind (again_weight z.between r.w w.part w.between behind w.before is.w is.positive)
-    (again_check (gives (reduced_point r)) w.between q r behind (λ i. (same i).1) (λ o. ap (λ (s : RationalPoint). Ok (s, o)) is.lowest)))))
+    (again_check (gives (reduced_point r)) w.between q r behind same.1 (λ o. ap (λ (s : RationalPoint). Ok (s, o)) is.lowest)))))

@@ -7,18 +7,13 @@ use Rattle.std.proofs.lemmas.Bool.{and_parts, not-true}
 use Rattle.std.proofs.lemmas.Slice.Eq.{bytes_eq-Decides}
 use Rattle.rp_model.specs.Name.{Label, is_name, is_letter, is_name_byte, label_eq}
 use Rattle.rp_model.specs.Grammar.{Word, space, Place, Reader, Fault, bad_syntax, out_of_range, gives, fails, read_on, ◌>>=◌, next_word, next_word_of, or_fault, in_bounds, number, number_spelled, named_word, name, looked_up, keyword}
-use Rattle.rp_model.proofs.ReadAgain.{room, HasNoSpace, Again, again_then, steps, same_success, same_some, no_success}
+use Rattle.rp_model.proofs.ReadAgain.{room, HasNoSpace, Again, again_then, given, again_check, steps, same_success, same_some, no_success}
 use Rattle.rp_model.proofs.Decimal.{IsNoGreater, spelling_no_longer, number_of_spelling, spelling_has_no_space}
 
 -- the word is the first one that is left at p, and q is behind it
 pub record Takes (p : Place) (word : Word) (q : Place) : Type 0 where
   pub words : p.words ≡ word ∷ q.words
   pub nodes : p.nodes ≡ q.nodes
-
--- the reader reads no word, and gives the value at each place
-pub record Checked {A : Type 0} (reader : Reader A) (p : Place) (value : A) (q : Place) : Type 0 where
-  pub stays : p ≡ q
-  pub always : (o : Place) → reader o ≡ Ok (value, o)
 
 -- the word that was read
 pub takes_word : (p : Place) (word : Word) (q : Place) → next_word p ≡ Ok (word, q) → Takes p word q
@@ -40,11 +35,6 @@ again_word p word q other behind t le plain =
       plain = λ h. (plain, h);
     }
 
--- a check that stays where it is
-pub again_check : {A : Type 0} (check : Reader A) (p q : Place) (value : A) (behind : List Word) → p ≡ q → ((o : Place) → check o ≡ Ok (value, o)) → Again check p value q behind behind
-again_check check p q value behind stays always =
-    subst (λ (o : Place). Again check p value o behind behind) stays (record { reads = always (record { words = behind; nodes = p.nodes }); shorter = omega arith; plain = λ h. h })
-
 -- in the place of a word that is no shorter another one is read, which passes the check
 pub again_checked : {A : Type 0} (check : Word → Reader A) (p between q : Place) (word other : Word) (value : A) (behind : List Word)
     → Takes p word between → between ≡ q → length other ≤ length word → HasNoSpace other → ((o : Place) → check other o ≡ Ok (value, o)) → Again (next_word >>= check) p value q (other ∷ behind) behind
@@ -55,7 +45,7 @@ again_checked check p between q word other value behind t stays le plain always 
 
 -- what is given where a test holds
 pub checked_if : {A : Type 0} (test : Bool) (x value : A) (f : Fault) (p q : Place) → (elim test as (λ _. Reader A) [ true ↦ gives x | false ↦ fails f ]) p ≡ Ok (value, q) → (test ≡ true) × (x ≡ value) × (p ≡ q)
-checked_if true x value f p q e = let same = same_success e in (refl, (λ i. (same i).0), (λ i. (same i).1))
+checked_if true x value f p q e = let same = given x value p q e in (refl, same.0, same.1)
 checked_if false x value f p q e = absurd (no_success e)
 
 -- the test holds, so the value is given
@@ -66,7 +56,7 @@ gives_if false x f p e = absurd (cc)
 -- what is given where there is a value
 pub checked_some : {A : Type 0} (o : Option A) (value : A) (f : Fault) (p q : Place) → or_fault f o p ≡ Ok (value, q) → (o ≡ Some value) × (p ≡ q)
 checked_some None value f p q e = absurd (no_success e)
-checked_some (Some x) value f p q e = let same = same_success e in ((λ i. Some (same i).0), (λ i. (same i).1))
+checked_some (Some x) value f p q e = let same = given x value p q e in (ap Some same.0, same.1)
 
 -- ---- names
 
