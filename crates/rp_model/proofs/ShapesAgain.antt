@@ -5,7 +5,7 @@ use Rattle.std.specs.Fmt.{signed_decimal}
 use Rattle.std.proofs.lemmas.Int.{ints}
 use Rattle.rp_model.specs.Geometry.{HalfSpace, RationalPoint, IntegerBox, half_space_of, point_of, is_zero_half_space, reduced_half_space, reduced_point, offset_bound, coordinate_bound, weight_bound}
 use Rattle.rp_model.specs.Grammar.{Word, Place, Reader, Fault, zero_half_space, gives, fails, number, coefficient, nonzero_half_space, half_space_numbers, half_space_words, box_numbers, box_words, point, point_words}
-use Rattle.rp_model.proofs.ReadAgain.{Again, again_then, given, again_check, again_gives, steps, same_success, no_success}
+use Rattle.rp_model.proofs.ReadAgain.{Again, again_then, given, again_check, again_gives, steps, no_success}
 use Rattle.rp_model.proofs.WordsAgain.{number_read, again_number}
 use Rattle.rp_model.proofs.Decimal.{IsNoGreater, no_greater_itself}
 use Rattle.rp_model.proofs.InLowestTerms.{IsReducedHalfSpace, reduced_half_space_is, IsReducedPoint, reduced_point_is, within_still, size_within}
