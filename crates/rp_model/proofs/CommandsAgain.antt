@@ -10,7 +10,7 @@ use Rattle.rp_model.specs.Expression.{Expression, Child, Command, define, ask_me
 use Rattle.rp_model.specs.Grammar.{Word, Place, Reader, bad_syntax, gives, ◌>>=◌, ◌>>◌, next_word, name, keyword, number, count_to, point, point_words, expression, expression_words, child, many, equals_sign, equals_word, end_of, end_of_line, let_words, cut_words, Verb, let_verb, member_verb, empty_verb, pieces_verb, show_verb, equal_verb, within_verb, overlap_verb, contact_verb, rcc_verb, register_verb, cut_verb, subdivide_verb, consolidate_verb, retire_verb, neighbours_verb, history_verb, at_verb, asof_verb, audit_verb, list_verb, verb_table, verb_words, command_words, words_of_command}
 use Rattle.rp_model.proofs.ReadAgain.{Again, again_then, given, again_gives, steps, same_success, no_success, ReadsItself, one_read, two_read}
 use Rattle.rp_model.proofs.WordsAgain.{Takes, takes_word, again_checked, checked_if, again_keyword, NumberRead, number_read, again_number}
-use Rattle.rp_model.proofs.Decimal.{no_greater_itself}
+use Rattle.rp_model.proofs.InLowestTerms.{no_greater_itself}
 use Rattle.rp_model.proofs.ShapesAgain.{again_point}
 use Rattle.rp_model.proofs.ExpressionsAgain.{name_itself, expression_itself}
 

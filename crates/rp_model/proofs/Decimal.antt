@@ -11,6 +11,7 @@ use Rattle.std.proofs.lemmas.Slice.Eq.{bytes_eq-Decides}
 use Rattle.std.proofs.lemmas.Int.{ints}
 use Rattle.std.proofs.Math.Nat.{pow-succ', mul-le-mul_right, mul_assoc}
 use Rattle.rp_model.specs.Grammar.{Word, space, minus_sign, zero_digit, value_of_digits, starts_above_zero, spells_zero, natural_spelled, negative_spelled, as_whole, number_spelled}
+use Rattle.rp_model.proofs.InLowestTerms.{IsNoGreater}
 use Rattle.rp_model.proofs.ReadAgain.{HasNoSpace, same_some}
 
 -- one more digit
@@ -124,15 +125,6 @@ natural_is : (word : Word) (n : ℕ) → natural_spelled word ≡ Some n → IsN
 natural_is word n e =
     let h = some_if _ _ _ e in
     record { digits = ⊎_elim (λ z. digits_from_zero word z) (λ a. digits_from_above word a) (or_cases _ _ h.0); value = h.1 }
-
--- a number that stands in for v in a spelling: it is of no greater size, and not below zero where v is not
-pub record IsNoGreater (u v : ℤ) : Type 0 where
-  pub size : nat_abs u ≤ nat_abs v
-  pub sign : pos 0 ≤ℤ v → pos 0 ≤ℤ u
-
--- a number stands in for itself
-pub no_greater_itself : (v : ℤ) → IsNoGreater v v
-no_greater_itself v = record { size = omega arith; sign = λ h. h }
 
 -- behind a minus sign
 negative_no_longer : (ds : Word) (u v : ℤ) → negative_spelled ds ≡ Some v → IsNoGreater u v → nat_abs u < 10 ^ 64 → length (signed_decimal u) ≤ suc (length ds)

@@ -8,10 +8,18 @@ use Rattle.rp_algebra.specs.Integer.{is_zero, gcd_of, reduced_by}
 use Rattle.rp_algebra.proofs.Divisors.{gcd_of-divides, gcd_of-positive, gcd_of-positive_four}
 use Rattle.rp_algebra.proofs.LowestTerms.{quotient_size, quotient_of_zero, zero_from_quotient, quotient_positive, lowest-twice, same_four}
 use Rattle.rp_model.specs.Geometry.{HalfSpace, RationalPoint, IsPoint, is_zero_half_space, reduced_half_space, reduced_point}
-use Rattle.rp_model.proofs.Decimal.{IsNoGreater}
+
+-- a number that stands in for v: it is of no greater size, and not below zero where v is not
+pub record IsNoGreater (u v : ℤ) : Type 0 where
+  pub size : nat_abs u ≤ nat_abs v
+  pub sign : pos 0 ≤ℤ v → pos 0 ≤ℤ u
+
+-- a number stands in for itself
+pub no_greater_itself : (v : ℤ) → IsNoGreater v v
+no_greater_itself v = record { size = omega arith; sign = λ h. h }
 
 -- tests that imply each other are one
-same_test : (b c : Bool) → (b ≡ true → c ≡ true) → (c ≡ true → b ≡ true) → b ≡ c
+pub same_test : (b c : Bool) → (b ≡ true → c ≡ true) → (c ≡ true → b ≡ true) → b ≡ c
 same_test true c f g = sym (f refl)
 same_test false true f g = g refl
 same_test false false f g = refl
@@ -28,7 +36,7 @@ zeros_pass : (a b c d : ℤ) → a ≡ pos 0 → b ≡ pos 0 → c ≡ pos 0 →
 zeros_pass a b c d ea eb ec ed = λ i. is_zero (ea i) && is_zero (eb i) && is_zero (ec i) && is_zero (ed i)
 
 -- the divisor of numbers that are not all zero is above zero
-divisor_above : (h : HalfSpace) → is_zero_half_space h ≡ false → 0 < gcd_of (h.a ∷ h.b ∷ h.c ∷ h.d ∷ [])
+pub divisor_above : (h : HalfSpace) → is_zero_half_space h ≡ false → 0 < gcd_of (h.a ∷ h.b ∷ h.c ∷ h.d ∷ [])
 divisor_above h n =
     gcd_of-positive (h.a ∷ h.b ∷ h.c ∷ h.d ∷ []) (λ z. let e = zeros_pass h.a h.b h.c h.d z.0 z.1.0 z.1.1.0 z.1.1.1.0 in let f : true ≡ false = sym e ∙ n in cc)
 

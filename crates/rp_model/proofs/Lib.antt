@@ -1,11 +1,11 @@
 pub mod Bounds
 pub mod Complement
+pub mod InLowestTerms
 mod OneReport
 pub mod Places
 mod ReadAgain
 mod Decimal
 mod WordsAgain
-mod InLowestTerms
 mod ShapesAgain
 mod ExpressionsAgain
 mod CommandsAgain

@@ -7,8 +7,7 @@ use Rattle.rp_model.specs.Geometry.{HalfSpace, RationalPoint, IntegerBox, half_s
 use Rattle.rp_model.specs.Grammar.{Word, Place, Reader, Fault, zero_half_space, gives, fails, number, coefficient, nonzero_half_space, half_space_numbers, half_space_words, box_numbers, box_words, point, point_words}
 use Rattle.rp_model.proofs.ReadAgain.{Again, again_then, given, again_check, again_gives, steps, no_success}
 use Rattle.rp_model.proofs.WordsAgain.{number_read, again_number}
-use Rattle.rp_model.proofs.Decimal.{IsNoGreater, no_greater_itself}
-use Rattle.rp_model.proofs.InLowestTerms.{IsReducedHalfSpace, reduced_half_space_is, IsReducedPoint, reduced_point_is, within_still, size_within}
+use Rattle.rp_model.proofs.InLowestTerms.{IsNoGreater, no_greater_itself, IsReducedHalfSpace, reduced_half_space_is, IsReducedPoint, reduced_point_is, within_still, size_within}
 
 -- a number from -n to n, and one that stands in for it
 again_within : (n : ℕ) → n < 10 ^ 64 → (p : Place) (u v : ℤ) (q : Place) (behind : List Word) → number (neg_ℤ (pos n)) (pos n) p ≡ Ok (v, q) → IsNoGreater u v → Again (number (neg_ℤ (pos n)) (pos n)) p u q (signed_decimal u ∷ behind) behind

@@ -8,7 +8,8 @@ use Rattle.std.proofs.lemmas.Slice.Eq.{bytes_eq-Decides}
 use Rattle.rp_model.specs.Name.{Label, is_name, is_letter, is_name_byte, label_eq}
 use Rattle.rp_model.specs.Grammar.{Word, space, Place, Reader, Fault, bad_syntax, out_of_range, gives, fails, read_on, ◌>>=◌, next_word, next_word_of, or_fault, in_bounds, number, number_spelled, named_word, name, looked_up, keyword}
 use Rattle.rp_model.proofs.ReadAgain.{room, HasNoSpace, Again, again_then, given, again_check, steps, same_success, same_some, no_success}
-use Rattle.rp_model.proofs.Decimal.{IsNoGreater, spelling_no_longer, number_of_spelling, spelling_has_no_space}
+use Rattle.rp_model.proofs.InLowestTerms.{IsNoGreater}
+use Rattle.rp_model.proofs.Decimal.{spelling_no_longer, number_of_spelling, spelling_has_no_space}
 
 -- the word is the first one that is left at p, and q is behind it
 pub record Takes (p : Place) (word : Word) (q : Place) : Type 0 where
