@@ -1,12 +1,13 @@
 pub mod Bounds
+pub mod Boxes
+mod CommandsAgain
 pub mod Complement
+mod Decimal
+mod ExpressionsAgain
 pub mod InLowestTerms
 mod OneReport
 pub mod Places
 mod ReadAgain
-mod Decimal
-mod WordsAgain
 mod ShapesAgain
-mod ExpressionsAgain
-mod CommandsAgain
 mod Spelling
+mod WordsAgain

@@ -1,0 +1,4 @@
+//! The machine that answers one line of a script after the other.
+#![tactic(auto)]
+
+mod member;
