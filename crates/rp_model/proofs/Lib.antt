@@ -1,5 +1,13 @@
 pub mod Bounds
+pub mod Boxes
+mod CommandsAgain
 pub mod Complement
+mod Decimal
+mod ExpressionsAgain
+pub mod InLowestTerms
 mod OneReport
 pub mod Places
-pub mod Boxes
+mod ReadAgain
+mod ShapesAgain
+mod Spelling
+mod WordsAgain

@@ -1,55 +1,30 @@
 -- Numbers in lowest terms keep their bounds, and reducing twice is reducing once.
 use Rattle.std.proofs.Common.{◌≡◌, ℕ, zero, suc, ◌<◌, ◌≤◌, ◌^◌, ℤ, pos, neg_ℤ, ◌-ℤ◌, ◌<ℤ◌, nat_abs, to_z, of_z, le_trans, Bool, true, false, ◌&&◌, List, [], ◌∷◌, refl, sym, ap, ◌∙◌, subst, arith}
-use Rattle.std.specs.Int.{◌∣◌}
 use Rattle.std.specs.List.{AllByRecursion}
 use Rattle.std.specs.Int.RustNames.{unsigned_abs, FitsSigned}
 use mir.Syntax.{Width, w64, w128}
 use Rattle.std.proofs.lemmas.Int.{ints, to_z-of_z}
 use Rattle.std.proofs.lemmas.Bool.Decides.{Decides-int_eq}
 use Rattle.rp_algebra.specs.Integer.{is_zero, gcd, gcd_of, reduced_by}
-use Rattle.rp_algebra.proofs.Divisors.{gcd_of-divides, gcd_of-positive, gcd_of-positive_four, gcd_of-at_most_four, gcd_of-nil, gcd_of-cons, gcd_of-four, gcd-zero, gcd-at_most_right}
-use Rattle.rp_algebra.proofs.LowestTerms.{quotient_size, quotient_of_zero, zero_from_quotient, quotient_positive, lowest-gcd, lowest-twice, quotient_by_one, same_four}
+use Rattle.rp_algebra.proofs.Divisors.{gcd_of-positive_four, gcd_of-at_most_four, gcd_of-nil, gcd_of-cons, gcd_of-four, gcd-zero, gcd-at_most_right}
+use Rattle.rp_algebra.proofs.LowestTerms.{lowest-gcd, quotient_by_one}
 use Rattle.std.specs.Prelude.{int_lt, int_le}
 use Rattle.rp_algebra.proofs.Machine.{code, is_by}
 use Rattle.rp_model.specs.Geometry.{half_space_of, point_of, is_point_in_bounds, HalfSpace, is_within_bound, is_half_space_in_bounds, is_zero_half_space, IsHalfSpace, reduced_half_space, IsKeptHalfSpace, complement, RationalPoint, IsPoint, IsSmallPoint, reduced_point, IsKeptPoint}
+use Rattle.rp_model.proofs.InLowestTerms.{same_test, divisor_above, reduced_half_space_is, reduced_point_is}
 
 -- the size of a number within bounds
 pub size_at_most : (n : ℕ) (v : ℤ) → is_within_bound (pos n) v ≡ true → unsigned_abs v ≤ n
 size_at_most n v e = grind (arith, ints)
-
--- tests that imply each other are one
-same_test : (b c : Bool) → (b ≡ true → c ≡ true) → (c ≡ true → b ≡ true) → b ≡ c
-same_test true c f g = sym (f refl)
-same_test false true f g = g refl
-same_test false false f g = refl
-
--- an exact quotient is zero exactly where the number is
-is_zero-quotient : (g : ℕ) (v : ℤ) → g ∣ nat_abs v → is_zero (reduced_by g v) ≡ is_zero v
-is_zero-quotient g v d =
-    same_test (is_zero (reduced_by g v)) (is_zero v)
-    (λ e. (Decides-int_eq v (pos 0)).1 (zero_from_quotient g v d ((Decides-int_eq (reduced_by g v) (pos 0)).0 e)))
-    (λ e. (Decides-int_eq (reduced_by g v) (pos 0)).1 (ap (reduced_by g) ((Decides-int_eq v (pos 0)).0 e) ∙ quotient_of_zero g))
 
 -- the two parts of a conjunction
 pub both : (a b : Bool) → (a && b) ≡ true → (a ≡ true) × (b ≡ true)
 both true b e = (refl, e)
 both false b e = absurd (cc)
 
--- four numbers that are zero pass the test of zeros
-zeros_pass : (a b c d : ℤ) → a ≡ pos 0 → b ≡ pos 0 → c ≡ pos 0 → d ≡ pos 0 → (is_zero a && is_zero b && is_zero c && is_zero d) ≡ true
-zeros_pass a b c d ea eb ec ed = λ i. is_zero (ea i) && is_zero (eb i) && is_zero (ec i) && is_zero (ed i)
-
--- the divisor of numbers that are not all zero is above zero
-pub divisor_above : (h : HalfSpace) → is_zero_half_space h ≡ false → 0 < gcd_of (h.a ∷ h.b ∷ h.c ∷ h.d ∷ [])
-divisor_above h n =
-    gcd_of-positive (h.a ∷ h.b ∷ h.c ∷ h.d ∷ []) (λ z. let e = zeros_pass h.a h.b h.c h.d z.0 z.1.0 z.1.1.0 z.1.1.1.0 in let f : true ≡ false = sym e ∙ n in cc)
-
 -- a half-space in lowest terms keeps its bounds, and stays as it is when it is reduced again
 pub kept_half_space : (h : HalfSpace) → is_half_space_in_bounds h ≡ true → is_zero_half_space h ≡ false → IsKeptHalfSpace (reduced_half_space h)
-unfolding reduced_half_space
 kept_half_space h inside nonzero =
-    let g = gcd_of (h.a ∷ h.b ∷ h.c ∷ h.d ∷ []) in
-    let divides = gcd_of-divides (h.a ∷ h.b ∷ h.c ∷ h.d ∷ []) in
     let abc = both _ _ inside in
     let ab = both _ _ abc.0 in
     let a = both _ _ ab.0 in
@@ -57,21 +32,20 @@ kept_half_space h inside nonzero =
     let size_b = size_at_most 16777216 h.b a.1 in
     let size_c = size_at_most 16777216 h.c ab.1 in
     let size_d = size_at_most 844424930131968 h.d abc.1 in
-    let quotient_a = quotient_size g h.a in
-    let quotient_b = quotient_size g h.b in
-    let quotient_c = quotient_size g h.c in
-    let quotient_d = quotient_size g h.d in
-    let twice = lowest-twice (h.a ∷ h.b ∷ h.c ∷ h.d ∷ []) (divisor_above h nonzero) in
-    let four = same_four _ _ _ _ _ _ _ _ twice in
+    let reduced = reduced_half_space_is h nonzero in
+    let less_a = reduced.a.size in
+    let less_b = reduced.b.size in
+    let less_c = reduced.c.size in
+    let less_d = reduced.d.size in
     record {
       numbers = record {
-        a = omega (arith, size_a, quotient_a);
-        b = omega (arith, size_b, quotient_b);
-        c = omega (arith, size_c, quotient_c);
-        d = omega (arith, size_d, quotient_d);
-        nonzero = (λ i. is_zero-quotient g h.a divides.0 i && is_zero-quotient g h.b divides.1.0 i && is_zero-quotient g h.c divides.1.1.0 i && is_zero-quotient g h.d divides.1.1.1.0 i) ∙ nonzero;
+        a = omega (arith, size_a, less_a);
+        b = omega (arith, size_b, less_b);
+        c = omega (arith, size_c, less_c);
+        d = omega (arith, size_d, less_d);
+        nonzero = reduced.nonzero;
       };
-      lowest = λ i. record { a = four.0 i; b = four.1 i; c = four.2 i; d = four.3 i };
+      lowest = reduced.lowest;
     }
 
 -- a greatest common divisor is within the bound of the numbers
@@ -165,28 +139,25 @@ point_divisor p w = gcd_of-at_most_four p.x p.y p.z p.w (not_zero p.w w)
 
 -- a point in lowest terms keeps its bounds, and stays as it is when it is reduced again
 pub kept_point : (p : RationalPoint) → IsSmallPoint p → IsKeptPoint (reduced_point p)
-unfolding reduced_point
 kept_point p k =
-    let g = gcd_of (p.x ∷ p.y ∷ p.z ∷ p.w ∷ []) in
-    let divides = gcd_of-divides (p.x ∷ p.y ∷ p.z ∷ p.w ∷ []) in
-    let quotient_x = quotient_size g p.x in
-    let quotient_y = quotient_size g p.y in
-    let quotient_z = quotient_size g p.z in
-    let quotient_w = quotient_size g p.w in
+    let reduced = reduced_point_is p k.positive in
+    let less_x = reduced.x.size in
+    let less_y = reduced.y.size in
+    let less_z = reduced.z.size in
+    let less_w = reduced.w.size in
     let small_x = k.x in
     let small_y = k.y in
     let small_z = k.z in
     let small_w = k.w in
-    let four = same_four _ _ _ _ _ _ _ _ (lowest-twice (p.x ∷ p.y ∷ p.z ∷ p.w ∷ []) (point_divisor_above p k.positive)) in
     record {
       numbers = record {
-        positive = quotient_positive g p.w divides.1.1.1.0 k.positive;
-        x = omega (arith, small_x, quotient_x);
-        y = omega (arith, small_y, quotient_y);
-        z = omega (arith, small_z, quotient_z);
-        w = omega (arith, small_w, quotient_w);
+        positive = reduced.positive;
+        x = omega (arith, small_x, less_x);
+        y = omega (arith, small_y, less_y);
+        z = omega (arith, small_z, less_z);
+        w = omega (arith, small_w, less_w);
       };
-      lowest = λ i. record { x = four.0 i; y = four.1 i; z = four.2 i; w = four.3 i };
+      lowest = reduced.lowest;
     }
 
 -- a quotient as the machine hands it on
