@@ -6,7 +6,6 @@ pub mod Search
 pub mod Certificate
 pub mod Vertex
 pub mod Elimination
-pub mod Name
 pub mod Expression
 pub mod Grammar
 pub mod Verdict

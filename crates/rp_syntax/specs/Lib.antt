@@ -1,5 +1,5 @@
 pub mod Held
+pub mod Keywords
 pub mod Places
 pub mod Reads
-pub mod Tables
 pub mod Views

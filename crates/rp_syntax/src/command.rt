@@ -1,26 +1,95 @@
-//! Commands.
+//! Expressions and commands.
 
-use rp_space::{Half, Point};
+use rp_space::{Half, IntBox, Listed, Name, Names, Point};
 
-/// An expression for a region.
+/// An expression for a region. Half-spaces are in lowest terms.
 #[derive(Debug, Drop)]
 pub enum Expr {
     /// The points that a half-space holds.
     Half(Half),
+    /// The points of a box, its upper sides left out.
+    Block(IntBox),
+    /// The whole domain cube.
+    All,
+    /// No point.
+    Nothing,
+    /// The region of a name.
+    Name(Name),
+    /// The region of a live lot.
+    Lot(Name),
+    /// The points of both.
+    And(Box<Expr>, Box<Expr>),
+    /// The points of either.
+    Or(Box<Expr>, Box<Expr>),
+    /// The points of the first that are none of the second.
+    Minus(Box<Expr>, Box<Expr>),
+    /// The points of the cube that are none of it.
+    Not(Box<Expr>),
 }
 
-/// A command of a script.
+/// The children of a subdivision: an id and a region for each.
+pub type Entries = Listed<(Name, Expr)>;
+
+/// A command of a script. Each has the words of its line, in order.
 #[derive(Debug, Drop)]
 pub enum Command {
+    /// Gives a name to a region.
+    Let(Name, Expr),
     /// Whether a point is a member of a region.
     Member(Expr, Point),
+    /// Whether a region has no point.
+    Empty(Expr),
+    /// The connected pieces of a region.
+    Pieces(Expr),
+    /// The parts of a region.
+    Show(Expr),
+    /// Whether two regions have the same points.
+    Equal(Expr, Expr),
+    /// Whether every point of the first region is one of the second.
+    Within(Expr, Expr),
+    /// Whether two regions share a point.
+    Overlap(Expr, Expr),
+    /// Whether the closures of two regions share a point.
+    Contact(Expr, Expr),
+    /// Which of the eight relations of the region connection calculus two regions stand in (Randell, Cui and Cohn).
+    Rcc(Expr, Expr),
+    /// Registers a lot.
+    Register(Name, Expr),
+    /// Cuts a lot by a region into two lots.
+    Cut(Name, Expr, Name, Name),
+    /// Subdivides a lot into children.
+    Subdivide(Name, Entries),
+    /// Consolidates lots into a new one.
+    Consolidate(Name, Names),
+    /// Retires a lot.
+    Retire(Name),
+    /// The lots in contact with a lot.
+    Neighbours(Name),
+    /// The lineage of a lot.
+    History(Name),
+    /// The lot at a point.
+    At(Point),
+    /// The lot at a point as it was after a line.
+    Asof(u32, Point),
+    /// Whether live lots share no point.
+    Audit,
+    /// The live lots.
+    List,
 }
 
-/// Why a line is no command.
+/// Why a line is no command: its first fault in reading order.
 #[derive(Clone, Copy, Debug, PartialEq, Eq)]
 pub enum Why {
-    /// It is no command that is built yet.
-    Unbuilt,
+    /// A word that doesn't fit its place, a missing word or one too many.
+    Syntax,
+    /// A number outside the bounds of its place.
+    Range,
+    /// A half-space of four zeros.
+    Zero,
+    /// The word that begins the 1,025th node of the line's expressions.
+    Nodes,
+    /// The line has more than 65,536 bytes.
+    Long,
 }
 
 /// What a line reads as.

@@ -1,12 +1,33 @@
-//! The first fault of a line.
+//! Why reading a line ends early.
+ghost use Rattle.std.specs.Prelude.{◌≡◌};
+ghost use Rattle.rp_syntax.specs.declared.fault.ReadFault.TheVariants.{Memory};
 
-/// What is wrong at a place of a line.
-#[derive(Clone, Copy, Debug, PartialEq, Eq)]
-pub enum Fault {
-    /// A word that doesn't fit its place, a missing word or one too many.
-    Syntax,
-    /// A number outside the bounds of its place.
-    Range,
-    /// A half-space of four zeros.
-    Zero,
+use crate::command::Why;
+use std::alloc::{AllocError, AllocFailed};
+
+/// Why a command was not read.
+#[derive(Clone, Copy, Debug)]
+pub enum ReadFault {
+    /// The line is no command.
+    Bad(Why),
+    /// Memory ran out.
+    Memory(AllocError),
+}
+
+impl From<AllocError> for ReadFault {
+    ghost from_gives = { λ error e. e ≡ Memory error };
+
+    fn from(error: AllocError) -> ReadFault {
+        ReadFault::Memory(error)
+    }
+}
+
+impl<T: Drop> From<AllocFailed<T>> for ReadFault {
+    ghost use Rattle.std.specs.Prelude.{alloc_error};
+
+    ghost from_gives = { λ _ e. e ≡ Memory alloc_error };
+
+    fn from(_failed: AllocFailed<T>) -> ReadFault {
+        ReadFault::Memory(AllocError)
+    }
 }

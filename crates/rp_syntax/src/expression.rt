@@ -1,0 +1,73 @@
+//! Expressions in prefix form.
+ghost use Rattle.rp_model.specs.Grammar.{keyword, node_table, expression, expression_within};
+ghost use Rattle.rp_syntax.specs.Keywords.{node_of};
+ghost use Rattle.rp_syntax.specs.Reads.{Reads};
+ghost use Rattle.rp_syntax.specs.Views.{expression_of};
+
+use crate::command::{Expr, Why};
+use crate::fault::ReadFault;
+use crate::keywords::{Node, node_for};
+use crate::words::Words;
+use std::alloc::Global;
+
+/// One level more than there may be nodes: each level counts a node, so this is never passed.
+const MAX_LEVELS: u32 = 1025;
+
+impl<'a> Words<'a> {
+    /// The next word, which begins a node.
+    fn node(&mut self) -> Result<Node, ReadFault>
+        ensures { Reads node_of result self.new (keyword node_table self.old) }
+    {
+        let word = self.next()?;
+        match node_for(word) {
+            Some(node) => Ok(node),
+            None => Err(ReadFault::Bad(Why::Syntax)),
+        }
+    }
+
+    /// An expression.
+    #[tactic(auto, unfolding(rp_model::specs::Grammar::expression))]
+    pub fn expression(&mut self, alloc: Global) -> Result<Expr, ReadFault>
+        ensures { Reads expression_of result self.new (expression self.old) }
+    {
+        self.expression_within(alloc, MAX_LEVELS)
+    }
+
+    /// An expression of less than so many levels.
+    fn expression_within(&mut self, alloc: Global, room: u32) -> Result<Expr, ReadFault>
+        ensures { Reads expression_of result self.new (expression_within room self.old) }
+    {
+        if room == 0 {
+            return Err(ReadFault::Bad(Why::Syntax));
+        }
+        let node = self.node()?;
+        self.count_node()?;
+        match node {
+            Node::Half => Ok(Expr::Half(self.half()?)),
+            Node::Block => Ok(Expr::Block(self.block()?)),
+            Node::All => Ok(Expr::All),
+            Node::Nothing => Ok(Expr::Nothing),
+            Node::Name => Ok(Expr::Name(self.name()?)),
+            Node::Lot => Ok(Expr::Lot(self.name()?)),
+            Node::And => {
+                let first = self.expression_within(alloc, room - 1)?;
+                let second = self.expression_within(alloc, room - 1)?;
+                Ok(Expr::And(Box::new(alloc, first)?, Box::new(alloc, second)?))
+            }
+            Node::Or => {
+                let first = self.expression_within(alloc, room - 1)?;
+                let second = self.expression_within(alloc, room - 1)?;
+                Ok(Expr::Or(Box::new(alloc, first)?, Box::new(alloc, second)?))
+            }
+            Node::Minus => {
+                let first = self.expression_within(alloc, room - 1)?;
+                let second = self.expression_within(alloc, room - 1)?;
+                Ok(Expr::Minus(Box::new(alloc, first)?, Box::new(alloc, second)?))
+            }
+            Node::Not => {
+                let operand = self.expression_within(alloc, room - 1)?;
+                Ok(Expr::Not(Box::new(alloc, operand)?))
+            }
+        }
+    }
+}
