@@ -320,12 +320,17 @@ on_name_and_expression f = do
 abbrev pub equals_sign : Word → Reader (Unit {0})
 equals_sign word = elim (label_eq word (codes "=")) [ true ↦ gives tt | false ↦ fails bad_syntax ]
 
+-- reads that word
+abbrev pub equals_word : Reader (Unit {0})
+equals_word = do
+  word ← next_word
+  equals_sign word
+
 -- reads what follows the word let
 abbrev pub let_words : Reader Command
 let_words = do
   x ← name
-  word ← next_word
-  equals_sign word
+  equals_word
   e ← expression
   gives (define x e)
 

@@ -1,3 +1,4 @@
 mod Digits
 mod MadeLemmas
+mod ManyLemmas
 mod WordLemmas

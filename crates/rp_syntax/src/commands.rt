@@ -1,0 +1,178 @@
+//! Whole commands.
+ghost use Rattle.std.specs.Prelude.{map};
+ghost use Rattle.rp_model.specs.Grammar.{keyword, verb_table, verb_words, equals_word, let_words, member_words, cut_words, subdivide_words, consolidate_words, as_of_words, many, child, name, command_words};
+ghost use Rattle.rp_syntax.specs.Keywords.{verb_of};
+ghost use Rattle.rp_syntax.specs.Reads.{Reads};
+ghost use Rattle.rp_syntax.specs.Views.{expression_of, child_of, command_of};
+
+use crate::command::{Command, Entries, Expr, Why};
+use crate::fault::ReadFault;
+use crate::keywords::{Verb, verb_for};
+use crate::words::Words;
+use rp_space::{Name, Names};
+use std::alloc::Global;
+
+/// The most children of a subdivision.
+const MAX_CHILDREN: u32 = 1024;
+
+/// The most lots of a consolidation.
+const MAX_LOTS: u32 = 65536;
+
+/// The greatest number of a line.
+const MAX_LINES: u32 = 16777216;
+
+impl<'a> Words<'a> {
+    /// The next word, which begins a command.
+    fn verb(&mut self) -> Result<Verb, ReadFault>
+        ensures { Reads verb_of result self.new (keyword verb_table self.old) }
+    {
+        let word = self.next()?;
+        match verb_for(word) {
+            Some(verb) => Ok(verb),
+            None => Err(ReadFault::Bad(Why::Syntax)),
+        }
+    }
+
+    /// The word that stands between a name and what it is to name.
+    fn equals(&mut self) -> Result<(), ReadFault>
+        ensures { Reads (λ _. tt) result self.new (equals_word self.old) }
+    {
+        let word = self.next()?;
+        if word == b"=".as_slice() {
+            return Ok(());
+        }
+        Err(ReadFault::Bad(Why::Syntax))
+    }
+
+    /// What follows the word `let`.
+    fn definition(&mut self, alloc: Global) -> Result<Command, ReadFault>
+        ensures { Reads command_of result self.new (let_words self.old) }
+    {
+        let name = self.name()?;
+        self.equals()?;
+        let region = self.expression(alloc)?;
+        Ok(Command::Let(name, region))
+    }
+
+    /// What follows the word `member`.
+    fn member(&mut self, alloc: Global) -> Result<Command, ReadFault>
+        ensures { Reads command_of result self.new (member_words self.old) }
+    {
+        let region = self.expression(alloc)?;
+        let point = self.point()?;
+        Ok(Command::Member(region, point))
+    }
+
+    /// What follows the word `cut`.
+    fn cut(&mut self, alloc: Global) -> Result<Command, ReadFault>
+        ensures { Reads command_of result self.new (cut_words self.old) }
+    {
+        let lot = self.name()?;
+        let region = self.expression(alloc)?;
+        let first = self.name()?;
+        let second = self.name()?;
+        Ok(Command::Cut(lot, region, first, second))
+    }
+
+    /// A child of a subdivision.
+    fn child(&mut self, alloc: Global) -> Result<(Name, Expr), ReadFault>
+        ensures { Reads child_of result self.new (child self.old) }
+    {
+        let id = self.name()?;
+        let region = self.expression(alloc)?;
+        Ok((id, region))
+    }
+
+    /// So many children of a subdivision.
+    fn children(&mut self, alloc: Global, count: u32) -> Result<Entries, ReadFault>
+        ensures { Reads (λ entries. map child_of entries.items) result self.new (many count child self.old) }
+    {
+        let mut children = Entries::new(alloc);
+        for _ in 0..count {
+            let child = self.child(alloc)?;
+            children.push(child)?;
+        }
+        Ok(children)
+    }
+
+    /// What follows the word `subdivide`.
+    fn subdivision(&mut self, alloc: Global) -> Result<Command, ReadFault>
+        ensures { Reads command_of result self.new (subdivide_words self.old) }
+    {
+        let lot = self.name()?;
+        let count = self.count(MAX_CHILDREN)?;
+        let children = self.children(alloc, count)?;
+        Ok(Command::Subdivide(lot, children))
+    }
+
+    /// So many ids of lots.
+    fn lots(&mut self, alloc: Global, count: u32) -> Result<Names, ReadFault>
+        ensures { Reads (λ lots. lots.items) result self.new (many count name self.old) }
+    {
+        let mut lots = Names::new(alloc);
+        for _ in 0..count {
+            let lot = self.name()?;
+            lots.push(lot)?;
+        }
+        Ok(lots)
+    }
+
+    /// What follows the word `consolidate`.
+    fn consolidation(&mut self, alloc: Global) -> Result<Command, ReadFault>
+        ensures { Reads command_of result self.new (consolidate_words self.old) }
+    {
+        let new = self.name()?;
+        let count = self.count(MAX_LOTS)?;
+        let lots = self.lots(alloc, count)?;
+        Ok(Command::Consolidate(new, lots))
+    }
+
+    /// What follows the word `asof`.
+    fn as_of(&mut self) -> Result<Command, ReadFault>
+        ensures { Reads command_of result self.new (as_of_words self.old) }
+    {
+        let line = self.count(MAX_LINES)?;
+        let point = self.point()?;
+        Ok(Command::Asof(line, point))
+    }
+
+    /// What follows the word of a command.
+    fn command_for(&mut self, alloc: Global, verb: Verb) -> Result<Command, ReadFault>
+        ensures { Reads command_of result self.new (verb_words (verb_of verb) self.old) }
+    {
+        match verb {
+            Verb::Let => self.definition(alloc),
+            Verb::Member => self.member(alloc),
+            Verb::Empty => Ok(Command::Empty(self.expression(alloc)?)),
+            Verb::Pieces => Ok(Command::Pieces(self.expression(alloc)?)),
+            Verb::Show => Ok(Command::Show(self.expression(alloc)?)),
+            Verb::Equal => Ok(Command::Equal(self.expression(alloc)?, self.expression(alloc)?)),
+            Verb::Within => Ok(Command::Within(self.expression(alloc)?, self.expression(alloc)?)),
+            Verb::Overlap => Ok(Command::Overlap(self.expression(alloc)?, self.expression(alloc)?)),
+            Verb::Contact => Ok(Command::Contact(self.expression(alloc)?, self.expression(alloc)?)),
+            Verb::Rcc => Ok(Command::Rcc(self.expression(alloc)?, self.expression(alloc)?)),
+            Verb::Register => Ok(Command::Register(self.name()?, self.expression(alloc)?)),
+            Verb::Cut => self.cut(alloc),
+            Verb::Subdivide => self.subdivision(alloc),
+            Verb::Consolidate => self.consolidation(alloc),
+            Verb::Retire => Ok(Command::Retire(self.name()?)),
+            Verb::Neighbours => Ok(Command::Neighbours(self.name()?)),
+            Verb::History => Ok(Command::History(self.name()?)),
+            Verb::At => Ok(Command::At(self.point()?)),
+            Verb::Asof => self.as_of(),
+            Verb::Audit => Ok(Command::Audit),
+            Verb::List => Ok(Command::List),
+        }
+    }
+
+    /// A whole command.
+    #[tactic(auto, unfolding(rp_model::specs::Grammar::command_words))]
+    pub fn command(&mut self, alloc: Global) -> Result<Command, ReadFault>
+        ensures { Reads command_of result self.new (command_words self.old) }
+    {
+        let verb = self.verb()?;
+        let command = self.command_for(alloc, verb)?;
+        self.end()?;
+        Ok(command)
+    }
+}
