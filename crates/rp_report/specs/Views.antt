@@ -1,0 +1,26 @@
+-- Answers of the code as those of the model.
+use Rattle.std.specs.Prelude.{List, map}
+use Rattle.rp_model.specs.Verdict.{Refusal as ModelRefusal, bad, unknown, Verdict as ModelVerdict, says_yes, says_no, refused, unbuilt}
+use Rattle.rp_model.specs.Text.{Answer as ModelAnswer}
+use Rattle.rp_syntax.specs.Views.{fault_of}
+use Rattle.rp_report.specs.declared.answer.Refusal.{Refusal}
+use Rattle.rp_report.specs.declared.answer.Refusal.TheVariants.{Bad, Unknown}
+use Rattle.rp_report.specs.declared.answer.Verdict.{Verdict}
+use Rattle.rp_report.specs.declared.answer.Verdict.TheVariants.{Yes, No, Refused, Unbuilt}
+use Rattle.rp_report.specs.declared.answer.Answer.{Answer}
+
+-- the refusal of the model
+abbrev pub refusal_of : Refusal → ModelRefusal
+refusal_of (Bad why) = bad (fault_of why)
+refusal_of (Unknown x) = unknown x
+
+-- the verdict of the model
+abbrev pub verdict_of : Verdict → ModelVerdict
+verdict_of Yes = says_yes
+verdict_of No = says_no
+verdict_of (Refused r) = refused (refusal_of r)
+verdict_of Unbuilt = unbuilt
+
+-- the answer of the model
+abbrev pub answer_of : Answer → ModelAnswer
+answer_of a = record { number = a.n; echo = a.echo.items; verdicts = map verdict_of a.verdicts.items }

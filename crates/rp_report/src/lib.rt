@@ -1,0 +1,8 @@
+//! Answers, and their text in the report.
+#![tactic(auto)]
+
+mod answer;
+mod text;
+
+pub use answer::{Answer, Echo, Refusal, Verdict, Verdicts};
+pub use text::write_answer;
