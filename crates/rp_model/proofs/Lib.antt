@@ -2,3 +2,4 @@ pub mod Bounds
 pub mod Complement
 mod OneReport
 pub mod Places
+pub mod Boxes

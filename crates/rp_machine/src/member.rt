@@ -1,0 +1,86 @@
+//! Membership of points, by signs.
+ghost use Rattle.std.specs.Prelude.{◌≡◌, ◌<◌, ◌^◌, ◌&&◌, unsigned_abs, option_map};
+ghost use Rattle.rp_model.specs.Expression.{closed, first_unknown};
+ghost use Rattle.rp_model.specs.Geometry.{all_hold, box_half_spaces, is_cube_point};
+ghost use Rattle.rp_model.specs.Shape.{passes, is_member};
+ghost use Rattle.rp_model.specs.State.{State, opening, sets_in};
+ghost use Rattle.rp_model.proofs.Boxes.{is_between};
+ghost use Rattle.rp_space.specs.Boxes.{integer_box};
+ghost use Rattle.rp_syntax.specs.Views.{expression_of};
+
+use rp_space::{IntBox, Name, Point};
+use rp_syntax::Expr;
+
+/// Half the edge of the domain cube, in units.
+const HALF_EDGE: i32 = 16777216;
+
+/// Whether the coordinate v / w is from `lo` to below `hi`.
+fn is_between(lo: i32, hi: i32, v: i128, w: i128) -> bool
+    requires { unsigned_abs w < 2 ^ 75 }
+    ensures { result ≡ is_between lo hi v w }
+{
+    lo as i128 * w <= v && v < hi as i128 * w
+}
+
+/// Whether the point lies in the box, its upper sides left out.
+fn is_in_box(bounds: &IntBox, point: &Point) -> bool
+    ensures { result ≡ all_hold (box_half_spaces (integer_box bounds.now)) point.now }
+{
+    let [x1, y1, z1] = bounds.lo;
+    let [x2, y2, z2] = bounds.hi;
+    let (x, y, z, w) = point.numbers();
+    is_between(x1, x2, x, w) && is_between(y1, y2, y, w) && is_between(z1, z2, z, w)
+}
+
+/// Whether the point lies in the domain cube, its upper sides left out.
+fn is_in_cube(point: &Point) -> bool
+    ensures { result ≡ is_cube_point point.now }
+{
+    let (x, y, z, w) = point.numbers();
+    is_between(-HALF_EDGE, HALF_EDGE, x, w)
+        && is_between(-HALF_EDGE, HALF_EDGE, y, w)
+        && is_between(-HALF_EDGE, HALF_EDGE, z, w)
+}
+
+/// Whether the point passes the test of the expression, in which each name and lot stands for nothing.
+fn passes(region: &Expr, point: &Point) -> bool
+    ensures { result ≡ passes (closed (sets_in opening) (expression_of region.now)) point.now }
+{
+    match region {
+        Expr::Half(half) => half.holds(point),
+        Expr::Block(bounds) => is_in_box(bounds, point),
+        Expr::All => true,
+        Expr::Nothing => false,
+        Expr::Name(_) => false,
+        Expr::Lot(_) => false,
+        Expr::And(first, second) => passes(first, point) && passes(second, point),
+        Expr::Or(first, second) => passes(first, point) || passes(second, point),
+        Expr::Minus(first, second) => passes(first, point) && !passes(second, point),
+        Expr::Not(operand) => !passes(operand, point),
+    }
+}
+
+/// Whether the point is a member of the expression: it lies in the cube and passes its test.
+pub fn is_member(region: &Expr, point: &Point) -> bool
+    ensures { result ≡ is_member (closed (sets_in opening) (expression_of region.now)) point.now }
+{
+    is_in_cube(point) && passes(region, point)
+}
+
+/// The first name or lot of the expression, in reading order; none of them stands for anything yet.
+pub fn first_unknown(region: &Expr) -> Option<Name>
+    ensures { result ≡ first_unknown (sets_in opening) (expression_of region.now) }
+{
+    match region {
+        Expr::Half(_) => None,
+        Expr::Block(_) => None,
+        Expr::All => None,
+        Expr::Nothing => None,
+        Expr::Name(name) => Some(*name),
+        Expr::Lot(name) => Some(*name),
+        Expr::And(first, second) => first_unknown(first).or_else(|| first_unknown(second)),
+        Expr::Or(first, second) => first_unknown(first).or_else(|| first_unknown(second)),
+        Expr::Minus(first, second) => first_unknown(first).or_else(|| first_unknown(second)),
+        Expr::Not(operand) => first_unknown(operand),
+    }
+}
