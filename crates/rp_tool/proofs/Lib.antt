@@ -1,3 +1,4 @@
 pub mod LineLemmas
 pub mod IntakeLemmas
 pub mod SinkLemmas
+pub mod RunLemmas

@@ -2,19 +2,36 @@
 use Rattle.std.specs.Prelude.{◌≡◌, ℕ, Bool, List, ◌++◌, Option}
 use Rattle.std.specs.List.{list_any}
 use Rattle.rp_io.specs.Bytes.{Appends}
+use Rattle.rp_io.specs.Faults.{HasRisen}
 use Rattle.rp_model.specs.Grammar.{reading}
 use Rattle.rp_model.specs.Report.{AreLinesOf, IsReport}
 use Rattle.rp_model.specs.Output.{is_refused_line}
 use Rattle.rp_model.specs.Text.{text_of_lines}
+use Rattle.rp_tool.specs.declared.run.RunFault.{RunFault}
+use Rattle.rp_tool.specs.declared.run.RunFault.TheVariants.{Put, Memory}
 
--- the text of the answer to a line of the script came to the end of what stood there, and whether it is a refusal
-abbrev pub AppendsAnswer : ℕ → List ℕ → List ℕ → List ℕ → Bool → Type 0
-AppendsAnswer number line old new refused =
-    (told : List (List ℕ)) × AreLinesOf number line (reading line) told
-    × (new ≡ old ++ text_of_lines told) × (refused ≡ list_any is_refused_line told)
+-- the report lines of a line of the script came to the end of a text; the mark says whether one of them is a refusal
+pub record AppendsAnswer (number : ℕ) (line old new : List ℕ) (refused : Bool) : Type 0 where
+  pub told : List (List ℕ)
+  pub lines : AreLinesOf number line (reading line) told
+  pub text : new ≡ old ++ text_of_lines told
+  pub mark : refused ≡ list_any is_refused_line told
 
--- the report of the script came to the end of what the sink said, and whether something was refused
-abbrev pub AppendsReport : List ℕ → Option (List ℕ) → Option (List ℕ) → Bool → Type 0
-AppendsReport script old new refused =
-    (told : List (List ℕ)) × IsReport script told
-    × Appends old new (text_of_lines told) × (refused ≡ list_any is_refused_line told)
+-- the same, where the text is what a sink said
+pub record PutsAnswer (number : ℕ) (line : List ℕ) (old new : Option (List ℕ)) (refused : Bool) : Type 0 where
+  pub told : List (List ℕ)
+  pub lines : AreLinesOf number line (reading line) told
+  pub text : Appends old new (text_of_lines told)
+  pub mark : refused ≡ list_any is_refused_line told
+
+-- the whole report of the script came to the end of what the sink said; the mark says whether something was refused
+pub record PutsReport (script : List ℕ) (old new : Option (List ℕ)) (refused : Bool) : Type 0 where
+  pub told : List (List ℕ)
+  pub report : IsReport script told
+  pub text : Appends old new (text_of_lines told)
+  pub mark : refused ≡ list_any is_refused_line told
+
+-- why a report was not put whole; nothing is claimed where memory ran out
+abbrev pub HasRunCause : ℕ → ℕ → RunFault → Type 0
+HasRunCause before after Put = HasRisen before after
+HasRunCause before after (Memory e) = Unit {0}

@@ -1,3 +1,4 @@
 pub mod Intake
 pub mod Lines
 pub mod Answer
+pub mod Status

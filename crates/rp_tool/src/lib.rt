@@ -2,6 +2,14 @@
 //! status.
 #![tactic(auto)]
 
+pub mod status;
+
+mod answer;
 mod intake;
 mod lines;
 mod output;
+mod run;
+mod task;
+mod top;
+
+pub use top::tool;
