@@ -1,10 +1,14 @@
 -- Counts of faults: how often a read or a write has failed, a number that never falls and stays at its last value.
 use Rattle.std.specs.Prelude.{ℕ, ◌+◌, ◌≤◌, min}
 
--- the greatest count of faults, at which a count stays
+-- the greatest count, at which a count stays
 abbrev pub last_count : ℕ
 last_count = 18446744073709551615
 
+-- the count after one more
+abbrev pub next_count : ℕ → ℕ
+next_count count = min (count + 1) last_count
+
 -- the count rose: the new one is greater, or it stands at its last value
 abbrev pub HasRisen : ℕ → ℕ → Type 0
-HasRisen old new = min (old + 1) last_count ≤ new
+HasRisen old new = next_count old ≤ new

@@ -1,2 +1,5 @@
 pub mod Faults
 pub mod Bytes
+pub mod Memory
+pub mod Standard
+pub mod Written
