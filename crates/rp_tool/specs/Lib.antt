@@ -2,3 +2,4 @@ pub mod Intake
 pub mod Lines
 pub mod Answer
 pub mod Status
+pub mod Verdict

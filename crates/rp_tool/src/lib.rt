@@ -11,5 +11,6 @@ mod output;
 mod run;
 mod task;
 mod top;
+mod verdict;
 
 pub use top::tool;
