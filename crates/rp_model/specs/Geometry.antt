@@ -1,6 +1,6 @@
 -- Points and half-spaces: what it means that a half-space holds a point, and the domain cube.
 use Rattle.std.specs.Prelude.{◌≡◌, ℕ, ◌^◌, ◌<◌, ◌≤◌, Bool, false, ◌&&◌, ◌||◌, ℤ, pos, ◌+ℤ◌, ◌*ℤ◌, neg_ℤ, ◌<ℤ◌, int_lt, int_le, [], ◌∷◌, unsigned_abs}
-use Rattle.rp_model.specs.Integer.{is_zero, is_positive, gcd_of, reduced_by}
+use Rattle.rp_algebra.specs.Integer.{is_zero, is_positive, gcd_of, reduced_by}
 
 -- ---- points
 
@@ -34,6 +34,22 @@ is_in_range v w = int_le (neg_ℤ cube_bound *ℤ w) v && int_lt v (cube_bound *
 -- the point lies in the half-open domain cube
 abbrev pub is_cube_point : RationalPoint → Bool
 is_cube_point p = is_in_range p.x p.w && is_in_range p.y p.w && is_in_range p.z p.w
+
+-- v is from -bound to bound
+abbrev pub is_within_bound : ℤ → ℤ → Bool
+is_within_bound bound v = int_le (neg_ℤ bound) v && int_le v bound
+
+-- the greatest size of the numbers x, y and z of a point, 2 ^ 101 - 1
+abbrev pub coordinate_bound : ℤ
+coordinate_bound = pos 2535301200456458802993406410751
+
+-- the greatest weight of a point, 2 ^ 75 - 1
+abbrev pub weight_bound : ℤ
+weight_bound = pos 37778931862957161709567
+
+-- the four numbers keep the upper bounds of the program's points
+abbrev pub is_point_in_bounds : RationalPoint → Bool
+is_point_in_bounds p = is_within_bound coordinate_bound p.x && is_within_bound coordinate_bound p.y && is_within_bound coordinate_bound p.z && int_le p.w weight_bound
 
 -- the bounds of the program's points: |x|, |y|, |z| < 2 ^ 101 and 0 < w < 2 ^ 75
 pub record IsSmallPoint (p : RationalPoint) : Type 0 where
@@ -90,10 +106,6 @@ greatest_offset = 844424930131968
 -- the same number as a whole number
 abbrev pub offset_bound : ℤ
 offset_bound = pos greatest_offset
-
--- v is from -bound to bound
-abbrev pub is_within_bound : ℤ → ℤ → Bool
-is_within_bound bound v = int_le (neg_ℤ bound) v && int_le v bound
 
 -- the four numbers are within their bounds
 abbrev pub is_half_space_in_bounds : HalfSpace → Bool

@@ -3,7 +3,7 @@ use Rattle.std.specs.Prelude.{ℕ, ◌+◌, ◌*◌, ◌-◌, Bool, true, false,
 use Rattle.std.specs.List.{list_all, slice_split}
 use Rattle.std.specs.Char.{is_ascii_digit}
 use Rattle.std.specs.Str.{bytes_eq}
-use Rattle.rp_model.specs.Geometry.{RationalPoint, HalfSpace, cube_bound, offset_bound, is_zero_half_space, half_space_of, point_of, reduced_half_space, reduced_point}
+use Rattle.rp_model.specs.Geometry.{RationalPoint, HalfSpace, cube_bound, offset_bound, coordinate_bound, weight_bound, is_zero_half_space, half_space_of, point_of, reduced_half_space, reduced_point}
 use Rattle.rp_model.specs.Expression.{Expression, half_space, Command, ask_member}
 
 -- a word of a line: the bytes between two spaces
@@ -138,14 +138,6 @@ number least greatest = do
   word ← next_word
   v ← or_fault bad_syntax (number_spelled word)
   in_bounds least greatest v
-
--- the greatest size of the first three numbers of a point, 2 ^ 101 - 1
-abbrev pub coordinate_bound : ℤ
-coordinate_bound = pos 2535301200456458802993406410751
-
--- the greatest weight of a point, 2 ^ 75 - 1
-abbrev pub weight_bound : ℤ
-weight_bound = pos 37778931862957161709567
 
 -- reads a point, and gives it in lowest terms
 unfoldable pub point : Reader RationalPoint

@@ -1,4 +1,3 @@
-pub mod Integer
 pub mod Geometry
 pub mod Shape
 pub mod Expression

@@ -1,0 +1,266 @@
+-- Numbers in lowest terms keep their bounds, and reducing twice is reducing once.
+use Rattle.std.proofs.Common.{◌≡◌, ℕ, zero, suc, ◌<◌, ◌≤◌, ◌^◌, ℤ, pos, neg_ℤ, ◌-ℤ◌, ◌<ℤ◌, nat_abs, to_z, of_z, le_trans, Bool, true, false, ◌&&◌, List, [], ◌∷◌, refl, sym, ap, ◌∙◌, subst, arith}
+use Rattle.std.specs.Int.{◌∣◌}
+use Rattle.std.specs.List.{AllByRecursion}
+use Rattle.std.specs.Int.RustNames.{unsigned_abs, FitsSigned}
+use mir.Syntax.{Width, w64, w128}
+use Rattle.std.proofs.lemmas.Int.{ints, to_z-of_z}
+use Rattle.std.proofs.lemmas.Bool.Decides.{Decides-int_eq}
+use Rattle.rp_algebra.specs.Integer.{is_zero, gcd, gcd_of, reduced_by}
+use Rattle.rp_algebra.proofs.Divisors.{gcd_of-divides, gcd_of-positive, gcd_of-positive_four, gcd_of-at_most_four, gcd_of-nil, gcd_of-cons, gcd_of-four, gcd-zero, gcd-at_most_right}
+use Rattle.rp_algebra.proofs.LowestTerms.{quotient_size, quotient_of_zero, zero_from_quotient, quotient_positive, lowest-gcd, lowest-twice, quotient_by_one, same_four}
+use Rattle.std.specs.Prelude.{int_lt, int_le}
+use Rattle.rp_algebra.proofs.Machine.{code, is_by}
+use Rattle.rp_model.specs.Geometry.{half_space_of, point_of, is_point_in_bounds, HalfSpace, is_within_bound, is_half_space_in_bounds, is_zero_half_space, IsHalfSpace, reduced_half_space, IsKeptHalfSpace, complement, RationalPoint, IsPoint, IsSmallPoint, reduced_point, IsKeptPoint}
+
+-- the size of a number within bounds
+pub size_at_most : (n : ℕ) (v : ℤ) → is_within_bound (pos n) v ≡ true → unsigned_abs v ≤ n
+size_at_most n v e = grind (arith, ints)
+
+-- tests that imply each other are one
+same_test : (b c : Bool) → (b ≡ true → c ≡ true) → (c ≡ true → b ≡ true) → b ≡ c
+same_test true c f g = sym (f refl)
+same_test false true f g = g refl
+same_test false false f g = refl
+
+-- an exact quotient is zero exactly where the number is
+is_zero-quotient : (g : ℕ) (v : ℤ) → g ∣ nat_abs v → is_zero (reduced_by g v) ≡ is_zero v
+is_zero-quotient g v d =
+    same_test (is_zero (reduced_by g v)) (is_zero v)
+    (λ e. (Decides-int_eq v (pos 0)).1 (zero_from_quotient g v d ((Decides-int_eq (reduced_by g v) (pos 0)).0 e)))
+    (λ e. (Decides-int_eq (reduced_by g v) (pos 0)).1 (ap (reduced_by g) ((Decides-int_eq v (pos 0)).0 e) ∙ quotient_of_zero g))
+
+-- the two parts of a conjunction
+both : (a b : Bool) → (a && b) ≡ true → (a ≡ true) × (b ≡ true)
+both true b e = (refl, e)
+both false b e = absurd (cc)
+
+-- four numbers that are zero pass the test of zeros
+zeros_pass : (a b c d : ℤ) → a ≡ pos 0 → b ≡ pos 0 → c ≡ pos 0 → d ≡ pos 0 → (is_zero a && is_zero b && is_zero c && is_zero d) ≡ true
+zeros_pass a b c d ea eb ec ed = λ i. is_zero (ea i) && is_zero (eb i) && is_zero (ec i) && is_zero (ed i)
+
+-- the divisor of numbers that are not all zero is above zero
+pub divisor_above : (h : HalfSpace) → is_zero_half_space h ≡ false → 0 < gcd_of (h.a ∷ h.b ∷ h.c ∷ h.d ∷ [])
+divisor_above h n =
+    gcd_of-positive (h.a ∷ h.b ∷ h.c ∷ h.d ∷ []) (λ z. let e = zeros_pass h.a h.b h.c h.d z.0 z.1.0 z.1.1.0 z.1.1.1.0 in let f : true ≡ false = sym e ∙ n in cc)
+
+-- a half-space in lowest terms keeps its bounds, and stays as it is when it is reduced again
+pub kept_half_space : (h : HalfSpace) → is_half_space_in_bounds h ≡ true → is_zero_half_space h ≡ false → IsKeptHalfSpace (reduced_half_space h)
+unfolding reduced_half_space
+kept_half_space h inside nonzero =
+    let g = gcd_of (h.a ∷ h.b ∷ h.c ∷ h.d ∷ []) in
+    let divides = gcd_of-divides (h.a ∷ h.b ∷ h.c ∷ h.d ∷ []) in
+    let abc = both _ _ inside in
+    let ab = both _ _ abc.0 in
+    let a = both _ _ ab.0 in
+    let size_a = size_at_most 16777216 h.a a.0 in
+    let size_b = size_at_most 16777216 h.b a.1 in
+    let size_c = size_at_most 16777216 h.c ab.1 in
+    let size_d = size_at_most 844424930131968 h.d abc.1 in
+    let quotient_a = quotient_size g h.a in
+    let quotient_b = quotient_size g h.b in
+    let quotient_c = quotient_size g h.c in
+    let quotient_d = quotient_size g h.d in
+    let twice = lowest-twice (h.a ∷ h.b ∷ h.c ∷ h.d ∷ []) (divisor_above h nonzero) in
+    let four = same_four _ _ _ _ _ _ _ _ twice in
+    record {
+      numbers = record {
+        a = omega (arith, size_a, quotient_a);
+        b = omega (arith, size_b, quotient_b);
+        c = omega (arith, size_c, quotient_c);
+        d = omega (arith, size_d, quotient_d);
+        nonzero = (λ i. is_zero-quotient g h.a divides.0 i && is_zero-quotient g h.b divides.1.0 i && is_zero-quotient g h.c divides.1.1.0 i && is_zero-quotient g h.d divides.1.1.1.0 i) ∙ nonzero;
+      };
+      lowest = λ i. record { a = four.0 i; b = four.1 i; c = four.2 i; d = four.3 i };
+    }
+
+-- a greatest common divisor is within the bound of the numbers
+pub gcd_of-at_most : (m : ℕ) (vs : List ℤ) → AllByRecursion (λ v. nat_abs v ≤ m) vs → gcd_of vs ≤ m
+gcd_of-at_most m [] h = subst (λ (n : ℕ). n ≤ m) (sym gcd_of-nil) (omega arith)
+gcd_of-at_most m (v ∷ vs) h =
+    subst (λ (n : ℕ). n ≤ m) (sym (gcd_of-cons v vs)) (joined (gcd_of vs) (nat_abs v) (gcd_of-at_most m vs h.1) h.0)
+  where
+    joined : (g n : ℕ) → g ≤ m → n ≤ m → gcd g n ≤ m
+    joined g zero p q = subst (λ (k : ℕ). k ≤ m) (sym (gcd-zero g)) p
+    joined g (suc n) p q = le_trans (gcd-at_most_right g (suc n) (omega arith)) q
+
+-- the divisor of the numbers of a half-space is within the bound of its offset
+pub half_space_divisor : (h : HalfSpace) → is_half_space_in_bounds h ≡ true → gcd_of (h.a ∷ h.b ∷ h.c ∷ h.d ∷ []) ≤ 844424930131968
+half_space_divisor h inside =
+    let abc = both _ _ inside in
+    let ab = both _ _ abc.0 in
+    let a = both _ _ ab.0 in
+    let size_a = size_at_most 16777216 h.a a.0 in
+    let size_b = size_at_most 16777216 h.b a.1 in
+    let size_c = size_at_most 16777216 h.c ab.1 in
+    gcd_of-at_most 844424930131968 (h.a ∷ h.b ∷ h.c ∷ h.d ∷ []) (omega (arith, size_a), (omega (arith, size_b), (omega (arith, size_c), (size_at_most 844424930131968 h.d abc.1, tt))))
+
+-- numbers that are kept have no common divisor but 1
+kept_divisor : (h : HalfSpace) → IsKeptHalfSpace h → gcd_of (h.a ∷ h.b ∷ h.c ∷ h.d ∷ []) ≡ 1
+unfolding reduced_half_space
+kept_divisor h k =
+    ap (λ (r : HalfSpace). gcd_of (r.a ∷ r.b ∷ r.c ∷ r.d ∷ [])) (sym k.lowest) ∙ lowest-gcd (h.a ∷ h.b ∷ h.c ∷ h.d ∷ []) (divisor_above h k.numbers.nonzero)
+
+-- the size of a number and of its negative
+size_of_neg : (v : ℤ) → nat_abs (neg_ℤ v) ≡ nat_abs v
+size_of_neg v = omega (arith, ints)
+
+-- the negative is zero where the number is
+is_zero-neg : (v : ℤ) → is_zero (neg_ℤ v) ≡ is_zero v
+is_zero-neg v =
+    same_test (is_zero (neg_ℤ v)) (is_zero v)
+    (λ e. (Decides-int_eq v (pos 0)).1 (from_neg v ((Decides-int_eq (neg_ℤ v) (pos 0)).0 e)))
+    (λ e. (Decides-int_eq (neg_ℤ v) (pos 0)).1 (to_neg v ((Decides-int_eq v (pos 0)).0 e)))
+  where
+    from_neg : (v : ℤ) → neg_ℤ v ≡ pos 0 → v ≡ pos 0
+    from_neg v e = omega (arith, ints)
+
+    to_neg : (v : ℤ) → v ≡ pos 0 → neg_ℤ v ≡ pos 0
+    to_neg v e = omega (arith, ints)
+
+-- a quadruple with the divisor 1 is in lowest terms
+lowest_by_one : (h : HalfSpace) → gcd_of (h.a ∷ h.b ∷ h.c ∷ h.d ∷ []) ≡ 1 → reduced_half_space h ≡ h
+unfolding reduced_half_space
+lowest_by_one h e =
+    ap (λ (g : ℕ). record { a = reduced_by g h.a; b = reduced_by g h.b; c = reduced_by g h.c; d = reduced_by g h.d }) e
+    ∙ (λ i. record { a = quotient_by_one h.a i; b = quotient_by_one h.b i; c = quotient_by_one h.c i; d = quotient_by_one h.d i })
+
+-- the complement of a kept half-space is kept
+pub kept_complement : (h : HalfSpace) → IsKeptHalfSpace h → IsKeptHalfSpace (complement h)
+kept_complement h k =
+    let size_a = size_of_neg h.a in
+    let size_b = size_of_neg h.b in
+    let size_c = size_of_neg h.c in
+    let size_d = size_of_neg h.d in
+    let bound_a = k.numbers.a in
+    let bound_b = k.numbers.b in
+    let bound_c = k.numbers.c in
+    let bound_d = k.numbers.d in
+    let same : gcd_of (neg_ℤ h.a ∷ neg_ℤ h.b ∷ neg_ℤ h.c ∷ neg_ℤ h.d ∷ []) ≡ gcd_of (h.a ∷ h.b ∷ h.c ∷ h.d ∷ []) =
+    gcd_of-four (neg_ℤ h.a) (neg_ℤ h.b) (neg_ℤ h.c) (neg_ℤ h.d) ∙ (λ i. gcd (gcd (gcd (size_d i) (size_c i)) (size_b i)) (size_a i)) ∙ sym (gcd_of-four h.a h.b h.c h.d) in
+    record {
+      numbers = record {
+        a = omega (arith, size_a, bound_a);
+        b = omega (arith, size_b, bound_b);
+        c = omega (arith, size_c, bound_c);
+        d = omega (arith, size_d, bound_d);
+        nonzero = (λ i. is_zero-neg h.a i && is_zero-neg h.b i && is_zero-neg h.c i && is_zero-neg h.d i) ∙ k.numbers.nonzero;
+      };
+      lowest = lowest_by_one (complement h) (same ∙ kept_divisor h k);
+    }
+
+-- the divisor of the numbers of a point with a weight above zero
+pub point_divisor_above : (p : RationalPoint) → IsPoint p → 0 < gcd_of (p.x ∷ p.y ∷ p.z ∷ p.w ∷ [])
+point_divisor_above p w = gcd_of-positive_four p.x p.y p.z p.w (not_zero p.w w)
+  where
+    not_zero : (v : ℤ) → pos 0 <ℤ v → v ≡ pos 0 → ⊥
+    not_zero v h e = omega (arith, ints)
+
+-- the divisor of the numbers of a point is at most its weight
+pub point_divisor : (p : RationalPoint) → IsPoint p → gcd_of (p.x ∷ p.y ∷ p.z ∷ p.w ∷ []) ≤ nat_abs p.w
+point_divisor p w = gcd_of-at_most_four p.x p.y p.z p.w (not_zero p.w w)
+  where
+    not_zero : (v : ℤ) → pos 0 <ℤ v → v ≡ pos 0 → ⊥
+    not_zero v h e = omega (arith, ints)
+
+-- a point in lowest terms keeps its bounds, and stays as it is when it is reduced again
+pub kept_point : (p : RationalPoint) → IsSmallPoint p → IsKeptPoint (reduced_point p)
+unfolding reduced_point
+kept_point p k =
+    let g = gcd_of (p.x ∷ p.y ∷ p.z ∷ p.w ∷ []) in
+    let divides = gcd_of-divides (p.x ∷ p.y ∷ p.z ∷ p.w ∷ []) in
+    let quotient_x = quotient_size g p.x in
+    let quotient_y = quotient_size g p.y in
+    let quotient_z = quotient_size g p.z in
+    let quotient_w = quotient_size g p.w in
+    let small_x = k.x in
+    let small_y = k.y in
+    let small_z = k.z in
+    let small_w = k.w in
+    let four = same_four _ _ _ _ _ _ _ _ (lowest-twice (p.x ∷ p.y ∷ p.z ∷ p.w ∷ []) (point_divisor_above p k.positive)) in
+    record {
+      numbers = record {
+        positive = quotient_positive g p.w divides.1.1.1.0 k.positive;
+        x = omega (arith, small_x, quotient_x);
+        y = omega (arith, small_y, quotient_y);
+        z = omega (arith, small_z, quotient_z);
+        w = omega (arith, small_w, quotient_w);
+      };
+      lowest = λ i. record { x = four.0 i; y = four.1 i; z = four.2 i; w = four.3 i };
+    }
+
+-- a quotient as the machine hands it on
+pub read_quotient : (w : Width) (r v : ℤ) (n g : ℕ) → FitsSigned w r → FitsSigned w v → r ≡ reduced_by n (to_z w (of_z w v)) → n ≡ g → to_z w (of_z w r) ≡ reduced_by g v
+read_quotient w r v n g fr fv e d = to_z-of_z w r fr ∙ e ∙ (λ i. reduced_by (d i) (to_z-of_z w v fv i))
+
+-- four numbers as the machine hands them on
+pub read_half_space : (w : Width) (a b c d : ℤ) → FitsSigned w a → FitsSigned w b → FitsSigned w c → FitsSigned w d
+    → half_space_of (to_z w (of_z w a)) (to_z w (of_z w b)) (to_z w (of_z w c)) (to_z w (of_z w d)) ≡ half_space_of a b c d
+read_half_space w a b c d fa fb fc fd = λ i. half_space_of (to_z-of_z w a fa i) (to_z-of_z w b fb i) (to_z-of_z w c fc i) (to_z-of_z w d fd i)
+
+-- the same of a point
+pub read_point : (w : Width) (x y z v : ℤ) → FitsSigned w x → FitsSigned w y → FitsSigned w z → FitsSigned w v
+    → point_of (to_z w (of_z w x)) (to_z w (of_z w y)) (to_z w (of_z w z)) (to_z w (of_z w v)) ≡ point_of x y z v
+read_point w x y z v fx fy fz fv = λ i. point_of (to_z-of_z w x fx i) (to_z-of_z w y fy i) (to_z-of_z w z fz i) (to_z-of_z w v fv i)
+
+-- a coefficient as the machine widens it
+pub widened : (v : ℤ) → FitsSigned w64 v → to_z w128 (of_z w128 (to_z w64 (of_z w64 v))) ≡ v
+widened v f = ap (λ (x : ℤ). to_z w128 (of_z w128 x)) (to_z-of_z w64 v f) ∙ to_z-of_z w128 v (wide v f)
+  where
+    wide : (v : ℤ) → FitsSigned w64 v → FitsSigned w128 v
+    wide v f = omega (arith, ints)
+
+-- a whole number from 1 on whose upper bounds are kept makes a small point
+pub small_point : (p : RationalPoint) → int_le (pos 1) p.w ≡ true → is_point_in_bounds p ≡ true → IsSmallPoint p
+small_point p positive inside =
+    let xyz = both _ _ inside in
+    let xy = both _ _ xyz.0 in
+    let x = both _ _ xy.0 in
+    let size_x = size_at_most 2535301200456458802993406410751 p.x x.0 in
+    let size_y = size_at_most 2535301200456458802993406410751 p.y x.1 in
+    let size_z = size_at_most 2535301200456458802993406410751 p.z xy.1 in
+    record {
+      positive = above p.w positive;
+      x = omega (arith, size_x);
+      y = omega (arith, size_y);
+      z = omega (arith, size_z);
+      w = weight_size p.w positive xyz.1;
+    }
+  where
+    above : (v : ℤ) → int_le (pos 1) v ≡ true → pos 0 <ℤ v
+    above v e = grind (arith, ints)
+
+    weight_size : (v : ℤ) → int_le (pos 1) v ≡ true → int_le v (pos 37778931862957161709567) ≡ true → unsigned_abs v < 2 ^ 75
+    weight_size v e f = grind (arith, ints)
+
+-- a negative as the machine makes it
+pub negated : (v : ℤ) → unsigned_abs v ≤ 844424930131968 → to_z w64 (of_z w64 (pos 0 -ℤ to_z w64 (of_z w64 v))) ≡ neg_ℤ v
+negated v h = is_by (search code depth 30 fits 100000) tt ∙ from_zero v
+  where
+    from_zero : (v : ℤ) → pos 0 -ℤ v ≡ neg_ℤ v
+    from_zero v = omega (arith, ints)
+
+-- the negatives of a half-space's numbers as the machine makes them
+pub half_space_negated : (h : HalfSpace) → IsHalfSpace h
+    → half_space_of (to_z w64 (of_z w64 (pos 0 -ℤ to_z w64 (of_z w64 h.a)))) (to_z w64 (of_z w64 (pos 0 -ℤ to_z w64 (of_z w64 h.b)))) (to_z w64 (of_z w64 (pos 0 -ℤ to_z w64 (of_z w64 h.c)))) (to_z w64 (of_z w64 (pos 0 -ℤ to_z w64 (of_z w64 h.d)))) ≡ complement h
+half_space_negated h k =
+    let size_a = k.a in
+    let size_b = k.b in
+    let size_c = k.c in
+    let na = negated h.a (omega (arith, size_a)) in
+    let nb = negated h.b (omega (arith, size_b)) in
+    let nc = negated h.c (omega (arith, size_c)) in
+    let nd = negated h.d k.d in
+    λ i. half_space_of (na i) (nb i) (nc i) (nd i)
+
+-- the divisor of four numbers as the machine hands them on
+pub read_divisor : (w : Width) (a b c d : ℤ) → FitsSigned w a → FitsSigned w b → FitsSigned w c → FitsSigned w d
+    → gcd_of (to_z w (of_z w a) ∷ to_z w (of_z w b) ∷ to_z w (of_z w c) ∷ to_z w (of_z w d) ∷ []) ≡ gcd_of (a ∷ b ∷ c ∷ d ∷ [])
+read_divisor w a b c d fa fb fc fd = λ i. gcd_of (to_z-of_z w a fa i ∷ to_z-of_z w b fb i ∷ to_z-of_z w c fc i ∷ to_z-of_z w d fd i ∷ [])
+
+-- a number that the machine does not find below 1 is at least 1
+pub from_one_on : (v : ℤ) → FitsSigned w128 v → int_lt (to_z w128 (of_z w128 v)) (pos 1) ≡ false → int_le (pos 1) v ≡ true
+from_one_on v f e = at_least v (ap (λ (x : ℤ). int_lt x (pos 1)) (sym (to_z-of_z w128 v f)) ∙ e)
+  where
+    at_least : (v : ℤ) → int_lt v (pos 1) ≡ false → int_le (pos 1) v ≡ true
+    at_least v e = grind (arith, ints)

@@ -1,0 +1,2 @@
+pub mod MadeHalfSpace
+pub mod MadePoint

@@ -1,0 +1,110 @@
+//! Rational points in lowest terms.
+ghost use Rattle.std.specs.Prelude.{◌≡◌, ◌<◌, ◌^◌, [], ◌∷◌};
+ghost use Rattle.rp_algebra.specs.Integer.{gcd_of};
+ghost use Rattle.rp_model.specs.Geometry.{point_of, IsSmallPoint, coordinate_bound, is_within_bound, is_point_in_bounds, reduced_point};
+ghost use Rattle.rp_space.specs.MadePoint.{made_point};
+
+use crate::divisor::{common_divisor, quotient};
+
+use std::marker::Model;
+use thiserror::Error;
+
+/// The greatest size of a coordinate's number, 2^101 - 1.
+const MAX_COORDINATE: i128 = 2535301200456458802993406410751;
+
+/// The greatest weight, 2^75 - 1.
+const MAX_WEIGHT: i128 = 37778931862957161709567;
+
+/// Why four numbers are no point.
+#[derive(Clone, Copy, Debug, PartialEq, Eq, Drop, Error)]
+pub enum PointFault {
+    /// The weight is below 1.
+    #[error("the weight is below 1")]
+    Weight,
+    /// A number passes its bound.
+    #[error("a coordinate passes 2^101 - 1 in size or the weight 2^75 - 1")]
+    Range,
+}
+
+/// The rational point `(x/w, y/w, z/w)` in lowest terms, with |x|, |y|, |z| < 2^101 and 0 < w < 2^75.
+#[derive(Clone, Copy, Debug, PartialEq, Eq)]
+pub struct Point {
+    x: i128,
+    y: i128,
+    z: i128,
+    w: i128,
+}
+
+impl Model for Point {
+    ghost use Rattle.rp_model.specs.Geometry.{RationalPoint, point_of, IsKeptPoint};
+
+    ghost Value = { RationalPoint };
+
+    ghost view = { λ s. point_of s.x s.y s.z s.w };
+
+    ghost invariant = { λ s. IsKeptPoint (point_of s.x s.y s.z s.w) };
+
+    ghost inverse = { λ p. record { x = p.x; y = p.y; z = p.z; w = p.w } };
+}
+
+impl Point {
+    /// The point of four numbers, in lowest terms. `Weight` where w < 1; `Range` where w >= 1 and a bound is passed
+    /// by the numbers as given.
+    pub fn new(x: i128, y: i128, z: i128, w: i128) -> Result<Point, PointFault>
+        ensures { result ≡ made_point (point_of x y z w) }
+    {
+        if w < 1 {
+            return Err(PointFault::Weight);
+        }
+        if !is_in_bounds(x, y, z, w) {
+            return Err(PointFault::Range);
+        }
+        Ok(reduced(x, y, z, w))
+    }
+
+    /// The four kept numbers.
+    pub fn numbers(&self) -> (i128, i128, i128, i128)
+        ensures numbers { point_of result.0 result.1 result.2 result.3 ≡ self.now }
+        ensures small { IsSmallPoint (point_of result.0 result.1 result.2 result.3) }
+    {
+        (self.x, self.y, self.z, self.w)
+    }
+}
+
+/// Whether a coordinate is below 2^101 in size.
+fn is_coordinate(v: i128) -> bool
+    ensures { result ≡ is_within_bound coordinate_bound v }
+{
+    -MAX_COORDINATE <= v && v <= MAX_COORDINATE
+}
+
+/// Whether four numbers keep the upper bounds of a point.
+fn is_in_bounds(x: i128, y: i128, z: i128, w: i128) -> bool
+    ensures { result ≡ is_point_in_bounds (point_of x y z w) }
+{
+    is_coordinate(x) && is_coordinate(y) && is_coordinate(z) && w <= MAX_WEIGHT
+}
+
+/// Four numbers divided by their greatest common divisor.
+fn reduced(x: i128, y: i128, z: i128, w: i128) -> Point
+    requires { IsSmallPoint (point_of x y z w) }
+    ensures { result ≡ reduced_point (point_of x y z w) }
+{
+    let divisor = divisor_of(x, y, z, w);
+    Point {
+        x: quotient(x, divisor),
+        y: quotient(y, divisor),
+        z: quotient(z, divisor),
+        w: quotient(w, divisor),
+    }
+}
+
+/// The greatest common divisor of the four numbers of a point.
+fn divisor_of(x: i128, y: i128, z: i128, w: i128) -> u128
+    requires { IsSmallPoint (point_of x y z w) }
+    ensures value { result ≡ gcd_of (x ∷ y ∷ z ∷ w ∷ []) }
+    ensures positive { 0 < result }
+    ensures small { result < 2 ^ 127 }
+{
+    common_divisor(x, y, z, w)
+}
