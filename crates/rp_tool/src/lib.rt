@@ -7,6 +7,7 @@ pub mod status;
 mod answer;
 mod intake;
 mod lines;
+mod member;
 mod output;
 mod run;
 mod task;
@@ -14,3 +15,6 @@ mod top;
 mod verdict;
 
 pub use top::tool;
+
+#[cfg(test)]
+mod tests;
