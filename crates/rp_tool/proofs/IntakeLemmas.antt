@@ -1,6 +1,6 @@
 -- What one more read says of the bytes of a source that were read so far.
 use Rattle.std.proofs.Common.{◌≡◌, ℕ, ◌+◌, ◌<◌, ◌≤◌, List, [], ◌++◌, length, take, drop, Option, Some, None, IfSome, refl, sym, ap, ◌∙◌, subst, arith, append_assoc, length-append}
-use Rattle.std.proofs.lemmas.List.{take-append-drop, append-nil, take-take, take-append-le}
+use Rattle.std.proofs.lemmas.List.{take-append-drop, append-nil, take-take, take-append-le, length-take-le}
 use Rattle.rp_io.specs.Bytes.{Takes, IsAtEnd}
 use Rattle.rp_tool.specs.Intake.{IsWhole, IsPastLimit}
 
@@ -18,7 +18,7 @@ taken_at : (now after : Option (List ℕ)) (n : ℕ) (buffer rest : List ℕ) �
 taken_at now after n buffer rest e t = subst (λ o. Takes o after n buffer) e t
 
 -- a read adds what it took
-pub ReadsOn-more : (before now after : Option (List ℕ)) (read buffer : List ℕ) (n : ℕ) → ReadsOn before now read → Takes now after n buffer → ReadsOn before after (read ++ take n buffer)
+ReadsOn-more : (before now after : Option (List ℕ)) (read buffer : List ℕ) (n : ℕ) → ReadsOn before now read → Takes now after n buffer → ReadsOn before after (read ++ take n buffer)
 ReadsOn-more None now after read buffer n h t = _
 ReadsOn-more (Some left) now after read buffer n h t =
     let taken = taken_at now after n buffer h.0 h.1 t in
@@ -41,7 +41,26 @@ IsPastLimit-from_read (Some left) now after read buffer n limit h t past =
     let taken = taken_at now after n buffer h.0 h.1 t in
     omega (arith, ap length h.2, length-append read h.0, taken.0)
 
--- the front of a buffer that was written over as a whole
-pub take-written : (n len : ℕ) (buffer items : List ℕ) → length buffer ≡ len → n ≤ length buffer → take n (take len (buffer ++ drop (length buffer) items)) ≡ take n buffer
-take-written n len buffer items e h =
-    take-take n len (buffer ++ drop (length buffer) items) (omega arith) ∙ take-append-le n buffer (drop (length buffer) items) h
+-- the buffer is what was written over it as a whole, and its front came behind what was read so far
+pub record IsAppended (read buffer items piece new : List ℕ) (n len : ℕ) : Type 0 where
+  pub filled : length buffer ≡ len
+  pub within : n ≤ length buffer
+  pub piece_is : piece ≡ take len (buffer ++ drop (length buffer) items)
+  pub new_is : new ≡ read ++ take n piece
+
+-- the front of the buffer is that of what was written over it
+take-piece : (read buffer items piece new : List ℕ) (n len : ℕ) → IsAppended read buffer items piece new n len → take n piece ≡ take n buffer
+take-piece read buffer items piece new n len h =
+    let all = buffer ++ drop (length buffer) items in
+    let low : n ≤ len = omega (arith, h.filled, h.within) in
+    ap (take n) h.piece_is ∙ take-take n len all low ∙ take-append-le n buffer (drop (length buffer) items) h.within
+
+-- it is as long as the read says
+pub length-piece : (read buffer items piece new : List ℕ) (n len : ℕ) → IsAppended read buffer items piece new n len → length (take n piece) ≡ n
+length-piece read buffer items piece new n len h = ap length (take-piece read buffer items piece new n len h) ∙ length-take-le n buffer h.within
+
+-- a read adds what stands at the front of the buffer
+pub ReadsOn-appended : (before now after : Option (List ℕ)) (read buffer items piece new : List ℕ) (n len : ℕ) → ReadsOn before now read → Takes now after n buffer
+    → IsAppended read buffer items piece new n len → ReadsOn before after new
+ReadsOn-appended before now after read buffer items piece new n len h t a =
+    subst (ReadsOn before after) (sym (a.new_is ∙ ap (λ xs. read ++ xs) (take-piece read buffer items piece new n len a))) (ReadsOn-more before now after read buffer n h t)

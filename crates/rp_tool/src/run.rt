@@ -1,4 +1,5 @@
 ghost use Rattle.std.specs.Prelude.{◌≡◌, ◌≤◌, length, IfErr, IfOk};
+ghost use Rattle.rp_model.specs.Output.{most_script_bytes};
 ghost use Rattle.rp_tool.specs.Answer.{PutsAnswer, PutsReport, HasRunCause};
 ghost use Rattle.rp_tool.specs.declared.run.RunFault.TheVariants.{Put, Memory};
 
@@ -53,7 +54,7 @@ fn run_line<K: Sink>(
 
 /// Puts the report of a script, answer by answer. Answers whether something was refused.
 pub fn run<K: Sink>(alloc: Global, script: &[u8], sink: &mut K) -> Result<bool, RunFault>
-    requires { length script.now ≤ 16777216 }
+    requires { length script.now ≤ most_script_bytes }
     ensures counts { K.faults sink.old ≤ K.faults sink.new }
     ensures report { IfOk result (λ refused. PutsReport script.now (K.said sink.old) (K.said sink.new) refused) }
     ensures cause { IfErr result (HasRunCause (K.faults sink.old) (K.faults sink.new)) }

@@ -1,4 +1,5 @@
 use Rattle.std.proofs.Common.{◌≤◌, ℕ, ◌+◌, length}
+use Rattle.rp_model.specs.Output.{most_script_bytes}
 use Rattle.rp_tool.proofs.RunLemmas.{HasTold}
 use Rattle.rp_tool.proofs.run.run.Given as goal
 
@@ -6,7 +7,7 @@ abbrev pub invariant-loop-line : goal.invariant-loop-line
 invariant-loop-line g l =
     record {
       counts : g.K.Sink.faults l.fn.sink ≤ g.K.Sink.faults l.sink;
-      number : l.number + length l.rest ≤ 16777217;
+      number : l.number + length l.rest ≤ most_script_bytes + 1;
       told : HasTold l.script (g.K.Sink.said l.fn.sink) (g.K.Sink.said l.sink) l.number l.rest l.refused;
     }
 
