@@ -1,2 +1,3 @@
 pub mod Complement
 mod OneReport
+pub mod Places

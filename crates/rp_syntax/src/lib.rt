@@ -1,0 +1,44 @@
+//! The line grammar: a line of bytes is read as a command, or refused.
+#![tactic(auto)]
+
+ghost use Rattle.std.specs.Prelude.{◌≡◌, IfOk};
+ghost use Rattle.rp_model.specs.Grammar.{reading, is_blank};
+ghost use Rattle.rp_syntax.specs.Views.{line_of};
+
+mod command;
+mod fault;
+mod number;
+mod words;
+
+pub use command::{Command, Expr, Line, Why};
+
+use std::alloc::{AllocError, Global};
+use words::Words;
+
+/// The longest line that may be a command, in bytes.
+const MAX_LINE: usize = 65536;
+
+/// Whether a line says nothing: it is empty or a note.
+fn is_blank(line: &[u8]) -> bool
+    ensures { result ≡ is_blank line.now }
+{
+    match line {
+        [] => true,
+        [first, ..] => *first == b'#',
+    }
+}
+
+/// What a line says, without its ending: nothing, a command, or something that is not built yet.
+#[tactic(auto, unfolding(rp_model::specs::Grammar::reading))]
+pub fn read_line(_alloc: Global, line: &[u8]) -> Result<Line, AllocError>
+    ensures { IfOk result (λ l. line_of l ≡ reading line.now) }
+{
+    if line.len() > MAX_LINE {
+        return Ok(Line::Bad(Why::Unbuilt));
+    }
+    if is_blank(line) {
+        return Ok(Line::Blank);
+    }
+    let _ = Words::new(line);
+    Ok(Line::Bad(Why::Unbuilt))
+}
