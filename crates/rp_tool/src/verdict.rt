@@ -1,5 +1,6 @@
 ghost use Rattle.std.specs.Prelude.{◌≡◌, ◌∷◌, [], ◌++◌, codes, OnOk};
 ghost use Rattle.rp_model.specs.Text.{answer_lines, text_of_lines, verdict_text};
+ghost use Rattle.rp_model.specs.Output.{is_refused_line};
 ghost use Rattle.rp_tool.specs.Verdict.{verdict_of};
 
 use itoa::Buffer;
@@ -15,6 +16,13 @@ pub enum Verdict {
 }
 
 impl Verdict {
+    /// Whether something is refused.
+    pub fn is_refusal(self) -> bool
+        ensures { result ≡ is_refused_line (verdict_text (verdict_of self)) }
+    {
+        matches!(self, Verdict::Unbuilt)
+    }
+
     /// The verdict line, without its line end.
     fn text(self) -> &'static [u8]
         ensures { result.now ≡ verdict_text (verdict_of self) }
