@@ -202,11 +202,11 @@ abbrev pub AllZero : List ℤ → Type 0
 AllZero vs = AllByRecursion (λ v. v ≡ pos 0) vs
 
 -- only 0 has the size 0
-size_zero : (v : ℤ) → nat_abs v ≡ 0 → v ≡ pos 0
+pub size_zero : (v : ℤ) → nat_abs v ≡ 0 → v ≡ pos 0
 size_zero v e = omega (arith, ints, e)
 
 -- a number other than 0 has a size above 0
-size_positive : (v : ℤ) → (v ≡ pos 0 → ⊥) → 0 < nat_abs v
+pub size_positive : (v : ℤ) → (v ≡ pos 0 → ⊥) → 0 < nat_abs v
 size_positive v n = omega (arith, ints, n)
 
 -- where 0 divides each number, each is 0

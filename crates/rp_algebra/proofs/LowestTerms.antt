@@ -76,6 +76,20 @@ divides_from_multiple d k v e = subst (λ (n : ℕ). d ∣ n) (sym (ap nat_abs e
 pub multiple_from_divides : (d : ℕ) (v : ℤ) → d ∣ nat_abs v → (k : ℤ) × (v ≡ pos d *ℤ k)
 multiple_from_divides d v h = (reduced_by d v, sym (exact_quotient d v h))
 
+-- each number of the list is a multiple of d by a whole number
+abbrev pub AreMultiples : ℕ → List ℤ → Type 0
+AreMultiples d vs = AllByRecursion (λ v. (k : ℤ) × (v ≡ pos d *ℤ k)) vs
+
+-- what each number of a list is a multiple of divides them all
+pub divides_from_multiples : (d : ℕ) (vs : List ℤ) → AreMultiples d vs → DividesAll d vs
+divides_from_multiples d [] h = tt
+divides_from_multiples d (v ∷ vs) h = (divides_from_multiple d h.0.0 v h.0.1, divides_from_multiples d vs h.1)
+
+-- what divides all numbers of a list is what each is a multiple of
+pub multiples_from_divides : (d : ℕ) (vs : List ℤ) → DividesAll d vs → AreMultiples d vs
+multiples_from_divides d [] h = tt
+multiples_from_divides d (v ∷ vs) h = (multiple_from_divides d v h.0, multiples_from_divides d vs h.1)
+
 -- ---- the quotients of a list
 
 -- the quotients of all numbers of a list

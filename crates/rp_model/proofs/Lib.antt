@@ -1,3 +1,4 @@
+pub mod Bounds
 pub mod Complement
 mod OneReport
 pub mod Places

@@ -1,6 +1,7 @@
--- Points and half-spaces: what it means that a half-space holds a point, and the domain cube.
-use Rattle.std.specs.Prelude.{◌≡◌, ℕ, ◌^◌, ◌<◌, ◌≤◌, Bool, false, ◌&&◌, ◌||◌, ℤ, pos, ◌+ℤ◌, ◌*ℤ◌, neg_ℤ, ◌<ℤ◌, int_lt, int_le, [], ◌∷◌, unsigned_abs}
-use Rattle.rp_algebra.specs.Integer.{is_zero, is_positive, gcd_of, reduced_by}
+-- Points, half-spaces and boxes: what it means that a half-space holds a point, the domain cube, and cells.
+use Rattle.std.specs.Prelude.{◌≡◌, ℕ, ◌^◌, ◌<◌, ◌≤◌, Bool, false, ◌&&◌, ◌||◌, ℤ, pos, negsuc, ◌+ℤ◌, ◌*ℤ◌, neg_ℤ, ◌<ℤ◌, int_lt, int_le, List, [], ◌∷◌, ◌++◌, unsigned_abs}
+use Rattle.std.specs.List.{list_all, list_any}
+use Rattle.rp_algebra.specs.Integer.{int_eq, is_zero, is_positive, is_nonnegative, gcd_of, reduced_by}
 
 -- ---- points
 
@@ -59,6 +60,12 @@ pub record IsSmallPoint (p : RationalPoint) : Type 0 where
   pub z : unsigned_abs p.z < 2 ^ 101
   pub w : unsigned_abs p.w < 2 ^ 75
 
+-- two quadruples are positive multiples of each other, so they stand for one point of space
+pub record SamePlace (p q : RationalPoint) : Type 0 where
+  pub x : p.x *ℤ q.w ≡ q.x *ℤ p.w
+  pub y : p.y *ℤ q.w ≡ q.y *ℤ p.w
+  pub z : p.z *ℤ q.w ≡ q.z *ℤ p.w
+
 -- the four numbers divided by their greatest common divisor
 unfoldable pub reduced_point : RationalPoint → RationalPoint
 reduced_point p =
@@ -99,6 +106,14 @@ holds h p = is_positive (side_value h p) || (is_zero (side_value h p) && owns_bo
 abbrev pub complement : HalfSpace → HalfSpace
 complement h = record { a = neg_ℤ h.a; b = neg_ℤ h.b; c = neg_ℤ h.c; d = neg_ℤ h.d }
 
+-- whether two half-spaces have the same four numbers
+abbrev pub half_space_eq : HalfSpace → HalfSpace → Bool
+half_space_eq h k = int_eq h.a k.a && (int_eq h.b k.b && (int_eq h.c k.c && int_eq h.d k.d))
+
+-- whether a half-space stands in a list
+abbrev pub is_listed : HalfSpace → List HalfSpace → Bool
+is_listed h hs = list_any (half_space_eq h) hs
+
 -- the greatest size of d, three times the square of half the edge
 abbrev pub greatest_offset : ℕ
 greatest_offset = 844424930131968
@@ -133,3 +148,63 @@ reduced_half_space h =
 pub record IsKeptHalfSpace (h : HalfSpace) : Type 0 where
   pub numbers : IsHalfSpace h
   pub lowest : reduced_half_space h ≡ h
+
+-- ---- boxes
+
+-- a box with whole corners: the points with x1 <= x < x2, y1 <= y < y2 and z1 <= z < z2
+pub record IntegerBox : Type 0 where
+  pub x1 : ℤ
+  pub y1 : ℤ
+  pub z1 : ℤ
+  pub x2 : ℤ
+  pub y2 : ℤ
+  pub z2 : ℤ
+
+-- the six sides of a box as half-spaces: the lower and the upper one of x, of y, of z
+abbrev pub box_half_spaces : IntegerBox → List HalfSpace
+box_half_spaces b =
+    half_space_of (pos 1) (pos 0) (pos 0) (neg_ℤ b.x1) ∷ half_space_of (negsuc 0) (pos 0) (pos 0) b.x2
+    ∷ half_space_of (pos 0) (pos 1) (pos 0) (neg_ℤ b.y1) ∷ half_space_of (pos 0) (negsuc 0) (pos 0) b.y2
+    ∷ half_space_of (pos 0) (pos 0) (pos 1) (neg_ℤ b.z1) ∷ half_space_of (pos 0) (pos 0) (negsuc 0) b.z2 ∷ []
+
+-- the domain cube as a box
+abbrev pub cube_box : IntegerBox
+cube_box = record { x1 = neg_ℤ cube_bound; y1 = neg_ℤ cube_bound; z1 = neg_ℤ cube_bound; x2 = cube_bound; y2 = cube_bound; z2 = cube_bound }
+
+-- the six half-spaces of the domain cube
+abbrev pub cube_half_spaces : List HalfSpace
+cube_half_spaces = box_half_spaces cube_box
+
+-- two boxes share more than boundary
+abbrev pub boxes_meet : IntegerBox → IntegerBox → Bool
+boxes_meet b e = int_lt b.x1 e.x2 && int_lt e.x1 b.x2 && int_lt b.y1 e.y2 && int_lt e.y1 b.y2 && int_lt b.z1 e.z2 && int_lt e.z1 b.z2
+
+-- two boxes with their boundary share a point
+abbrev pub closed_boxes_meet : IntegerBox → IntegerBox → Bool
+closed_boxes_meet b e = int_le b.x1 e.x2 && int_le e.x1 b.x2 && int_le b.y1 e.y2 && int_le e.y1 b.y2 && int_le b.z1 e.z2 && int_le e.z1 b.z2
+
+-- ---- cells
+
+-- every half-space of the list holds the point
+abbrev pub all_hold : List HalfSpace → RationalPoint → Bool
+all_hold hs p = list_all (λ h. holds h p) hs
+
+-- a cell is a list of half-spaces: its members are the cube points that all of them hold
+abbrev pub is_in_cell : List HalfSpace → RationalPoint → Bool
+is_in_cell cell p = is_cube_point p && all_hold cell p
+
+-- the list of a cell: its half-spaces in order, then the cube's six
+abbrev pub with_cube : List HalfSpace → List HalfSpace
+with_cube cell = cell ++ cube_half_spaces
+
+-- no half-space of the list is negative at the point
+abbrev pub all_nonnegative : List HalfSpace → RationalPoint → Bool
+all_nonnegative hs p = list_all (λ h. is_nonnegative (side_value h p)) hs
+
+-- every half-space of the list is positive at the point
+abbrev pub all_positive : List HalfSpace → RationalPoint → Bool
+all_positive hs p = list_all (λ h. is_positive (side_value h p)) hs
+
+-- the point is in the weak system of the cell: no side value is negative, the cube's included
+abbrev pub is_in_weak_system : List HalfSpace → RationalPoint → Bool
+is_in_weak_system cell p = all_nonnegative (with_cube cell) p

@@ -1,5 +1,10 @@
 pub mod Geometry
 pub mod Shape
+pub mod Sets
+pub mod Search
+pub mod Certificate
+pub mod Vertex
+pub mod Elimination
 pub mod Expression
 pub mod Verdict
 pub mod Rule
@@ -8,3 +13,4 @@ pub mod Text
 pub mod Report
 pub mod Output
 pub mod Laws
+pub mod CellLaws

@@ -5,7 +5,6 @@ ghost use Rattle.rp_model.specs.Geometry.{point_of, IsSmallPoint, coordinate_bou
 ghost use Rattle.rp_space.specs.MadePoint.{made_point};
 
 use crate::divisor::{common_divisor, quotient};
-
 use std::marker::Model;
 use thiserror::Error;
 

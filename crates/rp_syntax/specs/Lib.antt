@@ -1,4 +1,5 @@
 pub mod Held
 pub mod Places
 pub mod Reads
+pub mod Tables
 pub mod Views

@@ -8,10 +8,10 @@ ghost use Rattle.rp_syntax.specs.Views.{line_of};
 mod command;
 mod fault;
 mod number;
+mod space;
 mod words;
 
 pub use command::{Command, Expr, Line, Why};
-
 use std::alloc::{AllocError, Global};
 use words::Words;
 
@@ -39,6 +39,9 @@ pub fn read_line(_alloc: Global, line: &[u8]) -> Result<Line, AllocError>
     if is_blank(line) {
         return Ok(Line::Blank);
     }
-    let _ = Words::new(line);
-    Ok(Line::Bad(Why::Unbuilt))
+    let mut words = Words::new(line);
+    match words.command() {
+        Ok(command) => Ok(Line::Cmd(command)),
+        Err(_) => Ok(Line::Bad(Why::Unbuilt)),
+    }
 }

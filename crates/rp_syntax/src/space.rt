@@ -1,0 +1,32 @@
+//! Half-spaces and points of numbers that are within their bounds.
+ghost use Rattle.std.specs.Prelude.{IsTrue, pos, int_le, ◌&&◌};
+ghost use Rattle.rp_model.specs.Geometry.{half_space_of, point_of, is_half_space_in_bounds, is_point_in_bounds, reduced_point};
+ghost use Rattle.rp_model.specs.Grammar.{Place, nonzero_half_space, gives};
+ghost use Rattle.rp_syntax.specs.Reads.{Reads};
+
+use crate::fault::Fault;
+use rp_space::{Half, HalfFault, Point};
+
+/// The half-space of four numbers; `Zero` where all four are 0.
+pub fn half_space(a: i128, b: i128, c: i128, d: i128) -> Result<Half, Fault>
+    requires { IsTrue (is_half_space_in_bounds (half_space_of a b c d)) }
+    ensures { (place : Place) → Reads (λ h. h) result place (nonzero_half_space (half_space_of a b c d) place) }
+{
+    match Half::new(a as i64, b as i64, c as i64, d as i64) {
+        Ok(half) => Ok(half),
+        Err(HalfFault::Range) => Err(Fault::Range),
+        Err(HalfFault::Zero) => Err(Fault::Zero),
+    }
+}
+
+/// The point of four numbers.
+pub fn rational_point(x: i128, y: i128, z: i128, w: i128) -> Result<Point, Fault>
+    requires weight { IsTrue (int_le (pos 1) w) }
+    requires bounds { IsTrue (is_point_in_bounds (point_of x y z w)) }
+    ensures { (place : Place) → Reads (λ p. p) result place (gives (reduced_point (point_of x y z w)) place) }
+{
+    match Point::new(x, y, z, w) {
+        Ok(point) => Ok(point),
+        Err(_) => Err(Fault::Range),
+    }
+}
