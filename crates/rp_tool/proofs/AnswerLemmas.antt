@@ -1,5 +1,5 @@
 -- The report lines of an answer with one verdict.
-use Rattle.std.proofs.Common.{◌≡◌, ℕ, Bool, List, [], ◌∷◌, ◌++◌, Option, Some, None, refl, ap, ◌∙◌, sym}
+use Rattle.std.proofs.Common.{◌≡◌, ℕ, Bool, List, [], ◌∷◌, ◌++◌, Some, refl, ap, ◌∙◌, sym}
 use Rattle.std.specs.List.{list_any}
 use Rattle.rp_model.specs.Grammar.{Reading, blank, command, not_built, reading}
 use Rattle.rp_model.specs.Report.{AreLinesOf}

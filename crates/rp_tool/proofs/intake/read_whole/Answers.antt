@@ -1,5 +1,4 @@
-use Rattle.std.proofs.Common.{◌≡◌, ◌≤◌, ◌<◌, ◌+◌, ◌++◌, ℕ, List, length, take, sym, subst, refl, ap, ◌∙◌, arith, vec_len}
-use Rattle.rp_io.specs.Bytes.{IsAtEnd}
+use Rattle.std.proofs.Common.{◌<◌, ◌+◌, length, sym, subst, arith}
 use Rattle.rp_tool.proofs.IntakeLemmas.{ReadsOn, ReadsOn-start, IsWhole-at_end, IsPastLimit-from_read, IsAppended, length-piece, ReadsOn-appended}
 use Rattle.rp_tool.proofs.intake.read_whole.Goals as goal
 

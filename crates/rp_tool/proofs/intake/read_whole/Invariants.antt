@@ -1,4 +1,4 @@
-use Rattle.std.proofs.Common.{◌≡◌, ◌<◌, ◌≤◌, ℕ, ◌+◌, ◌-◌, length, vec_len}
+use Rattle.std.proofs.Common.{◌<◌, ◌≤◌, ◌+◌, ◌-◌, vec_len}
 use Rattle.rp_tool.proofs.IntakeLemmas.{ReadsOn}
 use Rattle.rp_tool.proofs.intake.read_whole.Given as goal
 

@@ -1,4 +1,4 @@
-use Rattle.std.proofs.Common.{◌≡◌, ◌≤◌, ℕ, sym, ◌∙◌, arith}
+use Rattle.std.proofs.Common.{arith}
 use Rattle.rp_tool.proofs.SinkLemmas.{HasPut-more}
 use Rattle.rp_tool.proofs.output.put_lines.Goals as goal
 

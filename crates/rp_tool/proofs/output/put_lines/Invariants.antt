@@ -1,4 +1,4 @@
-use Rattle.std.proofs.Common.{◌≡◌, ℕ, ◌≤◌, List, ◌++◌, length}
+use Rattle.std.proofs.Common.{◌≤◌, length}
 use Rattle.rp_tool.proofs.SinkLemmas.{HasPut}
 use Rattle.rp_tool.proofs.output.put_lines.Given as goal
 

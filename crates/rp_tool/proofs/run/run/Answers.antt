@@ -1,4 +1,4 @@
-use Rattle.std.proofs.Common.{◌≤◌, ℕ, ◌+◌, length, sym, arith}
+use Rattle.std.proofs.Common.{arith}
 use Rattle.rp_tool.proofs.RunLemmas.{HasTold-more, PutsReport-at_end}
 use Rattle.rp_tool.proofs.run.run.Goals as goal
 

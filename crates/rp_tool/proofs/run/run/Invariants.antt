@@ -1,4 +1,4 @@
-use Rattle.std.proofs.Common.{◌≤◌, ℕ, ◌+◌, length}
+use Rattle.std.proofs.Common.{◌≤◌, ◌+◌, length}
 use Rattle.rp_model.specs.Output.{most_script_bytes}
 use Rattle.rp_tool.proofs.RunLemmas.{HasTold}
 use Rattle.rp_tool.proofs.run.run.Given as goal
