@@ -7,10 +7,9 @@
 use rp_io::{StdSink, StdSource};
 use rp_tool::status::{OUT_OF_MEMORY, PUT_FAILED, READ_FAILED, TOO_LONG, UNLISTED};
 use rp_tool::tool;
-use std::env;
-use std::io;
 use std::process::ExitCode;
 use std::rt::Env;
+use std::{env, io};
 
 /// The words could not be read for another cause than want of memory, as where one is not UTF-8. The tool never
 /// answers this.

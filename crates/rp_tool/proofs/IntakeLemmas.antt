@@ -23,7 +23,7 @@ ReadsOn-more None now after read buffer n h t = _
 ReadsOn-more (Some left) now after read buffer n h t =
     let taken = taken_at now after n buffer h.0 h.1 t in
     let parts : left ≡ (read ++ take n buffer) ++ drop n h.0 =
-      h.2 ∙ ap (λ xs. read ++ xs) (sym (take-append-drop n h.0)) ∙ sym (append_assoc read (take n h.0) (drop n h.0)) ∙ ap (λ xs. (read ++ xs) ++ drop n h.0) (sym taken.1) in
+    h.2 ∙ ap (λ xs. read ++ xs) (sym (take-append-drop n h.0)) ∙ sym (append_assoc read (take n h.0) (drop n h.0)) ∙ ap (λ xs. (read ++ xs) ++ drop n h.0) (sym taken.1) in
     (drop n h.0, taken.2, parts)
 
 -- where nothing was left, all was read

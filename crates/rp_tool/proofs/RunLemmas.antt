@@ -41,8 +41,8 @@ HasTold-more script old now new number rest line behind refused also h e a =
       text = subst (Appends old new) (sym (flat_map-append (λ l. l ++ line_end ∷ []) h.told a.told)) (Appends-append old now new (text_of_lines h.told) (text_of_lines a.told) h.text a.text);
       mark = ap (λ b. b || also) h.mark ∙ ap (λ b. list_any is_refused_line h.told || b) a.mark ∙ sym (list_any-append is_refused_line h.told a.told);
       goes_on = λ tail k.
-        subst (IsReportFrom 1 (script_lines script)) (sym (append_assoc h.told a.told tail))
-        (h.goes_on (a.told ++ tail) (subst (λ lines. IsReportFrom number lines (a.told ++ tail)) (sym e) (IsReportFrom-cons number line (script_lines behind) a.told tail a.lines k)));
+          subst (IsReportFrom 1 (script_lines script)) (sym (append_assoc h.told a.told tail))
+          (h.goes_on (a.told ++ tail) (subst (λ lines. IsReportFrom number lines (a.told ++ tail)) (sym e) (IsReportFrom-cons number line (script_lines behind) a.told tail a.lines k)));
     }
 
 -- at the end all was told

@@ -36,7 +36,12 @@ fn verdict_on(alloc: Global, line: &[u8]) -> Result<Option<Verdict>, AllocError>
 
 /// Appends the report lines of a line of the script, each with its line end; a blank line has none. Answers whether
 /// one is a refusal.
-pub fn append_answer(alloc: Global, text: &mut Vec<u8>, number: u32, line: &[u8]) -> Result<bool, AllocError>
+pub fn append_answer(
+    alloc: Global,
+    text: &mut Vec<u8>,
+    number: u32,
+    line: &[u8],
+) -> Result<bool, AllocError>
     ensures { IfOk result (λ refused. AppendsAnswer number line.now text.old.items text.new.items refused) }
 {
     let Some(verdict) = verdict_on(alloc, line)? else {

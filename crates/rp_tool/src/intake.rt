@@ -45,7 +45,11 @@ fn zeros(alloc: Global, length: usize) -> Result<Vec<u8>, AllocError>
 /// Reads a source to its end, in pieces: all its bytes, of which there may be `limit`.
 ///
 /// Answers [`IntakeFault::TooLong`] as soon as the source gives a byte past the limit.
-pub fn read_whole<S: Source>(alloc: Global, source: &mut S, limit: usize) -> Result<Vec<u8>, IntakeFault>
+pub fn read_whole<S: Source>(
+    alloc: Global,
+    source: &mut S,
+    limit: usize,
+) -> Result<Vec<u8>, IntakeFault>
     ensures counts { S.faults source.old ≤ S.faults source.new }
     ensures within { IfOk result (λ whole. length whole.items ≤ limit) }
     ensures whole { IfOk result (λ whole. IsWhole (S.left source.old) (S.left source.new) whole.items) }

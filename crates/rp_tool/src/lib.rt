@@ -2,14 +2,13 @@
 //! status.
 #![tactic(auto)]
 
-pub mod status;
-
 mod answer;
 mod intake;
 mod lines;
 mod member;
 mod output;
 mod run;
+pub mod status;
 mod task;
 mod top;
 mod verdict;

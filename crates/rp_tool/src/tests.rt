@@ -16,7 +16,12 @@ fn words_of(alloc: Global, texts: &[&str]) -> Result<Vec<String>, AllocError> {
 }
 
 /// The status and the output of the tool on an input of one piece, with room for 1,000 bytes of output.
-fn run_on<R: Threads + Sync>(rt: &R, alloc: Global, texts: &[&str], input: &[u8]) -> Result<(u8, Vec<u8>), AllocError> {
+fn run_on<R: Threads + Sync>(
+    rt: &R,
+    alloc: Global,
+    texts: &[&str],
+    input: &[u8],
+) -> Result<(u8, Vec<u8>), AllocError> {
     let words = words_of(alloc, texts)?;
     let mut source = QuietSource::new(input);
     let mut sink = QuietSink::new(alloc, 1000)?;
@@ -61,8 +66,14 @@ fn reports_the_worked_rows(rt: HostRuntime) -> Result<(), Fail> {
 
 #[test]
 fn refuses_lines_that_are_not_built(rt: HostRuntime) -> Result<(), Fail> {
-    let (status, told) = run_on(&rt, rt.alloc(), &["run"], b"walk\nmember half 1 0 0 0 0 5 5 1\r")?;
-    let report = b"> 1 walk\n= refused unbuilt\n> 2 member half 1 0 0 0 0 5 5 1\r\n= refused unbuilt\n";
+    let (status, told) = run_on(
+        &rt,
+        rt.alloc(),
+        &["run"],
+        b"walk\nmember half 1 0 0 0 0 5 5 1\r",
+    )?;
+    let report =
+        b"> 1 walk\n= refused unbuilt\n> 2 member half 1 0 0 0 0 5 5 1\r\n= refused unbuilt\n";
     assert_eq!(rt; status, 1);
     assert_eq!(rt; told.as_slice(), report.as_slice());
     Ok(())
@@ -88,23 +99,30 @@ fn stops_where_a_put_fails(rt: HostRuntime) -> Result<(), Fail> {
     let mut sink = MemorySink::new(alloc, 1000, &[(2, 3)])?;
     let status = tool(&rt, alloc, &words, &mut source, &mut sink);
     assert_eq!(rt; status, 4);
-    assert_eq!(rt; sink.bytes(), b"> 1 member half 1 0 0 0 0 5 5 1\n= y".as_slice());
+    assert_eq!(rt;
+        sink.bytes(),
+        b"> 1 member half 1 0 0 0 0 5 5 1\n= y".as_slice()
+    );
     Ok(())
 }
 
 #[test]
 fn knows_no_other_words(rt: HostRuntime) -> Result<(), Fail> {
     let script = b"member half 1 0 0 0 0 5 5 1\n";
-    for words in [["walk"].as_slice(), ["run", "brief", "now"].as_slice(), [].as_slice()] {
-        let (status, told) = run_on(&rt, rt.alloc(), words, script)?;
-        assert_eq!(rt; status, UNLISTED);
-        assert_eq!(rt; told.len(), 0);
-    }
+    let (unknown, first) = run_on(&rt, rt.alloc(), &["walk"], script)?;
+    let (longer, second) = run_on(&rt, rt.alloc(), &["run", "brief", "now"], script)?;
+    let (none, third) = run_on(&rt, rt.alloc(), &[], script)?;
+    assert_eq!(rt; (unknown, longer, none), (UNLISTED, UNLISTED, UNLISTED));
+    assert_eq!(rt; (first.len(), second.len(), third.len()), (0, 0, 0));
     Ok(())
 }
 
 /// The status on a script of so many line ends.
-fn status_on_line_ends<R: Threads + Sync>(rt: &R, alloc: Global, count: usize) -> Result<(u8, usize), AllocError> {
+fn status_on_line_ends<R: Threads + Sync>(
+    rt: &R,
+    alloc: Global,
+    count: usize,
+) -> Result<(u8, usize), AllocError> {
     let script = vec![in alloc; b'\n'; count]?;
     let (status, told) = run_on(rt, alloc, &["run"], &script)?;
     Ok((status, told.len()))

@@ -38,7 +38,12 @@ impl Verdict {
 /// Appends the report lines of an answer with one verdict: the echo of the line with its number, and the verdict line.
 ///
 /// After an error the text has what it had and a front of them.
-pub fn append_lines(text: &mut Vec<u8>, number: u32, line: &[u8], verdict: Verdict) -> Result<(), AllocError>
+pub fn append_lines(
+    text: &mut Vec<u8>,
+    number: u32,
+    line: &[u8],
+    verdict: Verdict,
+) -> Result<(), AllocError>
     ensures { OnOk result (text.new.items ≡ text.old.items
         ++ text_of_lines (answer_lines (record { number = number; echo = line.now; verdicts = verdict_of verdict ∷ [] }))) }
 {

@@ -32,18 +32,18 @@ loop-piece-preserved g c =
     let read = c.loop-piece.whole.items in
     let new = c.extend_from_slice.new.self.items in
     let appended : IsAppended read c.read.new.buf piece.items c.deref.result.now new c.in_ok-count.count piece.len =
-      record {
-        filled = omega (arith, c.read.auto.buf, c.deref_mut.ensures.len);
-        within = c.in_ok-count.ensures.within;
-        piece_is = c.deref.ensures.value;
-        new_is = c.in_ok-extend_from_slice.ensures.items;
-      } in
+    record {
+      filled = omega (arith, c.read.auto.buf, c.deref_mut.ensures.len);
+      within = c.in_ok-count.ensures.within;
+      piece_is = c.deref.ensures.value;
+      new_is = c.in_ok-extend_from_slice.ensures.items;
+    } in
     let count = length-piece read c.read.new.buf piece.items c.deref.result.now new c.in_ok-count.count piece.len appended in
     record {
       counts = omega (arith, c.loop-piece.invariant.counts, c.in_ok-count.ensures.counts);
       within = omega (arith, c.in_ok-extend_from_slice.ensures.len, count, c.if-count-limit.false, c.len.ensures, c.loop-piece.invariant.within);
       nonempty = c.loop-piece.invariant.nonempty;
       reads_on =
-        ReadsOn-appended (g.S.Source.left c.args.source.now) (g.S.Source.left c.loop-piece.source) (g.S.Source.left c.read.new.self) read c.read.new.buf
-        piece.items c.deref.result.now new c.in_ok-count.count piece.len c.loop-piece.invariant.reads_on c.in_ok-count.ensures.taken appended;
+          ReadsOn-appended (g.S.Source.left c.args.source.now) (g.S.Source.left c.loop-piece.source) (g.S.Source.left c.read.new.self) read c.read.new.buf
+          piece.items c.deref.result.now new c.in_ok-count.count piece.len c.loop-piece.invariant.reads_on c.in_ok-count.ensures.taken appended;
     }

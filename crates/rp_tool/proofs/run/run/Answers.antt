@@ -8,9 +8,9 @@ loop-line-preserved g c =
       counts = omega (arith, c.loop-line.invariant.counts, c.in_ok-refused.ensures.counts);
       number = omega (arith, c.loop-line.invariant.number, c.in-Some.ensures.shorter);
       told =
-        HasTold-more c.args.script.now (g.K.Sink.said c.args.sink.now) (g.K.Sink.said c.loop-line.sink) (g.K.Sink.said c.run_line.new.sink) c.loop-line.number
-        c.loop-line.rest.now c.in-Some.line.now c.in-Some.behind.now c.loop-line.refused c.in_ok-refused.field-0 c.loop-line.invariant.told
-        c.in-Some.ensures.next c.in_ok-refused.ensures.answer;
+          HasTold-more c.args.script.now (g.K.Sink.said c.args.sink.now) (g.K.Sink.said c.loop-line.sink) (g.K.Sink.said c.run_line.new.sink) c.loop-line.number
+          c.loop-line.rest.now c.in-Some.line.now c.in-Some.behind.now c.loop-line.refused c.in_ok-refused.field-0 c.loop-line.invariant.told
+          c.in-Some.ensures.next c.in_ok-refused.ensures.answer;
     }
 
 pub returns-clause-report : goal.returns-clause-report
