@@ -1,3 +1,5 @@
+mod Cramer
 mod Kept
 mod Named
+mod Negative
 mod Sides

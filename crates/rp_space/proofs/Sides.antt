@@ -76,11 +76,15 @@ upper_number v h = is_by (search code depth 30 fits 100000) tt
 small_negative : (v : ℤ) → unsigned_abs v ≤ 16777216 → unsigned_abs (neg_ℤ v) ≤ 16777216
 small_negative v h = omega (arith, ints)
 
+-- a half-space of x alone
+pub kept_x : (v : ℤ) → unsigned_abs v ≤ 16777216 → IsKeptHalfSpace (half_space_of (pos 1) (pos 0) (pos 0) v)
+kept_x v h = kept_by_one (half_space_of (pos 1) (pos 0) (pos 0) v) (small_offset v h) refl (divisor_x (pos 1) v refl)
+
 -- the lower side of x
 pub lower_x : (v : ℤ) → unsigned_abs v ≤ 16777216 → IsKeptHalfSpace (half_space_of (pos 1) (pos 0) (pos 0) (to_z w64 (of_z w64 (pos 0 -ℤ to_z w64 (of_z w64 (to_z w32 (of_z w32 v)))))))
 lower_x v h =
     subst (λ (d : ℤ). IsKeptHalfSpace (half_space_of (pos 1) (pos 0) (pos 0) d)) (sym (lower_number v h))
-    (kept_by_one (half_space_of (pos 1) (pos 0) (pos 0) (neg_ℤ v)) (small_offset (neg_ℤ v) (small_negative v h)) refl (divisor_x (pos 1) (neg_ℤ v) refl))
+    (kept_x (neg_ℤ v) (small_negative v h))
 
 -- the lower side of y
 pub lower_y : (v : ℤ) → unsigned_abs v ≤ 16777216 → IsKeptHalfSpace (half_space_of (pos 0) (pos 1) (pos 0) (to_z w64 (of_z w64 (pos 0 -ℤ to_z w64 (of_z w64 (to_z w32 (of_z w32 v)))))))

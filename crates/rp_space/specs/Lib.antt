@@ -3,3 +3,5 @@ pub mod Listed
 pub mod MadeHalfSpace
 pub mod MadePoint
 pub mod NameBytes
+pub mod PairMinors
+pub mod TwoHalfSpaces

@@ -1,7 +1,7 @@
 //! Half-spaces in lowest terms.
 ghost use Rattle.std.specs.Prelude.{◌≡◌, ◌<◌, ◌^◌, true, false, pos, ◌≤ℤ◌, [], ◌∷◌};
 ghost use Rattle.rp_algebra.specs.Integer.{gcd_of, is_zero};
-ghost use Rattle.rp_model.specs.Geometry.{half_space_of, side_value, owns_boundary, holds, complement, is_within_bound, is_half_space_in_bounds, is_zero_half_space, reduced_half_space, IsKeptHalfSpace};
+ghost use Rattle.rp_model.specs.Geometry.{half_space_of, side_value, owns_boundary, holds, complement, is_within_bound, is_half_space_in_bounds, is_zero_half_space, reduced_half_space, IsHalfSpace, IsKeptHalfSpace};
 ghost use Rattle.rp_space.specs.MadeHalfSpace.{made_half_space};
 
 use crate::divisor::{common_divisor, short_quotient};
@@ -48,6 +48,18 @@ impl Model for Half {
     ghost inverse = { λ h. record { a = h.a; b = h.b; c = h.c; d = h.d } };
 }
 
+impl Default for Half {
+    /// Some half-space.
+    fn default() -> Half {
+        Half {
+            a: 1,
+            b: 0,
+            c: 0,
+            d: 0,
+        }
+    }
+}
+
 impl Half {
     /// The half-space of four numbers, in lowest terms. The bounds are tested on the numbers as given:
     /// `Range` where one is passed, `Zero` where none is and all four numbers are 0.
@@ -85,7 +97,8 @@ impl Half {
 
     /// The four kept numbers.
     pub fn numbers(&self) -> (i64, i64, i64, i64)
-        ensures { half_space_of result.0 result.1 result.2 result.3 ≡ self.now }
+        ensures numbers { half_space_of result.0 result.1 result.2 result.3 ≡ self.now }
+        ensures small { IsHalfSpace (half_space_of result.0 result.1 result.2 result.3) }
     {
         (self.a, self.b, self.c, self.d)
     }

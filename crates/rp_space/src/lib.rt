@@ -4,14 +4,20 @@
 mod bounds;
 mod divisor;
 mod half;
+mod inside;
 mod listed;
+mod meeting;
 mod name;
+mod outside;
 mod point;
 
 pub use bounds::{IntBox, box_halves, cube};
 pub use half::{Half, HalfFault};
+pub use inside::Inside;
 pub use listed::{Halves, Listed, Names, Numbers};
+pub use meeting::{Pair, meet};
 pub use name::Name;
+pub use outside::{Outside, Term};
 pub use point::{Point, PointFault};
 
 #[cfg(test)]

@@ -46,6 +46,18 @@ impl Model for Point {
     ghost inverse = { λ p. record { x = p.x; y = p.y; z = p.z; w = p.w } };
 }
 
+impl Default for Point {
+    /// Some point.
+    fn default() -> Point {
+        Point {
+            x: 0,
+            y: 0,
+            z: 0,
+            w: 1,
+        }
+    }
+}
+
 impl Point {
     /// The point of four numbers, in lowest terms. `Weight` where w < 1; `Range` where w >= 1 and a bound is passed
     /// by the numbers as given.
@@ -85,7 +97,7 @@ fn is_in_bounds(x: i128, y: i128, z: i128, w: i128) -> bool
 }
 
 /// Four numbers divided by their greatest common divisor.
-fn reduced(x: i128, y: i128, z: i128, w: i128) -> Point
+pub(crate) fn reduced(x: i128, y: i128, z: i128, w: i128) -> Point
     requires { IsSmallPoint (point_of x y z w) }
     ensures { result ≡ reduced_point (point_of x y z w) }
 {

@@ -1,4 +1,7 @@
-use crate::{Half, Halves, IntBox, Name, Names, Numbers, Point, box_halves, cube};
+use crate::{
+    Half, Halves, Inside, IntBox, Name, Names, Numbers, Outside, Pair, Point, Term, box_halves,
+    cube, meet,
+};
 use std::test::Fail;
 
 /// Shows that a type may be sent to other threads and shared with them.
@@ -13,6 +16,10 @@ fn types_cross_threads() {
     needs_send_sync::<Names>();
     needs_send_sync::<Numbers>();
     needs_send_sync::<Halves>();
+    needs_send_sync::<Pair>();
+    needs_send_sync::<Term>();
+    needs_send_sync::<Inside>();
+    needs_send_sync::<Outside>();
 }
 
 #[test]
@@ -92,4 +99,33 @@ fn boxes_have_six_sides(rt: HostRuntime) {
     let [first, second, ..] = cube();
     assert_eq!(rt; first.numbers(), (1, 0, 0, 16777216));
     assert_eq!(rt; second.numbers(), (-1, 0, 0, 16777216));
+}
+
+#[test]
+fn three_planes_meet_in_lowest_terms(rt: HostRuntime) -> Result<(), Fail> {
+    let x = Half::new(2, 0, 0, -3).ok().ok_or("no half-space")?;
+    let y = Half::new(0, 1, 0, -2).ok().ok_or("no half-space")?;
+    let z = Half::new(0, 0, -4, 1).ok().ok_or("no half-space")?;
+    let point = meet(&x, &y, &z).ok_or("no point")?;
+    assert_eq!(rt; point.numbers(), (6, 8, 1, 4));
+    let turned = Pair::new(&z, &y).meet(&x).ok_or("no point")?;
+    assert_eq!(rt; turned.numbers(), (6, 8, 1, 4));
+    assert!(rt; meet(&x, &x.not(), &z).is_none());
+    Ok(())
+}
+
+#[test]
+fn short_lists_are_copied(rt: HostRuntime) {
+    let mut points = Inside::new();
+    points.push(Point::default());
+    assert_eq!(rt; points.copy().items().len(), 1);
+    let mut terms = Outside::new();
+    let term = Term {
+        by: 3,
+        half: Half::default(),
+    };
+    terms.push(term);
+    terms.push(Term::default());
+    assert_eq!(rt; terms.copy().items().len(), 2);
+    assert_eq!(rt; Outside::default().items().len(), 0);
 }

@@ -1,0 +1,10 @@
+use Rattle.std.proofs.Common.{◌≡◌, ◌*◌, ◌^◌, ◌≤◌, ◌+ℤ◌, drop, unsigned_abs}
+use Rattle.rp_model.specs.Certificate.{weighted_sum}
+use Rattle.rp_cert.specs.Numbers.{number_of}
+use Rattle.rp_cert.proofs.outside.weighted_sum.Given as goal
+
+abbrev pub invariant-loop-term : goal.invariant-loop-term
+invariant-loop-term l = record {
+  whole : l.sum +ℤ weighted_sum (number_of l.which) (drop l.term-index l.terms) ≡ weighted_sum (number_of l.which) l.terms;
+  small : unsigned_abs l.sum ≤ l.term-index * (2 ^ 75 * (3 * 2 ^ 48));
+}

@@ -1,0 +1,12 @@
+-- The four numbers of a half-space by name.
+use Rattle.std.specs.Prelude.{ℤ}
+use Rattle.rp_model.specs.Geometry.{HalfSpace}
+use Rattle.rp_cert.specs.declared.outside.Number.{Number}
+use Rattle.rp_cert.specs.declared.outside.Number.TheVariants.{A, B, C, D}
+
+-- the number of that name
+abbrev pub number_of : Number → HalfSpace → ℤ
+number_of A h = h.a
+number_of B h = h.b
+number_of C h = h.c
+number_of D h = h.d

@@ -1,0 +1,58 @@
+//! Certificates made of points.
+ghost use Rattle.std.specs.Prelude.{◌≡◌, ◌&&◌};
+ghost use Rattle.std.specs.List.{list_all, list_any};
+ghost use Rattle.rp_model.specs.Geometry.{all_nonnegative, with_cube};
+ghost use Rattle.rp_model.specs.Certificate.{is_one_to_four, is_positive_at_some, is_nonnegative_at_all, is_inside_certificate, is_weak_point};
+
+use rp_space::{Half, Point, cube};
+
+/// Whether the points show that the cell has a member: there are one to four points, and every half-space of the cell
+/// and of the domain cube has a side value of at least 0 at all of them and above 0 at one.
+pub fn check_inside(cell: &[Half], points: &[Point]) -> bool
+    ensures { result ≡ is_inside_certificate cell.now points.now }
+{
+    is_one_to_four(points.len()) && are_reached(cell, points) && are_reached(&cube(), points)
+}
+
+/// Whether every half-space of the cell and of the domain cube has a side value of at least 0 at the point.
+pub fn check_weak(cell: &[Half], p: &Point) -> bool
+    ensures { result ≡ is_weak_point cell.now p.now }
+{
+    are_nonnegative(cell, p) && are_nonnegative(&cube(), p)
+}
+
+/// Whether a number is from 1 to 4.
+pub(crate) fn is_one_to_four(n: usize) -> bool
+    ensures { result ≡ is_one_to_four n }
+{
+    1 <= n && n <= 4
+}
+
+/// Whether each half-space is negative at none of the points and positive at one.
+fn are_reached(halves: &[Half], points: &[Point]) -> bool
+    ensures { result ≡ list_all (λ h. is_nonnegative_at_all points.now h && is_positive_at_some points.now h) halves.now }
+{
+    halves.iter().all(|half| is_nonnegative_at_all(points, half)
+        && is_positive_at_some(points, half))
+}
+
+/// Whether the half-space is negative at none of the points.
+fn is_nonnegative_at_all(points: &[Point], half: &Half) -> bool
+    ensures { result ≡ is_nonnegative_at_all points.now half.now }
+{
+    points.iter().all(|p| half.side(p) >= 0)
+}
+
+/// Whether the half-space is positive at one of the points.
+fn is_positive_at_some(points: &[Point], half: &Half) -> bool
+    ensures { result ≡ is_positive_at_some points.now half.now }
+{
+    points.iter().any(|p| half.side(p) > 0)
+}
+
+/// Whether no half-space is negative at the point.
+fn are_nonnegative(halves: &[Half], p: &Point) -> bool
+    ensures { result ≡ all_nonnegative halves.now p.now }
+{
+    halves.iter().all(|half| half.side(p) >= 0)
+}

@@ -1,0 +1,23 @@
+//! Lines of proof.
+
+use rp_space::{Half, Inside, IntBox, Listed, Outside, Point};
+
+/// A line of proof.
+#[derive(Debug, Drop)]
+pub enum Proof {
+    /// Points that show that a cell has a member.
+    In(Inside),
+    /// Multiples that show that a cell has no member.
+    Out(Outside),
+    /// A point of a weak system.
+    At(Point),
+    /// Multiples that show that a weak system has no point.
+    Apart(Outside),
+    /// A half-space that adds nothing to a cell, with the multiples that show it.
+    Dropped(Half, Outside),
+    /// The least box of a cell.
+    Bounds(IntBox),
+}
+
+/// A list of lines of proof.
+pub type Proofs = Listed<Proof>;

@@ -1,0 +1,137 @@
+//! The common point of three planes, by Cramer's rule.
+ghost use Rattle.std.specs.Prelude.{◌≡◌, ◌*◌, ◌^◌};
+ghost use Rattle.rp_algebra.specs.Within.{IsWithin};
+ghost use Rattle.rp_model.specs.Geometry.{point_of};
+ghost use Rattle.rp_model.specs.Vertex.{det2, cramer_point, normal_point, meeting_point};
+ghost use Rattle.rp_space.specs.TwoHalfSpaces.{two_of};
+
+use crate::half::Half;
+use crate::point::{Point, reduced};
+use std::marker::Model;
+
+/// The common point of the planes of three half-spaces, in lowest terms.
+/// `None` exactly where the planes do not have exactly one common point.
+pub fn meet(f: &Half, g: &Half, h: &Half) -> Option<Point>
+    ensures { result ≡ meeting_point f.now g.now h.now }
+{
+    Pair::new(f, g).meet(h)
+}
+
+/// Two half-spaces, with what the common points of their planes with further planes share.
+/// A contract sees the two.
+#[derive(Debug, Drop)]
+pub struct Pair {
+    first: Half,
+    second: Half,
+    ab: i128,
+    ac: i128,
+    bc: i128,
+    ad: i128,
+    bd: i128,
+    cd: i128,
+}
+
+impl Model for Pair {
+    ghost use Rattle.rp_space.specs.TwoHalfSpaces.{TwoHalfSpaces, two_of};
+
+    ghost Value = { TwoHalfSpaces };
+
+    ghost use Rattle.rp_space.specs.PairMinors.{HasMinors};
+
+    ghost view = { λ p. two_of p.first p.second };
+
+    ghost invariant = { HasMinors };
+}
+
+impl Pair {
+    /// The pair of two half-spaces.
+    pub fn new(f: &Half, g: &Half) -> Pair
+        ensures { result ≡ two_of f.now g.now }
+    {
+        let (fa, fb, fc, fd) = f.numbers();
+        let (ga, gb, gc, gd) = g.numbers();
+        Pair {
+            first: *f,
+            second: *g,
+            ab: minor(fa, fb, ga, gb),
+            ac: minor(fa, fc, ga, gc),
+            bc: minor(fb, fc, gb, gc),
+            ad: minor(fa, fd, ga, gd),
+            bd: minor(fb, fd, gb, gd),
+            cd: minor(fc, fd, gc, gd),
+        }
+    }
+
+    /// The common point of the two planes and a third one, in lowest terms.
+    /// `None` exactly where the three do not have exactly one common point.
+    pub fn meet(&self, h: &Half) -> Option<Point>
+        ensures { result ≡ meeting_point self.now.first self.now.second h.now }
+    {
+        normal(self.x(h), self.y(h), self.z(h), self.weight(h))
+    }
+
+    /// The first coordinate of the common point, times the weight.
+    fn x(&self, h: &Half) -> i128
+        ensures value { result ≡ (cramer_point self.now.first self.now.second h.now).x }
+        ensures small { IsWithin (18 * 2 ^ 96) result }
+    {
+        let (_, b, c, d) = h.numbers();
+        c as i128 * self.bd - b as i128 * self.cd - d as i128 * self.bc
+    }
+
+    /// The second coordinate of the common point, times the weight.
+    fn y(&self, h: &Half) -> i128
+        ensures value { result ≡ (cramer_point self.now.first self.now.second h.now).y }
+        ensures small { IsWithin (18 * 2 ^ 96) result }
+    {
+        let (a, _, c, d) = h.numbers();
+        a as i128 * self.cd - c as i128 * self.ad + d as i128 * self.ac
+    }
+
+    /// The third coordinate of the common point, times the weight.
+    fn z(&self, h: &Half) -> i128
+        ensures value { result ≡ (cramer_point self.now.first self.now.second h.now).z }
+        ensures small { IsWithin (18 * 2 ^ 96) result }
+    {
+        let (a, b, _, d) = h.numbers();
+        b as i128 * self.ad - a as i128 * self.bd - d as i128 * self.ab
+    }
+
+    /// The determinant of the coefficients: not 0 exactly where the three planes have exactly one common point.
+    fn weight(&self, h: &Half) -> i128
+        ensures value { result ≡ (cramer_point self.now.first self.now.second h.now).w }
+        ensures small { IsWithin (6 * 2 ^ 72) result }
+    {
+        let (a, b, c, _) = h.numbers();
+        a as i128 * self.bc - b as i128 * self.ac + c as i128 * self.ab
+    }
+}
+
+/// The 2 by 2 determinant with the rows (a, b) and (c, d).
+fn minor(a: i64, b: i64, c: i64, d: i64) -> i128
+    requires a_small { IsWithin (2 ^ 50) a }
+    requires b_small { IsWithin (2 ^ 50) b }
+    requires c_small { IsWithin (2 ^ 50) c }
+    requires d_small { IsWithin (2 ^ 50) d }
+    ensures { result ≡ det2 a b c d }
+{
+    a as i128 * d as i128 - b as i128 * c as i128
+}
+
+/// The point of four numbers with a weight of any sign, in lowest terms with a positive weight.
+/// `None` where the weight is 0.
+fn normal(x: i128, y: i128, z: i128, w: i128) -> Option<Point>
+    requires x_small { IsWithin (18 * 2 ^ 96) x }
+    requires y_small { IsWithin (18 * 2 ^ 96) y }
+    requires z_small { IsWithin (18 * 2 ^ 96) z }
+    requires w_small { IsWithin (6 * 2 ^ 72) w }
+    ensures { result ≡ normal_point (point_of x y z w) }
+{
+    if w == 0 {
+        return None;
+    }
+    if w > 0 {
+        return Some(reduced(x, y, z, w));
+    }
+    Some(reduced(-x, -y, -z, -w))
+}
