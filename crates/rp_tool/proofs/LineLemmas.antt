@@ -1,0 +1,61 @@
+-- The lines of a script, one after the other from its front.
+use Rattle.std.proofs.Common.{◌≡◌, ℕ, ◌+◌, ◌<◌, ◌≤◌, Bool, true, false, List, [], ◌∷◌, length, take, drop, Some, None, refl, ap, ◌∙◌, arith, ltb, eqb, cond}
+use Rattle.std.specs.List.{All, position, position_or_len, before_first, after_first, slice_split}
+use Rattle.std.proofs.lemmas.Bool.Decides.{nat_tests}
+use Rattle.std.proofs.lemmas.List.{nil_from_length}
+use Rattle.std.proofs.lemmas.List.Quantifiers.{position-Some}
+use Rattle.std.proofs.lemmas.List.Sums.{position_or_len_is, fails_before_first}
+use Rattle.std.proofs.lemmas.List.Splits.{slice_split_none, slice_split_first, length-slice_split}
+use Rattle.rp_model.specs.Report.{script_lines, lines_of_pieces, without_return}
+use Rattle.rp_tool.specs.Lines.{is_line_end}
+
+-- where a first place passes, it is the count of those before it
+pub position_or_len-at_some : (p : ℕ → Bool) (xs : List ℕ) (i : ℕ) → position p xs ≡ Some i → (i < length xs) × (position_or_len p xs ≡ i)
+position_or_len-at_some p xs i e =
+    let found = position-Some p xs i 0 e in
+    (found.0, position_or_len_is p xs i 0 (omega (arith, found.0)) found.2 (λ _. found.1))
+
+-- a place that is not below the length is past it
+past_from_none : (a b : ℕ) → cond (ltb a b) (Some a) None ≡ None → b ≤ a
+past_from_none a b e = grind (arith, nat_tests)
+
+-- where no place passes, each element fails
+pub all_fail-at_none : (p : ℕ → Bool) (xs : List ℕ) → position p xs ≡ None → (length xs ≤ position_or_len p xs) × All (λ x. p x ≡ false) xs
+all_fail-at_none p xs e =
+    let past = past_from_none (position_or_len p xs) (length xs) e in
+    (past, λ k d h. fails_before_first p xs k d (omega arith))
+
+-- each piece but the last loses its carriage return
+lines_of_pieces-cons : (piece : List ℕ) (pieces : List (List ℕ)) → 0 < length pieces → lines_of_pieces (piece ∷ pieces) ≡ without_return piece ∷ lines_of_pieces pieces
+lines_of_pieces-cons piece [] h = absurd (omega arith)
+lines_of_pieces-cons piece (next ∷ pieces) h = refl
+
+-- the first line of a script ends at its first line end, and the others are those of what stands behind it
+pub script_lines-at_end : (script : List ℕ) (i : ℕ) → position is_line_end script ≡ Some i → script_lines script ≡ without_return (take i script) ∷ script_lines (drop (i + 1) script)
+unfolding script_lines
+script_lines-at_end script i e =
+    let place = position_or_len-at_some is_line_end script i e in
+    let first = slice_split_first is_line_end script 0 (omega (arith, place.0, place.1)) in
+    let more : 0 < length (slice_split is_line_end (after_first is_line_end script)) = omega (arith, length-slice_split is_line_end (after_first is_line_end script)) in
+    ap lines_of_pieces first
+    ∙ lines_of_pieces-cons (before_first is_line_end script) (slice_split is_line_end (after_first is_line_end script)) more
+    ∙ ap (λ n. without_return (take n script) ∷ lines_of_pieces (slice_split is_line_end (drop (n + 1) script))) place.1
+
+-- a script with no line end is one line
+pub script_lines-no_end : (script : List ℕ) → 0 < length script → position is_line_end script ≡ None → script_lines script ≡ script ∷ []
+unfolding script_lines
+script_lines-no_end [] h e = absurd (omega arith)
+script_lines-no_end (b ∷ bs) h e = ap lines_of_pieces (slice_split_none is_line_end (b ∷ bs) (all_fail-at_none is_line_end (b ∷ bs) e).1)
+
+-- an empty script has no line
+pub script_lines-nil : script_lines [] ≡ []
+unfolding script_lines
+script_lines-nil = refl
+
+-- a list whose length tests as 0 is empty
+pub nil_from_test : (xs : List ℕ) → eqb (length xs) 0 ≡ true → xs ≡ []
+nil_from_test xs e = nil_from_length xs (grind (arith, nat_tests))
+
+-- and one whose length does not is not
+pub nonempty_from_test : (xs : List ℕ) → eqb (length xs) 0 ≡ false → 0 < length xs
+nonempty_from_test xs e = grind (arith, nat_tests)

@@ -1,0 +1,15 @@
+use Rattle.std.proofs.Common.{◌≤◌, ◌+◌, length}
+use Rattle.rp_model.specs.Output.{most_script_bytes}
+use Rattle.rp_tool.proofs.RunLemmas.{HasTold}
+use Rattle.rp_tool.proofs.run.run.Given as goal
+
+abbrev pub invariant-loop-line : goal.invariant-loop-line
+invariant-loop-line g l =
+    record {
+      counts : g.K.Sink.faults l.fn.sink ≤ g.K.Sink.faults l.sink;
+      number : l.number + length l.rest ≤ most_script_bytes + 1;
+      told : HasTold l.script (g.K.Sink.said l.fn.sink) (g.K.Sink.said l.sink) l.number l.rest l.refused;
+    }
+
+abbrev pub decreases-loop-line : goal.decreases-loop-line
+decreases-loop-line g l = length l.rest

@@ -1,0 +1,39 @@
+-- What the tool is asked to do, and what a status says of its output.
+use Rattle.std.specs.Prelude.{◌≡◌, ◌↔◌, ℕ, Bool, true, false, List, Option, Some, Result, Ok, Err}
+use Rattle.rp_io.specs.Bytes.{Appends}
+use Rattle.rp_model.specs.Text.{text_of_lines}
+use Rattle.rp_model.specs.Output.{Task as ModelTask, run_script, task_of, IsOutput, IsRefused}
+use Rattle.rp_tool.specs.declared.status.TheConstants.{DONE, REFUSED, READ_FAILED, PUT_FAILED, OUT_OF_MEMORY, TOO_LONG}
+use Rattle.rp_tool.specs.declared.intake.IntakeFault.{IntakeFault}
+use Rattle.rp_tool.specs.declared.intake.IntakeFault.TheVariants.{Failed, TooLong, Memory}
+use Rattle.rp_tool.specs.declared.run.RunFault.{RunFault}
+use Rattle.rp_tool.specs.declared.run.RunFault.TheVariants.{Put, Memory as RunMemory}
+use Rattle.rp_tool.specs.declared.task.Task.{Task}
+use Rattle.rp_tool.specs.declared.task.Task.TheVariants.{Run}
+
+-- the task of the model
+abbrev pub meaning_of : Task → ModelTask
+meaning_of Run = run_script
+
+-- the words name a task, the whole output of that task on the input came to the end of what the sink said,
+-- and the status is 1 exactly where something was refused
+pub record IsOutputOf (words : List (List ℕ)) (input : List ℕ) (old new : Option (List ℕ)) (status : ℕ) : Type 0 where
+  pub task : ModelTask
+  pub lines : List (List ℕ)
+  pub listed : task_of words ≡ Some task
+  pub output : IsOutput task input lines
+  pub written : Appends old new (text_of_lines lines)
+  pub refused : (status ≡ 1) ↔ IsRefused task lines
+
+-- the status where the input was not read whole
+abbrev pub status_of_intake : IntakeFault → ℕ
+status_of_intake Failed = READ_FAILED
+status_of_intake TooLong = TOO_LONG
+status_of_intake (Memory e) = OUT_OF_MEMORY
+
+-- the status of a run, which is that of a refusal where it says that something was refused
+abbrev pub status_of_run : Result Bool RunFault → ℕ
+status_of_run (Ok true) = REFUSED
+status_of_run (Ok false) = DONE
+status_of_run (Err Put) = PUT_FAILED
+status_of_run (Err (RunMemory e)) = OUT_OF_MEMORY

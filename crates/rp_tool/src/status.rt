@@ -1,0 +1,22 @@
+//! The statuses with which the tool ends.
+
+/// The input was read to its end, the whole output was written, and nothing was refused.
+pub const DONE: u8 = 0;
+
+/// The input was read to its end, the whole output was written, and something was refused.
+pub const REFUSED: u8 = 1;
+
+/// The words are none of the listed ones. Nothing was read or written.
+pub const UNLISTED: u8 = 2;
+
+/// A read failed. Nothing was written.
+pub const READ_FAILED: u8 = 3;
+
+/// A put failed. What was written is a front of the whole output.
+pub const PUT_FAILED: u8 = 4;
+
+/// Memory ran out. What was written is a front of the whole output.
+pub const OUT_OF_MEMORY: u8 = 5;
+
+/// The source gave a byte past the limit of 16,777,216. Nothing was written.
+pub const TOO_LONG: u8 = 6;
