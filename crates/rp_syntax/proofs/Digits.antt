@@ -1,5 +1,5 @@
 -- Numbers held at a size: the digits that are left lead to the same.
-use Rattle.std.proofs.Common.{◌≡◌, ℕ, suc, ◌+◌, ◌*◌, ◌-◌, ◌≤◌, ◌<◌, min, List, [], ◌∷◌, length, drop, get_or, refl, ap, ◌∙◌, sym, arith, fold}
+use Rattle.std.proofs.Common.{◌≡◌, ℕ, ◌+◌, ◌*◌, ◌-◌, ◌≤◌, ◌<◌, min, List, [], ◌∷◌, length, drop, get_or, ap, ◌∙◌, sym, arith, fold}
 use Rattle.std.proofs.Math.Seq.{drop-cons}
 use Rattle.std.proofs.Common.{add-one}
 use Rattle.rp_syntax.specs.Held.{most_held}

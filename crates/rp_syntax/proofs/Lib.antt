@@ -1,4 +1,5 @@
 mod Digits
 mod MadeLemmas
 mod ManyLemmas
+mod SpellLemmas
 mod WordLemmas

@@ -1,10 +1,10 @@
 -- Half-spaces made of numbers within their bounds: only four zeros are refused.
-use Rattle.std.proofs.Common.{◌≡◌, ℕ, ◌<◌, ◌≤◌, ℤ, pos, Bool, true, false, ◌&&◌, Result, Ok, Err, to_z, of_z, IsTrue, refl, sym, ap, ◌∙◌, arith}
+use Rattle.std.proofs.Common.{◌≡◌, ℕ, ◌≤◌, ℤ, pos, Bool, true, false, ◌&&◌, Result, Ok, Err, to_z, of_z, refl, sym, ap, ◌∙◌, arith}
 use Rattle.std.specs.Int.RustNames.{unsigned_abs, FitsSigned}
 use Rattle.std.proofs.lemmas.Int.{ints, to_z-of_z}
 use mir.Syntax.{w64, w128}
 use Rattle.rp_model.specs.Geometry.{HalfSpace, half_space_of, is_within_bound, is_half_space_in_bounds, is_zero_half_space, reduced_half_space}
-use Rattle.rp_model.specs.Grammar.{Place, Reader, Fault, zero_half_space, out_of_range, gives, fails, nonzero_half_space}
+use Rattle.rp_model.specs.Grammar.{Place, Reader, zero_half_space, out_of_range, gives, fails, nonzero_half_space}
 use Rattle.rp_space.specs.declared.half.HalfFault.{HalfFault}
 use Rattle.rp_space.specs.declared.half.HalfFault.TheVariants.{Range, Zero}
 use Rattle.rp_space.specs.MadeHalfSpace.{made_half_space}

@@ -2,4 +2,5 @@ pub mod Held
 pub mod Keywords
 pub mod Places
 pub mod Reads
+pub mod Spells
 pub mod Views

@@ -13,10 +13,12 @@ mod keywords;
 mod number;
 mod numbers;
 mod space;
+mod spelling;
 mod words;
 
 pub use command::{Command, Entries, Expr, Line, Why};
 use fault::ReadFault;
+pub use spelling::write_command;
 use std::alloc::{AllocError, Global};
 use words::Words;
 

@@ -1,6 +1,6 @@
-use Rattle.std.proofs.Common.{◌≡◌, ◌∙◌}
-use Rattle.rp_model.specs.Geometry.{half_space_of, is_zero_half_space, reduced_half_space}
-use Rattle.rp_syntax.proofs.MadeLemmas.{made_by, made_within, read_made, read_zero, read_range}
+use Rattle.std.proofs.Common.{◌∙◌}
+use Rattle.rp_model.specs.Geometry.{half_space_of}
+use Rattle.rp_syntax.proofs.MadeLemmas.{made_within, read_made, read_zero, read_range}
 use Rattle.rp_syntax.proofs.space.half_space.Goals as goal
 
 pub returns-in-Ok : goal.returns-in-Ok
