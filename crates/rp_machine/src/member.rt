@@ -1,10 +1,10 @@
 //! Membership of points, by signs.
-ghost use Rattle.std.specs.Prelude.{◌≡◌, ◌<◌, ◌^◌, ◌&&◌, unsigned_abs, option_map};
+ghost use Rattle.std.specs.Prelude.{◌≡◌, ◌<◌, ◌^◌, ◌*ℤ◌, unsigned_abs};
 ghost use Rattle.rp_model.specs.Expression.{closed, first_unknown};
 ghost use Rattle.rp_model.specs.Geometry.{all_hold, box_half_spaces, is_cube_point};
 ghost use Rattle.rp_model.specs.Shape.{passes, is_member};
 ghost use Rattle.rp_model.specs.State.{State, opening, sets_in};
-ghost use Rattle.rp_model.proofs.Boxes.{is_between};
+ghost use Rattle.rp_model.proofs.Boxes.{is_between, is_between_sides};
 ghost use Rattle.rp_space.specs.Boxes.{integer_box};
 ghost use Rattle.rp_syntax.specs.Views.{expression_of};
 
@@ -14,22 +14,42 @@ use rp_syntax::Expr;
 /// Half the edge of the domain cube, in units.
 const HALF_EDGE: i32 = 16777216;
 
+/// A whole number of units as a coordinate over the weight w.
+fn scaled(units: i32, w: i128) -> i128
+    requires { unsigned_abs w < 2 ^ 75 }
+    ensures { result ≡ units *ℤ w }
+{
+    units as i128 * w
+}
+
 /// Whether the coordinate v / w is from `lo` to below `hi`.
 fn is_between(lo: i32, hi: i32, v: i128, w: i128) -> bool
     requires { unsigned_abs w < 2 ^ 75 }
     ensures { result ≡ is_between lo hi v w }
 {
-    lo as i128 * w <= v && v < hi as i128 * w
+    let least = scaled(lo, w);
+    let limit = scaled(hi, w);
+    least <= v && v < limit
 }
 
 /// Whether the point lies in the box, its upper sides left out.
 fn is_in_box(bounds: &IntBox, point: &Point) -> bool
     ensures { result ≡ all_hold (box_half_spaces (integer_box bounds.now)) point.now }
 {
+    is_between_sides(bounds, point)
+}
+
+/// Whether each coordinate of the point is from the lower side of the box to below the upper one.
+fn is_between_sides(bounds: &IntBox, point: &Point) -> bool
+    ensures { result ≡ is_between_sides (integer_box bounds.now) point.now }
+{
     let [x1, y1, z1] = bounds.lo;
     let [x2, y2, z2] = bounds.hi;
     let (x, y, z, w) = point.numbers();
-    is_between(x1, x2, x, w) && is_between(y1, y2, y, w) && is_between(z1, z2, z, w)
+    let on_x = is_between(x1, x2, x, w);
+    let on_y = is_between(y1, y2, y, w);
+    let on_z = is_between(z1, z2, z, w);
+    on_x & on_y & on_z
 }
 
 /// Whether the point lies in the domain cube, its upper sides left out.
@@ -78,9 +98,18 @@ pub fn first_unknown(region: &Expr) -> Option<Name>
         Expr::Nothing => None,
         Expr::Name(name) => Some(*name),
         Expr::Lot(name) => Some(*name),
-        Expr::And(first, second) => first_unknown(first).or_else(|| first_unknown(second)),
-        Expr::Or(first, second) => first_unknown(first).or_else(|| first_unknown(second)),
-        Expr::Minus(first, second) => first_unknown(first).or_else(|| first_unknown(second)),
+        Expr::And(first, second) => match first_unknown(first) {
+            Some(name) => Some(name),
+            None => first_unknown(second),
+        },
+        Expr::Or(first, second) => match first_unknown(first) {
+            Some(name) => Some(name),
+            None => first_unknown(second),
+        },
+        Expr::Minus(first, second) => match first_unknown(first) {
+            Some(name) => Some(name),
+            None => first_unknown(second),
+        },
         Expr::Not(operand) => first_unknown(operand),
     }
 }

@@ -60,8 +60,12 @@ upper_of u v e = ap (λ t. is_positive t || (is_zero t && false)) e ∙ unowned 
 abbrev pub is_between : ℤ → ℤ → ℤ → ℤ → Bool
 is_between lo hi v w = int_le (lo *ℤ w) v && int_lt v (hi *ℤ w)
 
+-- each coordinate is from the lower side to below the upper one
+abbrev pub is_between_sides : IntegerBox → RationalPoint → Bool
+is_between_sides b p = (is_between b.x1 b.x2 p.x p.w && is_between b.y1 b.y2 p.y p.w) && is_between b.z1 b.z2 p.z p.w
+
 -- the side values as differences, and then the tests of the three axes
-pub box_holds : (b : IntegerBox) (p : RationalPoint) → all_hold (box_half_spaces b) p ≡ ((is_between b.x1 b.x2 p.x p.w && is_between b.y1 b.y2 p.y p.w) && is_between b.z1 b.z2 p.z p.w)
+pub box_holds : (b : IntegerBox) (p : RationalPoint) → all_hold (box_half_spaces b) p ≡ is_between_sides b p
 box_holds b p =
     (λ i. lower_of (b.x1 *ℤ p.w) p.x (lower_x p.x p.y p.z p.w b.x1) i && (upper_of p.x (b.x2 *ℤ p.w) (upper_x p.x p.y p.z p.w b.x2) i
     && (lower_of (b.y1 *ℤ p.w) p.y (lower_y p.x p.y p.z p.w b.y1) i && (upper_of p.y (b.y2 *ℤ p.w) (upper_y p.x p.y p.z p.w b.y2) i

@@ -2,6 +2,7 @@
 
 use rp_space::{Listed, Name};
 use rp_syntax::Why;
+use std::alloc::{AllocError, Global};
 
 /// Why a line is refused.
 #[derive(Clone, Copy, Debug, PartialEq, Eq)]
@@ -41,4 +42,35 @@ pub struct Answer {
     pub echo: Echo,
     /// The verdict lines.
     pub verdicts: Verdicts,
+}
+
+impl Answer {
+    ghost use Rattle.std.specs.Prelude.{◌≡◌, ◌∷◌, [], IfOk};
+    ghost use Rattle.rp_model.specs.Report.{blank_answer};
+    ghost use Rattle.rp_report.specs.Views.{verdict_of, answer_of};
+
+    /// The answer to a blank line: it says nothing.
+    pub fn blank(alloc: Global, n: u32) -> Answer
+        ensures { answer_of result ≡ blank_answer n }
+    {
+        Answer {
+            n,
+            echo: Echo::new(alloc),
+            verdicts: Verdicts::new(alloc),
+        }
+    }
+
+    /// An answer with one verdict. Answers `AllocError` only for want of memory.
+    pub fn with_verdict(
+        alloc: Global,
+        n: u32,
+        echo: &[u8],
+        verdict: Verdict,
+    ) -> Result<Answer, AllocError>
+        ensures { IfOk result (λ a. answer_of a ≡ record { number = n; echo = echo.now; verdicts = verdict_of verdict ∷ [] }) }
+    {
+        let echo = Echo::copy_of(alloc, echo)?;
+        let verdicts = Verdicts::copy_of(alloc, &[verdict])?;
+        Ok(Answer { n, echo, verdicts })
+    }
 }

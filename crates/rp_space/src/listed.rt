@@ -1,5 +1,5 @@
 //! Lists that grow, whose room contracts see.
-ghost use Rattle.std.specs.Prelude.{◌≡◌, OnOk, OnErr, [], ◌∷◌, ◌++◌, ◌≤◌, ◌<◌, ◌+◌};
+ghost use Rattle.std.specs.Prelude.{◌≡◌, IfOk, OnOk, OnErr, [], ◌∷◌, ◌++◌, ◌≤◌, ◌<◌, ◌+◌};
 
 use crate::half::Half;
 use crate::name::Name;
@@ -55,6 +55,16 @@ impl<T: Drop> Listed<T> {
         ensures { result.now ≡ self.now.items }
     {
         &self.items
+    }
+}
+
+impl<T: Copy + Drop> Listed<T> {
+    /// The list of these items. Answers `AllocError` only for want of memory.
+    pub fn copy_of(alloc: Global, items: &[T]) -> Result<Listed<T>, AllocError>
+        ensures { IfOk result (λ list. list.items ≡ items.now) }
+    {
+        let items = Vec::from_slice(alloc, items)?;
+        Ok(Listed { items })
     }
 }
 
