@@ -32,7 +32,7 @@ fn status_of_error(error: &io::Error) -> u8 {
 /// What a status says that is no answer.
 fn message(status: u8) -> Option<&'static str> {
     match status {
-        UNLISTED => Some("these words are not known; the listed ones are: run"),
+        UNLISTED => Some("these words are not known; the listed ones are: run, script"),
         READ_FAILED => Some("reading the input failed"),
         PUT_FAILED => Some("writing the output failed"),
         OUT_OF_MEMORY => Some("out of memory"),

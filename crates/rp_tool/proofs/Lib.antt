@@ -1,5 +1,6 @@
-pub mod LineLemmas
 pub mod IntakeLemmas
-pub mod SinkLemmas
+pub mod LineLemmas
+pub mod RefusalLemmas
 pub mod RunLemmas
-pub mod AnswerLemmas
+pub mod SinkLemmas
+pub mod SpellLemmas

@@ -1,5 +1,4 @@
 pub mod Intake
 pub mod Lines
-pub mod Answer
+pub mod Output
 pub mod Status
-pub mod Verdict

@@ -2,16 +2,16 @@
 //! status.
 #![tactic(auto)]
 
-mod answer;
+mod fault;
 mod intake;
 mod lines;
-mod member;
 mod output;
+mod refusal;
 mod run;
+mod spell;
 pub mod status;
 mod task;
 mod top;
-mod verdict;
 
 pub use top::tool;
 

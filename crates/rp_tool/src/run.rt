@@ -1,70 +1,61 @@
-ghost use Rattle.std.specs.Prelude.{◌≡◌, ◌≤◌, length, IfErr, IfOk};
-ghost use Rattle.rp_model.specs.Output.{most_script_bytes};
-ghost use Rattle.rp_tool.specs.Answer.{PutsAnswer, PutsReport, HasRunCause};
-ghost use Rattle.rp_tool.specs.declared.run.RunFault.TheVariants.{Put, Memory};
+ghost use Rattle.std.specs.Prelude.{◌≡◌, ◌≤◌, length, IfErr, IfOk, OnOk};
+ghost use Rattle.rp_model.specs.Grammar.{reading};
+ghost use Rattle.rp_model.specs.Output.{most_script_bytes, run_script};
+ghost use Rattle.rp_model.specs.Report.{after_reading};
+ghost use Rattle.rp_tool.specs.Output.{PutsAnswer, PutsOutput, HasOutputCause};
 
-use super::answer::append_answer;
+use super::fault::OutputFault;
 use super::lines::next_line;
 use super::output::put_lines;
-use rp_io::{Failed, Sink};
-use std::alloc::{AllocError, Global};
+use super::refusal::has_refusal;
+use rp_io::Sink;
+use rp_machine::Machine;
+use rp_report::write_answer;
+use std::alloc::Global;
+use std::thread::Threads;
 
-/// Why a report was not put whole.
-#[derive(Clone, Copy, Debug, PartialEq, Eq)]
-pub enum RunFault {
-    /// A put failed.
-    Put,
-    /// Memory ran out.
-    Memory(AllocError),
-}
-
-impl From<Failed> for RunFault {
-    ghost from_gives = { λ _ e. e ≡ Put };
-
-    fn from(_failed: Failed) -> Self {
-        RunFault::Put
-    }
-}
-
-impl From<AllocError> for RunFault {
-    ghost from_gives = { λ d e. e ≡ Memory d };
-
-    fn from(error: AllocError) -> Self {
-        RunFault::Memory(error)
-    }
-}
-
-/// Puts the report lines of one line of the script. `text` is the room in which they are written.
-fn run_line<K: Sink>(
+/// Puts the report lines of one line of the script. Answers whether one is a refusal.
+fn run_line<R: Threads + Sync, K: Sink>(
+    rt: &R,
     alloc: Global,
-    text: &mut Vec<u8>,
+    machine: &mut Machine,
     number: u32,
     line: &[u8],
     sink: &mut K,
-) -> Result<bool, RunFault>
+) -> Result<bool, OutputFault>
     ensures counts { K.faults sink.old ≤ K.faults sink.new }
-    ensures answer { IfOk result (λ refused. PutsAnswer number line.now (K.said sink.old) (K.said sink.new) refused) }
-    ensures cause { IfErr result (HasRunCause (K.faults sink.old) (K.faults sink.new)) }
+    ensures answer { IfOk result (λ refused.
+        PutsAnswer machine.old number line.now (K.said sink.old) (K.said sink.new) refused) }
+    ensures state { OnOk result (machine.new ≡ after_reading machine.old (reading line.now)) }
+    ensures cause { IfErr result (HasOutputCause (K.faults sink.old) (K.faults sink.new)) }
 {
-    text.clear();
-    let refused = append_answer(alloc, text, number, line)?;
-    put_lines(sink, text)?;
-    Ok(refused)
+    let answer = machine.step(rt, alloc, number, line)?;
+    let mut text = Vec::new(alloc);
+    write_answer(&answer, false, &mut text)?;
+    put_lines(sink, &text)?;
+    Ok(has_refusal(&answer))
 }
 
-/// Puts the report of a script, answer by answer. Answers whether something was refused.
-pub fn run<K: Sink>(alloc: Global, script: &[u8], sink: &mut K) -> Result<bool, RunFault>
+/// Puts the report of a script, answer by answer: one machine answers its lines in order. Answers whether something
+/// was refused.
+pub fn run<R: Threads + Sync, K: Sink>(
+    rt: &R,
+    alloc: Global,
+    script: &[u8],
+    sink: &mut K,
+) -> Result<bool, OutputFault>
     requires { length script.now ≤ most_script_bytes }
     ensures counts { K.faults sink.old ≤ K.faults sink.new }
-    ensures report { IfOk result (λ refused. PutsReport script.now (K.said sink.old) (K.said sink.new) refused) }
-    ensures cause { IfErr result (HasRunCause (K.faults sink.old) (K.faults sink.new)) }
+    ensures report { IfOk result (λ refused.
+        PutsOutput run_script script.now (K.said sink.old) (K.said sink.new) refused) }
+    ensures cause { IfErr result (HasOutputCause (K.faults sink.old) (K.faults sink.new)) }
 {
-    let mut text = Vec::new(alloc);
+    let mut machine = Machine::new(alloc)?;
     let mut rest = script;
     let mut number = 1;
     let mut refused = false;
     while let Some((line, behind)) = next_line(rest) {
-        refused |= run_line(alloc, &mut text, number, line, sink)?;
+        refused |= run_line(rt, alloc, &mut machine, number, line, sink)?;
         rest = behind;
         number += 1;
     }

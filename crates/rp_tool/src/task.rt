@@ -8,6 +8,8 @@ ghost use Rattle.rp_tool.specs.Status.{meaning_of};
 pub enum Task {
     /// `run`: reads a script and writes its report.
     Run,
+    /// `script`: reads a script and writes its commands, each in its one spelling.
+    Script,
 }
 
 /// The task of the words, if they are listed.
@@ -16,6 +18,7 @@ pub fn listed_task(words: &[String]) -> Option<Task>
 {
     match words {
         [word] if word.as_str() == "run" => Some(Task::Run),
+        [word] if word.as_str() == "script" => Some(Task::Script),
         _ => None,
     }
 }

@@ -1,5 +1,7 @@
 //! The worked rows of the report, and what the tool answers where it does not come to the end.
-use crate::status::{DONE, READ_FAILED, UNLISTED};
+ghost use Rattle.std.specs.Prelude.{◌≢◌, ◌≤◌};
+
+use crate::status::{DONE, PUT_FAILED, READ_FAILED, REFUSED, TOO_LONG, UNLISTED};
 use crate::tool;
 use rp_io::{MemorySink, MemorySource, QuietSink, QuietSource};
 use std::alloc::{AllocError, Global};
@@ -15,7 +17,22 @@ fn words_of(alloc: Global, texts: &[&str]) -> Result<Vec<String>, AllocError> {
     Ok(words)
 }
 
-/// The status and the output of the tool on an input of one piece, with room for 1,000 bytes of output.
+/// The status of the tool over a source and a sink that never fail: neither a read nor a put is to blame.
+fn quiet_status<R: Threads + Sync>(
+    rt: &R,
+    alloc: Global,
+    words: &[String],
+    source: &mut QuietSource<'_>,
+    sink: &mut QuietSink,
+) -> u8
+    ensures status { result ≤ TOO_LONG }
+    ensures read { result ≢ READ_FAILED }
+    ensures put { result ≢ PUT_FAILED }
+{
+    tool(rt, alloc, words, source, sink)
+}
+
+/// The status and the output of the tool on an input of one piece, with room for 10,000 bytes of output.
 fn run_on<R: Threads + Sync>(
     rt: &R,
     alloc: Global,
@@ -24,9 +41,14 @@ fn run_on<R: Threads + Sync>(
 ) -> Result<(u8, Vec<u8>), AllocError> {
     let words = words_of(alloc, texts)?;
     let mut source = QuietSource::new(input);
-    let mut sink = QuietSink::new(alloc, 1000)?;
-    let status = tool(rt, alloc, &words, &mut source, &mut sink);
+    let mut sink = QuietSink::new(alloc, 10_000)?;
+    let status = quiet_status(rt, alloc, &words, &mut source, &mut sink);
     Ok((status, Vec::from_slice(alloc, sink.bytes())?))
+}
+
+/// The report of a script of one line.
+fn report_of(alloc: Global, line: &str, verdict: &str) -> Result<String, AllocError> {
+    format!(in alloc; "> 1 {line}\n{verdict}\n")
 }
 
 #[test]
@@ -50,11 +72,6 @@ fn reports_the_worked_rows(rt: HostRuntime) -> Result<(), Fail> {
             "# a note\n\nmember half 1 0 0 0 0 5 5 1\n",
             "> 3 member half 1 0 0 0 0 5 5 1\n= yes\n",
         ),
-        // A point outside the cube is no member.
-        (
-            "member half 1 0 0 0 16777216 0 0 1\nmember half 1 0 0 0 16777215 0 0 1\n",
-            "> 1 member half 1 0 0 0 16777216 0 0 1\n= no\n> 2 member half 1 0 0 0 16777215 0 0 1\n= yes\n",
-        ),
     ];
     for (script, report) in rows {
         let (status, told) = run_on(&rt, rt.alloc(), &["run"], script.as_bytes())?;
@@ -65,17 +82,71 @@ fn reports_the_worked_rows(rt: HostRuntime) -> Result<(), Fail> {
 }
 
 #[test]
-fn refuses_lines_that_are_not_built(rt: HostRuntime) -> Result<(), Fail> {
-    let (status, told) = run_on(
-        &rt,
-        rt.alloc(),
-        &["run"],
-        b"walk\nmember half 1 0 0 0 0 5 5 1\r",
-    )?;
-    let report =
-        b"> 1 walk\n= refused unbuilt\n> 2 member half 1 0 0 0 0 5 5 1\r\n= refused unbuilt\n";
-    assert_eq!(rt; status, 1);
-    assert_eq!(rt; told.as_slice(), report.as_slice());
+fn answers_within_the_bounds_and_refuses_past_them(rt: HostRuntime) -> Result<(), Fail> {
+    let rows = [
+        ("member half 16777216 16777216 16777216 844424930131968 0 0 0 1", "= yes"),
+        ("member half 16777217 16777216 16777216 844424930131968 0 0 0 1", "= refused range"),
+        ("member half 16777216 16777216 16777216 844424930131969 0 0 0 1", "= refused range"),
+        ("member half 0 0 0 0 0 0 0 1", "= refused zero"),
+        ("member all 2535301200456458802993406410751 0 0 1", "= no"),
+        ("member all 2535301200456458802993406410752 0 0 1", "= refused range"),
+        ("member all 0 0 0 37778931862957161709567", "= yes"),
+        ("member all 0 0 0 37778931862957161709568", "= refused range"),
+        ("member all -16777216 0 0 1", "= yes"),
+        ("member all 16777216 0 0 1", "= no"),
+        ("member half 1 0 0 00 0 0 0 1", "= refused syntax"),
+        ("member half 1 0 0 -0 0 0 0 1", "= refused syntax"),
+        ("member  half 1 0 0 0 0 0 0 1", "= refused syntax"),
+        ("member half 1 0 0 0 0 0 0 1 1", "= refused syntax"),
+        ("half 1 0 0 0", "= refused syntax"),
+        ("member half 16777217 0 0 x", "= refused range"),
+        ("member half 1 0 0 0 0 0 0 0", "= refused range"),
+        // The last line of a script keeps its carriage return where no line end follows.
+        ("member half 1 0 0 0 0 5 5 1\r", "= refused syntax"),
+        // No name and no lot is there yet.
+        ("member and all or none lot b 0 0 0 1", "= refused unknown b"),
+        ("member minus name a lot b 0 0 0 1", "= refused unknown a"),
+    ];
+    for (line, verdict) in rows {
+        let report = report_of(rt.alloc(), line, verdict)?;
+        let (status, told) = run_on(&rt, rt.alloc(), &["run"], line.as_bytes())?;
+        assert_eq!(rt; told.as_slice(), report.as_bytes(), "on {line:?}");
+        assert_eq!(rt; status == REFUSED, verdict.starts_with("= refused"), "on {line:?}");
+    }
+    Ok(())
+}
+
+#[test]
+fn refuses_too_many_nodes_and_long_lines(rt: HostRuntime) -> Result<(), Fail> {
+    let alloc = rt.alloc();
+    let mut nodes = String::from_str(alloc, "empty")?;
+    for _ in 0..1024 {
+        nodes.push_str(" not")?;
+    }
+    nodes.push_str(" all")?;
+    let report = report_of(alloc, nodes.as_str(), "= refused nodes")?;
+    let (status, told) = run_on(&rt, alloc, &["run"], nodes.as_bytes())?;
+    assert_eq!(rt; status, REFUSED);
+    assert_eq!(rt; told.as_slice(), report.as_bytes());
+
+    let long = vec![in alloc; b'a'; 65_537]?;
+    let (status, told) = run_on(&rt, alloc, &["run"], &long)?;
+    assert_eq!(rt; status, REFUSED);
+    assert_eq!(rt; told.as_slice(), b"> 1\n= refused long\n".as_slice());
+    Ok(())
+}
+
+#[test]
+fn spells_each_command(rt: HostRuntime) -> Result<(), Fail> {
+    let rows = [
+        ("member half 2 0 0 -4 2 4 6 2\n# note\nwalk\n", REFUSED),
+        ("member half 2 0 0 -4 2 4 6 2\n# note\n", DONE),
+    ];
+    for (script, want) in rows {
+        let (status, told) = run_on(&rt, rt.alloc(), &["script"], script.as_bytes())?;
+        assert_eq!(rt; status, want, "on {script:?}");
+        assert_eq!(rt; told.as_slice(), b"member half 1 0 0 -2 1 2 3 1\n".as_slice());
+    }
     Ok(())
 }
 
@@ -98,7 +169,7 @@ fn stops_where_a_put_fails(rt: HostRuntime) -> Result<(), Fail> {
     let mut source = MemorySource::new(b"member half 1 0 0 0 0 5 5 1\n", 10, &[]);
     let mut sink = MemorySink::new(alloc, 1000, &[(2, 3)])?;
     let status = tool(&rt, alloc, &words, &mut source, &mut sink);
-    assert_eq!(rt; status, 4);
+    assert_eq!(rt; status, PUT_FAILED);
     assert_eq!(rt;
         sink.bytes(),
         b"> 1 member half 1 0 0 0 0 5 5 1\n= y".as_slice()
@@ -130,7 +201,7 @@ fn status_on_line_ends<R: Threads + Sync>(
 
 #[test]
 fn takes_sixteen_million_bytes_and_no_more(rt: HostRuntime) -> Result<(), Fail> {
-    for (count, want) in [(16_777_216, 0), (16_777_217, 6)] {
+    for (count, want) in [(16_777_216, DONE), (16_777_217, TOO_LONG)] {
         let (status, length) = status_on_line_ends(&rt, rt.alloc(), count)?;
         assert_eq!(rt; status, want);
         assert_eq!(rt; length, 0);

@@ -1,11 +1,14 @@
-ghost use Rattle.std.specs.Prelude.{◌≡◌, ◌≢◌, ◌⊎◌, ◌↔◌, ◌<◌, ◌≤◌, [], length, map, string_bytes, IfSome};
+ghost use Rattle.std.specs.Prelude.{◌≡◌, ◌≢◌, ◌⊎◌, ◌↔◌, ◌<◌, ◌≤◌, [], length, map, string_bytes, IfErr, IfOk, IfSome};
 ghost use Rattle.rp_io.specs.Faults.{HasRisen};
 ghost use Rattle.rp_model.specs.Output.{task_of, most_script_bytes};
 ghost use Rattle.rp_tool.specs.Intake.{IsPastLimit};
-ghost use Rattle.rp_tool.specs.Status.{IsOutputOf, status_of_intake, status_of_run};
+ghost use Rattle.rp_tool.specs.Output.{PutsOutput, HasOutputCause};
+ghost use Rattle.rp_tool.specs.Status.{IsOutputOf, meaning_of, status_of_intake, status_of_output};
 
+use super::fault::OutputFault;
 use super::intake::{IntakeFault, read_whole};
-use super::run::{RunFault, run};
+use super::run::run;
+use super::spell::spell;
 use super::status::{DONE, OUT_OF_MEMORY, PUT_FAILED, READ_FAILED, REFUSED, TOO_LONG, UNLISTED};
 use super::task::{Task, listed_task};
 use rp_io::{Sink, Source};
@@ -18,8 +21,14 @@ const MOST_SCRIPT_BYTES: usize = 16_777_216;
 /// Does what the words of a command line ask for: reads the source to its end, writes the output to the sink, and
 /// answers a status.
 ///
-/// The one listed list of words is `run`: the input is a script of at most 16,777,216 bytes, and the output is its
-/// report, one put for each line. What each status says stands in [`crate::status`].
+/// Two lists of words are listed. The input is a script of at most 16,777,216 bytes for both, and the output has one put
+/// for each line.
+///
+/// - `run`: the output is the report of the script. Refused is what a verdict line says is refused.
+/// - `script`: the output is each command of the script in its one spelling. Blank and bad lines are left out. Refused
+///   are the bad lines: those that are neither blank nor a command.
+///
+/// What each status says stands in [`crate::status`].
 pub fn tool<R: Threads + Sync, S: Source, K: Sink>(
     rt: &R,
     alloc: Global,
@@ -53,25 +62,44 @@ pub fn tool<R: Threads + Sync, S: Source, K: Sink>(
         → (¬ HasRisen (S.faults source.old) (S.faults source.new)) → (¬ HasRisen (K.faults sink.old) (K.faults sink.new))
         → IfSome (S.left source.old) (λ input. length input ≤ most_script_bytes → (result ≤ REFUSED) ⊎ (result ≡ OUT_OF_MEMORY)) }
 {
-    let _ = rt;
-    let Some(Task::Run) = listed_task(words) else {
+    let Some(task) = listed_task(words) else {
         return UNLISTED;
     };
     match read_whole(alloc, source, MOST_SCRIPT_BYTES) {
-        Ok(script) => run_status(run(alloc, &script, sink)),
+        Ok(script) => output_status(put_output(rt, alloc, task, &script, sink)),
         Err(fault) => intake_status(fault),
     }
 }
 
-/// The status of a run.
-fn run_status(outcome: Result<bool, RunFault>) -> u8
-    ensures { result ≡ status_of_run outcome }
+/// Puts the output of a task on a script. Answers whether something was refused.
+fn put_output<R: Threads + Sync, K: Sink>(
+    rt: &R,
+    alloc: Global,
+    task: Task,
+    script: &[u8],
+    sink: &mut K,
+) -> Result<bool, OutputFault>
+    requires { length script.now ≤ most_script_bytes }
+    ensures counts { K.faults sink.old ≤ K.faults sink.new }
+    ensures output { IfOk result (λ refused.
+        PutsOutput (meaning_of task) script.now (K.said sink.old) (K.said sink.new) refused) }
+    ensures cause { IfErr result (HasOutputCause (K.faults sink.old) (K.faults sink.new)) }
+{
+    match task {
+        Task::Run => run(rt, alloc, script, sink),
+        Task::Script => spell(alloc, script, sink),
+    }
+}
+
+/// The status of an output.
+fn output_status(outcome: Result<bool, OutputFault>) -> u8
+    ensures { result ≡ status_of_output outcome }
 {
     match outcome {
         Ok(false) => DONE,
         Ok(true) => REFUSED,
-        Err(RunFault::Put) => PUT_FAILED,
-        Err(RunFault::Memory(_)) => OUT_OF_MEMORY,
+        Err(OutputFault::Put) => PUT_FAILED,
+        Err(OutputFault::Memory(_)) => OUT_OF_MEMORY,
     }
 }
 

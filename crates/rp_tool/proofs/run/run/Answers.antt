@@ -1,5 +1,5 @@
 use Rattle.std.proofs.Common.{arith}
-use Rattle.rp_tool.proofs.RunLemmas.{HasTold-more, PutsReport-at_end}
+use Rattle.rp_tool.proofs.RunLemmas.{HasTold-start, HasTold-more, PutsOutput-run}
 use Rattle.rp_tool.proofs.run.run.Goals as goal
 
 pub loop-line-preserved : goal.loop-line-preserved
@@ -8,12 +8,13 @@ loop-line-preserved g c =
       counts = omega (arith, c.loop-line.invariant.counts, c.in_ok-refused.ensures.counts);
       number = omega (arith, c.loop-line.invariant.number, c.in-Some.ensures.shorter);
       told =
-          HasTold-more c.args.script.now (g.K.Sink.said c.args.sink.now) (g.K.Sink.said c.loop-line.sink) (g.K.Sink.said c.run_line.new.sink) c.loop-line.number
+          HasTold-more c.args.script.now (g.K.Sink.said c.args.sink.now) (g.K.Sink.said c.loop-line.sink) (g.K.Sink.said c.run_line.new.sink)
+          c.loop-line.machine c.run_line.new.machine c.loop-line.number
           c.loop-line.rest.now c.in-Some.line.now c.in-Some.behind.now c.loop-line.refused c.in_ok-refused.field-0 c.loop-line.invariant.told
-          c.in-Some.ensures.next c.in_ok-refused.ensures.answer;
+          c.in-Some.ensures.next c.in_ok-refused.ensures.answer c.in_ok-refused.ensures.state;
     }
 
 pub returns-clause-report : goal.returns-clause-report
 returns-clause-report g c =
-    PutsReport-at_end c.args.script.now (g.K.Sink.said c.args.sink.now) (g.K.Sink.said c.loop-line.sink) c.loop-line.number c.loop-line.rest.now
+    PutsOutput-run c.args.script.now (g.K.Sink.said c.args.sink.now) (g.K.Sink.said c.loop-line.sink) c.loop-line.machine c.loop-line.number c.loop-line.rest.now
     c.loop-line.refused c.loop-line.invariant.told c.in_default.ensures.end

@@ -8,7 +8,7 @@ invariant-loop-line g l =
     record {
       counts : g.K.Sink.faults l.fn.sink ≤ g.K.Sink.faults l.sink;
       number : l.number + length l.rest ≤ most_script_bytes + 1;
-      told : HasTold l.script (g.K.Sink.said l.fn.sink) (g.K.Sink.said l.sink) l.number l.rest l.refused;
+      told : HasTold l.script (g.K.Sink.said l.fn.sink) (g.K.Sink.said l.sink) l.machine l.number l.rest l.refused;
     }
 
 abbrev pub decreases-loop-line : goal.decreases-loop-line

@@ -1,0 +1,36 @@
+-- What is put for one line of a script, and for a whole one.
+use Rattle.std.specs.Prelude.{◌≡◌, ◌↔◌, ℕ, Bool, IsTrue, List, Option}
+use Rattle.std.specs.List.{list_any}
+use Rattle.rp_io.specs.Bytes.{Appends}
+use Rattle.rp_io.specs.Faults.{HasRisen}
+use Rattle.rp_model.specs.Grammar.{Reading, reading}
+use Rattle.rp_model.specs.Output.{Task, IsOutput, IsRefused, is_refused_line, is_bad_reading, spelled_lines}
+use Rattle.rp_model.specs.Report.{IsAnswerTo}
+use Rattle.rp_model.specs.State.{State}
+use Rattle.rp_model.specs.Text.{Answer, answer_lines, text_of_lines}
+use Rattle.rp_tool.specs.declared.fault.OutputFault.{OutputFault}
+use Rattle.rp_tool.specs.declared.fault.OutputFault.TheVariants.{Put, Memory}
+
+-- the report lines of the answer to a line came to the end of what a sink said; the mark says whether one of them is a refusal
+pub record PutsAnswer (before : State) (number : ℕ) (line : List ℕ) (old new : Option (List ℕ)) (refused : Bool) : Type 0 where
+  pub answer : Answer
+  pub right : IsAnswerTo before number line (reading line) answer
+  pub text : Appends old new (text_of_lines (answer_lines answer))
+  pub mark : refused ≡ list_any is_refused_line (answer_lines answer)
+
+-- the spelling of a command came to the end of what a sink said, and nothing for any other line; the mark says whether the line is bad
+pub record PutsSpelling (r : Reading) (old new : Option (List ℕ)) (bad : Bool) : Type 0 where
+  pub text : Appends old new (text_of_lines (spelled_lines r))
+  pub mark : bad ≡ is_bad_reading r
+
+-- the whole output of a task came to the end of what a sink said; the mark says whether something was refused
+pub record PutsOutput (task : Task) (input : List ℕ) (old new : Option (List ℕ)) (refused : Bool) : Type 0 where
+  pub lines : List (List ℕ)
+  pub output : IsOutput task input lines
+  pub text : Appends old new (text_of_lines lines)
+  pub mark : IsTrue refused ↔ IsRefused task input lines
+
+-- why an output was not put whole; nothing is claimed where memory ran out
+abbrev pub HasOutputCause : ℕ → ℕ → OutputFault → Type 0
+HasOutputCause before after Put = HasRisen before after
+HasOutputCause before after (Memory e) = Unit {0}

@@ -1,0 +1,31 @@
+ghost use Rattle.std.specs.Prelude.{◌≡◌};
+ghost use Rattle.std.specs.List.{list_any};
+ghost use Rattle.rp_model.specs.Output.{is_refused_line};
+ghost use Rattle.rp_model.specs.Text.{answer_lines, verdict_text};
+ghost use Rattle.rp_report.specs.Views.{answer_of, verdict_of};
+
+use rp_report::{Answer, Verdict};
+
+/// Whether a verdict refuses its line.
+fn is_refusal(verdict: &Verdict) -> bool
+    ensures { result ≡ is_refused_line (verdict_text (verdict_of verdict.now)) }
+{
+    match verdict {
+        Verdict::Yes | Verdict::No => false,
+        Verdict::Refused(_) | Verdict::Unbuilt => true,
+    }
+}
+
+/// Whether some of the verdicts refuses its line.
+fn any_refusal(verdicts: &[Verdict]) -> bool
+    ensures { result ≡ list_any (λ v. is_refused_line (verdict_text (verdict_of v))) verdicts.now }
+{
+    verdicts.iter().any(|verdict| is_refusal(verdict))
+}
+
+/// Whether some report line of an answer is a refusal. No echo is one.
+pub fn has_refusal(answer: &Answer) -> bool
+    ensures { result ≡ list_any is_refused_line (answer_lines (answer_of answer.now)) }
+{
+    any_refusal(answer.verdicts.items())
+}

@@ -1,0 +1,65 @@
+ghost use Rattle.std.specs.Prelude.{◌≡◌, ◌≤◌, ◌∷◌, ◌++◌, [], length, IfErr, IfOk, OnOk};
+ghost use Rattle.rp_io.specs.Bytes.{Appends};
+ghost use Rattle.rp_model.specs.Grammar.{reading, spelling};
+ghost use Rattle.rp_model.specs.Output.{spell_script};
+ghost use Rattle.rp_model.specs.Text.{line_end};
+ghost use Rattle.rp_syntax.specs.Views.{command_of};
+ghost use Rattle.rp_tool.specs.Output.{PutsSpelling, PutsOutput, HasOutputCause};
+
+use super::fault::OutputFault;
+use super::lines::next_line;
+use rp_io::Sink;
+use rp_syntax::{Command, Line, read_line, write_command};
+use std::alloc::Global;
+
+/// Puts a command in its one spelling, with a line end.
+fn put_command<K: Sink>(
+    alloc: Global,
+    command: &Command,
+    sink: &mut K,
+) -> Result<(), OutputFault>
+    ensures counts { K.faults sink.old ≤ K.faults sink.new }
+    ensures text { OnOk result (Appends (K.said sink.old) (K.said sink.new)
+        (spelling (command_of command.now) ++ line_end ∷ [])) }
+    ensures cause { IfErr result (HasOutputCause (K.faults sink.old) (K.faults sink.new)) }
+{
+    let mut text = Vec::new(alloc);
+    write_command(command, &mut text)?;
+    text.extend_from_slice(b"\n")?;
+    sink.put(&text)?;
+    Ok(())
+}
+
+/// Puts the command of one line of the script in its one spelling, or nothing where there is none. Answers whether the
+/// line is bad.
+fn spell_line<K: Sink>(alloc: Global, line: &[u8], sink: &mut K) -> Result<bool, OutputFault>
+    ensures counts { K.faults sink.old ≤ K.faults sink.new }
+    ensures text { IfOk result (λ bad. PutsSpelling (reading line.now) (K.said sink.old) (K.said sink.new) bad) }
+    ensures cause { IfErr result (HasOutputCause (K.faults sink.old) (K.faults sink.new)) }
+{
+    let read = read_line(alloc, line)?;
+    match &read {
+        Line::Blank => Ok(false),
+        Line::Bad(_) => Ok(true),
+        Line::Cmd(command) => {
+            put_command(alloc, command, sink)?;
+            Ok(false)
+        }
+    }
+}
+
+/// Puts every command of a script in its one spelling, one put for each. Answers whether some line is bad.
+pub fn spell<K: Sink>(alloc: Global, script: &[u8], sink: &mut K) -> Result<bool, OutputFault>
+    ensures counts { K.faults sink.old ≤ K.faults sink.new }
+    ensures spellings { IfOk result (λ bad.
+        PutsOutput spell_script script.now (K.said sink.old) (K.said sink.new) bad) }
+    ensures cause { IfErr result (HasOutputCause (K.faults sink.old) (K.faults sink.new)) }
+{
+    let mut rest = script;
+    let mut has_bad_line = false;
+    while let Some((line, behind)) = next_line(rest) {
+        has_bad_line |= spell_line(alloc, line, sink)?;
+        rest = behind;
+    }
+    Ok(has_bad_line)
+}
