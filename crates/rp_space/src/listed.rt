@@ -1,5 +1,5 @@
 //! Lists that grow, whose room contracts see.
-ghost use Rattle.std.specs.Prelude.{◌≡◌, IfOk, OnOk, OnErr, [], ◌∷◌, ◌++◌, ◌≤◌, ◌<◌, ◌+◌};
+ghost use Rattle.std.specs.Prelude.{◌≡◌, IfOk, IsOk, OnOk, OnErr, [], ◌∷◌, ◌++◌, ◌≤◌, ◌<◌, ◌+◌};
 
 use crate::half::Half;
 use crate::name::Name;
@@ -36,7 +36,8 @@ impl<T: Drop> Listed<T> {
     pub fn push(&mut self, x: T) -> Result<(), AllocError>
         ensures ok { OnOk result (self.new.items ≡ self.old.items ++ x ∷ []) }
         ensures err { OnErr result (self.new.items ≡ self.old.items) }
-        ensures room { 0 < self.old.spare → OnOk result (self.old.spare ≤ self.new.spare + 1) }
+        ensures room { 0 < self.old.spare → IsOk result }
+        ensures spare { OnOk result (self.old.spare ≤ self.new.spare + 1) }
     {
         self.items.push(x)?;
         Ok(())
