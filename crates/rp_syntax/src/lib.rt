@@ -14,6 +14,8 @@ mod number;
 mod numbers;
 mod space;
 mod spelling;
+#[cfg(test)]
+mod tests;
 mod words;
 
 pub use command::{Command, Entries, Expr, Line, Why};
