@@ -32,8 +32,14 @@ pub(crate) fn is_one_to_four(n: usize) -> bool
 fn are_reached(halves: &[Half], points: &[Point]) -> bool
     ensures { result ≡ list_all (λ h. is_nonnegative_at_all points.now h && is_positive_at_some points.now h) halves.now }
 {
-    halves.iter().all(|half| is_nonnegative_at_all(points, half)
-        && is_positive_at_some(points, half))
+    halves.iter().all(|half| is_reached(points, half))
+}
+
+/// Whether the half-space is negative at none of the points and positive at one.
+fn is_reached(points: &[Point], half: &Half) -> bool
+    ensures { result ≡ (is_nonnegative_at_all points.now half.now && is_positive_at_some points.now half.now) }
+{
+    is_nonnegative_at_all(points, half) && is_positive_at_some(points, half)
 }
 
 /// Whether the half-space is negative at none of the points.

@@ -5,6 +5,9 @@ ghost use Rattle.rp_space.specs.Boxes.{integer_box, is_box_in_bounds};
 
 use crate::half::Half;
 
+/// Half the edge of the domain cube, 2^24 units.
+const HALF_EDGE: i32 = 16777216;
+
 /// A box with whole corners, in the units of coordinates. It holds the points from `lo` to below `hi` on each axis.
 #[derive(Clone, Copy, Debug, PartialEq, Eq)]
 pub struct IntBox {
@@ -36,9 +39,8 @@ pub fn box_halves(b: &IntBox) -> [Half; 6]
 pub fn cube() -> [Half; 6]
     ensures { result ≡ cube_half_spaces }
 {
-    let edge = 16777216;
     box_halves(&IntBox {
-        lo: [-edge; 3],
-        hi: [edge; 3],
+        lo: [-HALF_EDGE; 3],
+        hi: [HALF_EDGE; 3],
     })
 }
