@@ -5,3 +5,6 @@ mod machine;
 mod member;
 
 pub use machine::Machine;
+
+#[cfg(test)]
+mod tests;

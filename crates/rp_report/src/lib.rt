@@ -6,3 +6,6 @@ mod text;
 
 pub use answer::{Answer, Echo, Refusal, Verdict, Verdicts};
 pub use text::write_answer;
+
+#[cfg(test)]
+mod tests;
