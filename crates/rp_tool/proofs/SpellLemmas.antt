@@ -5,7 +5,7 @@ use Rattle.std.specs.List.{list_any, flat_map}
 use Rattle.std.proofs.lemmas.List.{append-nil}
 use Rattle.std.proofs.lemmas.List.Concat.{flat_map-append}
 use Rattle.rp_io.specs.Bytes.{Appends}
-use Rattle.rp_model.specs.Grammar.{Reading, blank, command, bad, reading, spelling}
+use Rattle.rp_model.specs.Grammar.{Reading, command, reading, spelling}
 use Rattle.rp_model.specs.Expression.{Command}
 use Rattle.rp_model.specs.Report.{script_lines}
 use Rattle.rp_model.specs.Output.{has_bad_line, is_bad_reading, spell_script, spelled_lines, spelled_script}

@@ -13,11 +13,7 @@ use rp_syntax::{Command, Line, read_line, write_command};
 use std::alloc::Global;
 
 /// Puts a command in its one spelling, with a line end.
-fn put_command<K: Sink>(
-    alloc: Global,
-    command: &Command,
-    sink: &mut K,
-) -> Result<(), OutputFault>
+fn put_command<K: Sink>(alloc: Global, command: &Command, sink: &mut K) -> Result<(), OutputFault>
     ensures counts { K.faults sink.old ≤ K.faults sink.new }
     ensures text { OnOk result (Appends (K.said sink.old) (K.said sink.new)
         (spelling (command_of command.now) ++ line_end ∷ [])) }

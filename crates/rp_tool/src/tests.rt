@@ -84,14 +84,29 @@ fn reports_the_worked_rows(rt: HostRuntime) -> Result<(), Fail> {
 #[test]
 fn answers_within_the_bounds_and_refuses_past_them(rt: HostRuntime) -> Result<(), Fail> {
     let rows = [
-        ("member half 16777216 16777216 16777216 844424930131968 0 0 0 1", "= yes"),
-        ("member half 16777217 16777216 16777216 844424930131968 0 0 0 1", "= refused range"),
-        ("member half 16777216 16777216 16777216 844424930131969 0 0 0 1", "= refused range"),
+        (
+            "member half 16777216 16777216 16777216 844424930131968 0 0 0 1",
+            "= yes",
+        ),
+        (
+            "member half 16777217 16777216 16777216 844424930131968 0 0 0 1",
+            "= refused range",
+        ),
+        (
+            "member half 16777216 16777216 16777216 844424930131969 0 0 0 1",
+            "= refused range",
+        ),
         ("member half 0 0 0 0 0 0 0 1", "= refused zero"),
         ("member all 2535301200456458802993406410751 0 0 1", "= no"),
-        ("member all 2535301200456458802993406410752 0 0 1", "= refused range"),
+        (
+            "member all 2535301200456458802993406410752 0 0 1",
+            "= refused range",
+        ),
         ("member all 0 0 0 37778931862957161709567", "= yes"),
-        ("member all 0 0 0 37778931862957161709568", "= refused range"),
+        (
+            "member all 0 0 0 37778931862957161709568",
+            "= refused range",
+        ),
         ("member all -16777216 0 0 1", "= yes"),
         ("member all 16777216 0 0 1", "= no"),
         ("member half 1 0 0 00 0 0 0 1", "= refused syntax"),
@@ -104,14 +119,21 @@ fn answers_within_the_bounds_and_refuses_past_them(rt: HostRuntime) -> Result<()
         // The last line of a script keeps its carriage return where no line end follows.
         ("member half 1 0 0 0 0 5 5 1\r", "= refused syntax"),
         // No name and no lot is there yet.
-        ("member and all or none lot b 0 0 0 1", "= refused unknown b"),
+        (
+            "member and all or none lot b 0 0 0 1",
+            "= refused unknown b",
+        ),
         ("member minus name a lot b 0 0 0 1", "= refused unknown a"),
     ];
     for (line, verdict) in rows {
         let report = report_of(rt.alloc(), line, verdict)?;
         let (status, told) = run_on(&rt, rt.alloc(), &["run"], line.as_bytes())?;
         assert_eq!(rt; told.as_slice(), report.as_bytes(), "on {line:?}");
-        assert_eq!(rt; status == REFUSED, verdict.starts_with("= refused"), "on {line:?}");
+        assert_eq!(rt;
+            status == REFUSED,
+            verdict.starts_with("= refused"),
+            "on {line:?}"
+        );
     }
     Ok(())
 }
@@ -145,7 +167,10 @@ fn spells_each_command(rt: HostRuntime) -> Result<(), Fail> {
     for (script, want) in rows {
         let (status, told) = run_on(&rt, rt.alloc(), &["script"], script.as_bytes())?;
         assert_eq!(rt; status, want, "on {script:?}");
-        assert_eq!(rt; told.as_slice(), b"member half 1 0 0 -2 1 2 3 1\n".as_slice());
+        assert_eq!(rt;
+            told.as_slice(),
+            b"member half 1 0 0 -2 1 2 3 1\n".as_slice()
+        );
     }
     Ok(())
 }

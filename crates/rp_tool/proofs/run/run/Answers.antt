@@ -1,5 +1,5 @@
 use Rattle.std.proofs.Common.{arith}
-use Rattle.rp_tool.proofs.RunLemmas.{HasTold-start, HasTold-more, PutsOutput-run}
+use Rattle.rp_tool.proofs.RunLemmas.{HasTold-more, PutsOutput-run}
 use Rattle.rp_tool.proofs.run.run.Goals as goal
 
 pub loop-line-preserved : goal.loop-line-preserved
