@@ -22,6 +22,7 @@ pub mod Firsts
 pub mod WeakPoint
 pub mod Certified
 pub mod Five
+pub mod Progress
 pub mod InsideFound
 -- sizes and lowest terms
 pub mod Sizes

@@ -1,0 +1,3 @@
+mod Bounded
+mod Found
+mod Rounds

@@ -1,0 +1,9 @@
+use Rattle.std.proofs.Common.{◌≡◌, drop}
+use Rattle.rp_model.specs.Search.{first_of_triples}
+use Rattle.rp_model.specs.Vertex.{vertex_at}
+use Rattle.rp_vertex.specs.Wanted.{is_wanted}
+use Rattle.rp_vertex.proofs.search.first_vertex.Given as goal
+
+-- the first of what is left is the first of all
+abbrev pub invariant-loop-i : goal.invariant-loop-i
+invariant-loop-i l = first_of_triples (vertex_at (is_wanted l.wanted) l.system) (drop l.i l.system) ≡ first_of_triples (vertex_at (is_wanted l.wanted) l.system) l.system

@@ -1,0 +1,66 @@
+//! The first certificates made of points.
+ghost use Rattle.std.specs.Prelude.{◌≡◌, ◌≤◌, length, ◌↔◌, IsNone, IfSome, IsTrue, false, Some};
+ghost use Rattle.rp_model.specs.Geometry.{RationalPoint};
+ghost use Rattle.rp_model.specs.Shape.{shape_of_cell};
+ghost use Rattle.rp_model.specs.Sets.{IsEmpty};
+ghost use Rattle.rp_model.specs.Certificate.{is_inside_certificate, is_weak_point};
+ghost use Rattle.rp_model.specs.Vertex.{first_inside, first_weak_point, first_vertex, any_point, points_from};
+ghost use Rattle.rp_model.specs.CellLaws.{IsSolution};
+
+use crate::search::{Wanted, first_vertex};
+use crate::system::{flat_at, with_cube};
+use rp_space::{Half, Inside, Point};
+
+/// The first inside certificate of a cell: the first vertex of the cell with the domain cube, and then, as long as a
+/// half-space of the list is zero at all points taken, the first vertex that is positive on one of these. By
+/// Carathéodory's theorem there are at most four points. At each of them no half-space of the cell and of the cube is
+/// negative, and each half-space is positive at one, so that the average of the points is strictly inside.
+/// `None` exactly where the cell has no point. A cell has at most 64 half-spaces. Takes no memory.
+pub fn first_inside(cell: &[Half]) -> Option<Inside>
+    requires { length cell.now ≤ 64 }
+    ensures first { result ≡ first_inside cell.now }
+    ensures passes { IfSome result (λ points. IsTrue (is_inside_certificate cell.now points)) }
+    ensures none { IsNone result ↔ IsEmpty (shape_of_cell cell.now) }
+{
+    let system = with_cube(cell);
+    first_points(system.as_slice())
+}
+
+/// The first weak point of a cell: the first vertex of the cell with the domain cube. No half-space of the cell and of the
+/// cube is negative there. `None` exactly where there is no such point at all. A cell has at most 64 half-spaces.
+/// Takes no memory.
+pub fn first_weak(cell: &[Half]) -> Option<Point>
+    requires { length cell.now ≤ 64 }
+    ensures first { result ≡ first_weak_point cell.now }
+    ensures passes { IfSome result (λ p. IsTrue (is_weak_point cell.now p)) }
+    ensures none { IsNone result ↔ ((p : RationalPoint) → ¬ IsSolution false cell.now p) }
+{
+    let system = with_cube(cell);
+    first_vertex(Wanted::Any, system.as_slice())
+}
+
+/// The points that are taken of the vertices of a list of half-spaces.
+fn first_points(system: &[Half]) -> Option<Inside>
+    requires { length system.now ≤ 70 }
+    ensures { result ≡ points_from system.now (first_vertex any_point system.now) }
+{
+    let first = first_vertex(Wanted::Any, system)?;
+    points_from(system, first)
+}
+
+/// The points that are taken from a first one on, which is the first vertex of the list.
+fn points_from(system: &[Half], first: Point) -> Option<Inside>
+    requires few { length system.now ≤ 70 }
+    requires first { first_vertex any_point system.now ≡ Some first }
+    ensures { result ≡ points_from system.now (Some first) }
+{
+    let mut taken = Inside::new();
+    taken.push(first);
+    let mut flat = flat_at(system, &first);
+    while !flat.is_empty() {
+        let next = first_vertex(Wanted::Lifting(flat.as_slice()), system)?;
+        taken.push(next);
+        flat = flat_at(flat.as_slice(), &next);
+    }
+    Some(taken)
+}

@@ -1,0 +1,12 @@
+//! The first certificates of cells that are made of points: the meeting points of three planes are searched in the order
+//! of the planes in the list of the cell, which is the cell's half-spaces and then the domain cube's six.
+#![tactic(auto)]
+
+mod certificate;
+mod search;
+mod system;
+
+pub use certificate::{first_inside, first_weak};
+
+#[cfg(test)]
+mod tests;

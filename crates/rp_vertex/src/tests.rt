@@ -1,0 +1,55 @@
+use crate::{first_inside, first_weak};
+use rp_space::Half;
+use std::process::Abort;
+use std::test::Fail;
+
+/// The half-space of four numbers, which are within their bounds.
+fn half(rt: &impl Abort, numbers: (i64, i64, i64, i64)) -> Half {
+    let (a, b, c, d) = numbers;
+    Half::new(a, b, c, d).ok().expect(rt, "no half-space")
+}
+
+#[test]
+fn a_tetrahedron_has_its_four_corners(rt: HostRuntime) -> Result<(), Fail> {
+    let cell = [
+        half(&rt, (1, 0, 0, 0)),
+        half(&rt, (0, 1, 0, 0)),
+        half(&rt, (0, 0, 1, 0)),
+        half(&rt, (-2, -3, -5, 7)),
+    ];
+    let inside = first_inside(&cell).ok_or("no certificate")?;
+    let points = inside.items();
+    assert_eq!(rt; points.len(), 4);
+    assert_eq!(rt; points[0].numbers(), (0, 0, 0, 1));
+    assert_eq!(rt; points[1].numbers(), (0, 0, 7, 5));
+    assert_eq!(rt; points[2].numbers(), (0, 7, 0, 3));
+    assert_eq!(rt; points[3].numbers(), (7, 0, 0, 2));
+    let weak = first_weak(&cell).ok_or("no weak point")?;
+    assert_eq!(rt; weak.numbers(), (0, 0, 0, 1));
+    Ok(())
+}
+
+#[test]
+fn a_half_space_and_its_complement_have_no_common_point(rt: HostRuntime) -> Result<(), Fail> {
+    let above = half(&rt, (0, 0, 1, -4));
+    let flat = [above, above.not()];
+    assert!(rt; first_inside(&flat).is_none());
+    assert!(rt; first_weak(&flat).is_some());
+    let apart = [above, half(&rt, (0, 0, -1, 3))];
+    assert!(rt; first_inside(&apart).is_none());
+    assert!(rt; first_weak(&apart).is_none());
+    Ok(())
+}
+
+#[test]
+fn the_cube_alone_has_its_corners(rt: HostRuntime) -> Result<(), Fail> {
+    let edge = 16777216;
+    let inside = first_inside(&[]).ok_or("no certificate")?;
+    let points = inside.items();
+    assert_eq!(rt; points.len(), 4);
+    assert_eq!(rt; points[0].numbers(), (-edge, -edge, -edge, 1));
+    assert_eq!(rt; points[1].numbers(), (-edge, -edge, edge, 1));
+    assert_eq!(rt; points[2].numbers(), (-edge, edge, -edge, 1));
+    assert_eq!(rt; points[3].numbers(), (edge, -edge, -edge, 1));
+    Ok(())
+}
