@@ -45,7 +45,7 @@ fn are_multiples_of(cell: &[Half], terms: &[Term]) -> bool
 }
 
 /// Whether a multiplier is from 1 to 2^75 - 1.
-fn is_multiplier(by: i128) -> bool
+pub fn is_multiplier(by: i128) -> bool
     ensures { result ≡ is_multiplier by }
 {
     1 <= by && by <= MAX_MULTIPLIER
@@ -66,7 +66,7 @@ fn is_listed(half: &Half, halves: &[Half]) -> bool
 }
 
 /// Whether the multiples of the first three numbers add up to 0.
-fn is_balanced(terms: &[Term]) -> bool
+pub fn is_balanced(terms: &[Term]) -> bool
     requires few { length terms.now ≤ 4 }
     requires multipliers { list_all (λ t. is_multiplier t.factor) terms.now ≡ true }
     ensures { result ≡ is_balanced terms.now }
@@ -77,7 +77,7 @@ fn is_balanced(terms: &[Term]) -> bool
 }
 
 /// Whether the multiples of the fourth number add up to at most 0 (`strict`), or to less than 0.
-fn is_contradiction(terms: &[Term], strict: bool) -> bool
+pub fn is_contradiction(terms: &[Term], strict: bool) -> bool
     requires few { length terms.now ≤ 4 }
     requires multipliers { list_all (λ t. is_multiplier t.factor) terms.now ≡ true }
     ensures { result ≡ is_contradiction strict terms.now }

@@ -1,0 +1,6 @@
+pub mod Scaled
+pub mod Signs
+pub mod Divisor
+pub mod Nothing
+pub mod Bounded
+pub mod Mixed

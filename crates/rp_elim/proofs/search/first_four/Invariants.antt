@@ -1,0 +1,8 @@
+use Rattle.std.proofs.Common.{◌≡◌, drop}
+use Rattle.rp_model.specs.Search.{first_of_quadruples}
+use Rattle.rp_model.specs.Elimination.{refutation_of_four}
+use Rattle.rp_elim.proofs.search.first_four.Given as goal
+
+-- the first of what is left is the first of all
+abbrev pub invariant-loop-i : goal.invariant-loop-i
+invariant-loop-i l = first_of_quadruples (refutation_of_four l.strict) (drop l.i l.es) ≡ first_of_quadruples (refutation_of_four l.strict) l.es

@@ -1,0 +1,8 @@
+use Rattle.std.proofs.Common.{◌≡◌, drop}
+use Rattle.rp_model.specs.Search.{first_of_pairs}
+use Rattle.rp_model.specs.Elimination.{refutation_of_two}
+use Rattle.rp_elim.proofs.search.first_two.Given as goal
+
+-- the first of what is left is the first of all
+abbrev pub invariant-loop-i : goal.invariant-loop-i
+invariant-loop-i l = first_of_pairs (refutation_of_two l.strict) (drop l.i l.gs) ≡ first_of_pairs (refutation_of_two l.strict) l.gs

@@ -1,0 +1,5 @@
+pub mod Factors
+pub mod Axes
+pub mod Sides
+pub mod CrossMinors
+pub mod TripleSigns

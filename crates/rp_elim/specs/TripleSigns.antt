@@ -1,0 +1,13 @@
+-- What three half-spaces share in the refutations by them and a fourth one.
+use Rattle.std.specs.Prelude.{◌≡◌, true, neg_ℤ}
+use Rattle.rp_model.specs.Vertex.{meeting_weight}
+use Rattle.rp_space.specs.TwoHalfSpaces.{two_of}
+use Rattle.rp_elim.specs.Sides.{has_sign}
+use Rattle.rp_elim.specs.declared.triple.Triple.TheInside.{Inside}
+
+-- the kept cross products are those of the three half-spaces, and the kept sign is that of the last minor
+pub record IsPrepared (t : Inside) : Type 0 where
+  pub ef : t.ef ≡ two_of t.e t.f
+  pub eg : t.eg ≡ two_of t.e t.g
+  pub fg : t.fg ≡ two_of t.f t.g
+  pub last : has_sign t.positive (neg_ℤ (meeting_weight t.e t.f t.g)) ≡ true

@@ -1,0 +1,178 @@
+//! Multipliers that cancel the coefficients of two, three or four half-spaces, as signed minors.
+ghost use Rattle.std.specs.Prelude.{◌≡◌, ◌*◌, ◌^◌, neg_ℤ};
+ghost use Rattle.rp_algebra.specs.Integer.{is_zero};
+ghost use Rattle.rp_algebra.specs.Within.{IsWithin};
+ghost use Rattle.rp_model.specs.Vertex.{det2, meeting_weight};
+ghost use Rattle.rp_model.specs.Elimination.{minors_of_two, minors_on_axes, minors_of_three, minors_of_four};
+ghost use Rattle.rp_elim.specs.Axes.{along, minors_on_axis};
+ghost use Rattle.rp_elim.specs.Factors.{AreFactorsSmall};
+
+use rp_space::{Half, Term};
+
+/// An axis.
+#[derive(Clone, Copy)]
+enum Axis {
+    X,
+    Y,
+    Z,
+}
+
+/// The coefficient of an axis.
+fn along(half: &Half, axis: Axis) -> i64
+    ensures value { result ≡ along axis half.now }
+    ensures small { IsWithin (2 ^ 24) result }
+{
+    let (a, b, c, _) = half.numbers();
+    match axis {
+        Axis::X => a,
+        Axis::Y => b,
+        Axis::Z => c,
+    }
+}
+
+/// The negative of the coefficient of an axis.
+fn opposite_along(half: &Half, axis: Axis) -> i64
+    ensures value { result ≡ neg_ℤ (along axis half.now) }
+    ensures small { IsWithin (2 ^ 24) result }
+{
+    -along(half, axis)
+}
+
+/// The 2 by 2 determinant of two half-spaces on two axes.
+fn minor(f: &Half, g: &Half, u: Axis, v: Axis) -> i128
+    ensures value { result ≡ det2 (along u f.now) (along v f.now) (along u g.now) (along v g.now) }
+    ensures small { IsWithin (2 * 2 ^ 48) result }
+{
+    along(f, u) as i128 * along(g, v) as i128 - along(f, v) as i128 * along(g, u) as i128
+}
+
+/// The negative of the 2 by 2 determinant of two half-spaces on two axes.
+fn opposite_minor(f: &Half, g: &Half, u: Axis, v: Axis) -> i128
+    ensures value { result ≡ neg_ℤ (det2 (along u f.now) (along v f.now) (along u g.now) (along v g.now)) }
+    ensures small { IsWithin (2 * 2 ^ 48) result }
+{
+    -minor(f, g, u, v)
+}
+
+/// The determinant of the coefficients of three half-spaces.
+fn determinant(f: &Half, g: &Half, h: &Half) -> i128
+    ensures value { result ≡ meeting_weight f.now g.now h.now }
+    ensures small { IsWithin (6 * 2 ^ 72) result }
+{
+    along(f, Axis::X) as i128 * minor(g, h, Axis::Y, Axis::Z)
+        - along(g, Axis::X) as i128 * minor(f, h, Axis::Y, Axis::Z)
+        + along(h, Axis::X) as i128 * minor(f, g, Axis::Y, Axis::Z)
+}
+
+/// The negative of the determinant of the coefficients of three half-spaces.
+fn opposite_determinant(f: &Half, g: &Half, h: &Half) -> i128
+    ensures value { result ≡ neg_ℤ (meeting_weight f.now g.now h.now) }
+    ensures small { IsWithin (6 * 2 ^ 72) result }
+{
+    -determinant(f, g, h)
+}
+
+/// Whether a coefficient is 0.
+fn is_without(half: &Half, axis: Axis) -> bool
+    ensures { result ≡ is_zero (along axis half.now) }
+{
+    along(half, axis) == 0
+}
+
+/// Whether two half-spaces are dependent on two axes.
+fn are_dependent(f: &Half, g: &Half, u: Axis, v: Axis) -> bool
+    ensures { result ≡ is_zero (det2 (along u f.now) (along v f.now) (along u g.now) (along v g.now)) }
+{
+    minor(f, g, u, v) == 0
+}
+
+/// The multiples of two half-spaces that cancel on the first axis on which the first one's coefficient is not 0.
+pub fn minors_of_two(f: &Half, g: &Half) -> [Term; 2]
+    ensures value { result ≡ minors_of_two f.now g.now }
+    ensures small { AreFactorsSmall result }
+{
+    if !is_without(f, Axis::X) {
+        return minors_on_axis(f, g, Axis::X);
+    }
+    if !is_without(f, Axis::Y) {
+        return minors_on_axis(f, g, Axis::Y);
+    }
+    minors_on_axis(f, g, Axis::Z)
+}
+
+/// The multiples of two half-spaces that cancel on an axis.
+fn minors_on_axis(f: &Half, g: &Half, u: Axis) -> [Term; 2]
+    ensures value { result ≡ minors_on_axis f.now g.now (along u) }
+    ensures small { AreFactorsSmall result }
+{
+    [
+        Term {
+            by: along(g, u) as i128,
+            half: *f,
+        },
+        Term {
+            by: opposite_along(f, u) as i128,
+            half: *g,
+        },
+    ]
+}
+
+/// The multiples of three half-spaces that cancel on the first two axes on which the first two are independent.
+pub fn minors_of_three(f: &Half, g: &Half, h: &Half) -> [Term; 3]
+    ensures value { result ≡ minors_of_three f.now g.now h.now }
+    ensures small { AreFactorsSmall result }
+{
+    if !are_dependent(f, g, Axis::X, Axis::Y) {
+        return minors_on_axes(f, g, h, Axis::X, Axis::Y);
+    }
+    if !are_dependent(f, g, Axis::X, Axis::Z) {
+        return minors_on_axes(f, g, h, Axis::X, Axis::Z);
+    }
+    minors_on_axes(f, g, h, Axis::Y, Axis::Z)
+}
+
+/// The multiples of three half-spaces that cancel on two axes.
+fn minors_on_axes(f: &Half, g: &Half, h: &Half, u: Axis, v: Axis) -> [Term; 3]
+    ensures value { result ≡ minors_on_axes f.now g.now h.now (along u) (along v) }
+    ensures small { AreFactorsSmall result }
+{
+    [
+        Term {
+            by: minor(g, h, u, v),
+            half: *f,
+        },
+        Term {
+            by: opposite_minor(f, h, u, v),
+            half: *g,
+        },
+        Term {
+            by: minor(f, g, u, v),
+            half: *h,
+        },
+    ]
+}
+
+/// The multiples of four half-spaces that cancel: the four minors of third order with alternating signs.
+pub fn minors_of_four(e: &Half, f: &Half, g: &Half, h: &Half) -> [Term; 4]
+    ensures value { result ≡ minors_of_four e.now f.now g.now h.now }
+    ensures small { AreFactorsSmall result }
+{
+    [
+        Term {
+            by: determinant(f, g, h),
+            half: *e,
+        },
+        Term {
+            by: opposite_determinant(e, g, h),
+            half: *f,
+        },
+        Term {
+            by: determinant(e, f, h),
+            half: *g,
+        },
+        Term {
+            by: opposite_determinant(e, f, g),
+            half: *h,
+        },
+    ]
+}

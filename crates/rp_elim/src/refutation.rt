@@ -1,0 +1,99 @@
+//! Whether multiples of a few half-spaces refute, once their multipliers are positive and in lowest terms.
+ghost use Rattle.std.specs.Prelude.{◌≡◌, ◌&&◌, ◌<◌, ◌≤◌, true, neg_ℤ, length};
+ghost use Rattle.std.specs.List.{list_all};
+ghost use Rattle.rp_model.specs.Certificate.{is_balanced, is_contradiction, is_multiplier};
+ghost use Rattle.rp_model.specs.Elimination.{terms_if, reduced_terms, normal_terms, negated_terms};
+ghost use Rattle.rp_elim.specs.Factors.{AreFactorsSmall};
+
+use crate::lowest::lowest;
+use rp_cert::{is_balanced, is_contradiction, is_multiplier};
+use rp_space::{Outside, Term};
+
+/// The greatest multiplier, 2^75 - 1.
+const MAX_MULTIPLIER: i128 = 37778931862957161709567;
+
+/// The terms with positive multipliers in lowest terms, if they refute; the multipliers may have either sign.
+/// `None` where two multipliers have different signs or one is 0: then no positive multiples of them all cancel, or a
+/// term can be dropped, and a smaller set would come first.
+pub fn refutation(strict: bool, terms: &[Term]) -> Option<Outside>
+    requires some { 0 < length terms.now }
+    requires few { length terms.now ≤ 4 }
+    requires small { AreFactorsSmall terms.now }
+    ensures { result ≡ terms_if strict (normal_terms terms.now) }
+{
+    if are_multipliers(terms) {
+        return positive_refutation(strict, terms);
+    }
+    if are_negated_multipliers(terms) {
+        return positive_refutation(strict, negated(terms).items());
+    }
+    None
+}
+
+/// The terms in lowest terms, if they refute; all multipliers are positive.
+pub fn positive_refutation(strict: bool, terms: &[Term]) -> Option<Outside>
+    requires some { 0 < length terms.now }
+    requires few { length terms.now ≤ 4 }
+    requires multipliers { list_all (λ t. is_multiplier t.factor) terms.now ≡ true }
+    ensures { result ≡ terms_if strict (reduced_terms terms.now) }
+{
+    if !cancel(strict, terms) {
+        return None;
+    }
+    Some(lowest(terms))
+}
+
+/// Whether positive multiples cancel and contradict.
+fn cancel(strict: bool, terms: &[Term]) -> bool
+    requires few { length terms.now ≤ 4 }
+    requires multipliers { list_all (λ t. is_multiplier t.factor) terms.now ≡ true }
+    ensures { result ≡ (is_balanced terms.now && is_contradiction strict terms.now) }
+{
+    is_balanced(terms) && is_contradiction(terms, strict)
+}
+
+/// Whether each multiplier is from 1 to 2^75 - 1.
+fn are_multipliers(terms: &[Term]) -> bool
+    ensures { result ≡ list_all (λ t. is_multiplier t.factor) terms.now }
+{
+    terms.iter().all(|term| is_multiplier(term.by))
+}
+
+/// Whether the negative of each multiplier is from 1 to 2^75 - 1.
+fn are_negated_multipliers(terms: &[Term]) -> bool
+    ensures { result ≡ list_all (λ t. is_multiplier (neg_ℤ t.factor)) terms.now }
+{
+    terms.iter().all(|term| is_negated_multiplier(term.by))
+}
+
+/// Whether the negative of a multiplier is from 1 to 2^75 - 1.
+fn is_negated_multiplier(by: i128) -> bool
+    ensures { result ≡ is_multiplier (neg_ℤ by) }
+{
+    by <= -1 && -MAX_MULTIPLIER <= by
+}
+
+/// The terms with their multipliers negated.
+fn negated(terms: &[Term]) -> Outside
+    requires few { length terms.now ≤ 4 }
+    requires multipliers { list_all (λ t. is_multiplier (neg_ℤ t.factor)) terms.now ≡ true }
+    ensures { result ≡ negated_terms terms.now }
+{
+    let mut negated = Outside::new();
+    for term in terms {
+        negated.push(negative(term));
+    }
+    negated
+}
+
+/// The term with its multiplier negated.
+fn negative(term: &Term) -> Term
+    requires { is_multiplier (neg_ℤ term.now.factor) ≡ true }
+    ensures factor { result.factor ≡ neg_ℤ term.now.factor }
+    ensures half { result.of ≡ term.now.of }
+{
+    Term {
+        by: -term.by,
+        half: term.half,
+    }
+}

@@ -1,0 +1,194 @@
+//! Searches over one, two, three and four half-spaces, in the order of their places.
+ghost use Rattle.std.specs.Prelude.{◌≡◌, ◌↔◌, ◌≤◌, length, IsNone};
+ghost use Rattle.rp_model.specs.Geometry.{RationalPoint};
+ghost use Rattle.rp_model.specs.CellLaws.{IsSolution};
+ghost use Rattle.rp_model.specs.Search.{first_of, first_of_pairs, first_of_triples, first_of_quadruples};
+ghost use Rattle.rp_model.specs.Elimination.{refutation_of_one, refutation_of_two, refutation_of_three, refutation_of_four, first_refutation, first_outside};
+
+use crate::minors::{minors_of_three, minors_of_two};
+use crate::refutation::{positive_refutation, refutation};
+use crate::system::with_cube;
+use crate::triple::Triple;
+use rp_space::{Half, Outside, Term};
+
+/// The first outside certificate of a cell (Farkas, Motzkin): the first few of its half-spaces and the cube's six, by
+/// their number and then by their places, with positive multiples that cancel and whose offsets add up to at most 0
+/// (`strict`) or to less than 0; the multipliers are in lowest terms.
+/// `None` exactly where there is a point at which all the half-spaces are positive (`strict`), or none is negative.
+/// The cell has at most 64 half-spaces. At most four terms are ever wanted (Carathéodory).
+pub fn first_outside(cell: &[Half], strict: bool) -> Option<Outside>
+    requires { length cell.now ≤ 64 }
+    ensures first { result ≡ first_outside strict cell.now }
+    ensures none { IsNone result ↔ ((p : RationalPoint) × IsSolution strict cell.now p) }
+{
+    let system = with_cube(cell);
+    first_refutation(strict, system.as_slice())
+}
+
+/// The first refutation among the half-spaces of a list, by number of terms and then by places.
+fn first_refutation(strict: bool, halves: &[Half]) -> Option<Outside>
+    ensures { result ≡ first_refutation strict halves.now }
+{
+    if let Some(terms) = first_one(strict, halves) {
+        return Some(terms);
+    }
+    if let Some(terms) = first_two(strict, halves) {
+        return Some(terms);
+    }
+    if let Some(terms) = first_three(strict, halves) {
+        return Some(terms);
+    }
+    first_four(strict, halves)
+}
+
+/// The refutation by one half-space, if it refutes.
+fn refutation_of_one(strict: bool, h: &Half) -> Option<Outside>
+    ensures { result ≡ refutation_of_one strict h.now }
+{
+    positive_refutation(strict, &[Term { by: 1, half: *h }])
+}
+
+/// The refutation by two half-spaces, if they refute.
+fn refutation_of_two(strict: bool, g: &Half, h: &Half) -> Option<Outside>
+    ensures { result ≡ refutation_of_two strict g.now h.now }
+{
+    refutation(strict, &minors_of_two(g, h))
+}
+
+/// The refutation by three half-spaces, if they refute.
+fn refutation_of_three(strict: bool, f: &Half, g: &Half, h: &Half) -> Option<Outside>
+    ensures { result ≡ refutation_of_three strict f.now g.now h.now }
+{
+    refutation(strict, &minors_of_three(f, g, h))
+}
+
+/// The first refutation by one of several.
+fn first_one(strict: bool, hs: &[Half]) -> Option<Outside>
+    ensures { result ≡ first_of (refutation_of_one strict) hs.now }
+{
+    for h in hs {
+        if let Some(terms) = refutation_of_one(strict, h) {
+            return Some(terms);
+        }
+    }
+    None
+}
+
+/// The first refutation by two of several.
+fn first_two(strict: bool, gs: &[Half]) -> Option<Outside>
+    ensures { result ≡ first_of_pairs (refutation_of_two strict) gs.now }
+{
+    for i in 0..gs.len() {
+        if let Some(terms) = first_two_with(strict, &gs[i], &gs[i + 1..]) {
+            return Some(terms);
+        }
+    }
+    None
+}
+
+/// The first refutation by one half-space and one of several.
+fn first_two_with(strict: bool, g: &Half, hs: &[Half]) -> Option<Outside>
+    ensures { result ≡ first_of (refutation_of_two strict g.now) hs.now }
+{
+    for h in hs {
+        if let Some(terms) = refutation_of_two(strict, g, h) {
+            return Some(terms);
+        }
+    }
+    None
+}
+
+/// The first refutation by three of several.
+fn first_three(strict: bool, fs: &[Half]) -> Option<Outside>
+    ensures { result ≡ first_of_triples (refutation_of_three strict) fs.now }
+{
+    for i in 0..fs.len() {
+        if let Some(terms) = first_three_with(strict, &fs[i], &fs[i + 1..]) {
+            return Some(terms);
+        }
+    }
+    None
+}
+
+/// The first refutation by one half-space and two of several.
+fn first_three_with(strict: bool, f: &Half, gs: &[Half]) -> Option<Outside>
+    ensures { result ≡ first_of_pairs (refutation_of_three strict f.now) gs.now }
+{
+    for i in 0..gs.len() {
+        if let Some(terms) = first_three_with_two(strict, f, &gs[i], &gs[i + 1..]) {
+            return Some(terms);
+        }
+    }
+    None
+}
+
+/// The first refutation by two half-spaces and one of several.
+fn first_three_with_two(strict: bool, f: &Half, g: &Half, hs: &[Half]) -> Option<Outside>
+    ensures { result ≡ first_of (refutation_of_three strict f.now g.now) hs.now }
+{
+    for h in hs {
+        if let Some(terms) = refutation_of_three(strict, f, g, h) {
+            return Some(terms);
+        }
+    }
+    None
+}
+
+/// The first refutation by four of several.
+fn first_four(strict: bool, es: &[Half]) -> Option<Outside>
+    ensures { result ≡ first_of_quadruples (refutation_of_four strict) es.now }
+{
+    for i in 0..es.len() {
+        if let Some(terms) = first_four_with(strict, &es[i], &es[i + 1..]) {
+            return Some(terms);
+        }
+    }
+    None
+}
+
+/// The first refutation by one half-space and three of several.
+fn first_four_with(strict: bool, e: &Half, fs: &[Half]) -> Option<Outside>
+    ensures { result ≡ first_of_triples (refutation_of_four strict e.now) fs.now }
+{
+    for i in 0..fs.len() {
+        if let Some(terms) = first_four_with_two(strict, e, &fs[i], &fs[i + 1..]) {
+            return Some(terms);
+        }
+    }
+    None
+}
+
+/// The first refutation by two half-spaces and two of several.
+fn first_four_with_two(strict: bool, e: &Half, f: &Half, gs: &[Half]) -> Option<Outside>
+    ensures { result ≡ first_of_pairs (refutation_of_four strict e.now f.now) gs.now }
+{
+    for i in 0..gs.len() {
+        if let Some(terms) = first_four_with_three(strict, e, f, &gs[i], &gs[i + 1..]) {
+            return Some(terms);
+        }
+    }
+    None
+}
+
+/// The first refutation by three half-spaces and one of several. Where the normals of the three are dependent, the
+/// multipliers of four are not determined up to a factor: a term can be dropped, so a smaller set would come first.
+fn first_four_with_three(strict: bool, e: &Half, f: &Half, g: &Half, hs: &[Half]) -> Option<Outside>
+    ensures { result ≡ first_of (refutation_of_four strict e.now f.now g.now) hs.now }
+{
+    match Triple::new(e, f, g) {
+        None => None,
+        Some(triple) => first_four_with_triple(strict, &triple, hs),
+    }
+}
+
+/// The first refutation by a triple and one of several.
+fn first_four_with_triple(strict: bool, triple: &Triple, hs: &[Half]) -> Option<Outside>
+    ensures { result ≡ first_of (refutation_of_four strict triple.now.first triple.now.second triple.now.third) hs.now }
+{
+    for h in hs {
+        if let Some(terms) = triple.refutation(strict, h) {
+            return Some(terms);
+        }
+    }
+    None
+}

@@ -1,0 +1,36 @@
+//! Lists of half-spaces on the stack.
+ghost use Rattle.std.specs.Prelude.{◌≡◌, ◌+◌, ◌≤◌, ◌++◌, length};
+ghost use Rattle.arrayvec.specs.ArrayVec.{array_vec_len};
+ghost use Rattle.rp_model.specs.Geometry.{with_cube};
+ghost use Rattle.rp_model.specs.CellLaws.{AreHalfSpaces};
+
+use arrayvec::ArrayVec;
+use rp_space::{Half, cube};
+
+/// A list of at most 70 half-spaces, which takes no memory: room for a cell of 64 and the cube's six.
+pub type System = ArrayVec<Half, 70>;
+
+/// The list of a cell: its half-spaces in order, then the cube's six.
+pub fn with_cube(cell: &[Half]) -> System
+    requires { length cell.now ≤ 64 }
+    ensures items { result.items ≡ with_cube cell.now }
+    ensures bounds { AreHalfSpaces cell.now }
+{
+    let mut system = System::new();
+    extend(&mut system, cell);
+    extend(&mut system, &cube());
+    system
+}
+
+/// Appends half-spaces, for which there is room.
+fn extend(system: &mut System, halves: &[Half])
+    requires { array_vec_len system.old + length halves.now ≤ 70 }
+    ensures items { system.new.items ≡ system.old.items ++ halves.now }
+    ensures bounds { AreHalfSpaces halves.now }
+{
+    for half in halves {
+        // Only for what `numbers` ensures, that they keep their bounds.
+        let _ = half.numbers();
+        system.push(*half);
+    }
+}

@@ -1,0 +1,144 @@
+//! Three half-spaces, with what the refutations by them and a further one share.
+ghost use Rattle.std.specs.Prelude.{◌≡◌, ◌*◌, ◌^◌, ◌&&◌, true, not, pos, neg_ℤ, MatchOption};
+ghost use Rattle.rp_algebra.specs.Within.{IsWithin};
+ghost use Rattle.rp_model.specs.Vertex.{meeting_weight};
+ghost use Rattle.rp_model.specs.Elimination.{refutation_of_four};
+ghost use Rattle.rp_space.specs.TwoHalfSpaces.{two_of};
+ghost use Rattle.rp_elim.specs.Sides.{has_sign, three_of};
+
+use crate::minors::minors_of_four;
+use crate::refutation::refutation;
+use rp_space::{Half, Outside};
+use std::marker::Model;
+
+/// The cross product of the normals of two half-spaces, as 2 by 2 minors. A contract sees the two half-spaces.
+#[derive(Drop)]
+pub struct Cross {
+    first: Half,
+    second: Half,
+    bc: i64,
+    ac: i64,
+    ab: i64,
+}
+
+impl Model for Cross {
+    ghost use Rattle.rp_space.specs.TwoHalfSpaces.{TwoHalfSpaces, two_of};
+
+    ghost Value = { TwoHalfSpaces };
+
+    ghost use Rattle.rp_elim.specs.CrossMinors.{HasMinors};
+
+    ghost view = { λ p. two_of p.first p.second };
+
+    ghost invariant = { HasMinors };
+}
+
+impl Cross {
+    /// The cross product of two half-spaces' normals.
+    pub fn new(f: &Half, g: &Half) -> Cross
+        ensures { result ≡ two_of f.now g.now }
+    {
+        let (fa, fb, fc, _) = f.numbers();
+        let (ga, gb, gc, _) = g.numbers();
+        Cross {
+            first: *f,
+            second: *g,
+            bc: fb * gc - fc * gb,
+            ac: fa * gc - fc * ga,
+            ab: fa * gb - fb * ga,
+        }
+    }
+
+    /// The determinant of the coefficients of the two half-spaces and a third one.
+    fn weight(&self, h: &Half) -> i128
+        ensures value { result ≡ meeting_weight self.now.first self.now.second h.now }
+        ensures small { IsWithin (6 * 2 ^ 72) result }
+    {
+        let (a, b, c, _) = h.numbers();
+        a as i128 * self.bc as i128 - b as i128 * self.ac as i128 + c as i128 * self.ab as i128
+    }
+
+    /// Whether the determinant with a third half-space is above 0 (`positive`), or below 0.
+    fn has_sign(&self, positive: bool, h: &Half) -> bool
+        ensures { result ≡ has_sign positive (meeting_weight self.now.first self.now.second h.now) }
+    {
+        let weight = self.weight(h);
+        if positive { weight > 0 } else { weight < 0 }
+    }
+
+    /// Whether the negative of the determinant with a third half-space is above 0. `None` where it is 0.
+    fn opposite_sign(&self, h: &Half) -> Option<bool>
+        ensures { MatchOption result (meeting_weight self.now.first self.now.second h.now ≡ pos 0) (λ s. has_sign s (neg_ℤ (meeting_weight self.now.first self.now.second h.now)) ≡ true) }
+    {
+        if self.has_sign(false, h) {
+            return Some(true);
+        }
+        if self.has_sign(true, h) {
+            return Some(false);
+        }
+        None
+    }
+}
+
+/// Three half-spaces with independent normals. A contract sees the three.
+#[derive(Drop)]
+pub struct Triple {
+    e: Half,
+    f: Half,
+    g: Half,
+    ef: Cross,
+    eg: Cross,
+    fg: Cross,
+    positive: bool,
+}
+
+impl Model for Triple {
+    ghost use Rattle.rp_elim.specs.Sides.{ThreeHalfSpaces, three_of};
+
+    ghost Value = { ThreeHalfSpaces };
+
+    ghost use Rattle.rp_elim.specs.TripleSigns.{IsPrepared};
+
+    ghost view = { λ t. three_of t.e t.f t.g };
+
+    ghost invariant = { IsPrepared };
+}
+
+impl Triple {
+    /// The triple of three half-spaces. `None` exactly where their normals are dependent.
+    pub fn new(e: &Half, f: &Half, g: &Half) -> Option<Triple>
+        ensures { MatchOption result (meeting_weight e.now f.now g.now ≡ pos 0) (λ t. t ≡ three_of e.now f.now g.now) }
+    {
+        let ef = Cross::new(e, f);
+        match ef.opposite_sign(g) {
+            None => None,
+            Some(positive) => Some(Triple {
+                e: *e,
+                f: *f,
+                g: *g,
+                ef,
+                eg: Cross::new(e, g),
+                fg: Cross::new(f, g),
+                positive,
+            }),
+        }
+    }
+
+    /// The refutation by the three half-spaces and a fourth one, if they refute.
+    /// The signs are tried first: where two differ the minors need not be taken.
+    pub fn refutation(&self, strict: bool, h: &Half) -> Option<Outside>
+        ensures { result ≡ refutation_of_four strict self.now.first self.now.second self.now.third h.now }
+    {
+        if !have_one_sign(self.positive, &self.ef, &self.eg, &self.fg, h) {
+            return None;
+        }
+        refutation(strict, &minors_of_four(&self.e, &self.f, &self.g, h))
+    }
+}
+
+/// Whether the first three of the four minors have the sign of the last one.
+fn have_one_sign(positive: bool, ef: &Cross, eg: &Cross, fg: &Cross, h: &Half) -> bool
+    ensures { result ≡ (has_sign positive (meeting_weight fg.now.first fg.now.second h.now) && has_sign (not positive) (meeting_weight eg.now.first eg.now.second h.now) && has_sign positive (meeting_weight ef.now.first ef.now.second h.now)) }
+{
+    fg.has_sign(positive, h) && eg.has_sign(!positive, h) && ef.has_sign(positive, h)
+}
