@@ -82,8 +82,8 @@ fn bad_lines_are_refused(rt: HostRuntime) -> Result<(), Fail> {
     for (line, why) in [
         (b"member half 1 0 0 0 0 5 5".as_slice(), Why::Syntax),
         (b"member half 0 0 0 0 0 5 5 1", Why::Zero),
-        (b"member half 1 0 0 0 0 5 5 0", Why::Zero),
-        (b"member half 2097153 0 0 0 0 5 5 1", Why::Range),
+        (b"member half 1 0 0 0 0 5 5 0", Why::Range),
+        (b"member half 16777217 0 0 0 0 5 5 1", Why::Range),
     ] {
         expect_verdict(&rt, rt.alloc(), line, Verdict::Refused(Refusal::Bad(why)))?;
     }
