@@ -86,7 +86,7 @@ unfolding first_weak_point
 weak_point_is_found_spec cell bounds = record {
   passes = if_some _ (first_weak_point cell) (λ v e. let k = found_is_vertex any_point (with_cube cell) v e in (k.weak.point, weak_true (with_cube cell) v k.weak));
   some = (
-    λ e. let s = known_some (first_weak_point cell) e in let k = found_is_vertex any_point (with_cube cell) s.value s.is in (s.value, k.weak.point, weak_true (with_cube cell) s.value k.weak),
-    λ (p, w, e). let c = corner (with_cube cell) level p (with_cube_bounded cell) (weak_is (with_cube cell) p w e) in let r = vertex_is_found any_point (with_cube cell) level p c (λ v s. refl) in ap is_some r.is,
+    λ e. let s = known_some (first_weak_point cell) e in let k = found_is_vertex any_point (with_cube cell) s.value s.is in (s.value, (k.weak.point, weak_true (with_cube cell) s.value k.weak)),
+    λ (p, (w, e)). let c = corner (with_cube cell) level p (with_cube_bounded cell) (weak_is (with_cube cell) p w e) in let r = vertex_is_found any_point (with_cube cell) level p c (λ v s. refl) in ap is_some r.is,
   );
 }

@@ -5,7 +5,6 @@ pub mod Complement
 mod Decimal
 mod ExpressionsAgain
 pub mod InLowestTerms
-mod OneReport
 pub mod Places
 mod ReadAgain
 mod ShapesAgain

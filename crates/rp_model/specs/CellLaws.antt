@@ -89,7 +89,7 @@ InsideIsFound = (cell : List HalfSpace) → AreHalfSpaces cell → FindsInside c
 -- the first weak point passes, and it is there exactly where the weak system has a point
 pub record FindsWeakPoint (cell : List HalfSpace) : Type 0 where
   pub passes : IfSome (first_weak_point cell) (λ p. IsPoint p × IsTrue (is_weak_point cell p))
-  pub some : IsSome (first_weak_point cell) ↔ ((p : RationalPoint) × IsPoint p × IsTrue (is_in_weak_system cell p))
+  pub some : IsSome (first_weak_point cell) ↔ ((p : RationalPoint) × IsSolution false cell p)
 
 -- the search for a weak point finds one exactly where there is one
 abbrev pub WeakPointIsFound : Type 0

@@ -2,7 +2,7 @@
 use Rattle.std.specs.Prelude.{ℕ, Bool, true, false, ◌&&◌, ℤ, pos, ◌+ℤ◌, ◌*ℤ◌, int_le, List, [], ◌∷◌, length, nat_le}
 use Rattle.std.specs.List.{list_all, list_any}
 use Rattle.rp_algebra.specs.Integer.{is_zero, is_positive, is_negative, is_nonnegative}
-use Rattle.rp_model.specs.Geometry.{RationalPoint, HalfSpace, side_value, is_listed, with_cube, all_nonnegative}
+use Rattle.rp_model.specs.Geometry.{RationalPoint, HalfSpace, side_value, is_listed, with_cube, is_in_weak_system}
 
 -- a list has one to four items
 abbrev pub is_one_to_four : ℕ → Bool
@@ -23,7 +23,7 @@ is_inside_certificate cell points =
 
 -- weak point: no half-space of the cell and the cube is negative there
 abbrev pub is_weak_point : List HalfSpace → RationalPoint → Bool
-is_weak_point cell p = all_nonnegative (with_cube cell) p
+is_weak_point cell p = is_in_weak_system cell p
 
 -- a multiple of a half-space
 pub record Multiple : Type 0 where

@@ -1,7 +1,7 @@
 -- Expressions with names, the commands of a script, and what names stand for.
-use Rattle.std.specs.Prelude.{ℕ, List, Option, Some, None}
+use Rattle.std.specs.Prelude.{◌≡◌, ℕ, true, List, [], ◌∷◌, map, Option, Some, None}
 use Rattle.rp_model.specs.Name.{Label}
-use Rattle.rp_model.specs.Geometry.{RationalPoint, HalfSpace, IntegerBox}
+use Rattle.rp_model.specs.Geometry.{RationalPoint, HalfSpace, IntegerBox, IsHalfSpace, is_box_in_bounds, box_half_spaces}
 use Rattle.rp_model.specs.Shape.{Shape}
 
 -- an expression of a command line; half-spaces are in lowest terms
@@ -45,6 +45,41 @@ pub data Command : Type 0 where
   ask_as_of : ℕ → RationalPoint → Command
   ask_audit : Command
   ask_list : Command
+
+-- ---- the expressions of a command
+
+-- the expressions of a command, in reading order
+abbrev pub expressions_of : Command → List Expression
+expressions_of (define x e) = e ∷ []
+expressions_of (ask_member e p) = e ∷ []
+expressions_of (ask_empty e) = e ∷ []
+expressions_of (ask_pieces e) = e ∷ []
+expressions_of (ask_show e) = e ∷ []
+expressions_of (ask_equal e f) = e ∷ f ∷ []
+expressions_of (ask_within e f) = e ∷ f ∷ []
+expressions_of (ask_overlap e f) = e ∷ f ∷ []
+expressions_of (ask_contact e f) = e ∷ f ∷ []
+expressions_of (ask_relation e f) = e ∷ f ∷ []
+expressions_of (register x e) = e ∷ []
+expressions_of (cut x e first second) = e ∷ []
+expressions_of (subdivide x children) = map (λ c. c.shape) children
+expressions_of _ = []
+
+-- the numbers of an expression keep the bounds of half-spaces and boxes
+abbrev pub IsBounded : Expression → Type 0
+IsBounded (half_space h) = IsHalfSpace h
+IsBounded (box b) = is_box_in_bounds b ≡ true
+IsBounded (intersection e f) = IsBounded e × IsBounded f
+IsBounded (union e f) = IsBounded e × IsBounded f
+IsBounded (difference e f) = IsBounded e × IsBounded f
+IsBounded (opposite e) = IsBounded e
+IsBounded _ = Unit {0}
+
+-- the cell of an expression that is one half-space or one box; none of any other expression
+abbrev pub one_cell : Expression → Option (List HalfSpace)
+one_cell (half_space h) = Some (h ∷ [])
+one_cell (box b) = Some (box_half_spaces b)
+one_cell _ = None
 
 -- ---- what names stand for
 

@@ -160,6 +160,12 @@ pub record IntegerBox : Type 0 where
   pub y2 : ℤ
   pub z2 : ℤ
 
+-- the six numbers are from -M to M, where M is half the edge of the domain cube
+abbrev pub is_box_in_bounds : IntegerBox → Bool
+is_box_in_bounds b =
+    is_within_bound cube_bound b.x1 && is_within_bound cube_bound b.y1 && is_within_bound cube_bound b.z1
+    && is_within_bound cube_bound b.x2 && is_within_bound cube_bound b.y2 && is_within_bound cube_bound b.z2
+
 -- the six sides of a box as half-spaces: the lower and the upper one of x, of y, of z
 abbrev pub box_half_spaces : IntegerBox → List HalfSpace
 box_half_spaces b =

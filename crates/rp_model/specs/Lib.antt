@@ -6,6 +6,7 @@ pub mod Search
 pub mod Certificate
 pub mod Vertex
 pub mod Elimination
+pub mod ProofLine
 pub mod Expression
 pub mod Grammar
 pub mod Verdict

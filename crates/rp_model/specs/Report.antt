@@ -4,7 +4,7 @@ use Rattle.std.specs.List.{slice_split}
 use Rattle.rp_model.specs.Expression.{Command}
 use Rattle.rp_model.specs.State.{State, opening}
 use Rattle.rp_model.specs.Verdict.{Refusal, refused}
-use Rattle.rp_model.specs.Rule.{rule_of, after_command}
+use Rattle.rp_model.specs.Rule.{rule_of, proofs_of, after_command}
 use Rattle.rp_model.specs.Grammar.{Fault, too_long, Reading, blank, command, bad, reading}
 use Rattle.rp_model.specs.Text.{Answer, answer_lines, line_end}
 
@@ -38,16 +38,17 @@ echoed _ line = line
 
 -- the answer to a blank line: it says nothing
 abbrev pub blank_answer : ℕ → Answer
-blank_answer n = record { number = n; echo = []; verdicts = [] }
+blank_answer n = record { number = n; echo = []; proofs = []; verdicts = [] }
 
 -- the answer to a bad line
 abbrev pub bad_answer : ℕ → List ℕ → Fault → Answer
-bad_answer n line f = record { number = n; echo = echoed f line; verdicts = refused (Refusal.bad f) ∷ [] }
+bad_answer n line f = record { number = n; echo = echoed f line; proofs = []; verdicts = refused (Refusal.bad f) ∷ [] }
 
--- the answer to a command, with verdicts by the rule of sets
+-- the answer to a command, with verdicts by the rule of sets and the proof lines of its tests
 pub record AnswersCommand (s : State) (n : ℕ) (line : List ℕ) (c : Command) (a : Answer) : Type 0 where
   pub number : a.number ≡ n
   pub echo : a.echo ≡ line
+  pub proofs : a.proofs ≡ proofs_of s c
   pub verdicts : rule_of s c a.verdicts
 
 -- the answer to the line with the number, as it is read
@@ -65,7 +66,7 @@ after_reading s _ = s
 abbrev pub IsReportFrom : State → ℕ → List (List ℕ) → List (List ℕ) → Type 0
 IsReportFrom s n [] told = told ≡ []
 IsReportFrom s n (line ∷ lines) told =
-    (a : Answer) × (rest : List (List ℕ)) × IsAnswerTo s n line (reading line) a × IsReportFrom (after_reading s (reading line)) (suc n) lines rest × (told ≡ answer_lines a ++ rest)
+    (a : Answer) × (rest : List (List ℕ)) × IsAnswerTo s n line (reading line) a × IsReportFrom (after_reading s (reading line)) (suc n) lines rest × (told ≡ answer_lines false a ++ rest)
 
 -- the report lines of a script
 abbrev pub IsReport : List ℕ → List (List ℕ) → Type 0

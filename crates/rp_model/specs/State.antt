@@ -1,5 +1,5 @@
 -- What the machine keeps between the lines of a script.
-use Rattle.std.specs.Prelude.{Option, None}
+use Rattle.std.specs.Prelude.{None}
 use Rattle.rp_model.specs.Shape.{Shape}
 use Rattle.rp_model.specs.Expression.{Meaning}
 

@@ -1,16 +1,11 @@
 //! The mathematical model of the store: what points, half-spaces, shapes, lines and reports are, and the laws over them.
 #![tactic(auto)]
 
-ghost use Rattle.rp_model.specs.Laws.{ComplementHoldsTheOthers, ReportIsOne, SpellingIsRead};
+ghost use Rattle.rp_model.specs.Laws.{ComplementHoldsTheOthers, SpellingIsRead};
 
 /// Exactly one of a half-space and its complement holds a point.
 pub fn complement_holds_the_others()
     ensures { ComplementHoldsTheOthers }
-{}
-
-/// A script has exactly one report.
-pub fn report_is_one()
-    ensures { ReportIsOne }
 {}
 
 /// The one spelling of a command that some line reads as reads as that command.

@@ -6,8 +6,7 @@ use Rattle.std.proofs.lemmas.Int.{ints}
 use Rattle.rp_algebra.specs.Integer.{gcd, gcd_of}
 use Rattle.rp_algebra.proofs.Divisors.{gcd_of-four, gcd-zero, gcd-at_most_right, gcd-positive_right}
 use Rattle.rp_algebra.proofs.Machine.{code, is_by}
-use Rattle.rp_model.specs.Geometry.{IntegerBox, HalfSpace, half_space_of, is_within_bound, is_half_space_in_bounds, is_zero_half_space, IsKeptHalfSpace}
-use Rattle.rp_space.specs.Boxes.{is_box_in_bounds}
+use Rattle.rp_model.specs.Geometry.{IntegerBox, HalfSpace, half_space_of, is_within_bound, is_half_space_in_bounds, is_zero_half_space, is_box_in_bounds, IsKeptHalfSpace}
 use Rattle.rp_space.proofs.Kept.{size_at_most, both, kept_half_space, lowest_by_one}
 
 -- the sizes of the numbers of a box

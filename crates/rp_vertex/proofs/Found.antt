@@ -32,8 +32,8 @@ weak_passes cell o b e = subst (λ (r : Option RationalPoint). IfSome r (λ p. I
 weak_none_here : (cell : List HalfSpace) → AreHalfSpaces cell → IsNone (first_weak_point cell) ↔ ((p : RationalPoint) → ¬ IsSolution false cell p)
 weak_none_here cell b =
     let k = (weak_point_is_found_spec cell b).some in (
-      λ e p s. false_not_true (is_some (first_weak_point cell)) (k.1 (p, s.0, s.1)) e,
-      λ n. false_unless (is_some (first_weak_point cell)) (λ e. let r = k.0 e in n r.0 (r.1, r.2)),
+      λ e p s. false_not_true (is_some (first_weak_point cell)) (k.1 (p, s)) e,
+      λ n. false_unless (is_some (first_weak_point cell)) (λ e. let r = k.0 e in n r.0 r.1),
     )
 
 -- the answer is none exactly there
