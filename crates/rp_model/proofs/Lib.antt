@@ -5,6 +5,7 @@ pub mod Complement
 mod Decimal
 mod ExpressionsAgain
 pub mod InLowestTerms
+pub mod OneCell
 pub mod Places
 mod ReadAgain
 mod ShapesAgain
