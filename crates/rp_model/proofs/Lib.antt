@@ -8,6 +8,7 @@ pub mod InLowestTerms
 pub mod OneCell
 pub mod Places
 mod ReadAgain
+pub mod ReadBounds
 mod ShapesAgain
 mod Spelling
 mod WordsAgain

@@ -24,7 +24,7 @@ again_coefficient p u v q behind e h = again_within 16777216 (omega arith) p u v
 -- ---- half-spaces
 
 -- what is given where a test fails
-checked_unless : {A : Type 0} (test : Bool) (x value : A) (f : Fault) (p q : Place) → (elim test as (λ _. Reader A) [ true ↦ fails f | false ↦ gives x ]) p ≡ Ok (value, q) → (test ≡ false) × (x ≡ value) × (p ≡ q)
+pub checked_unless : {A : Type 0} (test : Bool) (x value : A) (f : Fault) (p q : Place) → (elim test as (λ _. Reader A) [ true ↦ fails f | false ↦ gives x ]) p ≡ Ok (value, q) → (test ≡ false) × (x ≡ value) × (p ≡ q)
 checked_unless true x value f p q e = absurd (no_success e)
 checked_unless false x value f p q e = let same = given x value p q e in (refl, same.0, same.1)
 

@@ -67,17 +67,17 @@ not_blank (b ∷ bs) [] e = e
 not_blank (b ∷ bs) (next ∷ words) e = e
 
 -- a line that reads as a command is not too long, and its words read as the command
-record ReadAs (line : List ℕ) (c : Command) : Type 0 where
-  short : nat_lt most_bytes (length line) ≡ false
-  behind : Place
-  reads : command_words (record { words = words_of line; nodes = 0 }) ≡ Ok (c, behind)
+pub record ReadAs (line : List ℕ) (c : Command) : Type 0 where
+  pub short : nat_lt most_bytes (length line) ≡ false
+  pub behind : Place
+  pub reads : command_words (record { words = words_of line; nodes = 0 }) ≡ Ok (c, behind)
 
 -- what is read where the line is not too long and not blank
 abbrev read_by : Bool → Bool → Result (Command × Place) Fault → Reading
 read_by long empty r = elim long as (λ _. Reading) [ true ↦ bad too_long | false ↦ elim empty as (λ _. Reading) [ true ↦ blank | false ↦ reading_of r ] ]
 
 -- what a line that reads as a command is
-read_as : (line : List ℕ) (c : Command) → reading line ≡ command c → ReadAs line c
+pub read_as : (line : List ℕ) (c : Command) → reading line ≡ command c → ReadAs line c
 unfolding reading
 read_as line c e = of_tests (nat_lt most_bytes (length line)) (is_blank line) (command_words (record { words = words_of line; nodes = 0 })) refl refl e
   where
