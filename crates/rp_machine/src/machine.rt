@@ -1,14 +1,20 @@
 //! One line of a script after the other.
 ghost use Rattle.std.specs.Prelude.{◌≡◌, ◌∷◌, [], IfOk, OnOk};
-ghost use Rattle.rp_model.specs.Expression.{ask_member};
+ghost use Rattle.std.specs.List.{AllByRecursion};
+ghost use Rattle.rp_model.specs.Expression.{ask_member, expressions_of, IsBounded};
 ghost use Rattle.rp_model.specs.Grammar.{reading};
 ghost use Rattle.rp_model.specs.Report.{IsAnswerTo, after_reading};
 ghost use Rattle.rp_model.specs.Rule.{rule_of};
 ghost use Rattle.rp_model.specs.State.{State, opening};
 ghost use Rattle.rp_report.specs.Views.{verdict_of, answer_of};
-ghost use Rattle.rp_syntax.specs.Views.{expression_of, command_of};
+ghost use Rattle.rp_model.specs.Verdict.{bad, refused};
+ghost use Rattle.rp_syntax.specs.Views.{expression_of, command_of, fault_of};
+ghost use Rattle.rp_machine.specs.Replies.{Replies};
 
+use crate::empty::emptiness;
 use crate::member::{first_unknown, is_member};
+use crate::reply::Reply;
+use rp_cert::Proofs;
 use rp_report::{Answer, Refusal, Verdict};
 use rp_space::Point;
 use rp_syntax::{Command, Expr, Line, Why, read_line};
@@ -30,8 +36,15 @@ impl Model for Machine {
     ghost view = { λ _. opening };
 }
 
+/// The reply to a question of membership. It rests on no test.
+fn membership(alloc: Global, region: &Expr, point: &Point) -> Reply
+    ensures { Replies opening (ask_member (expression_of region.now) point.now) result }
+{
+    Reply::of_verdict(alloc, member_verdict(region, point))
+}
+
 /// The verdict on a question of membership.
-fn membership(region: &Expr, point: &Point) -> Verdict
+fn member_verdict(region: &Expr, point: &Point) -> Verdict
     ensures { rule_of opening (ask_member (expression_of region.now) point.now) (verdict_of result ∷ []) }
 {
     if let Some(name) = first_unknown(region) {
@@ -44,6 +57,14 @@ fn membership(region: &Expr, point: &Point) -> Verdict
     }
 }
 
+/// The answer to a line that is no command.
+fn bad_line(alloc: Global, n: u32, echo: &[u8], why: Why) -> Result<Answer, AllocError>
+    ensures { IfOk result (λ a. answer_of a ≡ record { number = n; echo = echo.now; proofs = []; verdicts = refused (bad (fault_of why)) ∷ [] }) }
+{
+    let verdict = Verdict::Refused(Refusal::Bad(why));
+    Answer::with_verdict(alloc, n, echo, Proofs::new(alloc), verdict)
+}
+
 impl Machine {
     /// The machine in its opening state. Answers `AllocError` only for want of memory.
     pub fn new(_alloc: Global) -> Result<Machine, AllocError>
@@ -52,13 +73,15 @@ impl Machine {
         Ok(Machine { _kept: () })
     }
 
-    /// The verdict on a command.
-    fn verdict(&self, command: &Command) -> Verdict
-        ensures { rule_of self.now (command_of command.now) (verdict_of result ∷ []) }
+    /// The reply to a command. Answers `AllocError` only for want of memory.
+    fn reply(&self, alloc: Global, command: &Command) -> Result<Reply, AllocError>
+        requires { AllByRecursion IsBounded (expressions_of (command_of command.now)) }
+        ensures { IfOk result (Replies self.now (command_of command.now)) }
     {
         match command {
-            Command::Member(region, point) => membership(region, point),
-            _ => Verdict::Unbuilt,
+            Command::Member(region, point) => Ok(membership(alloc, region, point)),
+            Command::Empty(region) => emptiness(alloc, region),
+            _ => Ok(Reply::of_verdict(alloc, Verdict::Unbuilt)),
         }
     }
 
@@ -77,13 +100,12 @@ impl Machine {
         let read = read_line(alloc, line)?;
         match &read {
             Line::Blank => Ok(Answer::blank(alloc, n)),
-            Line::Cmd(command) => Answer::with_verdict(alloc, n, line, self.verdict(command)),
-            Line::Bad(Why::Long) => {
-                Answer::with_verdict(alloc, n, &[], Verdict::Refused(Refusal::Bad(Why::Long)))
+            Line::Cmd(command) => {
+                let reply = self.reply(alloc, command)?;
+                Answer::with_verdict(alloc, n, line, reply.proofs, reply.verdict)
             }
-            Line::Bad(why) => {
-                Answer::with_verdict(alloc, n, line, Verdict::Refused(Refusal::Bad(*why)))
-            }
+            Line::Bad(Why::Long) => bad_line(alloc, n, &[], Why::Long),
+            Line::Bad(why) => bad_line(alloc, n, line, *why),
         }
     }
 }

@@ -1,6 +1,5 @@
 -- The report so far: what was told, and that the report of what is left makes it the report of all.
 use Rattle.std.proofs.Common.{◌≡◌, ℕ, ◌+◌, Bool, false, ◌||◌, IsTrue, ◌↔◌, List, [], ◌∷◌, ◌++◌, Option, refl, sym, ap, ◌∙◌, subst, append_assoc, add-one}
-use Rattle.std.proofs.Math.Bool.{or_assoc}
 use Rattle.std.specs.List.{list_any}
 use Rattle.std.proofs.lemmas.List.{append-nil}
 use Rattle.std.proofs.lemmas.List.Concat.{flat_map-append}
@@ -11,6 +10,7 @@ use Rattle.rp_model.specs.Output.{is_refused_line, run_script}
 use Rattle.rp_model.specs.State.{State, opening}
 use Rattle.rp_model.specs.Text.{Answer, answer_lines, text_of_lines, line_end}
 use Rattle.rp_tool.specs.Output.{PutsAnswer, PutsOutput}
+use Rattle.rp_tool.proofs.RefusalLemmas.{list_any-append}
 use Rattle.rp_tool.proofs.SinkLemmas.{Appends-nil, Appends-append}
 
 -- what was told of the script before the rest, whose first line has the number and meets the state
@@ -30,14 +30,9 @@ HasTold-start script said state e =
       goes_on = λ tail h. subst (λ s. IsReportFrom s 1 (script_lines script) tail) e h;
     }
 
--- a line of two lists passes the test where one of either does
-list_any-append : (test : List ℕ → Bool) (xs ys : List (List ℕ)) → list_any test (xs ++ ys) ≡ (list_any test xs || list_any test ys)
-list_any-append test [] ys = refl
-list_any-append test (x ∷ xs) ys = ap (λ b. test x || b) (list_any-append test xs ys) ∙ sym (or_assoc (test x) (list_any test xs) (list_any test ys))
-
 -- the report of one line and then of others
 IsReportFrom-cons : (state next : State) (number : ℕ) (line : List ℕ) (lines tail : List (List ℕ)) (a : Answer) → IsAnswerTo state number line (reading line) a
-    → next ≡ after_reading state (reading line) → IsReportFrom next (number + 1) lines tail → IsReportFrom state number (line ∷ lines) (answer_lines a ++ tail)
+    → next ≡ after_reading state (reading line) → IsReportFrom next (number + 1) lines tail → IsReportFrom state number (line ∷ lines) (answer_lines false a ++ tail)
 IsReportFrom-cons state next number line lines tail a h e k =
     let after : IsReportFrom (after_reading state (reading line)) (number + 1) lines tail = subst (λ s. IsReportFrom s (number + 1) lines tail) e k in
     (a, tail, h, subst (λ n. IsReportFrom (after_reading state (reading line)) n lines tail) (add-one number) after, refl)
@@ -47,7 +42,7 @@ pub HasTold-more : (script : List ℕ) (old now new : Option (List ℕ)) (state 
     → HasTold script old now state number rest refused → script_lines rest ≡ line ∷ script_lines behind → PutsAnswer state number line now new also
     → next ≡ after_reading state (reading line) → HasTold script old new next (number + 1) behind (refused || also)
 HasTold-more script old now new state next number rest line behind refused also h e a after =
-    let lines = answer_lines a.answer in
+    let lines = answer_lines false a.answer in
     record {
       told = h.told ++ lines;
       text = subst (Appends old new) (sym (flat_map-append (λ l. l ++ line_end ∷ []) h.told lines)) (Appends-append old now new (text_of_lines h.told) (text_of_lines lines) h.text a.text);

@@ -15,8 +15,8 @@ use Rattle.rp_tool.specs.declared.fault.OutputFault.TheVariants.{Put, Memory}
 pub record PutsAnswer (before : State) (number : ℕ) (line : List ℕ) (old new : Option (List ℕ)) (refused : Bool) : Type 0 where
   pub answer : Answer
   pub right : IsAnswerTo before number line (reading line) answer
-  pub text : Appends old new (text_of_lines (answer_lines answer))
-  pub mark : refused ≡ list_any is_refused_line (answer_lines answer)
+  pub text : Appends old new (text_of_lines (answer_lines false answer))
+  pub mark : refused ≡ list_any is_refused_line (answer_lines false answer)
 
 -- the spelling of a command came to the end of what a sink said, and nothing for any other line; the mark says whether the line is bad
 pub record PutsSpelling (r : Reading) (old new : Option (List ℕ)) (bad : Bool) : Type 0 where

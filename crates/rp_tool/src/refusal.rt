@@ -1,4 +1,4 @@
-ghost use Rattle.std.specs.Prelude.{◌≡◌};
+ghost use Rattle.std.specs.Prelude.{◌≡◌, false};
 ghost use Rattle.std.specs.List.{list_any};
 ghost use Rattle.rp_model.specs.Output.{is_refused_line};
 ghost use Rattle.rp_model.specs.Text.{answer_lines, verdict_text};
@@ -23,9 +23,9 @@ fn any_refusal(verdicts: &[Verdict]) -> bool
     verdicts.iter().any(|verdict| is_refusal(verdict))
 }
 
-/// Whether some report line of an answer is a refusal. No echo is one.
+/// Whether some report line of an answer is a refusal. No echo and no proof line is one.
 pub fn has_refusal(answer: &Answer) -> bool
-    ensures { result ≡ list_any is_refused_line (answer_lines (answer_of answer.now)) }
+    ensures { result ≡ list_any is_refused_line (answer_lines false (answer_of answer.now)) }
 {
     any_refusal(answer.verdicts.items())
 }

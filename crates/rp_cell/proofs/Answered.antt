@@ -1,0 +1,55 @@
+-- What the searches that a decision calls have found, and that one of them always finds something.
+use Rattle.std.proofs.Common.{◌≡◌, Bool, true, false, List, Option, Some, None, refl, sym, ap, ◌∙◌, subst}
+use Rattle.std.specs.Prelude.{◌↔◌, IsTrue, IsSome, IsNone, IfSome, is_some, unwrap_or, []}
+use Rattle.rp_model.specs.Geometry.{RationalPoint, HalfSpace}
+use Rattle.rp_model.specs.Shape.{shape_of_cell}
+use Rattle.rp_model.specs.Sets.{IsEmpty}
+use Rattle.rp_model.specs.Certificate.{Multiple}
+use Rattle.rp_model.specs.Vertex.{first_inside, first_weak_point}
+use Rattle.rp_model.specs.Elimination.{first_outside}
+use Rattle.rp_model.specs.ProofLine.{strict_line, weak_line, in_line, out_line, at_line, apart_line}
+use Rattle.rp_model.specs.CellLaws.{IsSolution}
+use Rattle.rp_convex.proofs.Certified.{strict_solution_is_member_spec}
+
+-- the fact of an answer that is some
+pub of_some : {A : Type 0} (P : A → Type 0) (o : Option A) (x : A) → o ≡ Some x → IfSome o P → P x
+of_some P o x e h = subst (λ r. IfSome r P) e h
+
+-- an answer that is not none is some
+some_unless : {A : Type 0} (o : Option A) → (IsNone o → ⊥) → IsSome o
+some_unless (Some x) n = refl
+some_unless None n = absurd (n refl)
+
+-- where a cell has no member, an outside certificate is found
+pub outside_is_some : (cell : List HalfSpace) (o : Option (List Multiple)) → (IsNone o ↔ ((p : RationalPoint) × IsSolution true cell p)) → IsEmpty (shape_of_cell cell) → IsSome o
+outside_is_some cell o none empty = some_unless o (λ e. let s = none.0 e in empty s.0 (strict_solution_is_member_spec cell s.0 s.1))
+
+-- where the weak system has no point, an outside certificate of it is found
+pub apart_is_some : (cell : List HalfSpace) (o : Option (List Multiple)) → (IsNone o ↔ ((p : RationalPoint) × IsSolution false cell p)) → ((p : RationalPoint) → ¬ IsSolution false cell p) → IsSome o
+apart_is_some cell o none empty = some_unless o (λ e. let s = none.0 e in empty s.0 s.1)
+
+-- the line of a strict test where an inside certificate is found
+pub line_inside : (cell : List HalfSpace) (points : List RationalPoint) → first_inside cell ≡ Some points → in_line points ≡ strict_line cell
+unfolding strict_line
+line_inside cell points e = sym (ap (λ (o : Option (List RationalPoint)). elim o [ Some ps ↦ in_line ps | None ↦ out_line (unwrap_or (first_outside true cell) []) ]) e)
+
+-- the line of a strict test where none is found
+pub line_outside : (cell : List HalfSpace) (terms : List Multiple) → first_inside cell ≡ None → first_outside true cell ≡ Some terms → out_line terms ≡ strict_line cell
+unfolding strict_line
+line_outside cell terms e f =
+    sym
+    (ap (λ (o : Option (List RationalPoint)). elim o [ Some ps ↦ in_line ps | None ↦ out_line (unwrap_or (first_outside true cell) []) ]) e
+    ∙ ap (λ (o : Option (List Multiple)). out_line (unwrap_or o [])) f)
+
+-- the line of a weak test where a weak point is found
+pub line_at : (cell : List HalfSpace) (p : RationalPoint) → first_weak_point cell ≡ Some p → at_line p ≡ weak_line cell
+unfolding weak_line
+line_at cell p e = sym (ap (λ (o : Option RationalPoint). elim o [ Some q ↦ at_line q | None ↦ apart_line (unwrap_or (first_outside false cell) []) ]) e)
+
+-- the line of a weak test where none is found
+pub line_apart : (cell : List HalfSpace) (terms : List Multiple) → first_weak_point cell ≡ None → first_outside false cell ≡ Some terms → apart_line terms ≡ weak_line cell
+unfolding weak_line
+line_apart cell terms e f =
+    sym
+    (ap (λ (o : Option RationalPoint). elim o [ Some q ↦ at_line q | None ↦ apart_line (unwrap_or (first_outside false cell) []) ]) e
+    ∙ ap (λ (o : Option (List Multiple)). apart_line (unwrap_or o [])) f)

@@ -1,0 +1,54 @@
+//! Whether a cell has a point, and whether its weak system has one.
+ghost use Rattle.std.specs.Prelude.{◌≡◌, ◌≤◌, length};
+ghost use Rattle.rp_model.specs.ProofLine.{strict_line, weak_line};
+ghost use Rattle.rp_cell.specs.Decisions.{line_of_strict, line_of_weak, DecidesStrict, DecidesWeak};
+
+use rp_elim::first_outside;
+use rp_space::{Half, Inside, Outside, Point};
+use rp_vertex::{first_inside, first_weak};
+
+/// Whether a cell has a point.
+#[derive(Debug, Drop)]
+pub enum Strict {
+    /// It has one: an average of these points is strictly inside.
+    Inside(Inside),
+    /// It has none: these multiples of its half-spaces and the cube's add up to a contradiction.
+    Outside(Outside),
+}
+
+/// Whether the weak system of a cell, its closure in the closed cube for a cell with a point, has a point.
+#[derive(Debug, Drop)]
+pub enum Weak {
+    /// It has this one.
+    At(Point),
+    /// It has none: these multiples of its half-spaces and the cube's add up to a contradiction.
+    Outside(Outside),
+}
+
+/// Whether a cell has a point: the first inside certificate exactly where it has one, else the first outside certificate.
+/// There always is one of the two (Motzkin's theorem of the alternative). A cell has at most 64 half-spaces.
+/// Takes no memory.
+pub fn decide_strict(cell: &[Half]) -> Strict
+    requires { length cell.now ≤ 64 }
+    ensures decides { DecidesStrict cell.now result }
+    ensures line { line_of_strict result ≡ strict_line cell.now }
+{
+    match first_inside(cell) {
+        Some(points) => Strict::Inside(points),
+        None => Strict::Outside(first_outside(cell, true).unwrap()),
+    }
+}
+
+/// Whether the weak system of a cell has a point: the first weak point exactly where it has one, else the first outside
+/// certificate that is not strict. There always is one of the two (Farkas' lemma). A cell has at most 64 half-spaces.
+/// Takes no memory.
+pub fn decide_weak(cell: &[Half]) -> Weak
+    requires { length cell.now ≤ 64 }
+    ensures decides { DecidesWeak cell.now result }
+    ensures line { line_of_weak result ≡ weak_line cell.now }
+{
+    match first_weak(cell) {
+        Some(p) => Weak::At(p),
+        None => Weak::Outside(first_outside(cell, false).unwrap()),
+    }
+}
