@@ -2,5 +2,4 @@ pub mod Scaled
 pub mod Signs
 pub mod Divisor
 pub mod Nothing
-pub mod Bounded
 pub mod Mixed

@@ -6,7 +6,6 @@ mod lowest;
 mod minors;
 mod refutation;
 mod search;
-mod system;
 mod triple;
 
 pub use search::first_outside;

@@ -1,26 +1,11 @@
 //! Multiples of half-spaces in lowest terms.
-ghost use Rattle.std.specs.Prelude.{◌≡◌, ◌<◌, ◌≤◌, ◌^◌, true, length};
+ghost use Rattle.std.specs.Prelude.{◌≡◌, ◌<◌, ◌≤◌, true, length};
 ghost use Rattle.std.specs.List.{list_all};
-ghost use Rattle.rp_algebra.specs.Integer.{gcd, gcd_of, reduced_by};
+ghost use Rattle.rp_algebra.specs.Integer.{gcd_of};
 ghost use Rattle.rp_model.specs.Certificate.{is_multiplier};
 ghost use Rattle.rp_model.specs.Elimination.{factors_of, reduced_terms};
 
-use rp_space::{Outside, Term};
-
-/// The greatest common divisor of two numbers, by Euclid's rule.
-#[tactic(auto, using(rp_algebra::proofs::Divisors::euclid))]
-fn greatest_common_divisor(a: u128, b: u128) -> u128
-    ensures { result ≡ gcd a b }
-{
-    let mut high = a;
-    let mut low = b;
-    while low != 0 {
-        let rest = high % low;
-        high = low;
-        low = rest;
-    }
-    high
-}
+use rp_space::{Outside, Term, greatest_common_divisor, quotient};
 
 /// The greatest common divisor of the multipliers.
 fn divisor_of(terms: &[Term]) -> u128
@@ -30,16 +15,6 @@ fn divisor_of(terms: &[Term]) -> u128
         [] => 0,
         [first, rest @ ..] => { greatest_common_divisor(divisor_of(rest), first.by.unsigned_abs()) }
     }
-}
-
-/// The quotient of a multiplier by a divisor.
-#[tactic(none)]
-fn quotient(v: i128, divisor: u128) -> i128
-    requires positive { 0 < divisor }
-    requires small { divisor < 2 ^ 127 }
-    ensures { result ≡ reduced_by divisor v }
-{
-    v / divisor as i128
 }
 
 /// The terms with their multipliers divided by the greatest common divisor of them all.

@@ -7,9 +7,8 @@ ghost use Rattle.rp_model.specs.Elimination.{refutation_of_one, refutation_of_tw
 
 use crate::minors::{minors_of_three, minors_of_two};
 use crate::refutation::{positive_refutation, refutation};
-use crate::system::with_cube;
 use crate::triple::Triple;
-use rp_space::{Half, Outside, Term};
+use rp_space::{Half, Outside, Term, with_cube};
 
 /// The first outside certificate of a cell (Farkas, Motzkin): the first few of its half-spaces and the cube's six, by
 /// their number and then by their places, with positive multiples that cancel and whose offsets add up to at most 0

@@ -1,3 +1,4 @@
+mod Bounded
 mod Cramer
 mod Kept
 mod Named

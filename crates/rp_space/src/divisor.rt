@@ -4,7 +4,7 @@ ghost use Rattle.rp_algebra.specs.Integer.{gcd, gcd_of, reduced_by};
 
 /// The greatest common divisor of two numbers, by Euclid's rule.
 #[tactic(auto, using(rp_algebra::proofs::Divisors::euclid))]
-fn greatest_common_divisor(a: u128, b: u128) -> u128
+pub fn greatest_common_divisor(a: u128, b: u128) -> u128
     ensures { result ≡ gcd a b }
 {
     let mut high = a;
@@ -26,7 +26,7 @@ pub fn common_divisor(a: i128, b: i128, c: i128, d: i128) -> u128
     greatest_common_divisor(middle, a.unsigned_abs())
 }
 
-/// The quotient of a coordinate by a divisor.
+/// The exact quotient of a number by a divisor of it, which is from 1 to 2^127 - 1. Of another number it is rounded towards 0.
 #[tactic(none)]
 pub fn quotient(v: i128, divisor: u128) -> i128
     requires positive { 0 < divisor }

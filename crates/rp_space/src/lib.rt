@@ -10,8 +10,10 @@ mod meeting;
 mod name;
 mod outside;
 mod point;
+mod system;
 
 pub use bounds::{IntBox, box_halves, cube};
+pub use divisor::{greatest_common_divisor, quotient};
 pub use half::{Half, HalfFault};
 pub use inside::Inside;
 pub use listed::{Halves, Listed, Names, Numbers};
@@ -19,6 +21,7 @@ pub use meeting::{Pair, meet};
 pub use name::Name;
 pub use outside::{Outside, Term};
 pub use point::{Point, PointFault};
+pub use system::{System, with_cube};
 
 #[cfg(test)]
 mod tests;

@@ -1,6 +1,6 @@
 use crate::{
     Half, Halves, Inside, IntBox, Name, Names, Numbers, Outside, Pair, Point, Term, box_halves,
-    cube, meet,
+    cube, greatest_common_divisor, meet, quotient, with_cube,
 };
 use std::test::Fail;
 
@@ -112,6 +112,22 @@ fn three_planes_meet_in_lowest_terms(rt: HostRuntime) -> Result<(), Fail> {
     assert_eq!(rt; turned.numbers(), (6, 8, 1, 4));
     assert!(rt; meet(&x, &x.not(), &z).is_none());
     Ok(())
+}
+
+#[test]
+fn the_sides_of_the_cube_stand_behind_a_cell(rt: HostRuntime) {
+    let system = with_cube(&[Half::default()]);
+    let halves = system.as_slice();
+    assert_eq!(rt; halves.len(), 7);
+    assert_eq!(rt; halves[0], Half::default());
+    assert_eq!(rt; halves[1].numbers(), (1, 0, 0, 16777216));
+    assert_eq!(rt; halves[6].numbers(), (0, 0, -1, 16777216));
+}
+
+#[test]
+fn numbers_are_divided_by_their_divisor(rt: HostRuntime) {
+    assert_eq!(rt; greatest_common_divisor(84, 30), 6);
+    assert_eq!(rt; quotient(-84, 6), -14);
 }
 
 #[test]

@@ -7,9 +7,9 @@ ghost use Rattle.rp_model.specs.Certificate.{is_inside_certificate, is_weak_poin
 ghost use Rattle.rp_model.specs.Vertex.{first_inside, first_weak_point, first_vertex, any_point, points_from};
 ghost use Rattle.rp_model.specs.CellLaws.{IsSolution};
 
+use crate::flat::flat_at;
 use crate::search::{Wanted, first_vertex};
-use crate::system::{flat_at, with_cube};
-use rp_space::{Half, Inside, Point};
+use rp_space::{Half, Inside, Point, with_cube};
 
 /// The first inside certificate of a cell: the first vertex of the cell with the domain cube, and then, as long as a
 /// half-space of the list is zero at all points taken, the first vertex that is positive on one of these. By

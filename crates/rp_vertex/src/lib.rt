@@ -3,8 +3,8 @@
 #![tactic(auto)]
 
 mod certificate;
+mod flat;
 mod search;
-mod system;
 
 pub use certificate::{first_inside, first_weak};
 

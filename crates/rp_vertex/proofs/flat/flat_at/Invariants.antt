@@ -1,6 +1,6 @@
 use Rattle.std.proofs.Common.{◌≡◌, ◌≤◌, [], ◌∷◌, take, length}
 use Rattle.rp_model.specs.Vertex.{flat_half_spaces}
-use Rattle.rp_vertex.proofs.system.flat_at.Given as goal
+use Rattle.rp_vertex.proofs.flat.flat_at.Given as goal
 
 -- those of the half-spaces so far
 abbrev pub invariant-loop-half : goal.invariant-loop-half

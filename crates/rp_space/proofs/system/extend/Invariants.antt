@@ -1,6 +1,6 @@
 use Rattle.std.proofs.Common.{◌≡◌, ◌++◌, take}
 use Rattle.rp_model.specs.CellLaws.{AreHalfSpaces}
-use Rattle.rp_elim.proofs.system.extend.Given as goal
+use Rattle.rp_space.proofs.system.extend.Given as goal
 
 -- the half-spaces so far stand behind the first ones, and they keep their bounds
 abbrev pub invariant-loop-half : goal.invariant-loop-half

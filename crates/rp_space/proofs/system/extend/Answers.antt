@@ -1,8 +1,8 @@
 use Rattle.std.proofs.Common.{arith, subst}
 use Rattle.std.proofs.lemmas.Grind.{common_steps}
 use Rattle.rp_model.specs.Geometry.{HalfSpace, IsHalfSpace}
-use Rattle.rp_elim.proofs.Bounded.{bounds_more}
-use Rattle.rp_elim.proofs.system.extend.Goals as goal
+use Rattle.rp_space.proofs.Bounded.{bounds_more}
+use Rattle.rp_space.proofs.system.extend.Goals as goal
 
 pub loop-half-preserved : goal.loop-half-preserved
 loop-half-preserved c = record {

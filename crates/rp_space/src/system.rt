@@ -1,19 +1,18 @@
 //! Lists of half-spaces on the stack.
-ghost use Rattle.std.specs.Prelude.{◌≡◌, ◌+◌, ◌≤◌, [], ◌∷◌, ◌++◌, not, length};
+ghost use Rattle.std.specs.Prelude.{◌≡◌, ◌+◌, ◌≤◌, ◌++◌, length};
 ghost use Rattle.arrayvec.specs.ArrayVec.{array_vec_len};
 ghost use Rattle.rp_model.specs.Geometry.{with_cube};
-ghost use Rattle.rp_model.specs.Certificate.{is_positive_at_some};
-ghost use Rattle.rp_model.specs.Vertex.{flat_half_spaces};
 ghost use Rattle.rp_model.specs.CellLaws.{AreHalfSpaces};
 
+use crate::bounds::cube;
+use crate::half::Half;
 use arrayvec::ArrayVec;
-use rp_space::{Half, Point, cube};
 
 /// A list of at most 70 half-spaces, which takes no memory: room for a cell of 64 and the cube's six.
-pub(crate) type System = ArrayVec<Half, 70>;
+pub type System = ArrayVec<Half, 70>;
 
-/// The list of a cell: its half-spaces in order, then the cube's six.
-pub(crate) fn with_cube(cell: &[Half]) -> System
+/// The list of a cell: its half-spaces in order, then the cube's six. A cell has at most 64 half-spaces.
+pub fn with_cube(cell: &[Half]) -> System
     requires { length cell.now ≤ 64 }
     ensures items { result.items ≡ with_cube cell.now }
     ensures bounds { AreHalfSpaces cell.now }
@@ -35,25 +34,4 @@ fn extend(system: &mut System, halves: &[Half])
         let _ = half.numbers();
         system.push(*half);
     }
-}
-
-/// The half-spaces of a list that are not positive at the point.
-pub(crate) fn flat_at(halves: &[Half], p: &Point) -> System
-    requires { length halves.now ≤ 70 }
-    ensures { result.items ≡ flat_half_spaces halves.now (p.now ∷ []) }
-{
-    let mut flat = System::new();
-    for half in halves {
-        if stays_flat(half, p) {
-            flat.push(*half);
-        }
-    }
-    flat
-}
-
-/// Whether the half-space is not positive at the point.
-fn stays_flat(half: &Half, p: &Point) -> bool
-    ensures { result ≡ not (is_positive_at_some (p.now ∷ []) half.now) }
-{
-    half.side(p) <= 0
 }

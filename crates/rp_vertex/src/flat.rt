@@ -1,0 +1,27 @@
+//! The half-spaces that are not yet positive at a point that was taken.
+ghost use Rattle.std.specs.Prelude.{◌≡◌, ◌≤◌, [], ◌∷◌, not, length};
+ghost use Rattle.rp_model.specs.Certificate.{is_positive_at_some};
+ghost use Rattle.rp_model.specs.Vertex.{flat_half_spaces};
+
+use rp_space::{Half, Point, System};
+
+/// The half-spaces of a list that are not positive at the point.
+pub(crate) fn flat_at(halves: &[Half], p: &Point) -> System
+    requires { length halves.now ≤ 70 }
+    ensures { result.items ≡ flat_half_spaces halves.now (p.now ∷ []) }
+{
+    let mut flat = System::new();
+    for half in halves {
+        if stays_flat(half, p) {
+            flat.push(*half);
+        }
+    }
+    flat
+}
+
+/// Whether the half-space is not positive at the point.
+fn stays_flat(half: &Half, p: &Point) -> bool
+    ensures { result ≡ not (is_positive_at_some (p.now ∷ []) half.now) }
+{
+    half.side(p) <= 0
+}
