@@ -1,5 +1,5 @@
 pub mod Scaled
 pub mod Signs
 pub mod Divisor
-pub mod Nothing
+pub mod Found
 pub mod Mixed

@@ -1,7 +1,8 @@
 //! Searches over one, two, three and four half-spaces, in the order of their places.
-ghost use Rattle.std.specs.Prelude.{◌≡◌, ◌↔◌, ◌≤◌, length, IsNone};
+ghost use Rattle.std.specs.Prelude.{◌≡◌, ◌↔◌, ◌≤◌, length, IsNone, IfSome, IsTrue};
 ghost use Rattle.rp_model.specs.Geometry.{RationalPoint};
 ghost use Rattle.rp_model.specs.CellLaws.{IsSolution};
+ghost use Rattle.rp_model.specs.Certificate.{is_outside_certificate};
 ghost use Rattle.rp_model.specs.Search.{first_of, first_of_pairs, first_of_triples, first_of_quadruples};
 ghost use Rattle.rp_model.specs.Elimination.{refutation_of_one, refutation_of_two, refutation_of_three, refutation_of_four, first_refutation, first_outside};
 
@@ -18,6 +19,7 @@ use rp_space::{Half, Outside, Term, with_cube};
 pub fn first_outside(cell: &[Half], strict: bool) -> Option<Outside>
     requires { length cell.now ≤ 64 }
     ensures first { result ≡ first_outside strict cell.now }
+    ensures passes { IfSome result (λ terms. IsTrue (is_outside_certificate strict cell.now terms)) }
     ensures none { IsNone result ↔ ((p : RationalPoint) × IsSolution strict cell.now p) }
 {
     let system = with_cube(cell);

@@ -1,13 +1,17 @@
--- The search finds nothing exactly where there is a solution.
-use Rattle.std.proofs.Common.{◌≡◌, Bool, List, Option, ⊎_elim, ap, sym, ◌∙◌}
-use Rattle.std.specs.Prelude.{◌↔◌, IsNone, is_some}
+-- What is found passes, and nothing is found exactly where there is a solution.
+use Rattle.std.proofs.Common.{◌≡◌, Bool, List, Option, ⊎_elim, ap, sym, subst, ◌∙◌}
+use Rattle.std.specs.Prelude.{◌↔◌, IsNone, IsTrue, IfSome, is_some}
 use Rattle.rp_algebra.proofs.Tests.{false_unless, false_not_true}
 use Rattle.rp_model.specs.Geometry.{RationalPoint, HalfSpace}
-use Rattle.rp_model.specs.Certificate.{Multiple}
+use Rattle.rp_model.specs.Certificate.{Multiple, is_outside_certificate}
 use Rattle.rp_model.specs.Elimination.{first_outside}
 use Rattle.rp_model.specs.CellLaws.{AreHalfSpaces, IsSolution}
 use Rattle.rp_alternative.proofs.Alternative.{solution_or_certificate_spec}
 use Rattle.rp_alternative.proofs.Found.{outside_is_found_spec}
+
+-- what is found is an outside certificate
+pub found_passes : (strict : Bool) (cell : List HalfSpace) → AreHalfSpaces cell → (r : Option (List Multiple)) → r ≡ first_outside strict cell → IfSome r (λ terms. IsTrue (is_outside_certificate strict cell terms))
+found_passes strict cell bounds r e = subst (λ (o : Option (List Multiple)). IfSome o (λ terms. IsTrue (is_outside_certificate strict cell terms))) (sym e) (outside_is_found_spec strict cell bounds).passes
 
 -- nothing is found exactly where there is a solution
 pub none_where_solution : (strict : Bool) (cell : List HalfSpace) → AreHalfSpaces cell → (r : Option (List Multiple)) → r ≡ first_outside strict cell → IsNone r ↔ ((p : RationalPoint) × IsSolution strict cell p)
