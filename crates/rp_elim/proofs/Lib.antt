@@ -3,3 +3,4 @@ pub mod Signs
 pub mod Divisor
 pub mod Found
 pub mod Mixed
+pub mod Three

@@ -16,15 +16,15 @@ pub weight_along_third : (f g h : HalfSpace) → h.a *ℤ det2 f.b f.c g.b g.c -
 weight_along_third f g h = by_ring_at (f.a ∷ f.b ∷ f.c ∷ g.a ∷ g.b ∷ g.c ∷ h.a ∷ h.b ∷ h.c ∷ []) (search reify depth 40 fits 100000) tt
 
 -- a number whose negative is above 0 is below 0
-below_zero : (v : ℤ) → is_positive (neg_ℤ v) ≡ true → is_negative v ≡ true
+pub below_zero : (v : ℤ) → is_positive (neg_ℤ v) ≡ true → is_negative v ≡ true
 below_zero v e = let h = positive_is (neg_ℤ v) e in is_negative_true v (omega (arith, ints, h))
 
 -- a number whose negative's negative is above 0 is above 0
-twice : (v : ℤ) → is_positive (neg_ℤ (neg_ℤ v)) ≡ true → is_positive v ≡ true
+pub twice : (v : ℤ) → is_positive (neg_ℤ (neg_ℤ v)) ≡ true → is_positive v ≡ true
 twice v e = let h = positive_is (neg_ℤ (neg_ℤ v)) e in is_positive_true v (omega (arith, ints, h))
 
 -- no number is above 0 and below 0
-not_two_signs : (v : ℤ) → is_positive v ≡ true → is_negative v ≡ true → ⊥
+pub not_two_signs : (v : ℤ) → is_positive v ≡ true → is_negative v ≡ true → ⊥
 not_two_signs v e f = let h = positive_is v e in let k = negative_is v f in omega (arith, ints, h, k)
 
 -- the negative of a number above 0 is below 0
@@ -85,7 +85,7 @@ mixed_signs strict s e f g h last n =
 
 -- ---- the last minor is 0
 -- the negative of 0 is not above 0
-zero_not_positive : (w : ℤ) → w ≡ pos 0 → is_positive (neg_ℤ w) ≡ true → ⊥
+pub zero_not_positive : (w : ℤ) → w ≡ pos 0 → is_positive (neg_ℤ w) ≡ true → ⊥
 zero_not_positive w e p = let h = positive_is (neg_ℤ w) p in omega (arith, ints, h, e)
 
 -- nor is the negative of that

@@ -1,7 +1,9 @@
 -- The coefficients of a half-space by axis.
-use Rattle.std.specs.Prelude.{ℤ, neg_ℤ, List, [], ◌∷◌}
+use Rattle.std.specs.Prelude.{true, false, ℤ, neg_ℤ, List, [], ◌∷◌}
+use Rattle.rp_algebra.specs.Integer.{is_zero}
 use Rattle.rp_model.specs.Geometry.{HalfSpace}
 use Rattle.rp_model.specs.Certificate.{Multiple}
+use Rattle.rp_model.specs.Vertex.{det2}
 use Rattle.rp_model.specs.Elimination.{multiple_of}
 use Rattle.rp_elim.specs.declared.minors.Axis.{Axis}
 use Rattle.rp_elim.specs.declared.minors.Axis.TheVariants.{X, Y, Z}
@@ -15,3 +17,15 @@ along Z h = h.c
 -- two half-spaces with one coefficient of each: the multiples that cancel it
 abbrev pub minors_on_axis : HalfSpace → HalfSpace → (HalfSpace → ℤ) → List Multiple
 minors_on_axis f g u = multiple_of (u g) f ∷ multiple_of (neg_ℤ (u f)) g ∷ []
+
+-- the 2 by 2 determinant of two half-spaces on two axes
+abbrev pub minor_on : Axis × Axis → HalfSpace → HalfSpace → ℤ
+minor_on axes f g = det2 (along axes.0 f) (along axes.1 f) (along axes.0 g) (along axes.1 g)
+
+-- the first two axes on which two half-spaces are independent; the last two where there are none
+abbrev pub axes_of : HalfSpace → HalfSpace → Axis × Axis
+axes_of f g =
+    elim (is_zero (det2 f.a f.b g.a g.b)) [
+      | false ↦ (X, Y)
+      | true ↦ elim (is_zero (det2 f.a f.c g.a g.c)) [ false ↦ (X, Z) | true ↦ (Y, Z) ]
+    ]

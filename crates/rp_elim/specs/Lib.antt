@@ -3,3 +3,4 @@ pub mod Axes
 pub mod Sides
 pub mod CrossMinors
 pub mod TripleSigns
+pub mod CoupleSign

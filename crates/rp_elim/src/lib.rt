@@ -2,6 +2,7 @@
 //! Multipliers come from signed minors, so each step is exact and within 128 bits.
 #![tactic(auto)]
 
+mod couple;
 mod lowest;
 mod minors;
 mod refutation;

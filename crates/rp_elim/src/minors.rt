@@ -3,15 +3,15 @@ ghost use Rattle.std.specs.Prelude.{◌≡◌, ◌*◌, ◌^◌, neg_ℤ};
 ghost use Rattle.rp_algebra.specs.Integer.{is_zero};
 ghost use Rattle.rp_algebra.specs.Within.{IsWithin};
 ghost use Rattle.rp_model.specs.Vertex.{det2, meeting_weight};
-ghost use Rattle.rp_model.specs.Elimination.{minors_of_two, minors_on_axes, minors_of_three, minors_of_four};
-ghost use Rattle.rp_elim.specs.Axes.{along, minors_on_axis};
+ghost use Rattle.rp_model.specs.Elimination.{minors_of_two, minors_on_axes, minors_of_four};
+ghost use Rattle.rp_elim.specs.Axes.{along, axes_of, minors_on_axis};
 ghost use Rattle.rp_elim.specs.Factors.{AreFactorsSmall};
 
 use rp_space::{Half, Term};
 
 /// An axis.
 #[derive(Clone, Copy)]
-enum Axis {
+pub enum Axis {
     X,
     Y,
     Z,
@@ -39,15 +39,15 @@ fn opposite_along(half: &Half, axis: Axis) -> i64
 }
 
 /// The 2 by 2 determinant of two half-spaces on two axes.
-fn minor(f: &Half, g: &Half, u: Axis, v: Axis) -> i128
+pub fn minor(f: &Half, g: &Half, u: Axis, v: Axis) -> i64
     ensures value { result ≡ det2 (along u f.now) (along v f.now) (along u g.now) (along v g.now) }
     ensures small { IsWithin (2 * 2 ^ 48) result }
 {
-    along(f, u) as i128 * along(g, v) as i128 - along(f, v) as i128 * along(g, u) as i128
+    along(f, u) * along(g, v) - along(f, v) * along(g, u)
 }
 
 /// The negative of the 2 by 2 determinant of two half-spaces on two axes.
-fn opposite_minor(f: &Half, g: &Half, u: Axis, v: Axis) -> i128
+fn opposite_minor(f: &Half, g: &Half, u: Axis, v: Axis) -> i64
     ensures value { result ≡ neg_ℤ (det2 (along u f.now) (along v f.now) (along u g.now) (along v g.now)) }
     ensures small { IsWithin (2 * 2 ^ 48) result }
 {
@@ -59,9 +59,9 @@ fn determinant(f: &Half, g: &Half, h: &Half) -> i128
     ensures value { result ≡ meeting_weight f.now g.now h.now }
     ensures small { IsWithin (6 * 2 ^ 72) result }
 {
-    along(f, Axis::X) as i128 * minor(g, h, Axis::Y, Axis::Z)
-        - along(g, Axis::X) as i128 * minor(f, h, Axis::Y, Axis::Z)
-        + along(h, Axis::X) as i128 * minor(f, g, Axis::Y, Axis::Z)
+    along(f, Axis::X) as i128 * minor(g, h, Axis::Y, Axis::Z) as i128
+        - along(g, Axis::X) as i128 * minor(f, h, Axis::Y, Axis::Z) as i128
+        + along(h, Axis::X) as i128 * minor(f, g, Axis::Y, Axis::Z) as i128
 }
 
 /// The negative of the determinant of the coefficients of three half-spaces.
@@ -117,36 +117,35 @@ fn minors_on_axis(f: &Half, g: &Half, u: Axis) -> [Term; 2]
     ]
 }
 
-/// The multiples of three half-spaces that cancel on the first two axes on which the first two are independent.
-pub fn minors_of_three(f: &Half, g: &Half, h: &Half) -> [Term; 3]
-    ensures value { result ≡ minors_of_three f.now g.now h.now }
-    ensures small { AreFactorsSmall result }
+/// The first two axes on which two half-spaces are independent; the last two where there are none.
+pub fn axes_of(f: &Half, g: &Half) -> (Axis, Axis)
+    ensures { result ≡ axes_of f.now g.now }
 {
     if !are_dependent(f, g, Axis::X, Axis::Y) {
-        return minors_on_axes(f, g, h, Axis::X, Axis::Y);
+        return (Axis::X, Axis::Y);
     }
     if !are_dependent(f, g, Axis::X, Axis::Z) {
-        return minors_on_axes(f, g, h, Axis::X, Axis::Z);
+        return (Axis::X, Axis::Z);
     }
-    minors_on_axes(f, g, h, Axis::Y, Axis::Z)
+    (Axis::Y, Axis::Z)
 }
 
 /// The multiples of three half-spaces that cancel on two axes.
-fn minors_on_axes(f: &Half, g: &Half, h: &Half, u: Axis, v: Axis) -> [Term; 3]
+pub fn minors_on_axes(f: &Half, g: &Half, h: &Half, u: Axis, v: Axis) -> [Term; 3]
     ensures value { result ≡ minors_on_axes f.now g.now h.now (along u) (along v) }
     ensures small { AreFactorsSmall result }
 {
     [
         Term {
-            by: minor(g, h, u, v),
+            by: minor(g, h, u, v) as i128,
             half: *f,
         },
         Term {
-            by: opposite_minor(f, h, u, v),
+            by: opposite_minor(f, h, u, v) as i128,
             half: *g,
         },
         Term {
-            by: minor(f, g, u, v),
+            by: minor(f, g, u, v) as i128,
             half: *h,
         },
     ]

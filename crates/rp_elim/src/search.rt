@@ -6,7 +6,8 @@ ghost use Rattle.rp_model.specs.Certificate.{is_outside_certificate};
 ghost use Rattle.rp_model.specs.Search.{first_of, first_of_pairs, first_of_triples, first_of_quadruples};
 ghost use Rattle.rp_model.specs.Elimination.{refutation_of_one, refutation_of_two, refutation_of_three, refutation_of_four, first_refutation, first_outside};
 
-use crate::minors::{minors_of_three, minors_of_two};
+use crate::couple::Couple;
+use crate::minors::minors_of_two;
 use crate::refutation::{positive_refutation, refutation};
 use crate::triple::Triple;
 use rp_space::{Half, Outside, Term, with_cube};
@@ -54,13 +55,6 @@ fn refutation_of_two(strict: bool, g: &Half, h: &Half) -> Option<Outside>
     ensures { result ≡ refutation_of_two strict g.now h.now }
 {
     refutation(strict, &minors_of_two(g, h))
-}
-
-/// The refutation by three half-spaces, if they refute.
-fn refutation_of_three(strict: bool, f: &Half, g: &Half, h: &Half) -> Option<Outside>
-    ensures { result ≡ refutation_of_three strict f.now g.now h.now }
-{
-    refutation(strict, &minors_of_three(f, g, h))
 }
 
 /// The first refutation by one of several.
@@ -123,12 +117,23 @@ fn first_three_with(strict: bool, f: &Half, gs: &[Half]) -> Option<Outside>
     None
 }
 
-/// The first refutation by two half-spaces and one of several.
+/// The first refutation by two half-spaces and one of several. Where the normals of the two are dependent, the
+/// multipliers of three are not determined up to a factor: a term can be dropped, so a smaller set would come first.
 fn first_three_with_two(strict: bool, f: &Half, g: &Half, hs: &[Half]) -> Option<Outside>
     ensures { result ≡ first_of (refutation_of_three strict f.now g.now) hs.now }
 {
+    match Couple::new(f, g) {
+        None => None,
+        Some(couple) => first_three_with_couple(strict, &couple, hs),
+    }
+}
+
+/// The first refutation by a couple and one of several.
+fn first_three_with_couple(strict: bool, couple: &Couple, hs: &[Half]) -> Option<Outside>
+    ensures { result ≡ first_of (refutation_of_three strict couple.now.first couple.now.second) hs.now }
+{
     for h in hs {
-        if let Some(terms) = refutation_of_three(strict, f, g, h) {
+        if let Some(terms) = couple.refutation(strict, h) {
             return Some(terms);
         }
     }

@@ -3,4 +3,5 @@ mod Cramer
 mod Kept
 mod Named
 mod Negative
+mod Positive
 mod Sides

@@ -4,4 +4,5 @@ pub mod MadeHalfSpace
 pub mod MadePoint
 pub mod NameBytes
 pub mod PairMinors
+pub mod PositivePoint
 pub mod TwoHalfSpaces

@@ -1,7 +1,7 @@
 //! Half-spaces in lowest terms.
 ghost use Rattle.std.specs.Prelude.{◌≡◌, ◌<◌, ◌^◌, true, false, pos, ◌≤ℤ◌, [], ◌∷◌};
 ghost use Rattle.rp_algebra.specs.Integer.{gcd_of, is_zero};
-ghost use Rattle.rp_model.specs.Geometry.{half_space_of, side_value, owns_boundary, holds, complement, is_within_bound, is_half_space_in_bounds, is_zero_half_space, reduced_half_space, IsHalfSpace, IsKeptHalfSpace};
+ghost use Rattle.rp_model.specs.Geometry.{half_space_of, side_value, owns_boundary, holds, complement, is_within_bound, is_half_space_in_bounds, is_zero_half_space, reduced_half_space, IsHalfSpace, IsKeptHalfSpace, point_of, IsSmallPoint};
 ghost use Rattle.rp_space.specs.MadeHalfSpace.{made_half_space};
 
 use crate::divisor::{common_divisor, short_quotient};
@@ -108,6 +108,14 @@ impl Half {
         ensures { result ≡ side_value self.now p.now }
     {
         let (x, y, z, w) = p.numbers();
+        self.side_at(x, y, z, w)
+    }
+
+    /// The side value at a point of four numbers, which need not be in lowest terms.
+    pub(crate) fn side_at(&self, x: i128, y: i128, z: i128, w: i128) -> i128
+        requires { IsSmallPoint (point_of x y z w) }
+        ensures { result ≡ side_value self.now (point_of x y z w) }
+    {
         self.a as i128 * x + self.b as i128 * y + self.c as i128 * z + self.d as i128 * w
     }
 

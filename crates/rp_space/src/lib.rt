@@ -17,7 +17,7 @@ pub use divisor::{greatest_common_divisor, quotient};
 pub use half::{Half, HalfFault};
 pub use inside::Inside;
 pub use listed::{Halves, Listed, Names, Numbers};
-pub use meeting::{Pair, meet};
+pub use meeting::{Meeting, Pair, meet};
 pub use name::Name;
 pub use outside::{Outside, Term};
 pub use point::{Point, PointFault};

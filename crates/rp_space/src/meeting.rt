@@ -1,8 +1,10 @@
 //! The common point of three planes, by Cramer's rule.
-ghost use Rattle.std.specs.Prelude.{◌≡◌, ◌*◌, ◌^◌};
+ghost use Rattle.std.specs.Prelude.{◌≡◌, ◌*◌, ◌^◌, false, Some, IfSome, option_map};
+ghost use Rattle.rp_algebra.specs.Integer.{is_zero};
 ghost use Rattle.rp_algebra.specs.Within.{IsWithin};
-ghost use Rattle.rp_model.specs.Geometry.{point_of};
-ghost use Rattle.rp_model.specs.Vertex.{det2, cramer_point, normal_point, meeting_point};
+ghost use Rattle.rp_model.specs.Geometry.{IsPoint, point_of, reduced_point, side_value};
+ghost use Rattle.rp_model.specs.Vertex.{det2, cramer_point, meeting_point};
+ghost use Rattle.rp_space.specs.PositivePoint.{positive_point};
 ghost use Rattle.rp_space.specs.TwoHalfSpaces.{two_of};
 
 use crate::half::Half;
@@ -15,6 +17,42 @@ pub fn meet(f: &Half, g: &Half, h: &Half) -> Option<Point>
     ensures { result ≡ meeting_point f.now g.now h.now }
 {
     Pair::new(f, g).meet(h)
+}
+
+/// The common point of three planes, with a positive weight and not yet in lowest terms, so that a side value can be
+/// asked before the divisor is.
+#[derive(Debug, Drop)]
+pub struct Meeting {
+    x: i128,
+    y: i128,
+    z: i128,
+    w: i128,
+}
+
+impl Model for Meeting {
+    ghost use Rattle.rp_model.specs.Geometry.{RationalPoint, point_of, IsSmallPoint};
+
+    ghost Value = { RationalPoint };
+
+    ghost view = { λ s. point_of s.x s.y s.z s.w };
+
+    ghost invariant = { λ s. IsSmallPoint (point_of s.x s.y s.z s.w) };
+}
+
+impl Meeting {
+    /// The same point in lowest terms.
+    pub fn point(&self) -> Point
+        ensures { result ≡ reduced_point self.now }
+    {
+        reduced(self.x, self.y, self.z, self.w)
+    }
+
+    /// The side value of a half-space at the point: its sign is that at the point in lowest terms. Its size is below 2^127.
+    pub fn side(&self, h: &Half) -> i128
+        ensures { result ≡ side_value h.now self.now }
+    {
+        h.side_at(self.x, self.y, self.z, self.w)
+    }
 }
 
 /// Two half-spaces, with what the common points of their planes with further planes share.
@@ -67,7 +105,22 @@ impl Pair {
     pub fn meet(&self, h: &Half) -> Option<Point>
         ensures { result ≡ meeting_point self.now.first self.now.second h.now }
     {
-        normal(self.x(h), self.y(h), self.z(h), self.weight(h))
+        let meeting = self.meeting(h)?;
+        Some(meeting.point())
+    }
+
+    /// The common point of the two planes and a third one, with a positive weight and not yet in lowest terms.
+    /// `None` exactly where the three do not have exactly one common point.
+    pub fn meeting(&self, h: &Half) -> Option<Meeting>
+        ensures value { result ≡ positive_point (cramer_point self.now.first self.now.second h.now) }
+        ensures point { IfSome result IsPoint }
+        ensures in_lowest_terms { option_map reduced_point result ≡ meeting_point self.now.first self.now.second h.now }
+    {
+        let weight = self.weight(h);
+        if weight == 0 {
+            return None;
+        }
+        Some(positive(self.x(h), self.y(h), self.z(h), weight))
     }
 
     /// The first coordinate of the common point, times the weight.
@@ -118,20 +171,22 @@ fn minor(a: i64, b: i64, c: i64, d: i64) -> i128
     a as i128 * d as i128 - b as i128 * c as i128
 }
 
-/// The point of four numbers with a weight of any sign, in lowest terms with a positive weight.
-/// `None` where the weight is 0.
-fn normal(x: i128, y: i128, z: i128, w: i128) -> Option<Point>
+/// The point of four numbers with a weight that is not 0, with a positive weight.
+fn positive(x: i128, y: i128, z: i128, w: i128) -> Meeting
     requires x_small { IsWithin (18 * 2 ^ 96) x }
     requires y_small { IsWithin (18 * 2 ^ 96) y }
     requires z_small { IsWithin (18 * 2 ^ 96) z }
     requires w_small { IsWithin (6 * 2 ^ 72) w }
-    ensures { result ≡ normal_point (point_of x y z w) }
+    requires nonzero { is_zero w ≡ false }
+    ensures { Some result ≡ positive_point (point_of x y z w) }
 {
-    if w == 0 {
-        return None;
-    }
     if w > 0 {
-        return Some(reduced(x, y, z, w));
+        return Meeting { x, y, z, w };
     }
-    Some(reduced(-x, -y, -z, -w))
+    Meeting {
+        x: -x,
+        y: -y,
+        z: -z,
+        w: -w,
+    }
 }

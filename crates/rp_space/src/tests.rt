@@ -1,6 +1,6 @@
 use crate::{
-    Half, Halves, Inside, IntBox, Name, Names, Numbers, Outside, Pair, Point, Term, box_halves,
-    cube, greatest_common_divisor, meet, quotient, with_cube,
+    Half, Halves, Inside, IntBox, Meeting, Name, Names, Numbers, Outside, Pair, Point, Term,
+    box_halves, cube, greatest_common_divisor, meet, quotient, with_cube,
 };
 use std::test::Fail;
 
@@ -17,6 +17,7 @@ fn types_cross_threads() {
     needs_send_sync::<Numbers>();
     needs_send_sync::<Halves>();
     needs_send_sync::<Pair>();
+    needs_send_sync::<Meeting>();
     needs_send_sync::<Term>();
     needs_send_sync::<Inside>();
     needs_send_sync::<Outside>();
@@ -111,6 +112,10 @@ fn three_planes_meet_in_lowest_terms(rt: HostRuntime) -> Result<(), Fail> {
     let turned = Pair::new(&z, &y).meet(&x).ok_or("no point")?;
     assert_eq!(rt; turned.numbers(), (6, 8, 1, 4));
     assert!(rt; meet(&x, &x.not(), &z).is_none());
+    let meeting = Pair::new(&x, &y).meeting(&z.not()).ok_or("no point")?;
+    assert_eq!(rt; meeting.side(&z), 0);
+    assert_eq!(rt; meeting.side(&Half::default()), 12);
+    assert_eq!(rt; meeting.point().numbers(), (6, 8, 1, 4));
     Ok(())
 }
 

@@ -1,2 +1,3 @@
 mod Found
 mod Rounds
+mod Tested

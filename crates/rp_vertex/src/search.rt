@@ -1,12 +1,12 @@
 //! The search for the first vertex: the first meeting point of three planes of a list, in the order of the triples,
 //! at which no half-space of the list is negative.
-ghost use Rattle.std.specs.Prelude.{◌≡◌};
+ghost use Rattle.std.specs.Prelude.{◌≡◌, ◌&&◌};
 ghost use Rattle.rp_model.specs.Geometry.{all_nonnegative};
 ghost use Rattle.rp_model.specs.Search.{first_of, first_of_pairs};
 ghost use Rattle.rp_model.specs.Vertex.{lifts, vertex_at, first_vertex};
 ghost use Rattle.rp_vertex.specs.Wanted.{is_wanted};
 
-use rp_space::{Half, Pair, Point};
+use rp_space::{Half, Meeting, Pair, Point};
 
 /// Which vertices are wanted.
 #[derive(Clone, Copy)]
@@ -58,27 +58,34 @@ fn first_with_two(wanted: Wanted, system: &[Half], pair: &Pair, others: &[Half])
     None
 }
 
-/// The meeting point of three planes, where it is a wanted vertex.
+/// The meeting point of three planes, where it is a wanted vertex. It is tested before it is put into lowest terms,
+/// since most meeting points fail.
 fn vertex_at(wanted: Wanted, system: &[Half], pair: &Pair, h: &Half) -> Option<Point>
     ensures { result ≡ vertex_at (is_wanted wanted.entry) system.now pair.now.first pair.now.second h.now }
 {
-    let p = pair.meet(h)?;
-    if are_nonnegative(system, &p) && is_wanted(wanted, &p) {
-        Some(p)
-    } else {
-        None
+    let p = pair.meeting(h)?;
+    if !passes(wanted, system, &p) {
+        return None;
     }
+    Some(p.point())
+}
+
+/// Whether no half-space of the list is negative at the point, and it is a wanted one.
+fn passes(wanted: Wanted, system: &[Half], p: &Meeting) -> bool
+    ensures { result ≡ (all_nonnegative system.now p.now && is_wanted wanted.entry p.now) }
+{
+    are_nonnegative(system, p) && is_wanted(wanted, p)
 }
 
 /// Whether no half-space of the list is negative at the point.
-fn are_nonnegative(system: &[Half], p: &Point) -> bool
+fn are_nonnegative(system: &[Half], p: &Meeting) -> bool
     ensures { result ≡ all_nonnegative system.now p.now }
 {
-    system.iter().all(|half| half.side(p) >= 0)
+    system.iter().all(|half| p.side(half) >= 0)
 }
 
 /// Whether a point is a wanted one.
-fn is_wanted(wanted: Wanted, p: &Point) -> bool
+fn is_wanted(wanted: Wanted, p: &Meeting) -> bool
     ensures { result ≡ is_wanted wanted.entry p.now }
 {
     match wanted {
@@ -88,8 +95,8 @@ fn is_wanted(wanted: Wanted, p: &Point) -> bool
 }
 
 /// Whether one of the half-spaces is positive at the point.
-fn is_lifting(flat: &[Half], p: &Point) -> bool
+fn is_lifting(flat: &[Half], p: &Meeting) -> bool
     ensures { result ≡ lifts flat.now p.now }
 {
-    flat.iter().any(|half| half.side(p) > 0)
+    flat.iter().any(|half| p.side(half) > 0)
 }

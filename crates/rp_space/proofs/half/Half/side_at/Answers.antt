@@ -1,7 +1,7 @@
 use Rattle.std.proofs.Common.{◌∙◌}
-use Rattle.rp_model.specs.Geometry.{side_value}
+use Rattle.rp_model.specs.Geometry.{point_of, side_value}
 use Rattle.rp_algebra.proofs.Machine.{code, fits_by, is_by}
-use Rattle.rp_space.proofs.half.Half.side.Goals as goal
+use Rattle.rp_space.proofs.half.Half.side_at.Goals as goal
 
 pub overflow_mul-result : goal.overflow_mul-result
 overflow_mul-result c = fits_by (search code depth 30 fits 100000) tt
@@ -25,4 +25,4 @@ pub overflow_add-result-3 : goal.overflow_add-result-3
 overflow_add-result-3 c = fits_by (search code depth 30 fits 100000) tt
 
 pub returns : goal.returns
-returns c = is_by (search code depth 30 fits 100000) tt ∙ (λ i. side_value (c.self.view_is i) (c.numbers-x.ensures.numbers i))
+returns c = is_by (search code depth 30 fits 100000) tt ∙ (λ i. side_value (c.self.view_is i) (point_of c.args.x c.args.y c.args.z c.args.w))

@@ -6,15 +6,14 @@ use Rattle.rp_algebra.proofs.Tests.{is_zero_false}
 use Rattle.rp_algebra.proofs.Machine.{read_is}
 use Rattle.rp_model.specs.Geometry.{point_of, reduced_point}
 use Rattle.rp_space.proofs.Negative.{negated_coordinate, negated_weight}
-use Rattle.rp_space.proofs.meeting.normal.Goals as goal
+use Rattle.rp_space.proofs.meeting.positive.Goals as goal
 
 pub returns : goal.returns
 returns c =
     let r = c.requires in
-    let apart : is_zero c.args.w ≡ false = is_zero_false c.args.w (λ e. c.if-w-eq0.false (ap (of_z w128) e)) in
     let below : is_positive c.args.w ≡ false = ap (λ (v : ℤ). int_lt (pos 0) v) (sym (read_is w128 r.w_small tt)) ∙ c.if-w-gt0.false in
     let x = negated_coordinate c.args.x r.x_small in
     let y = negated_coordinate c.args.y r.y_small in
     let z = negated_coordinate c.args.z r.z_small in
     let w = negated_weight c.args.w r.w_small in
-    rw (apart, below) (ap Some (c.reduced-2.ensures ∙ (λ i. reduced_point (point_of (x i) (y i) (z i) (w i)))))
+    rw (r.nonzero, below) (λ i. Some (point_of (x i) (y i) (z i) (w i)))

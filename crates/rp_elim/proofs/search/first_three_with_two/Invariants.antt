@@ -1,8 +1,0 @@
-use Rattle.std.proofs.Common.{◌≡◌, drop}
-use Rattle.rp_model.specs.Search.{first_of}
-use Rattle.rp_model.specs.Elimination.{refutation_of_three}
-use Rattle.rp_elim.proofs.search.first_three_with_two.Given as goal
-
--- the first of what is left is the first of all
-abbrev pub invariant-loop-h : goal.invariant-loop-h
-invariant-loop-h l = first_of (refutation_of_three l.strict l.f l.g) (drop l.h-index l.hs) ≡ first_of (refutation_of_three l.strict l.f l.g) l.hs

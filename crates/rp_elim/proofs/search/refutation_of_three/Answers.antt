@@ -1,8 +1,0 @@
-use Rattle.std.proofs.Common.{ap, ◌∙◌, List}
-use Rattle.rp_model.specs.Certificate.{Multiple}
-use Rattle.rp_model.specs.Elimination.{normal_terms, terms_if, refutation_of_three}
-use Rattle.rp_elim.proofs.search.refutation_of_three.Goals as goal
-
-pub returns : goal.returns
-unfolding refutation_of_three
-returns c = c.refutation.ensures ∙ ap (λ (ts : List Multiple). terms_if c.args.strict (normal_terms ts)) c.minors_of_three.ensures.value
