@@ -1,6 +1,6 @@
 -- What the searches that a decision calls have found, and that one of them always finds something.
-use Rattle.std.proofs.Common.{◌≡◌, Bool, true, false, List, Option, Some, None, refl, sym, ap, ◌∙◌, subst}
-use Rattle.std.specs.Prelude.{◌↔◌, IsTrue, IsSome, IsNone, IfSome, is_some, unwrap_or, []}
+use Rattle.std.proofs.Common.{◌≡◌, true, false, List, Option, Some, None, refl, sym, ap, ◌∙◌, subst}
+use Rattle.std.specs.Prelude.{◌↔◌, IsSome, IsNone, IfSome, unwrap_or, []}
 use Rattle.rp_model.specs.Geometry.{RationalPoint, HalfSpace}
 use Rattle.rp_model.specs.Shape.{shape_of_cell}
 use Rattle.rp_model.specs.Sets.{IsEmpty}

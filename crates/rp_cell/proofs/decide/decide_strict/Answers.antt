@@ -1,5 +1,5 @@
-use Rattle.std.proofs.Common.{◌≡◌, true, sym, ◌∙◌, ap}
-use Rattle.std.specs.Prelude.{IsTrue, IsNone, None, is_some}
+use Rattle.std.proofs.Common.{true, sym, ◌∙◌, ap}
+use Rattle.std.specs.Prelude.{IsTrue, is_some}
 use Rattle.rp_model.specs.Certificate.{is_inside_certificate, is_outside_certificate}
 use Rattle.rp_convex.proofs.Certified.{inside_certificate_shows_member_spec}
 use Rattle.rp_cell.proofs.Answered.{of_some, outside_is_some, line_inside, line_outside}
