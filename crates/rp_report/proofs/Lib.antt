@@ -1,2 +1,2 @@
 mod FrontLemmas
-mod VerdictLemmas
+mod LineLemmas

@@ -1,8 +1,9 @@
 -- Answers of the code as those of the model.
-use Rattle.std.specs.Prelude.{List, map}
+use Rattle.std.specs.Prelude.{map}
 use Rattle.rp_model.specs.Verdict.{Refusal as ModelRefusal, bad, unknown, Verdict as ModelVerdict, says_yes, says_no, refused, unbuilt}
 use Rattle.rp_model.specs.Text.{Answer as ModelAnswer}
 use Rattle.rp_syntax.specs.Views.{fault_of}
+use Rattle.rp_cert.specs.Lines.{line_of}
 use Rattle.rp_report.specs.declared.answer.Refusal.{Refusal}
 use Rattle.rp_report.specs.declared.answer.Refusal.TheVariants.{Bad, Unknown}
 use Rattle.rp_report.specs.declared.answer.Verdict.{Verdict}
@@ -23,4 +24,4 @@ verdict_of Unbuilt = unbuilt
 
 -- the answer of the model
 abbrev pub answer_of : Answer → ModelAnswer
-answer_of a = record { number = a.n; echo = a.echo.items; verdicts = map verdict_of a.verdicts.items }
+answer_of a = record { number = a.n; echo = a.echo.items; proofs = map line_of a.proofs.items; verdicts = map verdict_of a.verdicts.items }

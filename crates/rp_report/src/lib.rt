@@ -2,6 +2,9 @@
 #![tactic(auto)]
 
 mod answer;
+mod numbers;
+mod pieces;
+mod proof;
 mod text;
 
 pub use answer::{Answer, Echo, Refusal, Verdict, Verdicts};

@@ -1,5 +1,6 @@
 use crate::{Answer, Refusal, Verdict, write_answer};
-use rp_space::Name;
+use rp_cert::{Proof, Proofs};
+use rp_space::{Half, Inside, IntBox, Name, Outside, Point, Term};
 use rp_syntax::Why;
 use std::alloc::{AllocError, Global};
 use std::process::Abort;
@@ -13,7 +14,7 @@ fn expect_text(
     verdict: Verdict,
     want: &[u8],
 ) -> Result<(), AllocError> {
-    let answer = Answer::with_verdict(alloc, n, echo, verdict)?;
+    let answer = Answer::with_verdict(alloc, n, echo, Proofs::new(alloc), verdict)?;
     let mut out = Vec::new(alloc);
     write_answer(&answer, false, &mut out)?;
     assert_eq!(rt; out.as_slice(), want);
@@ -72,4 +73,106 @@ fn a_blank_answer_has_no_text(rt: HostRuntime) -> Result<(), Fail> {
     write_answer(&Answer::blank(rt.alloc(), 3), false, &mut out)?;
     assert!(rt; out.is_empty());
     Ok(())
+}
+
+/// Writes an answer with the proof line, full or brief, and compares its text.
+fn expect_proof(
+    rt: &impl Abort,
+    alloc: Global,
+    proof: Proof,
+    brief: bool,
+    want: &[u8],
+) -> Result<(), Fail> {
+    let mut proofs = Proofs::new(alloc);
+    proofs.push(proof)?;
+    let answer = Answer::with_verdict(alloc, 7, b"q", proofs, Verdict::No)?;
+    let mut out = Vec::new(alloc);
+    write_answer(&answer, brief, &mut out)?;
+    assert_eq!(rt; out.as_slice(), want);
+    Ok(())
+}
+
+/// The list of two points.
+fn points(first: Point, second: Point) -> Inside {
+    let mut list = Inside::new();
+    list.push(first);
+    list.push(second);
+    list
+}
+
+/// The list of two multiples of half-spaces.
+fn terms(first: (i128, Half), second: (i128, Half)) -> Outside {
+    let mut list = Outside::new();
+    list.push(Term {
+        by: first.0,
+        half: first.1,
+    });
+    list.push(Term {
+        by: second.0,
+        half: second.1,
+    });
+    list
+}
+
+#[test]
+fn points_are_told_in_parentheses(rt: HostRuntime) -> Result<(), Fail> {
+    let origin = Point::new(0, 0, 0, 1).ok().ok_or("no point")?;
+    let above = Point::new(0, 0, 10, 1).ok().ok_or("no point")?;
+    let beside = Point::new(10, 0, 0, 1).ok().ok_or("no point")?;
+    let far = -2535301200456458802993406410751;
+    let outermost = Point::new(far, 1, 0, 1).ok().ok_or("no point")?;
+    for (proof, want) in [
+        (
+            Proof::In(points(origin, above)),
+            b"> 7 q\n  in (0 0 0 1) (0 0 10 1)\n= no\n".as_slice(),
+        ),
+        (Proof::At(beside), b"> 7 q\n  at (10 0 0 1)\n= no\n"),
+        (
+            Proof::At(outermost),
+            b"> 7 q\n  at (-2535301200456458802993406410751 1 0 1)\n= no\n",
+        ),
+    ] {
+        expect_proof(&rt, rt.alloc(), proof, false, want)?;
+    }
+    Ok(())
+}
+
+#[test]
+fn multiples_and_boxes_are_told(rt: HostRuntime) -> Result<(), Fail> {
+    let above = Half::new(1, 0, 0, 0).ok().ok_or("no half-space")?;
+    let near = Half::new(-1, 0, 0, 10).ok().ok_or("no half-space")?;
+    let past = Half::new(1, 0, 0, -11).ok().ok_or("no half-space")?;
+    let most = 37778931862957161709567;
+    let block = IntBox {
+        lo: [4, 0, 0],
+        hi: [10, 10, 10],
+    };
+    for (proof, want) in [
+        (
+            Proof::Out(terms((1, above), (1, above.not()))),
+            b"> 7 q\n  out 1*(1 0 0 0) 1*(-1 0 0 0)\n= no\n".as_slice(),
+        ),
+        (
+            Proof::Apart(terms((1, near), (1, past))),
+            b"> 7 q\n  apart 1*(-1 0 0 10) 1*(1 0 0 -11)\n= no\n",
+        ),
+        (
+            Proof::Out(terms((most, above), (2, past))),
+            b"> 7 q\n  out 37778931862957161709567*(1 0 0 0) 2*(1 0 0 -11)\n= no\n",
+        ),
+        (
+            Proof::Dropped(above, terms((1, above), (1, above.not()))),
+            b"> 7 q\n  drop (1 0 0 0) 1*(1 0 0 0) 1*(-1 0 0 0)\n= no\n",
+        ),
+        (Proof::Bounds(block), b"> 7 q\n  box 4 0 0 10 10 10\n= no\n"),
+    ] {
+        expect_proof(&rt, rt.alloc(), proof, false, want)?;
+    }
+    Ok(())
+}
+
+#[test]
+fn a_brief_answer_leaves_proof_lines_out(rt: HostRuntime) -> Result<(), Fail> {
+    let origin = Point::new(0, 0, 0, 1).ok().ok_or("no point")?;
+    expect_proof(&rt, rt.alloc(), Proof::At(origin), true, b"> 7 q\n= no\n")
 }

@@ -1,6 +1,6 @@
 use Rattle.std.proofs.Common.{◌≡◌, ◌++◌, take}
 use Rattle.rp_report.specs.Fronts.{joined}
-use Rattle.rp_report.proofs.text.append_all.Given as goal
+use Rattle.rp_report.proofs.pieces.append_all.Given as goal
 
 -- the pieces so far were appended
 abbrev pub invariant-loop-piece : goal.invariant-loop-piece
