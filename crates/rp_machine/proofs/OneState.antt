@@ -1,10 +1,10 @@
--- There is one state, so what the rule says in the opening state it says in every state.
-use Rattle.std.proofs.Common.{◌≡◌, List, refl, sym, subst}
+-- There is one state, so what a reply says in the opening state it says in every state.
+use Rattle.std.proofs.Common.{◌≡◌, sym, subst}
 use Rattle.rp_model.specs.Expression.{Command}
-use Rattle.rp_model.specs.Rule.{rule_of}
 use Rattle.rp_model.specs.State.{State, opening}
-use Rattle.rp_model.specs.Verdict.{Verdict}
+use Rattle.rp_machine.specs.Replies.{Replies}
+use Rattle.rp_machine.specs.declared.reply.Reply.{Reply}
 
--- the rule of a command in the opening state is its rule in every state
-pub rule_in : (s : State) (c d : Command) (vs : List Verdict) → c ≡ d → rule_of opening d vs → rule_of s c vs
-rule_in opening c d vs e h = subst (λ (k : Command). rule_of opening k vs) (sym e) h
+-- a reply to a command in the opening state is one to it in every state
+pub replies_in : (s : State) (c d : Command) (r : Reply) → c ≡ d → Replies opening d r → Replies s c r
+replies_in opening c d r e h = subst (λ (k : Command). Replies opening k r) (sym e) h

@@ -1,14 +1,14 @@
 //! One line of a script after the other.
-ghost use Rattle.std.specs.Prelude.{◌≡◌, ◌∷◌, [], IfOk, OnOk};
+ghost use Rattle.std.specs.Prelude.{◌≡◌, ◌∷◌, [], map, IfOk, OnOk};
 ghost use Rattle.std.specs.List.{AllByRecursion};
 ghost use Rattle.rp_model.specs.Expression.{ask_member, expressions_of, IsBounded};
 ghost use Rattle.rp_model.specs.Grammar.{reading};
-ghost use Rattle.rp_model.specs.Report.{IsAnswerTo, after_reading};
+ghost use Rattle.rp_model.specs.Report.{IsAnswerTo, after_reading, echoed, bad_answer};
 ghost use Rattle.rp_model.specs.Rule.{rule_of};
 ghost use Rattle.rp_model.specs.State.{State, opening};
 ghost use Rattle.rp_report.specs.Views.{verdict_of, answer_of};
-ghost use Rattle.rp_model.specs.Verdict.{bad, refused};
 ghost use Rattle.rp_syntax.specs.Views.{expression_of, command_of, fault_of};
+ghost use Rattle.rp_cert.specs.Lines.{line_of};
 ghost use Rattle.rp_machine.specs.Replies.{Replies};
 
 use crate::empty::emptiness;
@@ -57,12 +57,29 @@ fn member_verdict(region: &Expr, point: &Point) -> Verdict
     }
 }
 
-/// The answer to a line that is no command.
-fn bad_line(alloc: Global, n: u32, echo: &[u8], why: Why) -> Result<Answer, AllocError>
-    ensures { IfOk result (λ a. answer_of a ≡ record { number = n; echo = echo.now; proofs = []; verdicts = refused (bad (fault_of why)) ∷ [] }) }
+/// The bytes of a line that is no command, as they are echoed: none of a line that is too long.
+fn echoed(line: &[u8], why: Why) -> &[u8]
+    ensures { result.now ≡ echoed (fault_of why) line.now }
+{
+    match why {
+        Why::Long => &[],
+        _ => line,
+    }
+}
+
+/// The answer to a line that is no command. Answers `AllocError` only for want of memory.
+fn bad_line(alloc: Global, n: u32, line: &[u8], why: Why) -> Result<Answer, AllocError>
+    ensures { IfOk result (λ a. answer_of a ≡ bad_answer n line.now (fault_of why)) }
 {
     let verdict = Verdict::Refused(Refusal::Bad(why));
-    Answer::with_verdict(alloc, n, echo, Proofs::new(alloc), verdict)
+    Answer::with_verdict(alloc, n, echoed(line, why), Proofs::new(alloc), verdict)
+}
+
+/// The answer to a command, which is its echo and the reply. Answers `AllocError` only for want of memory.
+fn told(alloc: Global, n: u32, line: &[u8], reply: Reply) -> Result<Answer, AllocError>
+    ensures { IfOk result (λ a. answer_of a ≡ record { number = n; echo = line.now; proofs = map line_of reply.proofs.items; verdicts = verdict_of reply.verdict ∷ [] }) }
+{
+    Answer::with_verdict(alloc, n, line, reply.proofs, reply.verdict)
 }
 
 impl Machine {
@@ -102,9 +119,8 @@ impl Machine {
             Line::Blank => Ok(Answer::blank(alloc, n)),
             Line::Cmd(command) => {
                 let reply = self.reply(alloc, command)?;
-                Answer::with_verdict(alloc, n, line, reply.proofs, reply.verdict)
+                told(alloc, n, line, reply)
             }
-            Line::Bad(Why::Long) => bad_line(alloc, n, &[], Why::Long),
             Line::Bad(why) => bad_line(alloc, n, line, *why),
         }
     }

@@ -1,4 +1,5 @@
 use crate::Machine;
+use rp_cert::Proof;
 use rp_report::{Refusal, Verdict};
 use rp_space::Name;
 use rp_syntax::Why;
@@ -88,6 +89,27 @@ fn bad_lines_are_refused(rt: HostRuntime) -> Result<(), Fail> {
         expect_verdict(&rt, rt.alloc(), line, Verdict::Refused(Refusal::Bad(why)))?;
     }
     expect_verdict(&rt, rt.alloc(), b"audit", Verdict::Unbuilt)?;
+    expect_verdict(&rt, rt.alloc(), b"empty not all", Verdict::Unbuilt)?;
+    Ok(())
+}
+
+#[test]
+fn emptiness_is_answered_with_its_certificate(rt: HostRuntime) -> Result<(), Fail> {
+    let mut machine = Machine::new(rt.alloc())?;
+    let some = machine.step(&rt, rt.alloc(), 1, b"empty box 0 0 0 10 10 10")?;
+    assert_eq!(rt; some.verdicts.items(), [Verdict::No].as_slice());
+    let [Proof::In(points)] = some.proofs.items() else {
+        return Err("no line of points".into());
+    };
+    assert_eq!(rt; points.items().len(), 4);
+    assert_eq!(rt; points.items()[1].numbers(), (0, 0, 10, 1));
+    let none = machine.step(&rt, rt.alloc(), 2, b"empty half 0 0 0 -1")?;
+    assert_eq!(rt; none.verdicts.items(), [Verdict::Yes].as_slice());
+    let [Proof::Out(terms)] = none.proofs.items() else {
+        return Err("no line of multiples".into());
+    };
+    assert_eq!(rt; terms.items().len(), 1);
+    assert_eq!(rt; terms.items()[0].half.numbers(), (0, 0, 0, -1));
     Ok(())
 }
 
