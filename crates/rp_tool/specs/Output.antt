@@ -1,5 +1,5 @@
 -- What is put for one line of a script, and for a whole one.
-use Rattle.std.specs.Prelude.{◌≡◌, ◌↔◌, ℕ, Bool, IsTrue, List, Option}
+use Rattle.std.specs.Prelude.{◌≡◌, ◌↔◌, ℕ, Bool, false, IsTrue, List, Option}
 use Rattle.std.specs.List.{list_any}
 use Rattle.rp_io.specs.Bytes.{Appends}
 use Rattle.rp_io.specs.Faults.{HasRisen}
