@@ -1,0 +1,20 @@
+-- The word of a search, and how much it finds in a cell.
+use Rattle.std.specs.Prelude.{ℕ, true, false, List, Option, length, codes}
+use Rattle.std.specs.Option.{option_map}
+use Rattle.rp_model.specs.Geometry.{HalfSpace}
+use Rattle.rp_model.specs.Vertex.{first_inside}
+use Rattle.rp_model.specs.Elimination.{first_outside}
+use Rattle.rp_bench.specs.declared.search.Search.{Search}
+use Rattle.rp_bench.specs.declared.search.Search.TheVariants.{Inside, Outside, Apart}
+
+-- the word that asks for a search, and that tells that it found something
+abbrev pub word_of : Search → List ℕ
+word_of Inside = codes "inside"
+word_of Outside = codes "outside"
+word_of Apart = codes "apart"
+
+-- the number of points of the first inside certificate, or of terms of the first outside certificate that is strict or is not
+abbrev pub size_found : Search → List HalfSpace → Option ℕ
+size_found Inside cell = option_map length (first_inside cell)
+size_found Outside cell = option_map length (first_outside true cell)
+size_found Apart cell = option_map length (first_outside false cell)

@@ -1,0 +1,41 @@
+//! The cell on standard input.
+ghost use Rattle.std.specs.Prelude.{◌≤◌, length, IfOk};
+
+use anyhow::{Context, Result, bail, ensure};
+use rp_space::Half;
+use rp_syntax::{Command, Expr, Line, read_line};
+use std::alloc::{AllocError, Global};
+use std::io::{BufRead, BufReader, Read};
+
+/// The most half-spaces of a cell.
+const MOST_HALVES: usize = 64;
+
+/// The half-space of a line that reads `empty half A B C D`.
+fn half_of_line(alloc: Global, line: &[u8]) -> Result<Option<Half>, AllocError> {
+    let read = read_line(alloc, line)?;
+    match &read {
+        Line::Cmd(Command::Empty(Expr::Half(half))) => Ok(Some(*half)),
+        _ => Ok(None),
+    }
+}
+
+/// The half-spaces of an input, one a line. A line that has none and a half-space past the 64th are errors, which name
+/// the line.
+pub fn read_cell<R: Read + Drop>(alloc: Global, input: R) -> Result<Vec<Half>>
+    ensures { IfOk result (λ cell. length cell.items ≤ 64) }
+{
+    let mut cell = Vec::new(alloc);
+    for (i, line) in BufReader::new(alloc, input)?.lines(alloc).enumerate() {
+        let number = i + 1;
+        let line = line.context(format_args!("line {number}"))?;
+        let Some(half) = half_of_line(alloc, line.as_bytes())? else {
+            bail!("line {number} is not of the form: empty half A B C D")
+        };
+        ensure!(
+            cell.len() < MOST_HALVES,
+            "line {number}: more than {MOST_HALVES} half-spaces"
+        );
+        cell.push(half)?;
+    }
+    Ok(cell)
+}

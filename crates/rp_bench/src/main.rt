@@ -1,0 +1,44 @@
+//! Asks one search of one cell over and over, and prints what it found, so that `bench/run` can time a call.
+//!
+//! The words are a search and how often it is asked, as `inside 1000`. The cell comes on standard input, at most 64
+//! half-spaces, one a line, as in the question `empty half A B C D`. The output is what the search found, as `inside 4`
+//! for four points, `outside 3` or `apart 3` for three terms, or `none`, and then the sum of these numbers over all
+//! rounds, as `total 4000`. The sum uses what each round found. Other words and other lines end the program with
+//! status 1 and a message on standard error.
+#![tactic(auto)]
+
+mod cell;
+mod rounds;
+mod search;
+mod task;
+
+use anyhow::Result;
+use cell::read_cell;
+use rounds::{Tally, ask};
+use search::Search;
+use std::rt::Env;
+use std::{env, io};
+use task::read_task;
+
+/// The words behind the program's name.
+fn words_of(rt: &(impl Env + AllocGlobal)) -> io::Result<Vec<String>> {
+    let words = env::args(rt)?.skip(1).collect(rt.alloc())?;
+    Ok(words)
+}
+
+/// Prints what a search found.
+fn print_tally(rt: &impl Print, search: Search, tally: Tally) -> io::Result<()> {
+    match tally.last {
+        Some(size) => println!(rt; "{} {size}", search.word())?,
+        None => rt.println("none")?,
+    }
+    println!(rt; "total {}", tally.total)
+}
+
+fn main(rt: HostRuntime) -> Result<()> {
+    let alloc = rt.alloc();
+    let task = read_task(&words_of(&rt)?)?;
+    let cell = read_cell(alloc, rt.stdin())?;
+    print_tally(&rt, task.search, ask(&task, &cell))?;
+    Ok(())
+}

@@ -1,0 +1,57 @@
+//! The searches that can be asked.
+ghost use Rattle.std.specs.Prelude.{◌≡◌, ◌≤◌, length, IfSome};
+ghost use Rattle.rp_bench.specs.Found.{size_found, word_of};
+
+use rp_elim::first_outside;
+use rp_space::Half;
+use rp_vertex::first_inside;
+
+/// A search for a certificate of a cell.
+#[derive(Clone, Copy, Debug, PartialEq, Eq)]
+pub enum Search {
+    /// For points that show that the cell has a point.
+    Inside,
+    /// For multiples of half-spaces that show that it has none.
+    Outside,
+    /// For multiples of half-spaces that show that its weak system has no point.
+    Apart,
+}
+
+impl Search {
+    /// The search of a word.
+    pub fn of_word(word: &str) -> Option<Search>
+        ensures { IfSome result (λ search. word.now ≡ word_of search) }
+    {
+        match word {
+            "inside" => Some(Search::Inside),
+            "outside" => Some(Search::Outside),
+            "apart" => Some(Search::Apart),
+            _ => None,
+        }
+    }
+
+    /// The word of a search.
+    pub fn word(self) -> &'static str
+        ensures { result.now ≡ word_of self }
+    {
+        match self {
+            Search::Inside => "inside",
+            Search::Outside => "outside",
+            Search::Apart => "apart",
+        }
+    }
+
+    /// The number of points or terms that the search finds in a cell, which has at most 64 half-spaces. `None` where it
+    /// finds nothing.
+    pub fn size_found(self, cell: &[Half]) -> Option<usize>
+        requires { length cell.now ≤ 64 }
+        ensures size { result ≡ size_found self cell.now }
+        ensures few { IfSome result (λ size. size ≤ 4) }
+    {
+        match self {
+            Search::Inside => first_inside(cell).map(|points| points.items().len()),
+            Search::Outside => first_outside(cell, true).map(|terms| terms.items().len()),
+            Search::Apart => first_outside(cell, false).map(|terms| terms.items().len()),
+        }
+    }
+}

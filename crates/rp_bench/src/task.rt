@@ -1,0 +1,39 @@
+//! The words of the command line.
+ghost use Rattle.std.specs.Prelude.{◌<◌, IfOk};
+
+use crate::search::Search;
+use anyhow::{Context, Result, bail, ensure};
+
+/// What the words ask for.
+#[derive(Clone, Copy, Debug, PartialEq, Eq)]
+pub struct Task {
+    /// The search.
+    pub search: Search,
+    /// How often it is asked.
+    pub times: u32,
+}
+
+/// How often a search is asked: a number from 1 to 4294967295.
+fn read_times(word: &str) -> Result<u32>
+    ensures { IfOk result (λ times. 0 < times) }
+{
+    let times = word
+        .parse::<u32>()
+        .context(format_args!("how often: {word}"))?;
+    ensure!(times != 0, "how often: at least once");
+    Ok(times)
+}
+
+/// The task of the words behind the program's name: a search, and how often it is asked. Other words are an error.
+pub fn read_task(words: &[String]) -> Result<Task>
+    ensures { IfOk result (λ task. 0 < task.times) }
+{
+    let [search, times] = words else {
+        bail!("two words are wanted: inside, outside or apart, and how often")
+    };
+    let Some(search) = Search::of_word(search) else {
+        bail!("not a search: {search}; there are inside, outside and apart")
+    };
+    let times = read_times(times)?;
+    Ok(Task { search, times })
+}
