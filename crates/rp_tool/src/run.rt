@@ -14,13 +14,14 @@ use rp_report::write_answer;
 use std::alloc::Global;
 use std::thread::Threads;
 
-/// Puts the report lines of one line of the script. Answers whether one is a refusal.
+/// Puts the report lines of one line of the script, by way of a buffer for their text. Answers whether one is a refusal.
 fn run_line<R: Threads + Sync, K: Sink>(
     rt: &R,
     alloc: Global,
     machine: &mut Machine,
     number: u32,
     line: &[u8],
+    text: &mut Vec<u8>,
     sink: &mut K,
 ) -> Result<bool, OutputFault>
     ensures counts { K.faults sink.old ≤ K.faults sink.new }
@@ -30,9 +31,9 @@ fn run_line<R: Threads + Sync, K: Sink>(
     ensures cause { IfErr result (HasOutputCause (K.faults sink.old) (K.faults sink.new)) }
 {
     let answer = machine.step(rt, alloc, number, line)?;
-    let mut text = Vec::new(alloc);
-    write_answer(&answer, false, &mut text)?;
-    put_lines(sink, &text)?;
+    text.clear();
+    write_answer(&answer, false, text)?;
+    put_lines(sink, text)?;
     Ok(has_refusal(&answer))
 }
 
@@ -51,11 +52,12 @@ pub fn run<R: Threads + Sync, K: Sink>(
     ensures cause { IfErr result (HasOutputCause (K.faults sink.old) (K.faults sink.new)) }
 {
     let mut machine = Machine::new(alloc)?;
+    let mut text = Vec::new(alloc);
     let mut rest = script;
     let mut number = 1;
     let mut refused = false;
     while let Some((line, behind)) = next_line(rest) {
-        refused |= run_line(rt, alloc, &mut machine, number, line, sink)?;
+        refused |= run_line(rt, alloc, &mut machine, number, line, &mut text, sink)?;
         rest = behind;
         number += 1;
     }
