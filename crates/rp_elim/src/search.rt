@@ -177,7 +177,7 @@ fn first_four_with_two(strict: bool, e: &Half, f: &Half, gs: &[Half]) -> Option<
     None
 }
 
-/// The first refutation by three half-spaces and one of several. Where the normals of the three are dependent, the
+/// The first refutation by two half-spaces, a third one and one of several. Where the normals of the three are dependent, the
 /// multipliers of four are not determined up to a factor: a term can be dropped, so a smaller set would come first.
 fn first_four_with_three(strict: bool, ef: &Cross, g: &Half, hs: &[Half]) -> Option<Outside>
     ensures { result ≡ first_of (refutation_of_four strict ef.now.first ef.now.second g.now) hs.now }
