@@ -33,7 +33,7 @@ opposite_of_positive v e = let h = positive_is v e in is_negative_true (neg_ℤ 
 
 -- ---- the tests of four minors, of which the last one's sign is known
 -- they are not all positive where one of the others has not that sign
-not_all_positive : (s : Bool) (x y z w : ℤ) → has_sign s (neg_ℤ w) ≡ true → (has_sign s x && has_sign (not s) y && has_sign s z) ≡ false → (is_positive x && (is_positive (neg_ℤ y) && (is_positive z && (is_positive (neg_ℤ w) && true)))) ≡ true → ⊥
+not_all_positive : (s : Bool) (x y z w : ℤ) → has_sign s (neg_ℤ w) ≡ true → (has_sign s z && has_sign (not s) y && has_sign s x) ≡ false → (is_positive x && (is_positive (neg_ℤ y) && (is_positive z && (is_positive (neg_ℤ w) && true)))) ≡ true → ⊥
 not_all_positive true x y z w last n e =
     let yzw = is_positive (neg_ℤ y) && (is_positive z && (is_positive (neg_ℤ w) && true)) in
     let zw = is_positive z && (is_positive (neg_ℤ w) && true) in
@@ -42,7 +42,7 @@ not_all_positive true x y z w last n e =
     let py = and_first (is_positive (neg_ℤ y)) zw ey in
     let ez = and_second (is_positive (neg_ℤ y)) zw ey in
     let pz = and_first (is_positive z) (is_positive (neg_ℤ w) && true) ez in
-    false_not_true (is_positive x && is_negative y && is_positive z) (and_true (is_positive x && is_negative y) (is_positive z) (and_true (is_positive x) (is_negative y) px (below_zero y py)) pz) n
+    false_not_true (is_positive z && is_negative y && is_positive x) (and_true (is_positive z && is_negative y) (is_positive x) (and_true (is_positive z) (is_negative y) pz (below_zero y py)) px) n
 not_all_positive false x y z w last n e =
     let yzw = is_positive (neg_ℤ y) && (is_positive z && (is_positive (neg_ℤ w) && true)) in
     let zw = is_positive z && (is_positive (neg_ℤ w) && true) in
@@ -52,7 +52,7 @@ not_all_positive false x y z w last n e =
     not_two_signs (neg_ℤ w) (and_first (is_positive (neg_ℤ w)) true ew) last
 
 -- nor are their negatives
-not_all_negative : (s : Bool) (x y z w : ℤ) → has_sign s (neg_ℤ w) ≡ true → (has_sign s x && has_sign (not s) y && has_sign s z) ≡ false → (is_positive (neg_ℤ x) && (is_positive (neg_ℤ (neg_ℤ y)) && (is_positive (neg_ℤ z) && (is_positive (neg_ℤ (neg_ℤ w)) && true)))) ≡ true → ⊥
+not_all_negative : (s : Bool) (x y z w : ℤ) → has_sign s (neg_ℤ w) ≡ true → (has_sign s z && has_sign (not s) y && has_sign s x) ≡ false → (is_positive (neg_ℤ x) && (is_positive (neg_ℤ (neg_ℤ y)) && (is_positive (neg_ℤ z) && (is_positive (neg_ℤ (neg_ℤ w)) && true)))) ≡ true → ⊥
 not_all_negative true x y z w last n e =
     let yzw = is_positive (neg_ℤ (neg_ℤ y)) && (is_positive (neg_ℤ z) && (is_positive (neg_ℤ (neg_ℤ w)) && true)) in
     let zw = is_positive (neg_ℤ z) && (is_positive (neg_ℤ (neg_ℤ w)) && true) in
@@ -68,11 +68,11 @@ not_all_negative false x y z w last n e =
     let py = and_first (is_positive (neg_ℤ (neg_ℤ y))) zw ey in
     let ez = and_second (is_positive (neg_ℤ (neg_ℤ y))) zw ey in
     let pz = and_first (is_positive (neg_ℤ z)) (is_positive (neg_ℤ (neg_ℤ w)) && true) ez in
-    false_not_true (is_negative x && is_positive y && is_negative z)
-    (and_true (is_negative x && is_positive y) (is_negative z) (and_true (is_negative x) (is_positive y) (below_zero x px) (twice y py)) (below_zero z pz)) n
+    false_not_true (is_negative z && is_positive y && is_negative x)
+    (and_true (is_negative z && is_positive y) (is_negative x) (and_true (is_negative z) (is_positive y) (below_zero z pz) (twice y py)) (below_zero x px)) n
 
 -- four half-spaces do not refute where one of the first three minors has not the sign of the last one
-pub mixed_signs : (strict s : Bool) (e f g h : HalfSpace) → has_sign s (neg_ℤ (meeting_weight e f g)) ≡ true → (has_sign s (meeting_weight f g h) && has_sign (not s) (meeting_weight e g h) && has_sign s (meeting_weight e f h)) ≡ false → refutation_of_four strict e f g h ≡ None
+pub mixed_signs : (strict s : Bool) (e f g h : HalfSpace) → has_sign s (neg_ℤ (meeting_weight e f g)) ≡ true → (has_sign s (meeting_weight e f h) && has_sign (not s) (meeting_weight e g h) && has_sign s (meeting_weight f g h)) ≡ false → refutation_of_four strict e f g h ≡ None
 unfolding refutation_of_four
 mixed_signs strict s e f g h last n =
     let x = meeting_weight f g h in

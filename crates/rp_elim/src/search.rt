@@ -9,7 +9,7 @@ ghost use Rattle.rp_model.specs.Elimination.{refutation_of_one, refutation_of_tw
 use crate::couple::Couple;
 use crate::minors::minors_of_two;
 use crate::refutation::{positive_refutation, refutation};
-use crate::triple::Triple;
+use crate::triple::{Cross, Triple};
 use rp_space::{Half, Outside, Term, with_cube};
 
 /// The first outside certificate of a cell (Farkas, Motzkin): the first few of its half-spaces and the cube's six, by
@@ -168,20 +168,21 @@ fn first_four_with(strict: bool, e: &Half, fs: &[Half]) -> Option<Outside>
 fn first_four_with_two(strict: bool, e: &Half, f: &Half, gs: &[Half]) -> Option<Outside>
     ensures { result ≡ first_of_pairs (refutation_of_four strict e.now f.now) gs.now }
 {
+    let ef = Cross::new(e, f);
     for i in 0..gs.len() {
-        if let Some(terms) = first_four_with_three(strict, e, f, &gs[i], &gs[i + 1..]) {
+        if let Some(terms) = first_four_with_three(strict, &ef, &gs[i], &gs[i + 1..]) {
             return Some(terms);
         }
     }
     None
 }
 
-/// The first refutation by three half-spaces and one of several. Where the normals of the three are dependent, the
+/// The first refutation by two half-spaces, a third one and one of several. Where the normals of the three are dependent, the
 /// multipliers of four are not determined up to a factor: a term can be dropped, so a smaller set would come first.
-fn first_four_with_three(strict: bool, e: &Half, f: &Half, g: &Half, hs: &[Half]) -> Option<Outside>
-    ensures { result ≡ first_of (refutation_of_four strict e.now f.now g.now) hs.now }
+fn first_four_with_three(strict: bool, ef: &Cross, g: &Half, hs: &[Half]) -> Option<Outside>
+    ensures { result ≡ first_of (refutation_of_four strict ef.now.first ef.now.second g.now) hs.now }
 {
-    match Triple::new(e, f, g) {
+    match Triple::new(ef, g) {
         None => None,
         Some(triple) => first_four_with_triple(strict, &triple, hs),
     }

@@ -49,6 +49,19 @@ impl Cross {
         }
     }
 
+    /// The same cross product.
+    fn copy(&self) -> Cross
+        ensures { result ≡ self.now }
+    {
+        Cross {
+            first: self.first,
+            second: self.second,
+            bc: self.bc,
+            ac: self.ac,
+            ab: self.ab,
+        }
+    }
+
     /// The determinant of the coefficients of the two half-spaces and a third one.
     fn weight(&self, h: &Half) -> i128
         ensures value { result ≡ meeting_weight self.now.first self.now.second h.now }
@@ -105,20 +118,19 @@ impl Model for Triple {
 }
 
 impl Triple {
-    /// The triple of three half-spaces. `None` exactly where their normals are dependent.
-    pub fn new(e: &Half, f: &Half, g: &Half) -> Option<Triple>
-        ensures { MatchOption result (meeting_weight e.now f.now g.now ≡ pos 0) (λ t. t ≡ three_of e.now f.now g.now) }
+    /// The triple of two half-spaces and a third one. `None` exactly where their normals are dependent.
+    pub fn new(ef: &Cross, g: &Half) -> Option<Triple>
+        ensures { MatchOption result (meeting_weight ef.now.first ef.now.second g.now ≡ pos 0) (λ t. t ≡ three_of ef.now.first ef.now.second g.now) }
     {
-        let ef = Cross::new(e, f);
         match ef.opposite_sign(g) {
             None => None,
             Some(positive) => Some(Triple {
-                e: *e,
-                f: *f,
+                e: ef.first,
+                f: ef.second,
                 g: *g,
-                ef,
-                eg: Cross::new(e, g),
-                fg: Cross::new(f, g),
+                ef: ef.copy(),
+                eg: Cross::new(&ef.first, g),
+                fg: Cross::new(&ef.second, g),
                 positive,
             }),
         }
@@ -138,7 +150,7 @@ impl Triple {
 
 /// Whether the first three of the four minors have the sign of the last one.
 fn have_one_sign(positive: bool, ef: &Cross, eg: &Cross, fg: &Cross, h: &Half) -> bool
-    ensures { result ≡ (has_sign positive (meeting_weight fg.now.first fg.now.second h.now) && has_sign (not positive) (meeting_weight eg.now.first eg.now.second h.now) && has_sign positive (meeting_weight ef.now.first ef.now.second h.now)) }
+    ensures { result ≡ (has_sign positive (meeting_weight ef.now.first ef.now.second h.now) && has_sign (not positive) (meeting_weight eg.now.first eg.now.second h.now) && has_sign positive (meeting_weight fg.now.first fg.now.second h.now)) }
 {
-    fg.has_sign(positive, h) && eg.has_sign(!positive, h) && ef.has_sign(positive, h)
+    ef.has_sign(positive, h) && eg.has_sign(!positive, h) && fg.has_sign(positive, h)
 }

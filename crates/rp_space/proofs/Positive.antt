@@ -1,6 +1,6 @@
 -- A common point with a positive weight, and the same point in lowest terms.
 use Rattle.std.proofs.Common.{◌≡◌, true, false, refl}
-use Rattle.std.specs.Prelude.{Option, Some, None, option_map}
+use Rattle.std.specs.Prelude.{Some, None, option_map}
 use Rattle.rp_algebra.specs.Integer.{is_zero, is_positive}
 use Rattle.rp_model.specs.Geometry.{RationalPoint, reduced_point}
 use Rattle.rp_model.specs.Vertex.{negated_point, normal_point}

@@ -1,10 +1,9 @@
-use Rattle.std.proofs.Common.{◌≡◌, false, ℤ, pos, sym, ap, ◌∙◌, of_z, Some}
+use Rattle.std.proofs.Common.{◌≡◌, false, ℤ, pos, sym, ap, ◌∙◌, Some}
 use Rattle.std.specs.Prelude.{int_lt}
 use mir.Syntax.{w128}
-use Rattle.rp_algebra.specs.Integer.{is_zero, is_positive}
-use Rattle.rp_algebra.proofs.Tests.{is_zero_false}
+use Rattle.rp_algebra.specs.Integer.{is_positive}
 use Rattle.rp_algebra.proofs.Machine.{read_is}
-use Rattle.rp_model.specs.Geometry.{point_of, reduced_point}
+use Rattle.rp_model.specs.Geometry.{point_of}
 use Rattle.rp_space.proofs.Negative.{negated_coordinate, negated_weight}
 use Rattle.rp_space.proofs.meeting.positive.Goals as goal
 

@@ -13,7 +13,7 @@ returns-then-not-have_one_sign c =
     let h = c.args.h.now in
     let strict = c.args.strict in
     let same = c.have_one_sign.ensures
-    ∙ (λ i. has_sign p.positive (meeting_weight (m.fg i).first (m.fg i).second h) && has_sign (not p.positive) (meeting_weight (m.eg i).first (m.eg i).second h) && has_sign p.positive (meeting_weight (m.ef i).first (m.ef i).second h)) in
+    ∙ (λ i. has_sign p.positive (meeting_weight (m.ef i).first (m.ef i).second h) && has_sign (not p.positive) (meeting_weight (m.eg i).first (m.eg i).second h) && has_sign p.positive (meeting_weight (m.fg i).first (m.fg i).second h)) in
     sym (mixed_signs strict p.positive p.e p.f p.g h m.last (sym same ∙ c.if-not-have_one_sign.true))
     ∙ (λ i. refutation_of_four strict (c.self.view_is i).first (c.self.view_is i).second (c.self.view_is i).third h)
 
