@@ -82,10 +82,6 @@ mul_pos_ℤ (pos (suc a)) (pos (suc b)) h k = omega (arith, ints)
 mul_pos_ℤ (pos (suc a)) (negsuc b) h k = absurd (omega (arith, ints))
 mul_pos_ℤ (negsuc a) b h k = absurd (omega (arith, ints))
 
--- a difference stands for an order
-pub sub_nonneg_ℤ : (a b : ℤ) → pos 0 ≤ℤ (b -ℤ a) → a ≤ℤ b
-sub_nonneg_ℤ a b h = omega (arith, ints)
-
 -- an order is a difference that is not negative
 pub le_sub_ℤ : (a b : ℤ) → a ≤ℤ b → pos 0 ≤ℤ (b -ℤ a)
 le_sub_ℤ a b h = omega (arith, ints)
@@ -134,10 +130,6 @@ abs_mul a b = unsigned_abs-mul a b
 -- the size of a sum is at most the sum of the sizes
 pub abs_add : (a b : ℤ) → nat_abs (a +ℤ b) ≤ nat_abs a + nat_abs b
 abs_add a b = omega (arith, ints)
-
--- the size of a difference is at most the sum of the sizes
-pub abs_sub : (a b : ℤ) → nat_abs (a -ℤ b) ≤ nat_abs a + nat_abs b
-abs_sub a b = omega (arith, ints)
 
 -- bounds of the sizes multiply
 pub abs_mul_le : (a b : ℤ) (m n : ℕ) → nat_abs a ≤ m → nat_abs b ≤ n → nat_abs (a *ℤ b) ≤ m * n

@@ -9,7 +9,7 @@ use Rattle.std.proofs.lemmas.Int.{ints, quot-rem}
 use Rattle.std.proofs.lemmas.Nat.Gcd.{dvd_antisymm, mod-eq-zero_of_dvd}
 use Rattle.rp_algebra.specs.Integer.{gcd_of, reduced_by}
 use Rattle.rp_algebra.specs.Within.{IsWithin}
-use Rattle.rp_algebra.proofs.IntLaws.{linear, one_mul_ℤ, mul_comm_ℤ, abs_mul, cancel_mul_left_ℤ, mul_pos_ℤ, pos_of_mul_pos_ℤ, nat_nonneg_ℤ}
+use Rattle.rp_algebra.proofs.IntLaws.{linear, one_mul_ℤ, mul_comm_ℤ, abs_mul, mul_pos_ℤ, pos_of_mul_pos_ℤ, nat_nonneg_ℤ}
 use Rattle.rp_algebra.proofs.Reify.{eq_by_multiple, zeros, reify}
 use Rattle.rp_algebra.proofs.Divisors.{DividesAll, gcd_of-divides, gcd_of-greatest, gcd_of-times}
 
@@ -59,10 +59,6 @@ zero_from_quotient g v d e = sym (exact_quotient g v d) ∙ ap (λ (q : ℤ). po
 -- a number above 0 has a quotient above 0
 pub quotient_positive : (g : ℕ) (v : ℤ) → g ∣ nat_abs v → pos 0 <ℤ v → pos 0 <ℤ reduced_by g v
 quotient_positive g v d p = pos_of_mul_pos_ℤ (pos g) (reduced_by g v) (nat_nonneg_ℤ g) (subst (λ (x : ℤ). pos 0 <ℤ x) (sym (exact_quotient g v d)) p)
-
--- the quotient is the only number whose multiple by the divisor is the number
-pub quotient_is : (g : ℕ) (v q : ℤ) → 0 < g → pos g *ℤ q ≡ v → g ∣ nat_abs v → reduced_by g v ≡ q
-quotient_is g v q p e d = cancel_mul_left_ℤ (pos g) (reduced_by g v) q (omega (arith, ints, p)) (exact_quotient g v d ∙ sym e)
 
 -- a factor of a number that is not 0 is not 0
 pub not_by_zero : (a g w : ℤ) → a *ℤ g ≡ w → pos 0 <ℤ w → g ≡ pos 0 → ⊥
@@ -122,11 +118,6 @@ lowest-gcd vs p =
 pub lowest-twice : (vs : List ℤ) → 0 < gcd_of vs → quotients (gcd_of (quotients (gcd_of vs) vs)) (quotients (gcd_of vs) vs) ≡ quotients (gcd_of vs) vs
 lowest-twice vs p = ap (λ g. quotients g (quotients (gcd_of vs) vs)) (lowest-gcd vs p) ∙ quotients_by_one (quotients (gcd_of vs) vs)
 
--- four numbers in lowest terms have no common divisor but 1
-pub lowest_four-gcd : (g : ℕ) (a b c d : ℤ) → g ≡ gcd_of (a ∷ b ∷ c ∷ d ∷ []) → 0 < g → gcd_of (reduced_by g a ∷ reduced_by g b ∷ reduced_by g c ∷ reduced_by g d ∷ []) ≡ 1
-lowest_four-gcd g a b c d e p =
-    subst (λ (n : ℕ). 0 < n → gcd_of (quotients n (a ∷ b ∷ c ∷ d ∷ [])) ≡ 1) (sym e) (lowest-gcd (a ∷ b ∷ c ∷ d ∷ [])) p
-
 -- equal lists of four have equal numbers
 pub same_four : (a b c d e f g h : ℤ) → a ∷ b ∷ c ∷ d ∷ [] ≡ e ∷ f ∷ g ∷ h ∷ [] → (a ≡ e) × (b ≡ f) × (c ≡ g) × (d ≡ h)
 same_four a b c d e f g h s = ((cc), (cc), (cc), (cc))
@@ -134,10 +125,6 @@ same_four a b c d e f g h s = ((cc), (cc), (cc), (cc))
 -- numbers with the greatest common divisor 1 have no common divisor but 1
 pub one_from_lowest : (d : ℕ) (vs : List ℤ) → gcd_of vs ≡ 1 → DividesAll d vs → d ≡ 1
 one_from_lowest d vs e h = eq-one_of_dvd-one (subst (λ (n : ℕ). d ∣ n) e (gcd_of-greatest d vs h))
-
--- numbers with no common divisor but 1 have the greatest common divisor 1
-pub lowest_from_one : (vs : List ℤ) → ((d : ℕ) → DividesAll d vs → d ≡ 1) → gcd_of vs ≡ 1
-lowest_from_one vs h = h (gcd_of vs) (gcd_of-divides vs)
 
 -- ---- one ratio, one form in lowest terms
 

@@ -1,14 +1,12 @@
 -- Arithmetic of signed machine integers: what a term of the code is, and that no step of it overflows, by bounds that are computed.
 -- A proof finds the term's shape by `search code`, and the rest is a computation: `tt`.
-use Rattle.std.proofs.Common.{◌≡◌, List, ℕ, ◌+◌, ◌*◌, ◌^◌, ◌≤◌, ◌<◌, ℤ, pos, negsuc, neg_ℤ, ◌+ℤ◌, ◌*ℤ◌, unsigned_abs, Bool, true, false, ◌&&◌, refl, sym, ap, ◌∙◌, arith, T, ltb, leb, ltb→lt, leb→le, FitsSigned, to_z, of_z, le_trans, le_of_lt, lt_of_lt_of_le, lt_of_le_of_lt, Fits}
+use Rattle.std.proofs.Common.{◌≡◌, ℕ, ◌+◌, ◌*◌, ◌^◌, ◌≤◌, ◌<◌, ℤ, pos, negsuc, neg_ℤ, ◌+ℤ◌, ◌*ℤ◌, unsigned_abs, Bool, true, false, ◌&&◌, refl, ap, ◌∙◌, arith, T, ltb, leb, ltb→lt, leb→le, FitsSigned, to_z, of_z, le_trans, le_of_lt, lt_of_lt_of_le, lt_of_le_of_lt, Fits}
 use Rattle.std.specs.Prelude.{int_div}
 use Rattle.std.proofs.lemmas.Int.{ints, fits_signed_from_abs, to_z-of_z, to_z_pos, quot_fits}
 use mir.Syntax.{Width}
 use mir.Val.{bits, hbits}
 use Rattle.rp_algebra.specs.Integer.{reduced_by}
 use Rattle.rp_algebra.specs.Within.{IsWithin}
-use Rattle.rp_algebra.proofs.Ring.{same_norm}
-use Rattle.rp_algebra.proofs.Reify.{Is, expr, by_ring_at}
 use Rattle.rp_algebra.proofs.IntLaws.{abs_mul_le, abs_add_le}
 
 -- how the code makes the number t. The bounds are those of facts in scope
@@ -137,14 +135,6 @@ pub within_by : {t : ℤ} {n : ℕ} (a : Code t) → T (fits a && leb (bound a) 
 within_by {n = n} a s = record {
   abs_le = rw (is-value a (left (fits a) (leb (bound a) n) s)) (le_trans (value-within a) (leb→le (bound a) n (right (fits a) (leb (bound a) n) s)));
 }
-
--- t is a polynomial that the contract writes otherwise
-pub is_by_ring : (r : List ℤ) {t y : ℤ} (a : Code t) → T (fits a) → (w : Is r (value a) × Is r y) → T (same_norm (expr w.0) (expr w.1)) → t ≡ y
-is_by_ring r a s w e = is-value a s ∙ by_ring_at r w e
-
--- both sides are terms of the code
-pub same_by_ring : (r : List ℤ) {t u : ℤ} (a : Code t) (b : Code u) → T (fits a && fits b) → (w : Is r (value a) × Is r (value b)) → T (same_norm (expr w.0) (expr w.1)) → t ≡ u
-same_by_ring r a b s w e = is-value a (left (fits a) (fits b) s) ∙ by_ring_at r w e ∙ sym (is-value b (right (fits a) (fits b) s))
 
 -- a number that is passed or returned, as a callee's clauses have it: for `rw (read_is w128 c.f-x.ensures.small tt) at c.g.ensures`
 pub read_is : (w : Width) {x : ℤ} {m : ℕ} → IsWithin m x → T (ltb m (2 ^ hbits w)) → to_z w (of_z w x) ≡ x

@@ -44,10 +44,6 @@ nonnegative_is v e = grind (arith, ints)
 pub is_nonnegative_true : (v : ℤ) → pos 0 ≤ℤ v → is_nonnegative v ≡ true
 is_nonnegative_true v h = grind (arith, ints)
 
--- a number that fails the test is below 0
-pub not_nonnegative_is : (v : ℤ) → is_nonnegative v ≡ false → v <ℤ pos 0
-not_nonnegative_is v e = grind (arith, ints)
-
 -- ---- below 0
 
 -- a number that passes the test is below 0
