@@ -1,5 +1,5 @@
 -- The items of a list, tests that all of them pass, and facts that are true of all of them.
-use Rattle.std.proofs.Common.{◌≡◌, ℕ, zero, suc, Bool, true, List, [], ◌∷◌, ◌++◌, ◌⊎◌, inl, inr, ⊎_elim, refl, subst}
+use Rattle.std.proofs.Common.{◌≡◌, ℕ, zero, suc, Bool, true, List, [], ◌∷◌, ◌++◌, ◌⊎◌, inl, inr, ⊎_elim, refl}
 use Rattle.std.specs.Prelude.{Some, slice_get}
 use Rattle.std.specs.List.{list_all, AllByRecursion}
 use Rattle.rp_algebra.proofs.Tests.{and_first, and_second, and_true}
@@ -43,22 +43,11 @@ all_of P [] h x l = elim l [ ]
 all_of P (y ∷ xs) h x first = h.0
 all_of P (y ∷ xs) h x (later l) = all_of P xs h.1 x l
 
--- what is true of each item is true of all
-pub of_all : {A : Type 0} (P : A → Type 0) (xs : List A) → ((x : A) → Listed x xs → P x) → AllByRecursion P xs
-of_all P [] h = tt
-of_all P (y ∷ xs) h = (h y first, of_all P xs (λ x l. h x (later l)))
-
 -- an item of two lists put together stands in one of them
 pub listed_cases : {A : Type 0} (x : A) (xs ys : List A) → Listed x (xs ++ ys) → Listed x xs ⊎ Listed x ys
 listed_cases x [] ys l = inr l
 listed_cases x (y ∷ xs) ys first = inl first
 listed_cases x (y ∷ xs) ys (later l) = ⊎_elim (λ k. inl (later k)) inr (listed_cases x xs ys l)
-
--- what stands at a place is listed
-pub listed_at : {A : Type 0} (x : A) (xs : List A) (i : ℕ) → slice_get xs i ≡ Some x → Listed x xs
-listed_at x [] i e = absurd (cc)
-listed_at x (y ∷ xs) zero e = let same : y ≡ x = cc in subst (λ z. Listed z (y ∷ xs)) same first
-listed_at x (y ∷ xs) (suc i) e = later (listed_at x xs i e)
 
 -- what is true of all items of two lists is true of all of both together
 pub all_append : {A : Type 0} (P : A → Type 0) (xs ys : List A) → AllByRecursion P xs → AllByRecursion P ys → AllByRecursion P (xs ++ ys)

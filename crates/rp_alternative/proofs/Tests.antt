@@ -2,11 +2,12 @@
 use Rattle.std.proofs.Common.{◌≡◌, ℤ, pos, ◌<ℤ◌, true, false, List, [], ◌∷◌, ⊎_elim, refl, sym, subst, arith}
 use Rattle.std.specs.List.{AllByRecursion}
 use Rattle.std.proofs.lemmas.Int.{ints}
+use Rattle.std.proofs.lemmas.Bool.{or_cases, or_left, or_right}
 use Rattle.std.proofs.lemmas.Bool.Decides.{Decides-int_eq}
 use Rattle.rp_algebra.specs.Integer.{int_eq, is_zero}
 use Rattle.rp_model.specs.Geometry.{HalfSpace, half_space_eq, is_listed}
 use Rattle.rp_model.specs.Certificate.{Multiple, weighted_sum, is_multiplier, is_balanced}
-use Rattle.rp_algebra.proofs.Tests.{and_true, and_first, and_second, or_cases, or_first, or_second, at_most_is, at_most_true, zero_is, is_zero_true, false_not_true}
+use Rattle.rp_algebra.proofs.Tests.{and_true, and_first, and_second, at_most_is, at_most_true, zero_is, is_zero_true, false_not_true}
 use Rattle.rp_algebra.proofs.Listed.{all_map}
 use Rattle.rp_algebra.specs.Within.{IsWithin}
 use Rattle.rp_alternative.proofs.Combination.{Among, none, skip, take, greatest_minor}
@@ -75,10 +76,10 @@ listed-to P h (k ∷ hs) e all =
 
 -- what is listed is listed in a list with one more
 listed_more : (k : HalfSpace) (hs : List HalfSpace) (ks : List HalfSpace) → AllByRecursion (λ h. is_listed h hs ≡ true) ks → AllByRecursion (λ h. is_listed h (k ∷ hs) ≡ true) ks
-listed_more k hs ks all = all_map (λ h. is_listed h hs ≡ true) (λ h. is_listed h (k ∷ hs) ≡ true) (λ h e. or_second (half_space_eq h k) (is_listed h hs) e) ks all
+listed_more k hs ks all = all_map (λ h. is_listed h hs ≡ true) (λ h. is_listed h (k ∷ hs) ≡ true) (λ h e. or_right (half_space_eq h k) (is_listed h hs) e) ks all
 
 -- the half-spaces of a sublist are listed
 pub listed-from : {ks hs : List HalfSpace} → Among ks hs → AllByRecursion (λ h. is_listed h hs ≡ true) ks
 listed-from none = tt
 listed-from (skip {h} {hs} {ks} m) = listed_more h hs ks (listed-from m)
-listed-from (take {h} {hs} {ks} m) = (or_first (half_space_eq h h) (is_listed h hs) (half_space_eq-same h), listed_more h hs ks (listed-from m))
+listed-from (take {h} {hs} {ks} m) = (or_left (half_space_eq h h) (is_listed h hs) (half_space_eq-same h), listed_more h hs ks (listed-from m))

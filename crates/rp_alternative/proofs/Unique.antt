@@ -2,7 +2,7 @@
 use Rattle.std.proofs.Common.{◌≡◌, ℕ, ◌*◌, ℤ, pos, negsuc, ◌-ℤ◌, ◌*ℤ◌, ◌<ℤ◌, nat_abs, List, [], ◌∷◌, length, ◌⊎◌, inl, inr, ⊎_elim, refl, sym, ap, ◌∙◌, subst, arith}
 use Rattle.std.specs.Int.{◌∣◌}
 use Rattle.std.specs.List.{AllByRecursion}
-use Rattle.std.proofs.Math.Nat.{dvd-mul_right}
+use Rattle.std.proofs.Math.Nat.{dvd-mul_right, mul-one}
 use Rattle.std.proofs.lemmas.Int.{ints}
 use Rattle.std.proofs.lemmas.Nat.Gcd.{dvd_antisymm}
 use Rattle.rp_algebra.specs.Integer.{gcd_of}
@@ -13,10 +13,11 @@ use Rattle.rp_algebra.proofs.IntLaws.{linear, cancel_mul_left_ℤ, abs_mul}
 use Rattle.rp_alternative.proofs.Combination.{Among}
 use Rattle.rp_alternative.proofs.Dropped.{HasZero}
 use Rattle.rp_alternative.proofs.Leaning.{Leaning, kept, leaned, cut, weighted_sum-cut, KeepsPositive, LeansDown, Cut, tightest}
-use Rattle.rp_alternative.proofs.Settle.{Related, Outcome, shorter, up, down, settle, Shorter, LeansAllUp, LeansAllDown, cut_zero}
+use Rattle.rp_alternative.proofs.Settle.{Related, Outcome, shorter, up, down, settle, Shorter, LeansAllUp, LeansAllDown}
 use Rattle.rp_algebra.proofs.Divisors.{gcd_of-divides, gcd_of-times}
 use Rattle.rp_algebra.proofs.LowestTerms.{AreMultiples, multiples_from_divides}
-use Rattle.rp_algebra.proofs.Numbers.{zero_or_not}
+use Rattle.rp_algebra.proofs.Numbers.{zero_difference, zero_or_not}
+use Rattle.rp_algebra.proofs.Ring.{from_difference}
 
 -- ---- the lowest terms
 -- the factors have no common divisor but 1
@@ -53,16 +54,12 @@ kept_times : (s k : ℕ) (es : List Leaning) → IsProportional (pos s) (pos k) 
 kept_times s k [] h = tt
 kept_times s k (e ∷ es) h = (times_divided k s e.lean e.keep (sym h.0), kept_times s k es h.1)
 
--- once is itself
-times_one : (k : ℕ) → k * 1 ≡ k
-times_one k = omega arith
-
 -- in lowest terms the two factors are equal
 same_multiple : (s k : ℕ) (es : List Leaning) → IsProportional (pos s) (pos k) es → gcd_of (factors_of (kept es)) ≡ 1 → gcd_of (factors_of (leaned es)) ≡ 1 → s ≡ k
 same_multiple s k es h e f =
     dvd_antisymm
-    (subst (λ x. s ∣ x) (ap (λ g. k * g) f ∙ times_one k) (gcd_of-times s k (factors_of (leaned es)) (leaned_times s k es h)))
-    (subst (λ x. k ∣ x) (ap (λ g. s * g) e ∙ times_one s) (gcd_of-times k s (factors_of (kept es)) (kept_times s k es h)))
+    (subst (λ x. s ∣ x) (ap (λ g. k * g) f ∙ mul-one k) (gcd_of-times s k (factors_of (leaned es)) (leaned_times s k es h)))
+    (subst (λ x. k ∣ x) (ap (λ g. s * g) e ∙ mul-one s) (gcd_of-times k s (factors_of (kept es)) (kept_times s k es h)))
 
 -- so the terms are
 same_terms : (s : ℕ) (es : List Leaning) → pos 0 <ℤ pos s → IsProportional (pos s) (pos s) es → kept es ≡ leaned es
@@ -107,9 +104,6 @@ all_zero_or_not (e ∷ es) = ⊎_elim (λ z. ⊎_elim (λ r. inl (z, r)) (λ n. 
 proportional_from : (s k : ℤ) (es : List Leaning) → AllByRecursion (λ e. e.lean ≡ pos 0) (beside_cut s k es) → IsProportional s k es
 proportional_from s k [] h = tt
 proportional_from s k (e ∷ es) h = (let z = h.0 in from_difference (s *ℤ e.keep) (k *ℤ e.lean) z, proportional_from s k es h.1)
-  where
-    from_difference : (x y : ℤ) → x -ℤ y ≡ pos 0 → x ≡ y
-    from_difference x y z = omega (arith, linear, z)
 
 -- what is left is not all above 0
 not_up : (s k : ℤ) (es : List Leaning) → HasZero (cut s k es) → LeansAllUp (beside_cut s k es) → ⊥
@@ -149,9 +143,9 @@ module _ (offset : HalfSpace → ℤ) (hs : List HalfSpace) where
         kept_b = subst (λ ts. weighted_sum (λ h. h.b) ts ≡ pos 0) same t.kept_b;
         kept_c = subst (λ ts. weighted_sum (λ h. h.c) ts ≡ pos 0) same t.kept_c;
         negative = subst (λ ts. weighted_sum offset ts <ℤ pos 0) same t.negative;
-        leaned_a = ap (λ ts. weighted_sum (λ h. h.a) ts) (leaned-beside s k t.es) ∙ weighted_sum-cut s k (λ h. h.a) t.es ∙ cut_zero s k _ _ t.kept_a t.leaned_a;
-        leaned_b = ap (λ ts. weighted_sum (λ h. h.b) ts) (leaned-beside s k t.es) ∙ weighted_sum-cut s k (λ h. h.b) t.es ∙ cut_zero s k _ _ t.kept_b t.leaned_b;
-        leaned_c = ap (λ ts. weighted_sum (λ h. h.c) ts) (leaned-beside s k t.es) ∙ weighted_sum-cut s k (λ h. h.c) t.es ∙ cut_zero s k _ _ t.kept_c t.leaned_c;
+        leaned_a = ap (λ ts. weighted_sum (λ h. h.a) ts) (leaned-beside s k t.es) ∙ weighted_sum-cut s k (λ h. h.a) t.es ∙ zero_difference s k _ _ t.kept_a t.leaned_a;
+        leaned_b = ap (λ ts. weighted_sum (λ h. h.b) ts) (leaned-beside s k t.es) ∙ weighted_sum-cut s k (λ h. h.b) t.es ∙ zero_difference s k _ _ t.kept_b t.leaned_b;
+        leaned_c = ap (λ ts. weighted_sum (λ h. h.c) ts) (leaned-beside s k t.es) ∙ weighted_sum-cut s k (λ h. h.c) t.es ∙ zero_difference s k _ _ t.kept_c t.leaned_c;
         some = n;
       }
 

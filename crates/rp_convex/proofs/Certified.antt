@@ -1,6 +1,7 @@
 -- An inside certificate shows a member: the sum of its points is strictly inside.
 use Rattle.std.proofs.Common.{◌≡◌, ℤ, pos, negsuc, ◌+ℤ◌, ◌*ℤ◌, ◌≤ℤ◌, ◌<ℤ◌, ⊎_elim, true, ◌&&◌, List, [], ◌∷◌, length, refl, sym, ◌∙◌, arith}
 use Rattle.std.specs.List.{list_all}
+use Rattle.std.proofs.lemmas.Bool.{or_cases}
 use Rattle.rp_algebra.proofs.IntLaws.{linear, signs, pos_of_mul_pos_ℤ}
 use Rattle.rp_algebra.proofs.Reify.{by_ring_at, reify}
 use Rattle.rp_algebra.specs.Integer.{is_positive, is_nonnegative}
@@ -10,7 +11,7 @@ use Rattle.rp_model.specs.Sets.{IsNonempty}
 use Rattle.rp_model.specs.Certificate.{is_inside_certificate, is_nonnegative_at_all, is_positive_at_some, is_one_to_four}
 use Rattle.rp_model.specs.CellLaws.{InsideCertificateShowsMember, StrictSolutionIsMember}
 use Rattle.rp_algebra.proofs.Numbers.{nat_positive, nonneg_of_zero}
-use Rattle.rp_algebra.proofs.Tests.{positive_is, is_positive_true, nonnegative_is, and_first, and_second, and_true, or_cases}
+use Rattle.rp_algebra.proofs.Tests.{positive_is, is_positive_true, nonnegative_is, and_first, and_second, and_true}
 use Rattle.rp_algebra.proofs.Listed.{Listed, first, later, all_pass, pass_all, listed_left, listed_right}
 use Rattle.rp_convex.proofs.Cube.{cube_half_spaces_hold_cube_spec}
 

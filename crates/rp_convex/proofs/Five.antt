@@ -1,10 +1,10 @@
 -- No five points: where each later point is positive on a half-space that is 0 at all earlier ones, there are at most four.
 use Rattle.std.proofs.Common.{◌≡◌, ◌≤◌, ℤ, pos, ◌+ℤ◌, ◌-ℤ◌, ◌*ℤ◌, ◌<ℤ◌, List, [], ◌∷◌, length, sym, ◌∙◌, subst, arith}
-use Rattle.rp_algebra.proofs.IntLaws.{linear, signs, cancel_mul_ne_ℤ}
+use Rattle.rp_algebra.proofs.IntLaws.{linear, signs, cancel_mul_ne_right_ℤ}
 use Rattle.rp_algebra.proofs.Reify.{by_ring_at, reify}
 use Rattle.rp_model.specs.Geometry.{RationalPoint, HalfSpace, IsPoint, side_value}
 use Rattle.rp_model.specs.Vertex.{det3, meeting_weight}
-use Rattle.rp_algebra.proofs.Numbers.{zero_three, above_not_zero}
+use Rattle.rp_algebra.proofs.Numbers.{zero_three, zero_difference, above_not_zero}
 use Rattle.rp_algebra.proofs.Listed.{Listed, first, later}
 use Rattle.rp_convex.proofs.Move.{Direction, along}
 
@@ -35,15 +35,11 @@ positive_product a e i ha he hi = search signs
 zero_product : (m k : ℤ) → k ≡ pos 0 → m *ℤ k ≡ pos 0
 zero_product m k e = rw e (by_ring_at (m ∷ []) (search reify depth 40 fits 100000) tt)
 
--- a factor of 0 is 0 where the other is not
-swapped_zero : (t v : ℤ) → (v ≡ pos 0 → ⊥) → t *ℤ v ≡ pos 0 → t ≡ pos 0
-swapped_zero t v n e = cancel_mul_ne_ℤ v t n (by_ring_at (t ∷ v ∷ []) (search reify depth 40 fits 100000) tt ∙ e)
-
 -- no four directions with four half-spaces, each of which rises along its own and is level along the earlier ones
 no_four : (f g h k : HalfSpace) (u v t s : Direction) → pos 0 <ℤ along f u → along g u ≡ pos 0 → pos 0 <ℤ along g v
     → along h u ≡ pos 0 → along h v ≡ pos 0 → pos 0 <ℤ along h t → along k u ≡ pos 0 → along k v ≡ pos 0 → along k t ≡ pos 0 → pos 0 <ℤ along k s → ⊥
 no_four f g h k u v t s fu gu gv hu hv ht ku kv kt ks =
-    let flat = swapped_zero (turn u v t) (along k s) (above_not_zero (along k s) ks)
+    let flat = cancel_mul_ne_right_ℤ (along k s) (turn u v t) (above_not_zero (along k s) ks)
     (combined k u v t s ∙ zero_three (along k u) (along k v) (along k t) (turn s v t) (turn u s t) (turn u v s) ku kv kt) in
     above_not_zero (along f u *ℤ along g v *ℤ along h t) (positive_product (along f u) (along g v) (along h t) fu gv ht)
     (sym (triangle (along f u) (along g u) (along h u) (along f v) (along g v) (along h v) (along f t) (along g t) (along h t) gu hu hv)
@@ -57,10 +53,6 @@ toward p q = record { x = p.w *ℤ q.x -ℤ q.w *ℤ p.x; y = p.w *ℤ q.y -ℤ 
 along_toward : (h : HalfSpace) (p q : RationalPoint) → along h (toward p q) ≡ p.w *ℤ side_value h q -ℤ q.w *ℤ side_value h p
 along_toward h p q = by_ring_at (h.a ∷ h.b ∷ h.c ∷ h.d ∷ p.x ∷ p.y ∷ p.z ∷ p.w ∷ q.x ∷ q.y ∷ q.z ∷ q.w ∷ []) (search reify depth 40 fits 100000) tt
 
--- a difference of multiples of 0 is 0
-level_of : (w s v u : ℤ) → s ≡ pos 0 → u ≡ pos 0 → w *ℤ s -ℤ v *ℤ u ≡ pos 0
-level_of w s v u es eu = rw (es, eu) (by_ring_at (w ∷ v ∷ []) (search reify depth 40 fits 100000) tt)
-
 -- a positive multiple less a multiple of 0 is positive
 rising_of : (w s v u : ℤ) → pos 0 <ℤ w → pos 0 <ℤ s → u ≡ pos 0 → pos 0 <ℤ (w *ℤ s -ℤ v *ℤ u)
 rising_of w s v u hw hs eu =
@@ -70,7 +62,7 @@ rising_of w s v u hw hs eu =
 
 -- a half-space that is 0 at both points does not change between them
 level : (h : HalfSpace) (p q : RationalPoint) → side_value h p ≡ pos 0 → side_value h q ≡ pos 0 → along h (toward p q) ≡ pos 0
-level h p q e k = along_toward h p q ∙ level_of p.w (side_value h q) q.w (side_value h p) k e
+level h p q e k = along_toward h p q ∙ zero_difference p.w q.w (side_value h q) (side_value h p) k e
 
 -- a half-space that is 0 at the first and positive at the second rises between them
 rising : (h : HalfSpace) (p q : RationalPoint) → IsPoint p → side_value h p ≡ pos 0 → pos 0 <ℤ side_value h q → pos 0 <ℤ along h (toward p q)

@@ -1,11 +1,12 @@
 -- From a member of a cell to a point at which every half-space of its list is positive.
 use Rattle.std.proofs.Common.{◌≡◌, ℤ, pos, ◌+ℤ◌, ◌*ℤ◌, ◌≤ℤ◌, ◌<ℤ◌, true, ◌&&◌, ◌⊎◌, inl, inr, ⊎_elim, List, [], ◌∷◌, sym, ◌∙◌, subst}
+use Rattle.std.proofs.lemmas.Bool.{or_cases}
 use Rattle.rp_algebra.specs.Integer.{is_zero, is_positive}
 use Rattle.rp_model.specs.Geometry.{RationalPoint, HalfSpace, IsPoint, IsHalfSpace, point_of, half_edge, cube_bound, side_value, owns_boundary, holds, with_cube, cube_half_spaces, is_cube_point}
 use Rattle.rp_model.specs.Shape.{passes, shape_of_cell, IsMember}
 use Rattle.rp_model.specs.CellLaws.{AreHalfSpaces, MemberMovesInside}
 use Rattle.rp_algebra.proofs.IntLaws.{nat_nonneg_ℤ}
-use Rattle.rp_algebra.proofs.Tests.{positive_is, is_positive_true, zero_is, and_first, and_second, or_cases}
+use Rattle.rp_algebra.proofs.Tests.{positive_is, is_positive_true, zero_is, and_first, and_second}
 use Rattle.rp_algebra.proofs.Listed.{Listed, first, later, all_pass, pass_all, all_of, listed_cases}
 use Rattle.rp_convex.proofs.Room.{refinement, gain, side_moved, refinement_positive, cube_positive, stays_positive, gain_first, gain_second, gain_third, leaves_zero, above_bound, further_x, further_y, further_z}
 use Rattle.rp_model.proofs.Bounds.{with_cube_bounds}

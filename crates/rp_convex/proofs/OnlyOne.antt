@@ -7,7 +7,7 @@ use Rattle.rp_algebra.specs.Integer.{is_positive}
 use Rattle.rp_model.specs.Geometry.{RationalPoint, HalfSpace, IsPoint, SamePlace, point_of, side_value, reduced_point}
 use Rattle.rp_model.specs.Vertex.{meeting_weight, cramer_point, negated_point, meeting_point}
 use Rattle.rp_model.specs.CellLaws.{MeetsOnlyAt, MeetingPointIsTheOnlyOne}
-use Rattle.rp_algebra.proofs.Numbers.{zero_or_not, neg_not_zero, one_not_zero}
+use Rattle.rp_algebra.proofs.Numbers.{zero_or_not, neg_not_zero, one_not_zero, zero_three}
 use Rattle.rp_algebra.proofs.Tests.{is_zero_true}
 use Rattle.rp_convex.proofs.Move.{Direction, along, IsMoving, by_x, by_y, by_z}
 use Rattle.rp_convex.proofs.Corner.{in_plane, in_plane_flat, along_line, line_in_first, line_in_second, line_change}
@@ -90,10 +90,7 @@ still_back f g s = record { x = reverse_zero f.b g.c f.c g.b s.x; y = reverse_ze
 
 -- a half-space with no normal does not change along any direction
 still_along : (h : HalfSpace) (d : Direction) → IsStill (normal h) → along h d ≡ pos 0
-still_along h d s = zero_of h.a h.b h.c d.x d.y d.z s.x s.y s.z
-  where
-    zero_of : (a b c x y z : ℤ) → a ≡ pos 0 → b ≡ pos 0 → c ≡ pos 0 → a *ℤ x +ℤ b *ℤ y +ℤ c *ℤ z ≡ pos 0
-    zero_of a b c x y z ea eb ec = rw (ea, eb, ec) (by_ring_at (x ∷ y ∷ z ∷ []) (search reify depth 40 fits 100000) tt)
+still_along h d s = zero_three h.a h.b h.c d.x d.y d.z s.x s.y s.z
 
 -- the second plane does not change along the line of the first and the third
 weight_last : (f g h : HalfSpace) → meeting_weight f g h ≡ pos 0 → along g (along_line f h) ≡ pos 0

@@ -1,14 +1,13 @@
 -- How far the search for an inside certificate has come: what is known of the points taken, and that there are at most four.
-use Rattle.std.proofs.Common.{◌≡◌, ℕ, zero, suc, ◌+◌, ◌<◌, ◌≤◌, ℤ, pos, ◌+ℤ◌, ◌*ℤ◌, ◌<ℤ◌, ◌⊎◌, inl, inr, ⊎_elim, Bool, true, false, not, ◌&&◌, ◌||◌, List, [], ◌∷◌, ◌++◌, length, length-append, refl, sym, ap, subst, arith}
+use Rattle.std.proofs.Common.{◌≡◌, ℕ, zero, suc, ◌+◌, ◌<◌, ◌≤◌, ℤ, pos, ◌<ℤ◌, ◌⊎◌, inl, inr, ⊎_elim, Bool, true, false, not, ◌&&◌, ◌||◌, List, [], ◌∷◌, ◌++◌, length, length-append, refl, sym, ap, subst, arith}
 use Rattle.std.specs.Prelude.{Option, Some, None}
 use Rattle.std.specs.List.{list_all}
 use Rattle.std.proofs.lemmas.Bool.Decides.{nat_tests}
-use Rattle.rp_algebra.proofs.Reify.{by_ring_at, reify}
 use Rattle.rp_algebra.specs.Integer.{is_positive, is_nonnegative}
 use Rattle.rp_model.specs.Geometry.{RationalPoint, HalfSpace, half_space_of, side_value, with_cube}
 use Rattle.rp_model.specs.Certificate.{is_inside_certificate, is_nonnegative_at_all, is_positive_at_some, is_one_to_four}
 use Rattle.rp_model.specs.Vertex.{first_vertex, any_point, lifts, flat_half_spaces, complete_points}
-use Rattle.rp_algebra.proofs.Numbers.{zero_between}
+use Rattle.rp_algebra.proofs.Numbers.{last_alone, zero_between}
 use Rattle.rp_algebra.proofs.Tests.{positive_is, not_positive_is, is_nonnegative_true, and_true}
 use Rattle.rp_algebra.proofs.Listed.{Listed, first, later, pass_all, listed_left, listed_right, listed_cases}
 use Rattle.rp_convex.proofs.Filter.{SomePasses, some_passes, passes_some, kept, keeps, shorter}
@@ -58,10 +57,6 @@ rises_or_stays flat p h l = by_test (is_positive (side_value h p)) refl
     by_test true e = inl e
     by_test false e = inr (keeps (stays_flat p) flat h l (ap (λ b. not (b || false)) e))
 
--- the half-space w > 0 has the weight as its value
-weight_side : (x y z w : ℤ) → pos 0 *ℤ x +ℤ pos 0 *ℤ y +ℤ pos 0 *ℤ z +ℤ pos 1 *ℤ w ≡ w
-weight_side x y z w = by_ring_at (x ∷ y ∷ z ∷ w ∷ []) (search reify depth 40 fits 100000) tt
-
 -- the first point
 pub started : (hs : List HalfSpace) (p : RationalPoint) → IsWeak hs p → Progress hs (flat_half_spaces hs (p ∷ [])) (p ∷ [])
 started hs p k = record {
@@ -71,7 +66,7 @@ started hs p k = record {
   flat_listed = λ h l. (kept (stays_flat p) hs h l).listed;
   flat_zero = zero_here;
   latest = p ∷ [];
-  new = (record { point = k.point; plane = half_space_of (pos 0) (pos 0) (pos 0) (pos 1); positive = subst (λ (v : ℤ). pos 0 <ℤ v) (sym (weight_side p.x p.y p.z p.w)) k.point; zero = λ q l. elim l [ ] }, tt);
+  new = (record { point = k.point; plane = half_space_of (pos 0) (pos 0) (pos 0) (pos 1); positive = subst (λ (v : ℤ). pos 0 <ℤ v) (sym (last_alone p.x p.y p.z p.w)) k.point; zero = λ q l. elim l [ ] }, tt);
   as_long = refl;
   latest_listed = λ q l. l;
 }
@@ -165,17 +160,6 @@ pub room_for_next : (hs flat : List HalfSpace) (taken : List RationalPoint) (p :
 room_for_next hs flat taken p g e =
     let most = at_most_four_taken hs (flat_half_spaces flat (p ∷ [])) (taken ++ p ∷ []) (next_taken hs flat taken p g e) in
     omega (arith, most, length-append taken (p ∷ []))
-
--- and with four points taken there is no next vertex
-pub no_fifth : (hs flat : List HalfSpace) (taken : List RationalPoint) → Progress hs flat taken → 4 ≤ length taken → first_vertex (lifts flat) hs ≡ None
-no_fifth hs flat taken g h = by_answer (first_vertex (lifts flat) hs) refl
-  where
-    full : (n : ℕ) → n < 4 → 4 ≤ n → ⊥
-    full n h k = omega arith
-
-    by_answer : (o : Option RationalPoint) → first_vertex (lifts flat) hs ≡ o → o ≡ None
-    by_answer None e = refl
-    by_answer (Some p) e = absurd (full (length taken) (room_for_next hs flat taken p g e) h)
 
 -- the flat half-spaces become fewer
 pub fewer : (flat : List HalfSpace) (p : RationalPoint) (room : ℕ) → lifts flat p ≡ true → length flat ≤ suc room → length (flat_half_spaces flat (p ∷ [])) ≤ room

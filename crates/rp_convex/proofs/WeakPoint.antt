@@ -3,7 +3,7 @@ use Rattle.std.proofs.Common.{◌≡◌, pos, ⊎_elim, Bool, true, false, ◌&&
 use Rattle.std.specs.Prelude.{Option, Some, None, is_some}
 use Rattle.rp_model.specs.Geometry.{RationalPoint, HalfSpace, IsPoint, with_cube, all_nonnegative, half_space_of}
 use Rattle.rp_model.specs.Search.{all_of_triples}
-use Rattle.rp_model.specs.Vertex.{meeting_weight, meeting_point, vertex_at, vertex_if, any_point, vertices, first_vertex, first_weak_point}
+use Rattle.rp_model.specs.Vertex.{meeting_weight, meeting_point, vertex_at, vertex_if, any_point, first_vertex, first_weak_point}
 use Rattle.rp_model.specs.CellLaws.{WeakPointIsFound}
 use Rattle.rp_algebra.proofs.Tests.{and_first, and_second}
 use Rattle.rp_algebra.proofs.Listed.{Listed}
@@ -51,11 +51,6 @@ listed_is_vertex test hs v l =
     let c = comes_from (vertex_at test hs) hs v l in
     let p = passed test hs (meeting_point c.one c.two c.three) v c.is in
     record { weak = weak_is hs v (meeting_is_point c.one c.two c.three v p.is) p.weak; passes = p.test_true }
-
--- so a vertex of a cell is in its weak system
-pub vertex_is_weak : (cell : List HalfSpace) (v : RationalPoint) → Listed v (vertices cell) → IsWeak (with_cube cell) v
-unfolding vertices
-vertex_is_weak cell v l = (listed_is_vertex any_point (with_cube cell) v l).weak
 
 -- what the search for a vertex finds is one
 pub found_is_vertex : (test : RationalPoint → Bool) (hs : List HalfSpace) (v : RationalPoint) → first_vertex test hs ≡ Some v → IsVertex test hs v

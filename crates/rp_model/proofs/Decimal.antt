@@ -12,7 +12,8 @@ use Rattle.std.proofs.lemmas.Int.{ints}
 use Rattle.std.proofs.Math.Nat.{pow-succ', mul-le-mul_right, mul_assoc}
 use Rattle.rp_model.specs.Grammar.{Word, space, minus_sign, zero_digit, value_of_digits, starts_above_zero, spells_zero, natural_spelled, negative_spelled, as_whole, number_spelled}
 use Rattle.rp_model.proofs.InLowestTerms.{IsNoGreater}
-use Rattle.rp_model.proofs.ReadAgain.{HasNoSpace, same_some}
+use Rattle.rp_model.proofs.ReadAgain.{HasNoSpace}
+use Rattle.rp_algebra.proofs.Options.{same_some}
 
 -- one more digit
 abbrev step : ℕ → ℕ → ℕ
@@ -149,7 +150,7 @@ natural_no_longer word u v e h small = from_natural (natural_spelled word) refl 
 
     from_natural : (o : Option ℕ) → natural_spelled word ≡ o → as_whole o ≡ Some v → length (signed_decimal u) ≤ length word
     from_natural None is e = absurd (cc)
-    from_natural (Some n) is e = by_sign u n (natural_is word n is) (subst (λ (x : ℤ). IsNoGreater u x) (sym (same_some e)) h) small
+    from_natural (Some n) is e = by_sign u n (natural_is word n is) (subst (λ (x : ℤ). IsNoGreater u x) (sym (same_some _ _ e)) h) small
 
 -- the spelling of a number that stands in for the number that a word spells is no longer than the word
 pub spelling_no_longer : (word : Word) (u v : ℤ) → number_spelled word ≡ Some v → IsNoGreater u v → nat_abs u < 10 ^ 64 → length (signed_decimal u) ≤ length word

@@ -1,5 +1,5 @@
 -- Half-spaces and points in lowest terms: reducing twice is reducing once, and the numbers stay within their bounds.
-use Rattle.std.proofs.Common.{◌≡◌, ℕ, ◌<◌, ◌≤◌, Bool, true, false, ◌&&◌, ℤ, pos, negsuc, neg_ℤ, nat_abs, ◌<ℤ◌, ◌≤ℤ◌, [], ◌∷◌, refl, ap, ◌∙◌, sym, arith}
+use Rattle.std.proofs.Common.{◌≡◌, ℕ, ◌<◌, ◌≤◌, Bool, true, false, ◌&&◌, ℤ, pos, negsuc, neg_ℤ, nat_abs, ◌≤ℤ◌, [], ◌∷◌, refl, ap, ◌∙◌, sym, arith}
 use Rattle.std.specs.Prelude.{int_le}
 use Rattle.std.specs.Int.{◌∣◌}
 use Rattle.std.proofs.lemmas.Int.{ints}
@@ -7,6 +7,8 @@ use Rattle.std.proofs.lemmas.Bool.Decides.{Decides-int_eq}
 use Rattle.rp_algebra.specs.Integer.{is_zero, gcd_of, reduced_by}
 use Rattle.rp_algebra.proofs.Divisors.{gcd_of-divides, gcd_of-positive, gcd_of-positive_four}
 use Rattle.rp_algebra.proofs.LowestTerms.{quotient_size, quotient_of_zero, zero_from_quotient, quotient_positive, lowest-twice, same_four}
+use Rattle.rp_algebra.proofs.Numbers.{above_not_zero}
+use Rattle.rp_algebra.proofs.Tests.{all_zero_true}
 use Rattle.rp_model.specs.Geometry.{HalfSpace, RationalPoint, IsPoint, is_zero_half_space, reduced_half_space, reduced_point}
 
 -- a number that stands in for v: it is of no greater size, and not below zero where v is not
@@ -31,14 +33,10 @@ is_zero-quotient g v d =
     (λ e. (Decides-int_eq v (pos 0)).1 (zero_from_quotient g v d ((Decides-int_eq (reduced_by g v) (pos 0)).0 e)))
     (λ e. (Decides-int_eq (reduced_by g v) (pos 0)).1 (ap (reduced_by g) ((Decides-int_eq v (pos 0)).0 e) ∙ quotient_of_zero g))
 
--- four numbers that are zero pass the test of zeros
-zeros_pass : (a b c d : ℤ) → a ≡ pos 0 → b ≡ pos 0 → c ≡ pos 0 → d ≡ pos 0 → (is_zero a && is_zero b && is_zero c && is_zero d) ≡ true
-zeros_pass a b c d ea eb ec ed = λ i. is_zero (ea i) && is_zero (eb i) && is_zero (ec i) && is_zero (ed i)
-
 -- the divisor of numbers that are not all zero is above zero
 pub divisor_above : (h : HalfSpace) → is_zero_half_space h ≡ false → 0 < gcd_of (h.a ∷ h.b ∷ h.c ∷ h.d ∷ [])
 divisor_above h n =
-    gcd_of-positive (h.a ∷ h.b ∷ h.c ∷ h.d ∷ []) (λ z. let e = zeros_pass h.a h.b h.c h.d z.0 z.1.0 z.1.1.0 z.1.1.1.0 in let f : true ≡ false = sym e ∙ n in cc)
+    gcd_of-positive (h.a ∷ h.b ∷ h.c ∷ h.d ∷ []) (λ z. let e = all_zero_true h.a h.b h.c h.d z.0 z.1.0 z.1.1.0 z.1.1.1.0 in let f : true ≡ false = sym e ∙ n in cc)
 
 -- a half-space in lowest terms has numbers of no greater size, not all of them zero, and stays as it is when it is reduced again
 pub record IsReducedHalfSpace (r h : HalfSpace) : Type 0 where
@@ -88,7 +86,7 @@ unfolding reduced_point
 reduced_point_is p w =
     let g = gcd_of (p.x ∷ p.y ∷ p.z ∷ p.w ∷ []) in
     let divides = gcd_of-divides (p.x ∷ p.y ∷ p.z ∷ p.w ∷ []) in
-    let four = same_four _ _ _ _ _ _ _ _ (lowest-twice (p.x ∷ p.y ∷ p.z ∷ p.w ∷ []) (gcd_of-positive_four p.x p.y p.z p.w (not_zero p.w w))) in
+    let four = same_four _ _ _ _ _ _ _ _ (lowest-twice (p.x ∷ p.y ∷ p.z ∷ p.w ∷ []) (gcd_of-positive_four p.x p.y p.z p.w (above_not_zero p.w w))) in
     record {
       x = quotient_no_greater g p.x;
       y = quotient_no_greater g p.y;
@@ -97,9 +95,6 @@ reduced_point_is p w =
       positive = quotient_positive g p.w divides.1.1.1.0 w;
       lowest = λ i. record { x = four.0 i; y = four.1 i; z = four.2 i; w = four.3 i };
     }
-  where
-    not_zero : (v : ℤ) → pos 0 <ℤ v → v ≡ pos 0 → ⊥
-    not_zero v h e = omega (arith, ints)
 
 -- a number that stands in for a number within bounds is within them
 pub within_still : (n : ℕ) (u v : ℤ) → IsNoGreater u v → (int_le (neg_ℤ (pos n)) v && int_le v (pos n)) ≡ true → (int_le (neg_ℤ (pos n)) u && int_le u (pos n)) ≡ true

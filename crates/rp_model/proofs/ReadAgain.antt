@@ -1,5 +1,5 @@
 -- Readers that read the spelling of what they read: one step after the other, from left to right.
-use Rattle.std.proofs.Common.{◌≡◌, ℕ, suc, ◌+◌, ◌≤◌, false, ◌==◌, List, [], ◌∷◌, ◌++◌, length, Option, Some, Result, Ok, Err, refl, ap, ◌∙◌, subst, arith}
+use Rattle.std.proofs.Common.{◌≡◌, ℕ, suc, ◌+◌, ◌≤◌, false, ◌==◌, List, [], ◌∷◌, ◌++◌, length, Result, Ok, Err, refl, ap, ◌∙◌, subst, arith}
 use Rattle.std.specs.List.{AllByRecursion}
 use Rattle.rp_model.specs.Grammar.{Word, space, Place, Reader, Fault, gives, read_on, ◌>>=◌}
 
@@ -32,10 +32,6 @@ pub record Steps {A B : Type 0} (first : Reader A) (next : A → Reader B) (p : 
 -- the values of equal successes are equal
 pub same_success : {A : Type 0} {x y : A} → ◌≡◌ {A = Result A Fault} (Ok x) (Ok y) → x ≡ y
 same_success e = cc
-
--- equal values are equal
-pub same_some : {A : Type 0} {x y : A} → ◌≡◌ {A = Option A} (Some x) (Some y) → x ≡ y
-same_some e = cc
 
 -- a fault is no success
 pub no_success : {A : Type 0} {f : Fault} {x : A} → ◌≡◌ {A = Result A Fault} (Err f) (Ok x) → ⊥

@@ -7,7 +7,8 @@ use Rattle.std.proofs.lemmas.Bool.{and_parts, not-true}
 use Rattle.std.proofs.lemmas.Slice.Eq.{bytes_eq-Decides}
 use Rattle.rp_model.specs.Name.{Label, is_name, is_letter, is_name_byte, label_eq}
 use Rattle.rp_model.specs.Grammar.{Word, space, Place, Reader, Fault, bad_syntax, out_of_range, gives, fails, read_on, ◌>>=◌, next_word, next_word_of, or_fault, in_bounds, number, number_spelled, named_word, name, looked_up, keyword}
-use Rattle.rp_model.proofs.ReadAgain.{room, HasNoSpace, Again, again_then, given, again_check, steps, same_success, same_some, no_success}
+use Rattle.rp_model.proofs.ReadAgain.{room, HasNoSpace, Again, again_then, given, again_check, steps, same_success, no_success}
+use Rattle.rp_algebra.proofs.Options.{same_some}
 use Rattle.rp_model.proofs.InLowestTerms.{IsNoGreater}
 use Rattle.rp_model.proofs.Decimal.{spelling_no_longer, number_of_spelling, spelling_has_no_space}
 
@@ -111,7 +112,7 @@ found_word {A} word_of (entry ∷ table) word value t e =
         → elim test as (λ _. Option A) [ true ↦ Some entry.1 | false ↦ looked_up word table ] ≡ Some value → (word ≡ word_of value) × HasNoSpace word
     of_test fits true is later e =
         let same : word ≡ entry.0 = (bytes_eq-Decides word entry.0).0 is in
-        (same ∙ (bytes_eq-Decides entry.0 (word_of entry.1)).0 fits.0 ∙ ap word_of (same_some e), subst HasNoSpace (sym same) (no_space entry.0 fits.1))
+        (same ∙ (bytes_eq-Decides entry.0 (word_of entry.1)).0 fits.0 ∙ ap word_of (same_some _ _ e), subst HasNoSpace (sym same) (no_space entry.0 fits.1))
     of_test fits false is later e = later e
 
 -- a word of a table is read again

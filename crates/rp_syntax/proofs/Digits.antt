@@ -1,5 +1,5 @@
 -- Numbers held at a size: the digits that are left lead to the same.
-use Rattle.std.proofs.Common.{◌≡◌, ℕ, ◌+◌, ◌*◌, ◌-◌, ◌≤◌, ◌<◌, min, List, [], ◌∷◌, length, drop, get_or, ap, ◌∙◌, sym, arith, fold}
+use Rattle.std.proofs.Common.{◌≡◌, ℕ, ◌+◌, ◌*◌, ◌-◌, ◌<◌, min, List, [], ◌∷◌, length, drop, get_or, ap, ◌∙◌, sym, arith, fold}
 use Rattle.std.proofs.Math.Seq.{drop-cons}
 use Rattle.std.proofs.Common.{add-one}
 use Rattle.rp_syntax.specs.Held.{most_held}
@@ -26,7 +26,3 @@ drop-at i ds h = rw add-one (drop-cons ds i 0 h)
 pub fold-taken : (v i : ℕ) (ds : List ℕ) → i < length ds → min (fold step (min (step v (get_or ds i 0)) most_held) (drop (i + 1) ds)) most_held ≡ min (fold step v (drop i ds)) most_held
 fold-taken v i ds h =
     fold-held (step v (get_or ds i 0)) (drop (i + 1) ds) ∙ sym (ap (λ (xs : List ℕ). min (fold step v xs) most_held) (drop-at i ds h))
-
--- a held number is at most the size at which it is held
-pub held_below : (n : ℕ) → min n most_held ≤ most_held
-held_below n = omega arith

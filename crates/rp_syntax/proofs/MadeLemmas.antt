@@ -1,18 +1,15 @@
 -- Half-spaces made of numbers within their bounds: only four zeros are refused.
-use Rattle.std.proofs.Common.{◌≡◌, ℕ, ◌≤◌, ℤ, pos, Bool, true, false, ◌&&◌, Result, Ok, Err, to_z, of_z, refl, sym, ap, ◌∙◌, arith}
-use Rattle.std.specs.Int.RustNames.{unsigned_abs, FitsSigned}
+use Rattle.std.proofs.Common.{◌≡◌, ℕ, ◌≤◌, ℤ, pos, Bool, true, false, Result, Ok, Err, to_z, of_z, refl, sym, ap, ◌∙◌, arith}
+use Rattle.std.specs.Int.RustNames.{FitsSigned}
+use Rattle.std.proofs.lemmas.Bool.{and_parts}
 use Rattle.std.proofs.lemmas.Int.{ints, to_z-of_z}
 use mir.Syntax.{w64, w128}
 use Rattle.rp_model.specs.Geometry.{HalfSpace, half_space_of, is_within_bound, is_half_space_in_bounds, is_zero_half_space, reduced_half_space}
 use Rattle.rp_model.specs.Grammar.{Place, Reader, zero_half_space, out_of_range, gives, fails, nonzero_half_space}
+use Rattle.rp_model.proofs.InLowestTerms.{size_within}
 use Rattle.rp_space.specs.declared.half.HalfFault.{HalfFault}
 use Rattle.rp_space.specs.declared.half.HalfFault.TheVariants.{Range, Zero}
 use Rattle.rp_space.specs.MadeHalfSpace.{made_half_space}
-
--- the two parts of a conjunction
-both : (a b : Bool) → (a && b) ≡ true → (a ≡ true) × (b ≡ true)
-both true b e = (refl, e)
-both false b e = absurd (cc)
 
 -- a number within a bound, narrowed by the machine
 narrowed : (n : ℕ) (v : ℤ) → n ≤ 844424930131968 → is_within_bound (pos n) v ≡ true → FitsSigned w128 v → to_z w64 (of_z w64 (to_z w128 (of_z w128 v))) ≡ v
@@ -20,11 +17,8 @@ narrowed n v small inside wide =
     let narrow : FitsSigned w64 v = fits n v small inside in
     ap (λ (x : ℤ). to_z w64 (of_z w64 x)) (to_z-of_z w128 v wide) ∙ to_z-of_z w64 v narrow
   where
-    size : (n : ℕ) (v : ℤ) → is_within_bound (pos n) v ≡ true → unsigned_abs v ≤ n
-    size n v e = grind (arith, ints)
-
     fits : (n : ℕ) (v : ℤ) → n ≤ 844424930131968 → is_within_bound (pos n) v ≡ true → FitsSigned w64 v
-    fits n v small e = let s = size n v e in omega (arith, ints, s)
+    fits n v small e = let s = size_within n v e in omega (arith, ints, s)
 
 -- what is made of numbers within their bounds, by the test of zeros
 abbrev pub made_by : Bool → HalfSpace → Result HalfSpace HalfFault
@@ -39,9 +33,9 @@ pub made_within : (a b c d : ℤ) → FitsSigned w128 a → FitsSigned w128 b �
     → made_half_space (half_space_of (to_z w64 (of_z w64 (to_z w128 (of_z w128 a)))) (to_z w64 (of_z w64 (to_z w128 (of_z w128 b)))) (to_z w64 (of_z w64 (to_z w128 (of_z w128 c)))) (to_z w64 (of_z w64 (to_z w128 (of_z w128 d)))))
     ≡ made_by (is_zero_half_space (half_space_of a b c d)) (reduced_half_space (half_space_of a b c d))
 made_within a b c d fa fb fc fd inside =
-    let abc = both _ _ inside in
-    let ab = both _ _ abc.0 in
-    let a_in = both _ _ ab.0 in
+    let abc = and_parts _ _ inside in
+    let ab = and_parts _ _ abc.0 in
+    let a_in = and_parts _ _ ab.0 in
     let na = narrowed 16777216 a (omega arith) a_in.0 fa in
     let nb = narrowed 16777216 b (omega arith) a_in.1 fb in
     let nc = narrowed 16777216 c (omega arith) ab.1 fc in

@@ -1,6 +1,5 @@
 -- Items that are read one after the other.
 use Rattle.std.proofs.Common.{◌≡◌, ℕ, suc, List, [], ◌∷◌, ◌++◌, Result, Ok, Err, refl, sym, ap, ◌∙◌, append_assoc}
-use Rattle.std.proofs.lemmas.List.{append-nil}
 use Rattle.rp_syntax.specs.declared.fault.ReadFault.{ReadFault}
 use Rattle.rp_syntax.specs.declared.fault.ReadFault.TheVariants.{Bad, Memory}
 use Rattle.rp_syntax.specs.Reads.{FaultIs}
@@ -31,10 +30,6 @@ many-more n m item x front place after e h =
 pub many-fault : {A : Type 0} (n m : ℕ) (item : Reader A) (f : Fault) (front : List A) (place : Place) → m ≡ suc n → item place ≡ Err f → with_front front (many m item place) ≡ Err f
 many-fault n m item f front place e h =
     ap (λ k. with_front front (many k item place)) e ∙ ap (λ r. with_front front (read_on (λ first p. read_on (λ rest q. gives (first ∷ rest) q) (many n item p)) r)) h
-
--- no item is left
-pub many-all : {A : Type 0} (m : ℕ) (item : Reader A) (front : List A) (place : Place) → m ≡ 0 → with_front front (many m item place) ≡ Ok (front, place)
-many-all m item front place e = ap (λ k. with_front front (many k item place)) e ∙ ap (λ xs. Ok (xs, place)) (append-nil front)
 
 -- a fault of an item is the fault of all
 pub many-stopped : {A : Type 0} (n m : ℕ) (item : Reader A) (fault : ReadFault) (front : List A) (place : Place) → m ≡ suc n → FaultIs fault (item place) → FaultIs fault (with_front front (many m item place))

@@ -1,29 +1,12 @@
 -- The lines of a script, one after the other from its front.
-use Rattle.std.proofs.Common.{◌≡◌, ℕ, ◌+◌, ◌<◌, ◌≤◌, Bool, true, false, List, [], ◌∷◌, length, take, drop, Some, None, refl, ap, ◌∙◌, arith, ltb, eqb, cond}
-use Rattle.std.specs.List.{All, position, position_or_len, before_first, after_first, slice_split}
+use Rattle.std.proofs.Common.{◌≡◌, ℕ, ◌+◌, ◌<◌, true, false, List, [], ◌∷◌, length, take, drop, Some, None, refl, ap, ◌∙◌, arith, eqb}
+use Rattle.std.specs.List.{position, before_first, after_first, slice_split}
 use Rattle.std.proofs.lemmas.Bool.Decides.{nat_tests}
 use Rattle.std.proofs.lemmas.List.{nil_from_length}
-use Rattle.std.proofs.lemmas.List.Quantifiers.{position-Some}
-use Rattle.std.proofs.lemmas.List.Sums.{position_or_len_is, fails_before_first}
 use Rattle.std.proofs.lemmas.List.Splits.{slice_split_none, slice_split_first, length-slice_split}
+use Rattle.rp_model.proofs.Places.{position_or_len-at_some, all_fail-at_none}
 use Rattle.rp_model.specs.Report.{script_lines, lines_of_pieces, without_return}
 use Rattle.rp_tool.specs.Lines.{is_line_end}
-
--- where a first place passes, it is the count of those before it
-pub position_or_len-at_some : (p : ℕ → Bool) (xs : List ℕ) (i : ℕ) → position p xs ≡ Some i → (i < length xs) × (position_or_len p xs ≡ i)
-position_or_len-at_some p xs i e =
-    let found = position-Some p xs i 0 e in
-    (found.0, position_or_len_is p xs i 0 (omega (arith, found.0)) found.2 (λ _. found.1))
-
--- a place that is not below the length is past it
-past_from_none : (a b : ℕ) → cond (ltb a b) (Some a) None ≡ None → b ≤ a
-past_from_none a b e = grind (arith, nat_tests)
-
--- where no place passes, each element fails
-pub all_fail-at_none : (p : ℕ → Bool) (xs : List ℕ) → position p xs ≡ None → (length xs ≤ position_or_len p xs) × All (λ x. p x ≡ false) xs
-all_fail-at_none p xs e =
-    let past = past_from_none (position_or_len p xs) (length xs) e in
-    (past, λ k d h. fails_before_first p xs k d (omega arith))
 
 -- each piece but the last loses its carriage return
 lines_of_pieces-cons : (piece : List ℕ) (pieces : List (List ℕ)) → 0 < length pieces → lines_of_pieces (piece ∷ pieces) ≡ without_return piece ∷ lines_of_pieces pieces

@@ -19,16 +19,7 @@ Appends-append old middle (Some after) first second h k =
 abbrev pub HasPut : Option (List ℕ) → Option (List ℕ) → List ℕ → List ℕ → Type 0
 HasPut old now text rest = (front : List ℕ) × (front ++ rest ≡ text) × Appends old now front
 
--- at the start nothing was put
-pub HasPut-start : (said : Option (List ℕ)) (text : List ℕ) → HasPut said said text text
-HasPut-start said text = ([], refl, Appends-nil said)
-
 -- one more line
 pub HasPut-more : (old now new : Option (List ℕ)) (text rest line behind : List ℕ) → HasPut old now text rest → line ++ behind ≡ rest → Appends now new line → HasPut old new text behind
 HasPut-more old now new text rest line behind h parts put =
     (h.0 ++ line, append_assoc h.0 line behind ∙ ap (λ xs. h.0 ++ xs) parts ∙ h.1, Appends-append old now new h.0 line h.2 put)
-
--- at the end all was put
-pub Appends-at_end : (old now : Option (List ℕ)) (text rest : List ℕ) → HasPut old now text rest → rest ≡ [] → Appends old now text
-Appends-at_end old now text rest h empty =
-    subst (Appends old now) (sym (append-nil h.0) ∙ ap (λ xs. h.0 ++ xs) (sym empty) ∙ h.1) h.2

@@ -1,18 +1,17 @@
 -- The spellings so far: what was put, and what is left.
-use Rattle.std.proofs.Common.{◌≡◌, ℕ, Bool, false, ◌||◌, List, [], ◌∷◌, ◌++◌, Option, refl, sym, ap, ◌∙◌, subst, append_assoc}
+use Rattle.std.proofs.Common.{◌≡◌, ℕ, Bool, false, ◌||◌, List, [], ◌∷◌, ◌++◌, Option, sym, ap, ◌∙◌, subst, append_assoc}
 use Rattle.std.proofs.Math.Bool.{or_assoc, or-false}
 use Rattle.std.specs.List.{list_any, flat_map}
 use Rattle.std.proofs.lemmas.List.{append-nil}
 use Rattle.std.proofs.lemmas.List.Concat.{flat_map-append}
 use Rattle.rp_io.specs.Bytes.{Appends}
-use Rattle.rp_model.specs.Grammar.{Reading, command, reading, spelling}
-use Rattle.rp_model.specs.Expression.{Command}
+use Rattle.rp_model.specs.Grammar.{reading}
 use Rattle.rp_model.specs.Report.{script_lines}
 use Rattle.rp_model.specs.Output.{has_bad_line, is_bad_reading, spell_script, spelled_lines, spelled_script}
 use Rattle.rp_model.specs.Text.{text_of_lines, line_end}
 use Rattle.rp_tool.specs.Output.{PutsSpelling, PutsOutput}
 use Rattle.rp_tool.proofs.RunLemmas.{IsTrue-both}
-use Rattle.rp_tool.proofs.SinkLemmas.{Appends-nil, Appends-append}
+use Rattle.rp_tool.proofs.SinkLemmas.{Appends-append}
 
 -- what was put of the commands of the script before the rest, and whether some line before it is bad
 pub record HasSpelled (script : List ℕ) (old now : Option (List ℕ)) (rest : List ℕ) (has_bad : Bool) : Type 0 where
@@ -20,14 +19,6 @@ pub record HasSpelled (script : List ℕ) (old now : Option (List ℕ)) (rest : 
   pub text : Appends old now (text_of_lines told)
   pub goes_on : spelled_script script ≡ told ++ spelled_script rest
   pub mark : has_bad_line script ≡ (has_bad || has_bad_line rest)
-
--- at the start nothing was put
-pub HasSpelled-start : (script : List ℕ) (said : Option (List ℕ)) → HasSpelled script said said script false
-HasSpelled-start script said = record { told = []; text = Appends-nil said; goes_on = refl; mark = refl }
-
--- the commands of some lines in their spellings
-spelled_of : List (List ℕ) → List (List ℕ)
-spelled_of lines = flat_map (λ line. spelled_lines (reading line)) lines
 
 -- one more line
 pub HasSpelled-more : (script : List ℕ) (old now new : Option (List ℕ)) (rest line behind : List ℕ) (has_bad also : Bool) → HasSpelled script old now rest has_bad
@@ -55,9 +46,3 @@ PutsOutput-spell script old now rest has_bad h e =
       text = h.text;
       mark = IsTrue-both has_bad (has_bad_line script) (sym (h.mark ∙ ap (λ b. has_bad || b) good ∙ or-false has_bad));
     }
-
--- a command was put with its line end
-pub PutsSpelling-command : (r : Reading) (c : Command) (old new : Option (List ℕ)) → r ≡ command c → Appends old new (spelling c ++ line_end ∷ []) → PutsSpelling r old new false
-PutsSpelling-command r c old new e h =
-    subst (λ q. PutsSpelling q old new false) (sym e)
-    (record { text = subst (Appends old new) (sym (append-nil (spelling c ++ line_end ∷ []))) h; mark = refl })
