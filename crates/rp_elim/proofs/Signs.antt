@@ -1,12 +1,12 @@
 -- Terms in normal form: only where all multipliers have one sign can they refute.
-use Rattle.std.proofs.Common.{◌≡◌, ℕ, suc, ◌<◌, ℤ, pos, neg_ℤ, ◌≤ℤ◌, ◌<ℤ◌, Bool, true, false, ◌&&◌, List, [], ◌∷◌, length, ⊎_elim, Some, None, refl, sym, ap, ◌∙◌, arith}
+use Rattle.std.proofs.Common.{◌≡◌, ℕ, ◌<◌, ℤ, pos, neg_ℤ, ◌≤ℤ◌, ◌<ℤ◌, Bool, true, false, ◌&&◌, List, [], ◌∷◌, length, ⊎_elim, Some, None, refl, sym, ap, ◌∙◌, arith}
 use Rattle.std.specs.List.{list_all}
 use Rattle.rp_algebra.specs.Integer.{is_positive, is_negative, gcd_of, reduced_by}
 use Rattle.rp_algebra.proofs.IntLaws.{linear, le_or_lt_ℤ, mul_nonneg_ℤ, nat_nonneg_ℤ, nonneg_of_pos_ℤ}
 use Rattle.rp_algebra.proofs.Divisors.{DividesAll, gcd_of-divides}
 use Rattle.rp_algebra.proofs.LowestTerms.{exact_quotient, quotient_of_zero}
 use Rattle.rp_algebra.proofs.Numbers.{opposite_within}
-use Rattle.rp_algebra.proofs.Tests.{and_first, and_second, and_true, false_unless, false_not_true, positive_is, is_positive_true, is_negative_true, is_negative_false}
+use Rattle.rp_algebra.proofs.Tests.{and_first, and_second, and_true, false_unless, false_not_true, positive_is, is_positive_true}
 use Rattle.rp_model.specs.Certificate.{Multiple, is_balanced, is_contradiction, is_multiplier}
 use Rattle.rp_model.specs.Elimination.{factors_of, reduced_terms, negated_terms, normal_terms, is_refutation, terms_if}
 use Rattle.rp_alternative.proofs.Combination.{greatest_minor}
@@ -14,36 +14,14 @@ use Rattle.rp_alternative.proofs.Tests.{multiplier-from, multiplier-to}
 use Rattle.rp_alternative.proofs.Lowest.{divided}
 use Rattle.rp_elim.specs.Factors.{AreFactorsSmall}
 
--- ---- terms of one sign
--- positive terms in normal form are in lowest terms
-pub normal_positive : (ts : List Multiple) → list_all (λ t. is_multiplier t.factor) ts ≡ true → normal_terms ts ≡ reduced_terms ts
-unfolding reduced_terms
-normal_positive [] e = refl
-normal_positive (t ∷ ts) e =
-    let above = multiplier-to t.factor (and_first (is_multiplier t.factor) (list_all (λ (u : Multiple). is_multiplier u.factor) ts) e) in
-    λ i. elim (is_negative_false t.factor (nonneg_of_pos_ℤ t.factor above) i) [ true ↦ reduced_terms (negated_terms (t ∷ ts)) | false ↦ reduced_terms (t ∷ ts) ]
-
 -- a number whose negative is a multiplier is below 0
 below : (v : ℤ) → is_multiplier (neg_ℤ v) ≡ true → v <ℤ pos 0
 below v e = let h = multiplier-to (neg_ℤ v) e in omega (arith, linear, h)
-
--- negative terms in normal form are their negatives in lowest terms
-pub normal_negative : (ts : List Multiple) → list_all (λ t. is_multiplier (neg_ℤ t.factor)) ts ≡ true → normal_terms ts ≡ reduced_terms (negated_terms ts)
-unfolding reduced_terms
-normal_negative [] e = refl
-normal_negative (t ∷ ts) e =
-    let low = below t.factor (and_first (is_multiplier (neg_ℤ t.factor)) (list_all (λ (u : Multiple). is_multiplier (neg_ℤ u.factor)) ts) e) in
-    λ i. elim (is_negative_true t.factor low i) [ true ↦ reduced_terms (negated_terms (t ∷ ts)) | false ↦ reduced_terms (t ∷ ts) ]
 
 -- negated terms have multipliers where the negatives are multipliers
 pub negated_multipliers : (ts : List Multiple) → list_all (λ t. is_multiplier t.factor) (negated_terms ts) ≡ list_all (λ t. is_multiplier (neg_ℤ t.factor)) ts
 negated_multipliers [] = refl
 negated_multipliers (t ∷ ts) = ap (λ b. is_multiplier (neg_ℤ t.factor) && b) (negated_multipliers ts)
-
--- there are as many negated terms
-pub length-negated : (ts : List Multiple) → length (negated_terms ts) ≡ length ts
-length-negated [] = refl
-length-negated (t ∷ ts) = ap (λ n. suc n) (length-negated ts)
 
 -- ---- terms whose quotients are positive
 -- a number with a positive quotient by a divisor is above 0

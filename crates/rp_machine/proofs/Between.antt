@@ -1,9 +1,9 @@
 -- A coordinate between two whole numbers, as the machine compares it.
-use Rattle.std.proofs.Common.{◌≡◌, ◌<◌, ◌≤◌, ◌^◌, ℤ, ◌*ℤ◌, Bool, true, false, ◌&&◌, to_z, of_z, refl, sym, ap, ◌∙◌, subst, arith}
+use Rattle.std.proofs.Common.{◌≡◌, ◌<◌, ◌≤◌, ◌^◌, ℤ, ◌*ℤ◌, true, false, ◌&&◌, to_z, of_z, sym, ap, ◌∙◌, subst, arith}
 use Rattle.std.specs.Prelude.{int_le, int_lt}
 use Rattle.std.specs.Int.RustNames.{unsigned_abs, FitsSigned}
 use Rattle.std.proofs.lemmas.Int.{ints, to_z-of_z}
-use mir.Syntax.{Width, w32, w128}
+use mir.Syntax.{w32, w128}
 use Rattle.rp_algebra.proofs.Machine.{code, fits_by, is_by}
 use Rattle.rp_model.proofs.Boxes.{is_between}
 

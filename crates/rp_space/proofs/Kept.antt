@@ -1,37 +1,29 @@
 -- Numbers in lowest terms keep their bounds, and reducing twice is reducing once.
-use Rattle.std.proofs.Common.{◌≡◌, ℕ, zero, suc, ◌<◌, ◌≤◌, ◌^◌, ℤ, pos, neg_ℤ, ◌-ℤ◌, ◌<ℤ◌, nat_abs, to_z, of_z, le_trans, Bool, true, false, ◌&&◌, List, [], ◌∷◌, refl, sym, ap, ◌∙◌, subst, arith}
+use Rattle.std.proofs.Common.{◌≡◌, ℕ, zero, suc, ◌<◌, ◌≤◌, ◌^◌, ℤ, pos, neg_ℤ, ◌-ℤ◌, ◌<ℤ◌, nat_abs, to_z, of_z, le_trans, true, false, ◌&&◌, List, [], ◌∷◌, sym, ap, ◌∙◌, subst, arith}
 use Rattle.std.specs.List.{AllByRecursion}
 use Rattle.std.specs.Int.RustNames.{unsigned_abs, FitsSigned}
 use mir.Syntax.{Width, w64, w128}
 use Rattle.std.proofs.lemmas.Int.{ints, to_z-of_z}
 use Rattle.std.proofs.lemmas.Bool.Decides.{Decides-int_eq}
+use Rattle.std.proofs.lemmas.Bool.{and_parts}
 use Rattle.rp_algebra.specs.Integer.{is_zero, gcd, gcd_of, reduced_by}
 use Rattle.rp_algebra.proofs.Divisors.{gcd_of-positive_four, gcd_of-at_most_four, gcd_of-nil, gcd_of-cons, gcd_of-four, gcd-zero, gcd-at_most_right}
 use Rattle.rp_algebra.proofs.LowestTerms.{lowest-gcd, quotient_by_one}
 use Rattle.std.specs.Prelude.{int_lt, int_le}
 use Rattle.rp_algebra.proofs.Machine.{code, is_by}
-use Rattle.rp_model.specs.Geometry.{half_space_of, point_of, is_point_in_bounds, HalfSpace, is_within_bound, is_half_space_in_bounds, is_zero_half_space, IsHalfSpace, reduced_half_space, IsKeptHalfSpace, complement, RationalPoint, IsPoint, IsSmallPoint, reduced_point, IsKeptPoint}
-use Rattle.rp_model.proofs.InLowestTerms.{same_test, divisor_above, reduced_half_space_is, reduced_point_is}
-
--- the size of a number within bounds
-pub size_at_most : (n : ℕ) (v : ℤ) → is_within_bound (pos n) v ≡ true → unsigned_abs v ≤ n
-size_at_most n v e = grind (arith, ints)
-
--- the two parts of a conjunction
-pub both : (a b : Bool) → (a && b) ≡ true → (a ≡ true) × (b ≡ true)
-both true b e = (refl, e)
-both false b e = absurd (cc)
+use Rattle.rp_model.specs.Geometry.{half_space_of, point_of, is_point_in_bounds, HalfSpace, is_half_space_in_bounds, is_zero_half_space, IsHalfSpace, reduced_half_space, IsKeptHalfSpace, complement, RationalPoint, IsPoint, IsSmallPoint, reduced_point, IsKeptPoint}
+use Rattle.rp_model.proofs.InLowestTerms.{same_test, divisor_above, reduced_half_space_is, reduced_point_is, size_within}
 
 -- a half-space in lowest terms keeps its bounds, and stays as it is when it is reduced again
 pub kept_half_space : (h : HalfSpace) → is_half_space_in_bounds h ≡ true → is_zero_half_space h ≡ false → IsKeptHalfSpace (reduced_half_space h)
 kept_half_space h inside nonzero =
-    let abc = both _ _ inside in
-    let ab = both _ _ abc.0 in
-    let a = both _ _ ab.0 in
-    let size_a = size_at_most 16777216 h.a a.0 in
-    let size_b = size_at_most 16777216 h.b a.1 in
-    let size_c = size_at_most 16777216 h.c ab.1 in
-    let size_d = size_at_most 844424930131968 h.d abc.1 in
+    let abc = and_parts _ _ inside in
+    let ab = and_parts _ _ abc.0 in
+    let a = and_parts _ _ ab.0 in
+    let size_a = size_within 16777216 h.a a.0 in
+    let size_b = size_within 16777216 h.b a.1 in
+    let size_c = size_within 16777216 h.c ab.1 in
+    let size_d = size_within 844424930131968 h.d abc.1 in
     let reduced = reduced_half_space_is h nonzero in
     let less_a = reduced.a.size in
     let less_b = reduced.b.size in
@@ -61,13 +53,13 @@ gcd_of-at_most m (v ∷ vs) h =
 -- the divisor of the numbers of a half-space is within the bound of its offset
 pub half_space_divisor : (h : HalfSpace) → is_half_space_in_bounds h ≡ true → gcd_of (h.a ∷ h.b ∷ h.c ∷ h.d ∷ []) ≤ 844424930131968
 half_space_divisor h inside =
-    let abc = both _ _ inside in
-    let ab = both _ _ abc.0 in
-    let a = both _ _ ab.0 in
-    let size_a = size_at_most 16777216 h.a a.0 in
-    let size_b = size_at_most 16777216 h.b a.1 in
-    let size_c = size_at_most 16777216 h.c ab.1 in
-    gcd_of-at_most 844424930131968 (h.a ∷ h.b ∷ h.c ∷ h.d ∷ []) (omega (arith, size_a), (omega (arith, size_b), (omega (arith, size_c), (size_at_most 844424930131968 h.d abc.1, tt))))
+    let abc = and_parts _ _ inside in
+    let ab = and_parts _ _ abc.0 in
+    let a = and_parts _ _ ab.0 in
+    let size_a = size_within 16777216 h.a a.0 in
+    let size_b = size_within 16777216 h.b a.1 in
+    let size_c = size_within 16777216 h.c ab.1 in
+    gcd_of-at_most 844424930131968 (h.a ∷ h.b ∷ h.c ∷ h.d ∷ []) (omega (arith, size_a), (omega (arith, size_b), (omega (arith, size_c), (size_within 844424930131968 h.d abc.1, tt))))
 
 -- numbers that are kept have no common divisor but 1
 kept_divisor : (h : HalfSpace) → IsKeptHalfSpace h → gcd_of (h.a ∷ h.b ∷ h.c ∷ h.d ∷ []) ≡ 1
@@ -184,12 +176,12 @@ widened v f = ap (λ (x : ℤ). to_z w128 (of_z w128 x)) (to_z-of_z w64 v f) ∙
 -- a whole number from 1 on whose upper bounds are kept makes a small point
 pub small_point : (p : RationalPoint) → int_le (pos 1) p.w ≡ true → is_point_in_bounds p ≡ true → IsSmallPoint p
 small_point p positive inside =
-    let xyz = both _ _ inside in
-    let xy = both _ _ xyz.0 in
-    let x = both _ _ xy.0 in
-    let size_x = size_at_most 2535301200456458802993406410751 p.x x.0 in
-    let size_y = size_at_most 2535301200456458802993406410751 p.y x.1 in
-    let size_z = size_at_most 2535301200456458802993406410751 p.z xy.1 in
+    let xyz = and_parts _ _ inside in
+    let xy = and_parts _ _ xyz.0 in
+    let x = and_parts _ _ xy.0 in
+    let size_x = size_within 2535301200456458802993406410751 p.x x.0 in
+    let size_y = size_within 2535301200456458802993406410751 p.y x.1 in
+    let size_z = size_within 2535301200456458802993406410751 p.z xy.1 in
     record {
       positive = above p.w positive;
       x = omega (arith, size_x);

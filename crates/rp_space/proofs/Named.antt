@@ -6,12 +6,12 @@ use Rattle.std.proofs.lemmas.List.{length-replicate, drop-replicate, length-drop
 use Rattle.std.proofs.Math.Seq.{take-append_seam, drop-append_seam}
 use Rattle.rp_model.specs.Name.{is_letter, is_name_byte, is_name}
 use Rattle.rp_space.specs.NameBytes.{IsNameInside}
-use Rattle.rp_space.proofs.Kept.{both}
+use Rattle.std.proofs.lemmas.Bool.{and_parts}
 
 -- a name has at most 32 bytes
 pub name_length : (bytes : List ℕ) → is_name bytes ≡ true → length bytes ≤ 32
 name_length [] e = omega arith
-name_length (b ∷ bs) e = let f : nat_le (length (b ∷ bs)) 32 ≡ true = (both (is_letter b && list_all is_name_byte bs) (nat_le (length (b ∷ bs)) 32) e).1 in grind arith
+name_length (b ∷ bs) e = let f : nat_le (length (b ∷ bs)) 32 ≡ true = (and_parts (is_letter b && list_all is_name_byte bs) (nat_le (length (b ∷ bs)) 32) e).1 in grind arith
 
 -- bytes of a name, with the zeros behind them that are left of 32, are the inside of a name
 pub name_inside : (bytes : List ℕ) → is_name bytes ≡ true → IsNameInside (record { bytes = bytes ++ drop (length bytes) (replicate 32 0); len = length bytes })

@@ -3,11 +3,13 @@ use Rattle.std.proofs.Common.{◌≡◌, ℕ, ◌≤◌, ℤ, pos, negsuc, neg_�
 use Rattle.std.specs.Int.RustNames.{unsigned_abs}
 use mir.Syntax.{w32, w64}
 use Rattle.std.proofs.lemmas.Int.{ints}
+use Rattle.std.proofs.lemmas.Bool.{and_parts}
 use Rattle.rp_algebra.specs.Integer.{gcd, gcd_of}
 use Rattle.rp_algebra.proofs.Divisors.{gcd_of-four, gcd-zero, gcd-at_most_right, gcd-positive_right}
 use Rattle.rp_algebra.proofs.Machine.{code, is_by}
 use Rattle.rp_model.specs.Geometry.{IntegerBox, HalfSpace, half_space_of, is_within_bound, is_half_space_in_bounds, is_zero_half_space, is_box_in_bounds, IsKeptHalfSpace}
-use Rattle.rp_space.proofs.Kept.{size_at_most, both, kept_half_space, lowest_by_one}
+use Rattle.rp_model.proofs.InLowestTerms.{size_within}
+use Rattle.rp_space.proofs.Kept.{kept_half_space, lowest_by_one}
 
 -- the sizes of the numbers of a box
 pub record AreSmall (b : IntegerBox) : Type 0 where
@@ -21,18 +23,18 @@ pub record AreSmall (b : IntegerBox) : Type 0 where
 -- a box within its bounds has small numbers
 pub box_is_small : (b : IntegerBox) → is_box_in_bounds b ≡ true → AreSmall b
 box_is_small b e =
-    let five = both _ _ e in
-    let four = both _ _ five.0 in
-    let three = both _ _ four.0 in
-    let two = both _ _ three.0 in
-    let one = both _ _ two.0 in
+    let five = and_parts _ _ e in
+    let four = and_parts _ _ five.0 in
+    let three = and_parts _ _ four.0 in
+    let two = and_parts _ _ three.0 in
+    let one = and_parts _ _ two.0 in
     record {
-      x1 = size_at_most 16777216 b.x1 one.0;
-      y1 = size_at_most 16777216 b.y1 one.1;
-      z1 = size_at_most 16777216 b.z1 two.1;
-      x2 = size_at_most 16777216 b.x2 three.1;
-      y2 = size_at_most 16777216 b.y2 four.1;
-      z2 = size_at_most 16777216 b.z2 five.1;
+      x1 = size_within 16777216 b.x1 one.0;
+      y1 = size_within 16777216 b.y1 one.1;
+      z1 = size_within 16777216 b.z1 two.1;
+      x2 = size_within 16777216 b.x2 three.1;
+      y2 = size_within 16777216 b.y2 four.1;
+      z2 = size_within 16777216 b.z2 five.1;
     }
 
 -- four numbers within bounds and with the divisor 1 are kept

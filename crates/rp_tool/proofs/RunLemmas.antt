@@ -11,7 +11,7 @@ use Rattle.rp_model.specs.State.{State, opening}
 use Rattle.rp_model.specs.Text.{Answer, answer_lines, text_of_lines, line_end}
 use Rattle.rp_tool.specs.Output.{PutsAnswer, PutsOutput}
 use Rattle.rp_tool.proofs.RefusalLemmas.{list_any-append}
-use Rattle.rp_tool.proofs.SinkLemmas.{Appends-nil, Appends-append}
+use Rattle.rp_tool.proofs.SinkLemmas.{Appends-append}
 
 -- what was told of the script before the rest, whose first line has the number and meets the state
 pub record HasTold (script : List ℕ) (old now : Option (List ℕ)) (state : State) (number : ℕ) (rest : List ℕ) (refused : Bool) : Type 0 where
@@ -19,16 +19,6 @@ pub record HasTold (script : List ℕ) (old now : Option (List ℕ)) (state : St
   pub text : Appends old now (text_of_lines told)
   pub mark : refused ≡ list_any is_refused_line told
   pub goes_on : (tail : List (List ℕ)) → IsReportFrom state number (script_lines rest) tail → IsReportFrom opening 1 (script_lines script) (told ++ tail)
-
--- at the start nothing was told
-pub HasTold-start : (script : List ℕ) (said : Option (List ℕ)) (state : State) → state ≡ opening → HasTold script said said state 1 script false
-HasTold-start script said state e =
-    record {
-      told = [];
-      text = Appends-nil said;
-      mark = refl;
-      goes_on = λ tail h. subst (λ s. IsReportFrom s 1 (script_lines script) tail) e h;
-    }
 
 -- the report of one line and then of others
 IsReportFrom-cons : (state next : State) (number : ℕ) (line : List ℕ) (lines tail : List (List ℕ)) (a : Answer) → IsAnswerTo state number line (reading line) a

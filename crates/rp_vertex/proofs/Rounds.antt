@@ -33,18 +33,6 @@ next_round (suc room) hs (k ∷ flat) taken p h r e =
     enough_room (suc room) room hs (flat_half_spaces (k ∷ flat) (p ∷ [])) (taken ++ p ∷ []) (one_more (length (flat_half_spaces (k ∷ flat) (p ∷ []))) room few) few
     ∙ sym (ap (λ (o : Option RationalPoint). elim o [ None ↦ None | Some q ↦ complete_points room hs (flat_half_spaces (k ∷ flat) (q ∷ [])) (taken ++ q ∷ []) ]) e)
 
--- where no point is found there is no certificate
-pub no_round : (room : ℕ) (hs flat : List HalfSpace) (taken : List RationalPoint) → 0 < length flat → length flat ≤ room → first_vertex (lifts flat) hs ≡ None → complete_points room hs flat taken ≡ None
-no_round room hs [] taken h r e = absurd (omega arith)
-no_round zero hs (k ∷ flat) taken h r e = absurd (no_room (length flat) r)
-no_round (suc room) hs (k ∷ flat) taken h r e =
-    ap (λ (o : Option RationalPoint). elim o [ None ↦ None | Some q ↦ complete_points room hs (flat_half_spaces (k ∷ flat) (q ∷ [])) (taken ++ q ∷ []) ]) e
-
--- with no flat half-space left the points taken are the certificate
-pub last_round : (room : ℕ) (hs flat : List HalfSpace) (taken : List RationalPoint) → length flat ≡ 0 → complete_points room hs flat taken ≡ Some taken
-last_round room hs [] taken e = refl
-last_round room hs (k ∷ flat) taken e = absurd (omega arith)
-
 -- ---- what the loop keeps
 
 -- the points taken are as the search has them, and going on from them comes to the same as from the first one
