@@ -67,6 +67,18 @@ fn reports_the_worked_rows(rt: HostRuntime) -> Result<(), Fail> {
             "member half 0 -1 0 5 3 5 9 1\nmember half 0 1 0 -5 3 5 9 1\n",
             "> 1 member half 0 -1 0 5 3 5 9 1\n= no\n> 2 member half 0 1 0 -5 3 5 9 1\n= yes\n",
         ),
+        (
+            "empty box 0 0 0 10 10 10\n",
+            "> 1 empty box 0 0 0 10 10 10\n  in (0 0 0 1) (0 0 10 1) (0 10 0 1) (10 0 0 1)\n= no\n",
+        ),
+        (
+            "empty box 0 0 0 0 10 10\n",
+            "> 1 empty box 0 0 0 0 10 10\n  out 1*(1 0 0 0) 1*(-1 0 0 0)\n= yes\n",
+        ),
+        (
+            "empty half 0 0 0 -1\n",
+            "> 1 empty half 0 0 0 -1\n  out 1*(0 0 0 -1)\n= yes\n",
+        ),
         // Blank lines are numbered and told nothing.
         (
             "# a note\n\nmember half 1 0 0 0 0 5 5 1\n",
@@ -124,6 +136,10 @@ fn answers_within_the_bounds_and_refuses_past_them(rt: HostRuntime) -> Result<()
             "= refused unknown b",
         ),
         ("member minus name a lot b 0 0 0 1", "= refused unknown a"),
+        // Emptiness is built for one half-space or one box, and no name is looked up elsewhere.
+        ("empty half 0 0 0 0", "= refused zero"),
+        ("empty all", "= refused unbuilt"),
+        ("empty name a", "= refused unbuilt"),
     ];
     for (line, verdict) in rows {
         let report = report_of(rt.alloc(), line, verdict)?;
@@ -179,7 +195,7 @@ fn spells_each_command(rt: HostRuntime) -> Result<(), Fail> {
 fn writes_nothing_where_a_read_fails(rt: HostRuntime) -> Result<(), Fail> {
     let alloc = rt.alloc();
     let words = words_of(alloc, &["run"])?;
-    let mut source = MemorySource::new(b"member half 1 0 0 0 0 5 5 1\n", 10, &[2]);
+    let mut source = MemorySource::new(b"empty box 0 0 0 0 10 10\n", 10, &[2]);
     let mut sink = MemorySink::new(alloc, 1000, &[])?;
     let status = tool(&rt, alloc, &words, &mut source, &mut sink);
     assert_eq!(rt; status, READ_FAILED);
@@ -191,13 +207,13 @@ fn writes_nothing_where_a_read_fails(rt: HostRuntime) -> Result<(), Fail> {
 fn stops_where_a_put_fails(rt: HostRuntime) -> Result<(), Fail> {
     let alloc = rt.alloc();
     let words = words_of(alloc, &["run"])?;
-    let mut source = MemorySource::new(b"member half 1 0 0 0 0 5 5 1\n", 10, &[]);
-    let mut sink = MemorySink::new(alloc, 1000, &[(2, 3)])?;
+    let mut source = MemorySource::new(b"empty box 0 0 0 0 10 10\n", 10, &[]);
+    let mut sink = MemorySink::new(alloc, 1000, &[(3, 3)])?;
     let status = tool(&rt, alloc, &words, &mut source, &mut sink);
     assert_eq!(rt; status, PUT_FAILED);
     assert_eq!(rt;
         sink.bytes(),
-        b"> 1 member half 1 0 0 0 0 5 5 1\n= y".as_slice()
+        b"> 1 empty box 0 0 0 0 10 10\n  out 1*(1 0 0 0) 1*(-1 0 0 0)\n= y".as_slice()
     );
     Ok(())
 }
