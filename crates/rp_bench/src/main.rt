@@ -1,10 +1,5 @@
-//! Asks one search of one cell over and over, and prints what it found, so that `bench/run` can time a call.
-//!
-//! The words are a search and how often it is asked, as `inside 1000`. The cell comes on standard input, at most 64
-//! half-spaces, one a line, as in the question `empty half A B C D`. The output is what the search found, as `inside 4`
-//! for four points, `outside 3` or `apart 3` for three terms, or `none`, and then the sum of these numbers over all
-//! rounds, as `total 4000`. The sum uses what each round found. Other words and other lines end the program with
-//! status 1 and a message on standard error.
+//! Asks one search of one cell over and over, and prints what it found, so that `bench/run` can time a call. The words are a
+//! search and how often it is asked, as `inside 1000`. Other words and other lines end the program with status 1.
 #![tactic(auto)]
 
 mod cell;
@@ -26,7 +21,8 @@ fn words_of(rt: &(impl Env + AllocGlobal)) -> io::Result<Vec<String>> {
     Ok(words)
 }
 
-/// Prints what a search found.
+/// Prints what a search found, as `inside 4` for four points, `outside 3` or `apart 3` for three terms, or `none`; and then
+/// the sum of these numbers over all rounds, as `total 4000`, which uses what each round found.
 fn print_tally(rt: &impl Print, search: Search, tally: Tally) -> io::Result<()> {
     match tally.last {
         Some(size) => println!(rt; "{} {size}", search.word())?,
