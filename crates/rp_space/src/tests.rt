@@ -103,6 +103,18 @@ fn boxes_have_six_sides(rt: HostRuntime) {
 }
 
 #[test]
+fn planes_through_one_line_do_not_meet_in_one_point(rt: HostRuntime) -> Result<(), Fail> {
+    let x = Half::new(1, 0, 0, 0).ok().ok_or("no half-space")?;
+    let y = Half::new(0, 1, 0, 0).ok().ok_or("no half-space")?;
+    let slope = Half::new(-2, -3, -5, 7).ok().ok_or("no half-space")?;
+    let between = Half::new(1, 1, 0, 0).ok().ok_or("no half-space")?;
+    let corner = meet(&x, &y, &slope).ok_or("no point")?;
+    assert_eq!(rt; corner.numbers(), (0, 0, 7, 5));
+    assert!(rt; meet(&x, &y, &between).is_none());
+    Ok(())
+}
+
+#[test]
 fn three_planes_meet_in_lowest_terms(rt: HostRuntime) -> Result<(), Fail> {
     let x = Half::new(2, 0, 0, -3).ok().ok_or("no half-space")?;
     let y = Half::new(0, 1, 0, -2).ok().ok_or("no half-space")?;
