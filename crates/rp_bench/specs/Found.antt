@@ -1,6 +1,7 @@
 -- The word of a search, and how much it finds in a cell.
-use Rattle.std.specs.Prelude.{ℕ, true, false, List, Option, length, codes}
+use Rattle.std.specs.Prelude.{ℕ, true, false, List, Option, Some, None, length, codes}
 use Rattle.std.specs.Option.{option_map}
+use Rattle.std.specs.Str.{bytes_eq}
 use Rattle.rp_model.specs.Geometry.{HalfSpace}
 use Rattle.rp_model.specs.Vertex.{first_inside}
 use Rattle.rp_model.specs.Elimination.{first_outside}
@@ -12,6 +13,17 @@ abbrev pub word_of : Search → List ℕ
 word_of Inside = codes "inside"
 word_of Outside = codes "outside"
 word_of Apart = codes "apart"
+
+-- the search of a word, if it asks for one
+abbrev pub search_of : List ℕ → Option Search
+search_of word =
+    elim (bytes_eq word (codes "inside")) [
+      | true ↦ Some Inside
+      | false ↦ elim (bytes_eq word (codes "outside")) [
+        | true ↦ Some Outside
+        | false ↦ elim (bytes_eq word (codes "apart")) [ true ↦ Some Apart | false ↦ None ]
+      ]
+    ]
 
 -- the number of points of the first inside certificate, or of terms of the first outside certificate that is strict or is not
 abbrev pub size_found : Search → List HalfSpace → Option ℕ

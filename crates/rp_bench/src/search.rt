@@ -1,6 +1,6 @@
 //! The searches that can be asked.
 ghost use Rattle.std.specs.Prelude.{◌≡◌, ◌≤◌, length, IfSome};
-ghost use Rattle.rp_bench.specs.Found.{size_found, word_of};
+ghost use Rattle.rp_bench.specs.Found.{search_of, size_found, word_of};
 
 use rp_elim::first_outside;
 use rp_space::Half;
@@ -18,9 +18,9 @@ pub enum Search {
 }
 
 impl Search {
-    /// The search of a word.
+    /// The search of a word. `None` exactly where the word asks for none.
     pub fn of_word(word: &str) -> Option<Search>
-        ensures { IfSome result (λ search. word.now ≡ word_of search) }
+        ensures { result ≡ search_of word.now }
     {
         match word {
             "inside" => Some(Search::Inside),
