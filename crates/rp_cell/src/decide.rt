@@ -16,7 +16,8 @@ pub enum Strict {
     Outside(Outside),
 }
 
-/// Whether the weak system of a cell, its closure in the closed cube for a cell with a point, has a point.
+/// Whether the weak system of a cell has a point: one of the closed cube at which no half-space of the cell is negative.
+/// Where the cell has a point, these are its closure.
 #[derive(Debug, Drop)]
 pub enum Weak {
     /// It has this one.
