@@ -2,9 +2,9 @@
 use Rattle.std.specs.Prelude.{ℕ, true, false, List, Option, Some, None, length, codes}
 use Rattle.std.specs.Option.{option_map}
 use Rattle.std.specs.Str.{bytes_eq}
-use Rattle.rp_model.specs.Geometry.{HalfSpace}
-use Rattle.rp_model.specs.Vertex.{first_inside}
-use Rattle.rp_model.specs.Elimination.{first_outside}
+use Rattle.rp_geometry.specs.Geometry.{HalfSpace}
+use Rattle.rp_geometry.specs.searches.Vertex.{first_inside}
+use Rattle.rp_geometry.specs.searches.Elimination.{first_outside}
 use Rattle.rp_bench.specs.declared.search.Search.{Search}
 use Rattle.rp_bench.specs.declared.search.Search.TheVariants.{Inside, Outside, Apart}
 

@@ -1,14 +1,14 @@
 -- What the searches that a decision calls have found, and that one of them always finds something.
 use Rattle.std.proofs.Common.{◌≡◌, true, false, List, Option, Some, None, refl, sym, ap, ◌∙◌, subst}
 use Rattle.std.specs.Prelude.{◌↔◌, IsSome, IsNone, IfSome, unwrap_or, []}
-use Rattle.rp_model.specs.Geometry.{RationalPoint, HalfSpace}
-use Rattle.rp_model.specs.Shape.{shape_of_cell}
-use Rattle.rp_model.specs.Sets.{IsEmpty}
-use Rattle.rp_model.specs.Certificate.{Multiple}
-use Rattle.rp_model.specs.Vertex.{first_inside, first_weak_point}
-use Rattle.rp_model.specs.Elimination.{first_outside}
-use Rattle.rp_model.specs.ProofLine.{strict_line, weak_line, in_line, out_line, at_line, apart_line}
-use Rattle.rp_model.specs.CellLaws.{IsSolution}
+use Rattle.rp_geometry.specs.Geometry.{RationalPoint, HalfSpace}
+use Rattle.rp_geometry.specs.sets.Shape.{shape_of_cell}
+use Rattle.rp_geometry.specs.sets.Sets.{IsEmpty}
+use Rattle.rp_geometry.specs.searches.Certificate.{Multiple}
+use Rattle.rp_geometry.specs.searches.Vertex.{first_inside, first_weak_point}
+use Rattle.rp_geometry.specs.searches.Elimination.{first_outside}
+use Rattle.rp_geometry.specs.searches.ProofLine.{strict_line, weak_line, in_line, out_line, at_line, apart_line}
+use Rattle.rp_geometry.specs.laws.CellLaws.{IsSolution}
 use Rattle.rp_convex.proofs.Certified.{strict_solution_is_member_spec}
 
 -- the fact of an answer that is some

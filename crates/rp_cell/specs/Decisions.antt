@@ -1,13 +1,13 @@
 -- What a decision about a cell says.
 use Rattle.std.specs.Prelude.{◌≡◌, true, false, IsTrue, List, Some}
-use Rattle.rp_model.specs.Geometry.{RationalPoint, HalfSpace}
-use Rattle.rp_model.specs.Shape.{shape_of_cell}
-use Rattle.rp_model.specs.Sets.{IsNonempty, IsEmpty}
-use Rattle.rp_model.specs.Certificate.{is_inside_certificate, is_weak_point, is_outside_certificate}
-use Rattle.rp_model.specs.Vertex.{first_inside, first_weak_point}
-use Rattle.rp_model.specs.Elimination.{first_outside}
-use Rattle.rp_model.specs.CellLaws.{IsSolution}
-use Rattle.rp_model.specs.ProofLine.{ProofLine, in_line, out_line, at_line, apart_line}
+use Rattle.rp_geometry.specs.Geometry.{RationalPoint, HalfSpace}
+use Rattle.rp_geometry.specs.sets.Shape.{shape_of_cell}
+use Rattle.rp_geometry.specs.sets.Sets.{IsNonempty, IsEmpty}
+use Rattle.rp_geometry.specs.searches.Certificate.{is_inside_certificate, is_weak_point, is_outside_certificate}
+use Rattle.rp_geometry.specs.searches.Vertex.{first_inside, first_weak_point}
+use Rattle.rp_geometry.specs.searches.Elimination.{first_outside}
+use Rattle.rp_geometry.specs.laws.CellLaws.{IsSolution}
+use Rattle.rp_geometry.specs.searches.ProofLine.{ProofLine, in_line, out_line, at_line, apart_line}
 use Rattle.rp_cell.specs.declared.decide.Strict.{Strict}
 use Rattle.rp_cell.specs.declared.decide.Strict.TheVariants.{Inside, Outside}
 use Rattle.rp_cell.specs.declared.decide.Weak.{Weak}

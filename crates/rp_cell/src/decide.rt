@@ -1,6 +1,6 @@
 //! Whether a cell has a point, and whether its weak system has one.
 ghost use Rattle.std.specs.Prelude.{◌≡◌, ◌≤◌, length};
-ghost use Rattle.rp_model.specs.ProofLine.{strict_line, weak_line};
+ghost use Rattle.rp_geometry.specs.searches.ProofLine.{strict_line, weak_line};
 ghost use Rattle.rp_cell.specs.Decisions.{line_of_strict, line_of_weak, DecidesStrict, DecidesWeak};
 
 use rp_elim::first_outside;

@@ -2,8 +2,8 @@
 use Rattle.std.proofs.Common.{◌≡◌, true, ◌&&◌, List, [], ◌∷◌, refl}
 use Rattle.std.specs.List.{list_all}
 use Rattle.rp_algebra.proofs.Tests.{and_first, and_second, and_true}
-use Rattle.rp_model.specs.Geometry.{HalfSpace, is_listed, with_cube}
-use Rattle.rp_model.specs.Certificate.{Multiple, is_multiplier}
+use Rattle.rp_geometry.specs.Geometry.{HalfSpace, is_listed, with_cube}
+use Rattle.rp_geometry.specs.searches.Certificate.{Multiple, is_multiplier}
 
 -- where each term is a multiple within bounds of a listed half-space, each multiplier is within bounds
 pub multipliers_of : (cell : List HalfSpace) (terms : List Multiple) → list_all (λ t. is_multiplier t.factor && is_listed t.of (with_cube cell)) terms ≡ true → list_all (λ t. is_multiplier t.factor) terms ≡ true

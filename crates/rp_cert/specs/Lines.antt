@@ -1,5 +1,5 @@
 -- Lines of proof of the code as those of the model.
-use Rattle.rp_model.specs.ProofLine.{ProofLine, in_line, out_line, at_line, apart_line, drop_line, box_line}
+use Rattle.rp_geometry.specs.searches.ProofLine.{ProofLine, in_line, out_line, at_line, apart_line, drop_line, box_line}
 use Rattle.rp_space.specs.Boxes.{integer_box}
 use Rattle.rp_cert.specs.declared.proof.Proof.{Proof}
 use Rattle.rp_cert.specs.declared.proof.Proof.TheVariants.{In, Out, At, Apart, Dropped, Bounds}

@@ -1,6 +1,6 @@
 -- The four numbers of a half-space by name.
 use Rattle.std.specs.Prelude.{ℤ}
-use Rattle.rp_model.specs.Geometry.{HalfSpace}
+use Rattle.rp_geometry.specs.Geometry.{HalfSpace}
 use Rattle.rp_cert.specs.declared.outside.Number.{Number}
 use Rattle.rp_cert.specs.declared.outside.Number.TheVariants.{A, B, C, D}
 

@@ -1,8 +1,8 @@
 //! Certificates made of points.
 ghost use Rattle.std.specs.Prelude.{◌≡◌, ◌&&◌};
 ghost use Rattle.std.specs.List.{list_all, list_any};
-ghost use Rattle.rp_model.specs.Geometry.{all_nonnegative, with_cube};
-ghost use Rattle.rp_model.specs.Certificate.{is_one_to_four, is_positive_at_some, is_nonnegative_at_all, is_inside_certificate, is_weak_point};
+ghost use Rattle.rp_geometry.specs.Geometry.{all_nonnegative, with_cube};
+ghost use Rattle.rp_geometry.specs.searches.Certificate.{is_one_to_four, is_positive_at_some, is_nonnegative_at_all, is_inside_certificate, is_weak_point};
 
 use rp_space::{Half, Point, cube};
 

@@ -2,8 +2,8 @@
 ghost use Rattle.std.specs.Prelude.{◌≡◌, true, ◌&&◌, length, ◌≤◌, ◌*◌, ◌^◌, ◌*ℤ◌};
 ghost use Rattle.std.specs.List.{list_all, list_any};
 ghost use Rattle.rp_algebra.specs.Within.{IsWithin};
-ghost use Rattle.rp_model.specs.Geometry.{is_listed, with_cube};
-ghost use Rattle.rp_model.specs.Certificate.{weighted_sum, is_balanced, is_contradiction, is_multiplier, is_outside_certificate};
+ghost use Rattle.rp_geometry.specs.Geometry.{is_listed, with_cube};
+ghost use Rattle.rp_geometry.specs.searches.Certificate.{weighted_sum, is_balanced, is_contradiction, is_multiplier, is_outside_certificate};
 ghost use Rattle.rp_cert.specs.Numbers.{number_of};
 
 use crate::inside::is_one_to_four;

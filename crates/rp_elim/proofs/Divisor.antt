@@ -8,8 +8,8 @@ use Rattle.rp_algebra.specs.Integer.{gcd, gcd_of}
 use Rattle.rp_algebra.proofs.Divisors.{gcd_of-nil, gcd_of-cons, gcd_of-positive_head, gcd_of-at_most_head}
 use Rattle.rp_algebra.proofs.Numbers.{above_not_zero}
 use Rattle.rp_algebra.proofs.Tests.{and_first, and_second, at_most_is}
-use Rattle.rp_model.specs.Certificate.{Multiple, is_multiplier}
-use Rattle.rp_model.specs.Elimination.{factors_of}
+use Rattle.rp_geometry.specs.searches.Certificate.{Multiple, is_multiplier}
+use Rattle.rp_geometry.specs.searches.Elimination.{factors_of}
 use Rattle.rp_alternative.proofs.Tests.{multiplier-to}
 
 -- the divisor is above 0

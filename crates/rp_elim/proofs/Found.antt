@@ -2,10 +2,10 @@
 use Rattle.std.proofs.Common.{◌≡◌, Bool, List, Option, ⊎_elim, ap, sym, subst, ◌∙◌}
 use Rattle.std.specs.Prelude.{◌↔◌, IsNone, IsTrue, IfSome, is_some}
 use Rattle.rp_algebra.proofs.Tests.{false_unless, false_not_true}
-use Rattle.rp_model.specs.Geometry.{RationalPoint, HalfSpace}
-use Rattle.rp_model.specs.Certificate.{Multiple, is_outside_certificate}
-use Rattle.rp_model.specs.Elimination.{first_outside}
-use Rattle.rp_model.specs.CellLaws.{AreHalfSpaces, IsSolution}
+use Rattle.rp_geometry.specs.Geometry.{RationalPoint, HalfSpace}
+use Rattle.rp_geometry.specs.searches.Certificate.{Multiple, is_outside_certificate}
+use Rattle.rp_geometry.specs.searches.Elimination.{first_outside}
+use Rattle.rp_geometry.specs.laws.CellLaws.{AreHalfSpaces, IsSolution}
 use Rattle.rp_alternative.proofs.Alternative.{solution_or_certificate_spec}
 use Rattle.rp_alternative.proofs.Found.{outside_is_found_spec}
 

@@ -4,10 +4,10 @@ use Rattle.std.proofs.lemmas.Int.{ints}
 use Rattle.rp_algebra.specs.Integer.{is_positive, is_negative}
 use Rattle.rp_algebra.proofs.Reify.{by_ring_at, reify}
 use Rattle.rp_algebra.proofs.Tests.{and_first, and_second, and_true, false_not_true, positive_is, is_positive_true, negative_is, is_negative_true}
-use Rattle.rp_model.specs.Geometry.{HalfSpace}
-use Rattle.rp_model.specs.Search.{first_of}
-use Rattle.rp_model.specs.Vertex.{det2, meeting_weight}
-use Rattle.rp_model.specs.Elimination.{multiple_of, refutation_of_four}
+use Rattle.rp_geometry.specs.Geometry.{HalfSpace}
+use Rattle.rp_geometry.specs.searches.Search.{first_of}
+use Rattle.rp_geometry.specs.searches.Vertex.{det2, meeting_weight}
+use Rattle.rp_geometry.specs.searches.Elimination.{multiple_of, refutation_of_four}
 use Rattle.rp_elim.specs.Sides.{has_sign}
 use Rattle.rp_elim.proofs.Signs.{mixed_refutation}
 

@@ -10,10 +10,10 @@ use Rattle.rp_algebra.proofs.Divisors.{DividesAll, gcd_of-divides, gcd_of-positi
 use Rattle.rp_algebra.proofs.Numbers.{above_not_zero}
 use Rattle.rp_algebra.proofs.Tests.{is_positive_true, zero_is, is_zero_true, at_most_is, at_most_true, negative_is, is_negative_true}
 use Rattle.rp_algebra.proofs.Listed.{list_all_true, list_all_is}
-use Rattle.rp_model.proofs.InLowestTerms.{same_test}
-use Rattle.rp_model.specs.Geometry.{HalfSpace}
-use Rattle.rp_model.specs.Certificate.{Multiple, weighted_sum, is_balanced, is_contradiction, is_multiplier}
-use Rattle.rp_model.specs.Elimination.{factors_of, reduced_terms, is_refutation, terms_if}
+use Rattle.rp_geometry.proofs.InLowestTerms.{same_test}
+use Rattle.rp_geometry.specs.Geometry.{HalfSpace}
+use Rattle.rp_geometry.specs.searches.Certificate.{Multiple, weighted_sum, is_balanced, is_contradiction, is_multiplier}
+use Rattle.rp_geometry.specs.searches.Elimination.{factors_of, reduced_terms, is_refutation, terms_if}
 use Rattle.rp_alternative.proofs.Combination.{ArePositive}
 use Rattle.rp_alternative.proofs.Tests.{multiplier-to}
 use Rattle.rp_alternative.proofs.Lowest.{divided, divided_positive, weighted_sum-divided}

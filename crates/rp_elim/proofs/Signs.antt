@@ -7,8 +7,8 @@ use Rattle.rp_algebra.proofs.Divisors.{DividesAll, gcd_of-divides}
 use Rattle.rp_algebra.proofs.LowestTerms.{exact_quotient, quotient_of_zero}
 use Rattle.rp_algebra.proofs.Numbers.{opposite_within}
 use Rattle.rp_algebra.proofs.Tests.{and_first, and_second, and_true, false_unless, false_not_true, positive_is, is_positive_true}
-use Rattle.rp_model.specs.Certificate.{Multiple, is_balanced, is_contradiction, is_multiplier}
-use Rattle.rp_model.specs.Elimination.{factors_of, reduced_terms, negated_terms, normal_terms, is_refutation, terms_if}
+use Rattle.rp_geometry.specs.searches.Certificate.{Multiple, is_balanced, is_contradiction, is_multiplier}
+use Rattle.rp_geometry.specs.searches.Elimination.{factors_of, reduced_terms, negated_terms, normal_terms, is_refutation, terms_if}
 use Rattle.rp_alternative.proofs.Combination.{greatest_minor}
 use Rattle.rp_alternative.proofs.Tests.{multiplier-from, multiplier-to}
 use Rattle.rp_alternative.proofs.Lowest.{divided}

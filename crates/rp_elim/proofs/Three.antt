@@ -3,10 +3,10 @@ use Rattle.std.proofs.Common.{◌≡◌, ℤ, pos, neg_ℤ, Bool, true, false, �
 use Rattle.std.proofs.lemmas.Int.{ints}
 use Rattle.rp_algebra.specs.Integer.{is_zero, is_positive, is_negative}
 use Rattle.rp_algebra.proofs.Tests.{and_first, and_second, and_true, false_not_true, positive_is}
-use Rattle.rp_model.specs.Geometry.{HalfSpace}
-use Rattle.rp_model.specs.Search.{first_of}
-use Rattle.rp_model.specs.Vertex.{det2}
-use Rattle.rp_model.specs.Elimination.{multiple_of, minors_of_three, minors_on_axes, normal_terms, terms_if, refutation_of_three}
+use Rattle.rp_geometry.specs.Geometry.{HalfSpace}
+use Rattle.rp_geometry.specs.searches.Search.{first_of}
+use Rattle.rp_geometry.specs.searches.Vertex.{det2}
+use Rattle.rp_geometry.specs.searches.Elimination.{multiple_of, minors_of_three, minors_on_axes, normal_terms, terms_if, refutation_of_three}
 use Rattle.rp_elim.specs.Axes.{along, axes_of, minor_on}
 use Rattle.rp_elim.specs.declared.minors.Axis.{Axis}
 use Rattle.rp_elim.specs.declared.minors.Axis.TheVariants.{X, Y, Z}

@@ -1,10 +1,10 @@
 -- The coefficients of a half-space by axis.
 use Rattle.std.specs.Prelude.{true, false, ℤ, neg_ℤ, List, [], ◌∷◌}
 use Rattle.rp_algebra.specs.Integer.{is_zero}
-use Rattle.rp_model.specs.Geometry.{HalfSpace}
-use Rattle.rp_model.specs.Certificate.{Multiple}
-use Rattle.rp_model.specs.Vertex.{det2}
-use Rattle.rp_model.specs.Elimination.{multiple_of}
+use Rattle.rp_geometry.specs.Geometry.{HalfSpace}
+use Rattle.rp_geometry.specs.searches.Certificate.{Multiple}
+use Rattle.rp_geometry.specs.searches.Vertex.{det2}
+use Rattle.rp_geometry.specs.searches.Elimination.{multiple_of}
 use Rattle.rp_elim.specs.declared.minors.Axis.{Axis}
 use Rattle.rp_elim.specs.declared.minors.Axis.TheVariants.{X, Y, Z}
 

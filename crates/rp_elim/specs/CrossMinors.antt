@@ -1,7 +1,7 @@
 -- The cross product of the normals of two half-spaces.
 use Rattle.std.specs.Prelude.{◌≡◌, ◌*◌, ◌^◌}
 use Rattle.rp_algebra.specs.Within.{IsWithin}
-use Rattle.rp_model.specs.Vertex.{det2}
+use Rattle.rp_geometry.specs.searches.Vertex.{det2}
 use Rattle.rp_elim.specs.declared.triple.Cross.TheInside.{Inside}
 
 -- the kept minors are those of the two half-spaces

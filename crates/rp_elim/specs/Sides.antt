@@ -1,7 +1,7 @@
 -- Signs, and three half-spaces as one value.
 use Rattle.std.specs.Prelude.{Bool, true, false, ℤ}
 use Rattle.rp_algebra.specs.Integer.{is_positive, is_negative}
-use Rattle.rp_model.specs.Geometry.{HalfSpace}
+use Rattle.rp_geometry.specs.Geometry.{HalfSpace}
 
 -- the number is above 0 (true), or below 0 (false)
 abbrev pub has_sign : Bool → ℤ → Bool

@@ -1,6 +1,6 @@
 -- What three half-spaces share in the refutations by them and a fourth one.
 use Rattle.std.specs.Prelude.{◌≡◌, true, neg_ℤ}
-use Rattle.rp_model.specs.Vertex.{meeting_weight}
+use Rattle.rp_geometry.specs.searches.Vertex.{meeting_weight}
 use Rattle.rp_space.specs.TwoHalfSpaces.{two_of}
 use Rattle.rp_elim.specs.Sides.{has_sign}
 use Rattle.rp_elim.specs.declared.triple.Triple.TheInside.{Inside}

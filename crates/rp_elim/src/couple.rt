@@ -1,6 +1,6 @@
 //! Two half-spaces, with what the refutations by them and a further one share.
 ghost use Rattle.std.specs.Prelude.{◌≡◌, ◌&&◌, true, not, pos, MatchOption};
-ghost use Rattle.rp_model.specs.Elimination.{refutation_of_three};
+ghost use Rattle.rp_geometry.specs.searches.Elimination.{refutation_of_three};
 ghost use Rattle.rp_space.specs.TwoHalfSpaces.{two_of};
 ghost use Rattle.rp_elim.specs.Axes.{axes_of, minor_on};
 ghost use Rattle.rp_elim.specs.Sides.{has_sign};

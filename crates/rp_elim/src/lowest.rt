@@ -2,8 +2,8 @@
 ghost use Rattle.std.specs.Prelude.{◌≡◌, ◌<◌, ◌≤◌, true, length};
 ghost use Rattle.std.specs.List.{list_all};
 ghost use Rattle.rp_algebra.specs.Integer.{gcd_of};
-ghost use Rattle.rp_model.specs.Certificate.{is_multiplier};
-ghost use Rattle.rp_model.specs.Elimination.{factors_of, reduced_terms};
+ghost use Rattle.rp_geometry.specs.searches.Certificate.{is_multiplier};
+ghost use Rattle.rp_geometry.specs.searches.Elimination.{factors_of, reduced_terms};
 
 use rp_space::{Outside, Term, greatest_common_divisor, quotient};
 

@@ -2,8 +2,8 @@
 ghost use Rattle.std.specs.Prelude.{◌≡◌, ◌*◌, ◌^◌, neg_ℤ};
 ghost use Rattle.rp_algebra.specs.Integer.{is_zero};
 ghost use Rattle.rp_algebra.specs.Within.{IsWithin};
-ghost use Rattle.rp_model.specs.Vertex.{det2, meeting_weight};
-ghost use Rattle.rp_model.specs.Elimination.{minors_of_two, minors_on_axes, minors_of_four};
+ghost use Rattle.rp_geometry.specs.searches.Vertex.{det2, meeting_weight};
+ghost use Rattle.rp_geometry.specs.searches.Elimination.{minors_of_two, minors_on_axes, minors_of_four};
 ghost use Rattle.rp_elim.specs.Axes.{along, axes_of, minors_on_axis};
 ghost use Rattle.rp_elim.specs.Factors.{AreFactorsSmall};
 

@@ -1,8 +1,8 @@
 //! Whether multiples of a few half-spaces refute, once their multipliers are positive and in lowest terms.
 ghost use Rattle.std.specs.Prelude.{◌≡◌, ◌&&◌, ◌<◌, ◌≤◌, true, neg_ℤ, length};
 ghost use Rattle.std.specs.List.{list_all};
-ghost use Rattle.rp_model.specs.Certificate.{is_balanced, is_contradiction, is_multiplier};
-ghost use Rattle.rp_model.specs.Elimination.{terms_if, reduced_terms, normal_terms, negated_terms};
+ghost use Rattle.rp_geometry.specs.searches.Certificate.{is_balanced, is_contradiction, is_multiplier};
+ghost use Rattle.rp_geometry.specs.searches.Elimination.{terms_if, reduced_terms, normal_terms, negated_terms};
 ghost use Rattle.rp_elim.specs.Factors.{AreFactorsSmall};
 
 use crate::lowest::lowest;

@@ -1,10 +1,10 @@
 //! Searches over one, two, three and four half-spaces, in the order of their places.
 ghost use Rattle.std.specs.Prelude.{◌≡◌, ◌↔◌, ◌≤◌, length, IsNone, IfSome, IsTrue};
-ghost use Rattle.rp_model.specs.Geometry.{RationalPoint};
-ghost use Rattle.rp_model.specs.CellLaws.{IsSolution};
-ghost use Rattle.rp_model.specs.Certificate.{is_outside_certificate};
-ghost use Rattle.rp_model.specs.Search.{first_of, first_of_pairs, first_of_triples, first_of_quadruples};
-ghost use Rattle.rp_model.specs.Elimination.{refutation_of_one, refutation_of_two, refutation_of_three, refutation_of_four, first_refutation, first_outside};
+ghost use Rattle.rp_geometry.specs.Geometry.{RationalPoint};
+ghost use Rattle.rp_geometry.specs.laws.CellLaws.{IsSolution};
+ghost use Rattle.rp_geometry.specs.searches.Certificate.{is_outside_certificate};
+ghost use Rattle.rp_geometry.specs.searches.Search.{first_of, first_of_pairs, first_of_triples, first_of_quadruples};
+ghost use Rattle.rp_geometry.specs.searches.Elimination.{refutation_of_one, refutation_of_two, refutation_of_three, refutation_of_four, first_refutation, first_outside};
 
 use crate::couple::Couple;
 use crate::minors::minors_of_two;

@@ -1,8 +1,8 @@
 //! Three half-spaces, with what the refutations by them and a further one share.
 ghost use Rattle.std.specs.Prelude.{◌≡◌, ◌*◌, ◌^◌, ◌&&◌, true, not, pos, neg_ℤ, MatchOption};
 ghost use Rattle.rp_algebra.specs.Within.{IsWithin};
-ghost use Rattle.rp_model.specs.Vertex.{meeting_weight};
-ghost use Rattle.rp_model.specs.Elimination.{refutation_of_four};
+ghost use Rattle.rp_geometry.specs.searches.Vertex.{meeting_weight};
+ghost use Rattle.rp_geometry.specs.searches.Elimination.{refutation_of_four};
 ghost use Rattle.rp_space.specs.TwoHalfSpaces.{two_of};
 ghost use Rattle.rp_elim.specs.Sides.{has_sign, three_of};
 

@@ -1,7 +1,7 @@
 -- There is one state, so what a reply says in the opening state it says in every state.
 use Rattle.std.proofs.Common.{◌≡◌, sym, subst}
-use Rattle.rp_model.specs.Expression.{Command}
-use Rattle.rp_model.specs.State.{State, opening}
+use Rattle.rp_language.specs.Expression.{Command}
+use Rattle.rp_model.specs.states.State.{State, opening}
 use Rattle.rp_machine.specs.Replies.{Replies}
 use Rattle.rp_machine.specs.declared.reply.Reply.{Reply}
 

@@ -1,13 +1,13 @@
 -- What a reply says of a command, and of a cell.
 use Rattle.std.specs.Prelude.{◌≡◌, List, [], ◌∷◌, map}
 use Rattle.rp_cert.specs.Lines.{line_of}
-use Rattle.rp_model.specs.Geometry.{HalfSpace}
-use Rattle.rp_model.specs.Shape.{shape_of_cell}
-use Rattle.rp_model.specs.Sets.{IsEmpty}
-use Rattle.rp_model.specs.Expression.{Command}
-use Rattle.rp_model.specs.ProofLine.{strict_line}
-use Rattle.rp_model.specs.Rule.{yes_where, rule_of, proofs_of}
-use Rattle.rp_model.specs.State.{State}
+use Rattle.rp_geometry.specs.Geometry.{HalfSpace}
+use Rattle.rp_geometry.specs.sets.Shape.{shape_of_cell}
+use Rattle.rp_geometry.specs.sets.Sets.{IsEmpty}
+use Rattle.rp_language.specs.Expression.{Command}
+use Rattle.rp_geometry.specs.searches.ProofLine.{strict_line}
+use Rattle.rp_model.specs.commands.Rule.{yes_where, rule_of, proofs_of}
+use Rattle.rp_model.specs.states.State.{State}
 use Rattle.rp_report.specs.Views.{verdict_of}
 use Rattle.rp_machine.specs.declared.reply.Reply.{Reply}
 

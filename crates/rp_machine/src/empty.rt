@@ -1,12 +1,12 @@
 //! Whether a region is empty.
 ghost use Rattle.std.specs.Prelude.{◌≡◌, ◌∷◌, [], ◌≤◌, length, IfOk};
 ghost use Rattle.rp_cert.specs.Lines.{line_of};
-ghost use Rattle.rp_model.specs.Expression.{ask_empty, IsBounded};
-ghost use Rattle.rp_model.specs.ProofLine.{strict_line};
-ghost use Rattle.rp_model.specs.Rule.{yes_where};
-ghost use Rattle.rp_model.specs.Sets.{IsEmpty};
-ghost use Rattle.rp_model.specs.Shape.{shape_of_cell};
-ghost use Rattle.rp_model.specs.State.{opening};
+ghost use Rattle.rp_language.specs.Expression.{ask_empty, IsBounded};
+ghost use Rattle.rp_geometry.specs.searches.ProofLine.{strict_line};
+ghost use Rattle.rp_model.specs.commands.Rule.{yes_where};
+ghost use Rattle.rp_geometry.specs.sets.Sets.{IsEmpty};
+ghost use Rattle.rp_geometry.specs.sets.Shape.{shape_of_cell};
+ghost use Rattle.rp_model.specs.states.State.{opening};
 ghost use Rattle.rp_report.specs.Views.{verdict_of};
 ghost use Rattle.rp_syntax.specs.Views.{expression_of};
 ghost use Rattle.rp_machine.specs.Replies.{Replies, TestsCell};

@@ -1,11 +1,11 @@
 //! One line of a script after the other.
 ghost use Rattle.std.specs.Prelude.{◌≡◌, ◌∷◌, [], map, IfOk, OnOk};
 ghost use Rattle.std.specs.List.{AllByRecursion};
-ghost use Rattle.rp_model.specs.Expression.{ask_member, expressions_of, IsBounded};
-ghost use Rattle.rp_model.specs.Grammar.{reading};
-ghost use Rattle.rp_model.specs.Report.{IsAnswerTo, after_reading, echoed, bad_answer};
-ghost use Rattle.rp_model.specs.Rule.{rule_of};
-ghost use Rattle.rp_model.specs.State.{State, opening};
+ghost use Rattle.rp_language.specs.Expression.{ask_member, expressions_of, IsBounded};
+ghost use Rattle.rp_language.specs.Grammar.{reading};
+ghost use Rattle.rp_model.specs.reports.Report.{IsAnswerTo, after_reading, echoed, bad_answer};
+ghost use Rattle.rp_model.specs.commands.Rule.{rule_of};
+ghost use Rattle.rp_model.specs.states.State.{State, opening};
 ghost use Rattle.rp_report.specs.Views.{verdict_of, answer_of};
 ghost use Rattle.rp_syntax.specs.Views.{expression_of, command_of, fault_of};
 ghost use Rattle.rp_cert.specs.Lines.{line_of};
@@ -29,7 +29,7 @@ pub struct Machine {
 }
 
 impl Model for Machine {
-    ghost use Rattle.rp_model.specs.State.{State, opening};
+    ghost use Rattle.rp_model.specs.states.State.{State, opening};
 
     ghost Value = { State };
 

@@ -1,10 +1,10 @@
 //! Membership of points, by signs.
 ghost use Rattle.std.specs.Prelude.{◌≡◌, ◌<◌, ◌^◌, ◌*ℤ◌, unsigned_abs};
-ghost use Rattle.rp_model.specs.Expression.{closed, first_unknown};
-ghost use Rattle.rp_model.specs.Geometry.{all_hold, box_half_spaces, is_cube_point};
-ghost use Rattle.rp_model.specs.Shape.{passes, is_member};
-ghost use Rattle.rp_model.specs.State.{State, opening, sets_in};
-ghost use Rattle.rp_model.proofs.Boxes.{is_between, is_between_sides};
+ghost use Rattle.rp_language.specs.Expression.{closed, first_unknown};
+ghost use Rattle.rp_geometry.specs.Geometry.{all_hold, box_half_spaces, is_cube_point};
+ghost use Rattle.rp_geometry.specs.sets.Shape.{passes, is_member};
+ghost use Rattle.rp_model.specs.states.State.{State, opening, sets_in};
+ghost use Rattle.rp_geometry.proofs.Boxes.{is_between, is_between_sides};
 ghost use Rattle.rp_space.specs.Boxes.{integer_box};
 ghost use Rattle.rp_syntax.specs.Views.{expression_of};
 

@@ -1,8 +1,8 @@
 -- Half-spaces within their bounds, one after the other.
 use Rattle.std.proofs.Common.{◌≡◌, ℕ, ◌+◌, ◌<◌, List, [], ◌∷◌, length, get_or, take, sym, subst}
 use Rattle.std.proofs.lemmas.List.{take_more}
-use Rattle.rp_model.specs.Geometry.{HalfSpace, IsHalfSpace}
-use Rattle.rp_model.specs.CellLaws.{AreHalfSpaces}
+use Rattle.rp_geometry.specs.Geometry.{HalfSpace, IsHalfSpace}
+use Rattle.rp_geometry.specs.laws.CellLaws.{AreHalfSpaces}
 use Rattle.rp_algebra.proofs.Listed.{all_append}
 
 -- one more half-space within its bounds

@@ -1,8 +1,8 @@
 -- Cramer's rule along the third plane, by the minors of the first two.
 use Rattle.std.proofs.Common.{◌≡◌, ℤ, ◌+ℤ◌, ◌-ℤ◌, ◌*ℤ◌, [], ◌∷◌, ◌∙◌}
 use Rattle.rp_algebra.proofs.Reify.{by_ring_at, reify}
-use Rattle.rp_model.specs.Geometry.{HalfSpace}
-use Rattle.rp_model.specs.Vertex.{det2, cramer_point}
+use Rattle.rp_geometry.specs.Geometry.{HalfSpace}
+use Rattle.rp_geometry.specs.searches.Vertex.{det2, cramer_point}
 
 -- the first coordinate
 pub x_is : (f g h : HalfSpace) (bd cd bc : ℤ) → bd ≡ det2 f.b f.d g.b g.d → cd ≡ det2 f.c f.d g.c g.d → bc ≡ det2 f.b f.c g.b g.c → h.c *ℤ bd -ℤ h.b *ℤ cd -ℤ h.d *ℤ bc ≡ (cramer_point f g h).x

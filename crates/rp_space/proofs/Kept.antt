@@ -11,8 +11,8 @@ use Rattle.rp_algebra.proofs.Divisors.{gcd_of-positive_four, gcd_of-at_most_four
 use Rattle.rp_algebra.proofs.LowestTerms.{lowest-gcd, quotient_by_one}
 use Rattle.std.specs.Prelude.{int_lt, int_le}
 use Rattle.rp_algebra.proofs.Machine.{code, is_by}
-use Rattle.rp_model.specs.Geometry.{half_space_of, point_of, is_point_in_bounds, HalfSpace, is_half_space_in_bounds, is_zero_half_space, IsHalfSpace, reduced_half_space, IsKeptHalfSpace, complement, RationalPoint, IsPoint, IsSmallPoint, reduced_point, IsKeptPoint}
-use Rattle.rp_model.proofs.InLowestTerms.{same_test, divisor_above, reduced_half_space_is, reduced_point_is, size_within}
+use Rattle.rp_geometry.specs.Geometry.{half_space_of, point_of, is_point_in_bounds, HalfSpace, is_half_space_in_bounds, is_zero_half_space, IsHalfSpace, reduced_half_space, IsKeptHalfSpace, complement, RationalPoint, IsPoint, IsSmallPoint, reduced_point, IsKeptPoint}
+use Rattle.rp_geometry.proofs.InLowestTerms.{same_test, divisor_above, reduced_half_space_is, reduced_point_is, size_within}
 
 -- a half-space in lowest terms keeps its bounds, and stays as it is when it is reduced again
 pub kept_half_space : (h : HalfSpace) → is_half_space_in_bounds h ≡ true → is_zero_half_space h ≡ false → IsKeptHalfSpace (reduced_half_space h)

@@ -2,8 +2,8 @@
 use Rattle.std.proofs.Common.{◌≡◌, true, false, refl}
 use Rattle.std.specs.Prelude.{Some, None, option_map}
 use Rattle.rp_algebra.specs.Integer.{is_zero, is_positive}
-use Rattle.rp_model.specs.Geometry.{RationalPoint, reduced_point}
-use Rattle.rp_model.specs.Vertex.{negated_point, normal_point}
+use Rattle.rp_geometry.specs.Geometry.{RationalPoint, reduced_point}
+use Rattle.rp_geometry.specs.searches.Vertex.{negated_point, normal_point}
 use Rattle.rp_space.specs.PositivePoint.{positive_point}
 
 -- the point with a positive weight, brought into lowest terms, is the one in normal form

@@ -7,8 +7,8 @@ use Rattle.std.proofs.lemmas.Bool.{and_parts}
 use Rattle.rp_algebra.specs.Integer.{gcd, gcd_of}
 use Rattle.rp_algebra.proofs.Divisors.{gcd_of-four, gcd-zero, gcd-at_most_right, gcd-positive_right}
 use Rattle.rp_algebra.proofs.Machine.{code, is_by}
-use Rattle.rp_model.specs.Geometry.{IntegerBox, HalfSpace, half_space_of, is_within_bound, is_half_space_in_bounds, is_zero_half_space, is_box_in_bounds, IsKeptHalfSpace}
-use Rattle.rp_model.proofs.InLowestTerms.{size_within}
+use Rattle.rp_geometry.specs.Geometry.{IntegerBox, HalfSpace, half_space_of, is_within_bound, is_half_space_in_bounds, is_zero_half_space, is_box_in_bounds, IsKeptHalfSpace}
+use Rattle.rp_geometry.proofs.InLowestTerms.{size_within}
 use Rattle.rp_space.proofs.Kept.{kept_half_space, lowest_by_one}
 
 -- the sizes of the numbers of a box

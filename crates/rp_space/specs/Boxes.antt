@@ -1,6 +1,6 @@
 -- Boxes of the code as those of the model.
 use Rattle.std.specs.Prelude.{pos, get_or}
-use Rattle.rp_model.specs.Geometry.{IntegerBox}
+use Rattle.rp_geometry.specs.Geometry.{IntegerBox}
 use Rattle.rp_space.specs.declared.bounds.IntBox.{IntBox}
 
 -- the six numbers of a box

@@ -1,6 +1,6 @@
 -- What four numbers make: a half-space in lowest terms, or a fault.
 use Rattle.std.specs.Prelude.{true, false, Result, Ok, Err}
-use Rattle.rp_model.specs.Geometry.{HalfSpace, is_half_space_in_bounds, is_zero_half_space, reduced_half_space}
+use Rattle.rp_geometry.specs.Geometry.{HalfSpace, is_half_space_in_bounds, is_zero_half_space, reduced_half_space}
 use Rattle.rp_space.specs.declared.half.HalfFault.{HalfFault}
 use Rattle.rp_space.specs.declared.half.HalfFault.TheVariants.{Range, Zero}
 

@@ -1,6 +1,6 @@
 -- What four numbers make: a point in lowest terms, or a fault.
 use Rattle.std.specs.Prelude.{true, false, int_le, pos, Result, Ok, Err}
-use Rattle.rp_model.specs.Geometry.{RationalPoint, is_point_in_bounds, reduced_point}
+use Rattle.rp_geometry.specs.Geometry.{RationalPoint, is_point_in_bounds, reduced_point}
 use Rattle.rp_space.specs.declared.point.PointFault.{PointFault}
 use Rattle.rp_space.specs.declared.point.PointFault.TheVariants.{Weight, Range}
 

@@ -1,7 +1,7 @@
 -- Two half-spaces with the 2 by 2 minors of their numbers.
 use Rattle.std.specs.Prelude.{◌≡◌, ◌*◌, ◌^◌}
 use Rattle.rp_algebra.specs.Within.{IsWithin}
-use Rattle.rp_model.specs.Vertex.{det2}
+use Rattle.rp_geometry.specs.searches.Vertex.{det2}
 use Rattle.rp_space.specs.declared.meeting.Pair.TheInside.{Inside}
 
 -- the kept minors are those of the two half-spaces, and their sizes keep the bounds that follow

@@ -1,8 +1,8 @@
 -- The common point of three planes with a positive weight.
 use Rattle.std.specs.Prelude.{true, false, Option, Some, None}
 use Rattle.rp_algebra.specs.Integer.{is_zero, is_positive}
-use Rattle.rp_model.specs.Geometry.{RationalPoint}
-use Rattle.rp_model.specs.Vertex.{negated_point}
+use Rattle.rp_geometry.specs.Geometry.{RationalPoint}
+use Rattle.rp_geometry.specs.searches.Vertex.{negated_point}
 
 -- the point with a positive weight, not yet in lowest terms; none where the weight is 0
 abbrev pub positive_point : RationalPoint → Option RationalPoint

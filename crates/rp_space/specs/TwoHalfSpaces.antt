@@ -1,5 +1,5 @@
 -- Two half-spaces as one value.
-use Rattle.rp_model.specs.Geometry.{HalfSpace}
+use Rattle.rp_geometry.specs.Geometry.{HalfSpace}
 
 -- two half-spaces
 pub record TwoHalfSpaces : Type 0 where

@@ -1,6 +1,6 @@
 //! Boxes with whole corners, and the domain cube.
 ghost use Rattle.std.specs.Prelude.{◌≡◌, true};
-ghost use Rattle.rp_model.specs.Geometry.{box_half_spaces, cube_half_spaces, is_box_in_bounds};
+ghost use Rattle.rp_geometry.specs.Geometry.{box_half_spaces, cube_half_spaces, is_box_in_bounds};
 ghost use Rattle.rp_space.specs.Boxes.{integer_box};
 
 use crate::half::Half;

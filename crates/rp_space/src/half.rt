@@ -1,7 +1,7 @@
 //! Half-spaces in lowest terms.
 ghost use Rattle.std.specs.Prelude.{◌≡◌, ◌<◌, ◌^◌, true, false, pos, ◌≤ℤ◌, [], ◌∷◌};
 ghost use Rattle.rp_algebra.specs.Integer.{gcd_of, is_zero};
-ghost use Rattle.rp_model.specs.Geometry.{half_space_of, side_value, owns_boundary, holds, complement, is_within_bound, is_half_space_in_bounds, is_zero_half_space, reduced_half_space, IsHalfSpace, IsKeptHalfSpace, point_of, IsSmallPoint};
+ghost use Rattle.rp_geometry.specs.Geometry.{half_space_of, side_value, owns_boundary, holds, complement, is_within_bound, is_half_space_in_bounds, is_zero_half_space, reduced_half_space, IsHalfSpace, IsKeptHalfSpace, point_of, IsSmallPoint};
 ghost use Rattle.rp_space.specs.MadeHalfSpace.{made_half_space};
 
 use crate::divisor::{common_divisor, short_quotient};
@@ -37,7 +37,7 @@ pub struct Half {
 }
 
 impl Model for Half {
-    ghost use Rattle.rp_model.specs.Geometry.{HalfSpace, half_space_of, IsKeptHalfSpace};
+    ghost use Rattle.rp_geometry.specs.Geometry.{HalfSpace, half_space_of, IsKeptHalfSpace};
 
     ghost Value = { HalfSpace };
 

@@ -13,7 +13,7 @@ pub struct Inside {
 
 impl Model for Inside {
     ghost use Rattle.std.specs.Prelude.{List};
-    ghost use Rattle.rp_model.specs.Geometry.{RationalPoint};
+    ghost use Rattle.rp_geometry.specs.Geometry.{RationalPoint};
 
     ghost Value = { List RationalPoint };
 

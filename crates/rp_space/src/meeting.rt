@@ -2,8 +2,8 @@
 ghost use Rattle.std.specs.Prelude.{◌≡◌, ◌*◌, ◌^◌, false, Some, IfSome, option_map};
 ghost use Rattle.rp_algebra.specs.Integer.{is_zero};
 ghost use Rattle.rp_algebra.specs.Within.{IsWithin};
-ghost use Rattle.rp_model.specs.Geometry.{IsPoint, point_of, reduced_point, side_value};
-ghost use Rattle.rp_model.specs.Vertex.{det2, cramer_point, meeting_point};
+ghost use Rattle.rp_geometry.specs.Geometry.{IsPoint, point_of, reduced_point, side_value};
+ghost use Rattle.rp_geometry.specs.searches.Vertex.{det2, cramer_point, meeting_point};
 ghost use Rattle.rp_space.specs.PositivePoint.{positive_point};
 ghost use Rattle.rp_space.specs.TwoHalfSpaces.{two_of};
 
@@ -30,7 +30,7 @@ pub struct Meeting {
 }
 
 impl Model for Meeting {
-    ghost use Rattle.rp_model.specs.Geometry.{RationalPoint, point_of, IsSmallPoint};
+    ghost use Rattle.rp_geometry.specs.Geometry.{RationalPoint, point_of, IsSmallPoint};
 
     ghost Value = { RationalPoint };
 

@@ -1,7 +1,7 @@
 //! Names of regions and lots.
 ghost use Rattle.std.specs.Prelude.{◌≡◌, true};
 ghost use Rattle.std.specs.List.{list_all};
-ghost use Rattle.rp_model.specs.Name.{is_letter, is_name_byte, is_name, name_of};
+ghost use Rattle.rp_language.specs.Name.{is_letter, is_name_byte, is_name, name_of};
 
 use std::marker::Model;
 

@@ -15,7 +15,7 @@ pub struct Term {
 }
 
 impl Model for Term {
-    ghost use Rattle.rp_model.specs.Certificate.{Multiple};
+    ghost use Rattle.rp_geometry.specs.searches.Certificate.{Multiple};
 
     ghost Value = { Multiple };
 
@@ -32,7 +32,7 @@ pub struct Outside {
 
 impl Model for Outside {
     ghost use Rattle.std.specs.Prelude.{List};
-    ghost use Rattle.rp_model.specs.Certificate.{Multiple};
+    ghost use Rattle.rp_geometry.specs.searches.Certificate.{Multiple};
 
     ghost Value = { List Multiple };
 

@@ -1,7 +1,7 @@
 //! Rational points in lowest terms.
 ghost use Rattle.std.specs.Prelude.{◌≡◌, ◌<◌, ◌^◌, [], ◌∷◌};
 ghost use Rattle.rp_algebra.specs.Integer.{gcd_of};
-ghost use Rattle.rp_model.specs.Geometry.{point_of, IsSmallPoint, coordinate_bound, is_within_bound, is_point_in_bounds, reduced_point};
+ghost use Rattle.rp_geometry.specs.Geometry.{point_of, IsSmallPoint, coordinate_bound, is_within_bound, is_point_in_bounds, reduced_point};
 ghost use Rattle.rp_space.specs.MadePoint.{made_point};
 
 use crate::divisor::{common_divisor, quotient};
@@ -35,7 +35,7 @@ pub struct Point {
 }
 
 impl Model for Point {
-    ghost use Rattle.rp_model.specs.Geometry.{RationalPoint, point_of, IsKeptPoint};
+    ghost use Rattle.rp_geometry.specs.Geometry.{RationalPoint, point_of, IsKeptPoint};
 
     ghost Value = { RationalPoint };
 

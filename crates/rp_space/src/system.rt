@@ -1,8 +1,8 @@
 //! Lists of half-spaces on the stack.
 ghost use Rattle.std.specs.Prelude.{◌≡◌, ◌+◌, ◌≤◌, ◌++◌, length};
 ghost use Rattle.arrayvec.specs.ArrayVec.{array_vec_len};
-ghost use Rattle.rp_model.specs.Geometry.{with_cube};
-ghost use Rattle.rp_model.specs.CellLaws.{AreHalfSpaces};
+ghost use Rattle.rp_geometry.specs.Geometry.{with_cube};
+ghost use Rattle.rp_geometry.specs.laws.CellLaws.{AreHalfSpaces};
 
 use crate::bounds::cube;
 use crate::half::Half;

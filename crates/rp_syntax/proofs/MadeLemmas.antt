@@ -4,9 +4,9 @@ use Rattle.std.specs.Int.RustNames.{FitsSigned}
 use Rattle.std.proofs.lemmas.Bool.{and_parts}
 use Rattle.std.proofs.lemmas.Int.{ints, to_z-of_z}
 use mir.Syntax.{w64, w128}
-use Rattle.rp_model.specs.Geometry.{HalfSpace, half_space_of, is_within_bound, is_half_space_in_bounds, is_zero_half_space, reduced_half_space}
-use Rattle.rp_model.specs.Grammar.{Place, Reader, zero_half_space, out_of_range, gives, fails, nonzero_half_space}
-use Rattle.rp_model.proofs.InLowestTerms.{size_within}
+use Rattle.rp_geometry.specs.Geometry.{HalfSpace, half_space_of, is_within_bound, is_half_space_in_bounds, is_zero_half_space, reduced_half_space}
+use Rattle.rp_language.specs.Grammar.{Place, Reader, zero_half_space, out_of_range, gives, fails, nonzero_half_space}
+use Rattle.rp_geometry.proofs.InLowestTerms.{size_within}
 use Rattle.rp_space.specs.declared.half.HalfFault.{HalfFault}
 use Rattle.rp_space.specs.declared.half.HalfFault.TheVariants.{Range, Zero}
 use Rattle.rp_space.specs.MadeHalfSpace.{made_half_space}

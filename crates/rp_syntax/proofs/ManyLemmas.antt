@@ -4,7 +4,7 @@ use Rattle.rp_syntax.specs.declared.fault.ReadFault.{ReadFault}
 use Rattle.rp_syntax.specs.declared.fault.ReadFault.TheVariants.{Bad, Memory}
 use Rattle.rp_syntax.specs.Reads.{FaultIs}
 use Rattle.rp_syntax.specs.Views.{fault_of}
-use Rattle.rp_model.specs.Grammar.{Place, Fault, Reader, read_on, gives, many}
+use Rattle.rp_language.specs.Grammar.{Place, Fault, Reader, read_on, gives, many}
 
 -- items that were read before
 abbrev pub with_front : {A : Type 0} → List A → Result (List A × Place) Fault → Result (List A × Place) Fault

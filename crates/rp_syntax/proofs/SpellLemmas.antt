@@ -4,10 +4,10 @@ use Rattle.std.specs.List.{flat_map}
 use Rattle.std.proofs.lemmas.Grind.{flat_map-append}
 use Rattle.std.proofs.lemmas.List.{append-nil, take_more, take_all, take-append-drop}
 use Rattle.std.specs.declared.alloc.AllocError.{AllocError}
-use Rattle.rp_model.specs.Grammar.{Word, space, spaced}
-use Rattle.rp_model.specs.Grammar.{expression_words}
+use Rattle.rp_language.specs.Grammar.{Word, space, spaced, expression_words}
 use Rattle.rp_syntax.specs.declared.command.Expr.{Expr}
-use Rattle.rp_syntax.specs.Spells.{behind_spaces, AppendsFront, Spells}
+use Rattle.rp_syntax.specs.Fronts.{AppendsFront}
+use Rattle.rp_syntax.specs.Spells.{behind_spaces, Spells}
 use Rattle.rp_syntax.specs.Views.{expression_of}
 
 -- the text of words and then others
@@ -30,17 +30,23 @@ words_then old mid new xs ys words all first second =
 
 -- memory ran out within the first words
 pub stopped_first : (old new : List ℕ) (xs ys words : List Word) → xs ++ ys ≡ words → AppendsFront old new (behind_spaces xs) → AppendsFront old new (behind_spaces words)
-stopped_first old new xs ys words all (front, rest, split, is) =
-    (front, rest ++ behind_spaces ys, ap behind_spaces (sym all) ∙ behind_spaces-append xs ys ∙ ap (λ t. t ++ behind_spaces ys) split ∙ append_assoc front rest (behind_spaces ys), is)
+stopped_first old new xs ys words all f =
+    record {
+      front = f.front;
+      rest = f.rest ++ behind_spaces ys;
+      whole = ap behind_spaces (sym all) ∙ behind_spaces-append xs ys ∙ ap (λ t. t ++ behind_spaces ys) f.whole ∙ append_assoc f.front f.rest (behind_spaces ys);
+      appended = f.appended;
+    }
 
 -- memory ran out within the words behind the first
 pub stopped_second : (old mid new : List ℕ) (xs ys words : List Word) → xs ++ ys ≡ words → mid ≡ old ++ behind_spaces xs → AppendsFront mid new (behind_spaces ys) → AppendsFront old new (behind_spaces words)
-stopped_second old mid new xs ys words all first (front, rest, split, is) = (
-  behind_spaces xs ++ front,
-  rest,
-  ap behind_spaces (sym all) ∙ behind_spaces-append xs ys ∙ ap (λ t. behind_spaces xs ++ t) split ∙ sym (append_assoc (behind_spaces xs) front rest),
-  joined old mid new (behind_spaces xs) front first is,
-)
+stopped_second old mid new xs ys words all first f =
+    record {
+      front = behind_spaces xs ++ f.front;
+      rest = f.rest;
+      whole = ap behind_spaces (sym all) ∙ behind_spaces-append xs ys ∙ ap (λ t. behind_spaces xs ++ t) f.whole ∙ sym (append_assoc (behind_spaces xs) f.front f.rest);
+      appended = joined old mid new (behind_spaces xs) f.front first f.appended;
+    }
 
 -- memory ran out within words that stand between others
 pub stopped_between : (old mid new : List ℕ) (xs ys zs words : List Word) → xs ++ ys ++ zs ≡ words → mid ≡ old ++ behind_spaces xs → AppendsFront mid new (behind_spaces ys) → AppendsFront old new (behind_spaces words)
@@ -90,9 +96,10 @@ spells_all (Err error) old mid new word words first before after = tt
 -- the first word was written, and then a front of the others: a front of their spelling
 pub spells_front : (r : Result (Unit {0}) AllocError) (old mid new : List ℕ) (word : Word) (words : List Word) → words ≡ word ∷ drop 1 words → mid ≡ old ++ word → Spells r mid new (drop 1 words) → OnErr r (AppendsFront old new (spaced words))
 spells_front (Ok done) old mid new word words first before after = tt
-spells_front (Err error) old mid new word words first before (front, rest, split, is) = (
-  word ++ front,
-  rest,
-  whole_text word words first ∙ ap (λ t. word ++ t) split ∙ sym (append_assoc word front rest),
-  joined old mid new word front before is,
-)
+spells_front (Err error) old mid new word words first before f =
+    record {
+      front = word ++ f.front;
+      rest = f.rest;
+      whole = whole_text word words first ∙ ap (λ t. word ++ t) f.whole ∙ sym (append_assoc word f.front f.rest);
+      appended = joined old mid new word f.front before f.appended;
+    }

@@ -2,8 +2,8 @@
 use Rattle.std.proofs.Common.{◌≡◌, ℕ, ◌+◌, ◌<◌, List, [], ◌∷◌, length, take, drop, Some, None, Err, refl, ap, ◌∙◌, arith}
 use Rattle.std.specs.List.{position}
 use Rattle.std.proofs.lemmas.List.Splits.{slice_split_none, slice_split_first, length-slice_split}
-use Rattle.rp_model.specs.Grammar.{Place, words_of, end_of, bad_syntax}
-use Rattle.rp_model.proofs.Places.{position_or_len-at_some, all_fail-at_none}
+use Rattle.rp_language.specs.Grammar.{Place, words_of, end_of, bad_syntax}
+use Rattle.rp_language.proofs.Places.{position_or_len-at_some, all_fail-at_none}
 use Rattle.rp_syntax.specs.Places.{is_space}
 
 -- the first word ends at the first space

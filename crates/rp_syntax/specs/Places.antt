@@ -1,6 +1,6 @@
 -- The bytes that are still to be read, as a place in a line.
 use Rattle.std.specs.Prelude.{ℕ, Bool, ◌==◌, List, [], Option, Some, None}
-use Rattle.rp_model.specs.Grammar.{Word, words_of, space}
+use Rattle.rp_language.specs.Grammar.{Word, words_of, space}
 use denote.Ref.{Bor}
 
 -- the words of the bytes that are left, or none where nothing is

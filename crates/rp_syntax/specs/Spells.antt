@@ -2,16 +2,13 @@
 use Rattle.std.specs.Prelude.{◌≡◌, ℕ, List, ◌∷◌, ◌++◌, Result, Ok, Err}
 use Rattle.std.specs.List.{flat_map}
 use Rattle.std.specs.declared.alloc.AllocError.{AllocError}
-use Rattle.rp_model.specs.Expression.{Child}
-use Rattle.rp_model.specs.Grammar.{Word, space, expression_words}
+use Rattle.rp_language.specs.Expression.{Child}
+use Rattle.rp_language.specs.Grammar.{Word, space, expression_words}
+use Rattle.rp_syntax.specs.Fronts.{AppendsFront}
 
 -- words that follow others, each behind a space
 abbrev pub behind_spaces : List Word → List ℕ
 behind_spaces words = flat_map (λ word. space ∷ word) words
-
--- some front of the text, perhaps all of it or nothing, came to the end of the old bytes
-abbrev pub AppendsFront : List ℕ → List ℕ → List ℕ → Type 0
-AppendsFront old new text = (front rest : List ℕ) × (text ≡ front ++ rest) × (new ≡ old ++ front)
 
 -- the words were appended, each behind a space, or a front of them where memory ran out
 abbrev pub Spells : Result (Unit {0}) AllocError → List ℕ → List ℕ → List Word → Type 0

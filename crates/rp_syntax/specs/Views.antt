@@ -1,7 +1,7 @@
 -- Commands of the code as those of the model.
 use Rattle.std.specs.Prelude.{List, ℕ, map}
-use Rattle.rp_model.specs.Expression.{Expression, Child, Command as ModelCommand, define, ask_member, ask_empty, ask_pieces, ask_show, ask_equal, ask_within, ask_overlap, ask_contact, ask_relation, register, cut, subdivide, consolidate, retire, ask_neighbours, ask_history, ask_at, ask_as_of, ask_audit, ask_list}
-use Rattle.rp_model.specs.Grammar.{Fault, too_long, bad_syntax, out_of_range, zero_half_space, too_many_nodes, Reading, blank, command, bad}
+use Rattle.rp_language.specs.Expression.{Expression, Child, Command as ModelCommand, define, ask_member, ask_empty, ask_pieces, ask_show, ask_equal, ask_within, ask_overlap, ask_contact, ask_relation, register, cut, subdivide, consolidate, retire, ask_neighbours, ask_history, ask_at, ask_as_of, ask_audit, ask_list, set_layer}
+use Rattle.rp_language.specs.Grammar.{Fault, too_long, bad_syntax, out_of_range, zero_half_space, too_many_nodes, Reading, blank, command, bad}
 use Rattle.rp_space.specs.Boxes.{integer_box}
 use Rattle.rp_syntax.specs.declared.command.Expr.{Expr}
 use Rattle.rp_syntax.specs.declared.command.Expr.TheVariants.{Half, Block, All, Nothing, Name, Lot, And', Or', Minus', Not'}
@@ -52,6 +52,7 @@ command_of (commands.At p) = ask_at p
 command_of (commands.Asof n p) = ask_as_of n p
 command_of commands.Audit = ask_audit
 command_of commands.List = ask_list
+command_of (commands.Layer x) = set_layer x
 
 -- the fault of the grammar
 abbrev pub fault_of : Why → Fault

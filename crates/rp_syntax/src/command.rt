@@ -75,6 +75,8 @@ pub enum Command {
     Audit,
     /// The live lots.
     List,
+    /// Sets the layer that later lines speak of.
+    Layer(Name),
 }
 
 /// Why a line is no command: its first fault in reading order.

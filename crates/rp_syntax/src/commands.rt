@@ -1,6 +1,6 @@
 //! Whole commands.
 ghost use Rattle.std.specs.Prelude.{map};
-ghost use Rattle.rp_model.specs.Grammar.{keyword, verb_table, verb_words, equals_word, let_words, member_words, cut_words, subdivide_words, consolidate_words, as_of_words, many, child, name, command_words};
+ghost use Rattle.rp_language.specs.Grammar.{keyword, verb_table, verb_words, equals_word, let_words, member_words, cut_words, subdivide_words, consolidate_words, as_of_words, many, child, name, command_words};
 ghost use Rattle.rp_syntax.specs.Keywords.{verb_of};
 ghost use Rattle.rp_syntax.specs.Reads.{Reads};
 ghost use Rattle.rp_syntax.specs.Views.{expression_of, child_of, command_of};
@@ -162,11 +162,12 @@ impl<'a> Words<'a> {
             Verb::Asof => self.as_of(),
             Verb::Audit => Ok(Command::Audit),
             Verb::List => Ok(Command::List),
+            Verb::Layer => Ok(Command::Layer(self.name()?)),
         }
     }
 
     /// A whole command.
-    #[tactic(auto, unfolding(rp_model::specs::Grammar::command_words))]
+    #[tactic(auto, unfolding(rp_language::specs::Grammar::command_words))]
     pub fn command(&mut self, alloc: Global) -> Result<Command, ReadFault>
         ensures { Reads command_of result self.new (command_words self.old) }
     {

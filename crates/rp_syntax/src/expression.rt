@@ -1,5 +1,5 @@
 //! Expressions in prefix form.
-ghost use Rattle.rp_model.specs.Grammar.{keyword, node_table, expression, expression_within};
+ghost use Rattle.rp_language.specs.Grammar.{keyword, node_table, expression, expression_within};
 ghost use Rattle.rp_syntax.specs.Keywords.{node_of};
 ghost use Rattle.rp_syntax.specs.Reads.{Reads};
 ghost use Rattle.rp_syntax.specs.Views.{expression_of};
@@ -26,7 +26,7 @@ impl<'a> Words<'a> {
     }
 
     /// An expression.
-    #[tactic(auto, unfolding(rp_model::specs::Grammar::expression))]
+    #[tactic(auto, unfolding(rp_language::specs::Grammar::expression))]
     pub fn expression(&mut self, alloc: Global) -> Result<Expr, ReadFault>
         ensures { Reads expression_of result self.new (expression self.old) }
     {

@@ -1,6 +1,6 @@
 //! The words that begin a node of an expression or a command.
 ghost use Rattle.std.specs.Prelude.{◌≡◌, option_map};
-ghost use Rattle.rp_model.specs.Grammar.{looked_up, node_table, verb_table};
+ghost use Rattle.rp_language.specs.Grammar.{looked_up, node_table, verb_table};
 ghost use Rattle.rp_syntax.specs.Keywords.{node_of, verb_of};
 
 /// The kinds of nodes of an expression.
@@ -42,6 +42,7 @@ pub enum Verb {
     Asof,
     Audit,
     List,
+    Layer,
 }
 
 /// The node that a word begins.
@@ -147,6 +148,9 @@ pub fn verb_for(word: &[u8]) -> Option<Verb>
     }
     if word == b"list".as_slice() {
         return Some(Verb::List);
+    }
+    if word == b"layer".as_slice() {
+        return Some(Verb::Layer);
     }
     None
 }

@@ -2,7 +2,7 @@
 #![tactic(auto)]
 
 ghost use Rattle.std.specs.Prelude.{◌≡◌, IfOk};
-ghost use Rattle.rp_model.specs.Grammar.{reading, is_blank};
+ghost use Rattle.rp_language.specs.Grammar.{reading, is_blank};
 ghost use Rattle.rp_syntax.specs.Views.{line_of};
 
 mod command;
@@ -40,7 +40,7 @@ fn is_blank(line: &[u8]) -> bool
 /// What a line says, without its ending: nothing, a command, or the first fault in reading order.
 ///
 /// `Long` where it has more than 65,536 bytes. Answers `AllocError` only for want of memory.
-#[tactic(auto, unfolding(rp_model::specs::Grammar::reading))]
+#[tactic(auto, unfolding(rp_language::specs::Grammar::reading))]
 pub fn read_line(alloc: Global, line: &[u8]) -> Result<Line, AllocError>
     ensures { IfOk result (λ l. line_of l ≡ reading line.now) }
 {

@@ -2,7 +2,7 @@
 ghost use Rattle.std.specs.Prelude.{◌≡◌, min, option_map};
 ghost use Rattle.std.specs.List.{list_all};
 ghost use Rattle.std.specs.Char.{is_ascii_digit};
-ghost use Rattle.rp_model.specs.Grammar.{value_of_digits, starts_above_zero, number_spelled};
+ghost use Rattle.rp_language.specs.Grammar.{value_of_digits, starts_above_zero, number_spelled};
 ghost use Rattle.rp_syntax.specs.Held.{held};
 
 /// Numbers are held at this size where they are greater; it passes the bound of every place.

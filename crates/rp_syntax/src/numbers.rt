@@ -1,6 +1,6 @@
 //! Numbers, half-spaces, points and boxes of a line.
 ghost use Rattle.std.specs.Prelude.{◌≡◌, IfOk, IsTrue, ◌&&◌, int_le};
-ghost use Rattle.rp_model.specs.Grammar.{number, count_to, half_space_numbers, point, coefficient, box_numbers};
+ghost use Rattle.rp_language.specs.Grammar.{number, count_to, half_space_numbers, point, coefficient, box_numbers};
 ghost use Rattle.rp_space.specs.Boxes.{integer_box};
 ghost use Rattle.rp_syntax.specs.Held.{IsHeldBound};
 ghost use Rattle.rp_syntax.specs.Reads.{Reads};
@@ -26,7 +26,7 @@ const MAX_WEIGHT: i128 = 37778931862957161709567;
 
 impl<'a> Words<'a> {
     /// The next word as a number from `least` to `greatest`.
-    #[tactic(auto, unfolding(rp_model::specs::Grammar::number))]
+    #[tactic(auto, unfolding(rp_language::specs::Grammar::number))]
     fn number(&mut self, least: i128, greatest: i128) -> Result<i128, ReadFault>
         requires least { IsHeldBound least }
         requires greatest { IsHeldBound greatest }
@@ -53,7 +53,7 @@ impl<'a> Words<'a> {
     }
 
     /// The four numbers of a half-space.
-    #[tactic(auto, unfolding(rp_model::specs::Grammar::half_space_numbers))]
+    #[tactic(auto, unfolding(rp_language::specs::Grammar::half_space_numbers))]
     pub fn half(&mut self) -> Result<Half, ReadFault>
         ensures { Reads (λ h. h) result self.new (half_space_numbers self.old) }
     {
@@ -65,7 +65,7 @@ impl<'a> Words<'a> {
     }
 
     /// The four numbers of a point.
-    #[tactic(auto, unfolding(rp_model::specs::Grammar::point))]
+    #[tactic(auto, unfolding(rp_language::specs::Grammar::point))]
     pub fn point(&mut self) -> Result<Point, ReadFault>
         ensures { Reads (λ p. p) result self.new (point self.old) }
     {
@@ -85,7 +85,7 @@ impl<'a> Words<'a> {
     }
 
     /// The six numbers of a box.
-    #[tactic(auto, unfolding(rp_model::specs::Grammar::box_numbers))]
+    #[tactic(auto, unfolding(rp_language::specs::Grammar::box_numbers))]
     pub fn block(&mut self) -> Result<IntBox, ReadFault>
         ensures { Reads integer_box result self.new (box_numbers self.old) }
     {

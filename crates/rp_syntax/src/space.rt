@@ -1,7 +1,7 @@
 //! Half-spaces and points of numbers that are within their bounds.
 ghost use Rattle.std.specs.Prelude.{IsTrue, pos, int_le, ◌&&◌};
-ghost use Rattle.rp_model.specs.Geometry.{half_space_of, point_of, is_half_space_in_bounds, is_point_in_bounds, reduced_point};
-ghost use Rattle.rp_model.specs.Grammar.{Place, nonzero_half_space, gives};
+ghost use Rattle.rp_geometry.specs.Geometry.{half_space_of, point_of, is_half_space_in_bounds, is_point_in_bounds, reduced_point};
+ghost use Rattle.rp_language.specs.Grammar.{Place, nonzero_half_space, gives};
 ghost use Rattle.rp_syntax.specs.Reads.{Reads};
 
 use crate::command::Why;

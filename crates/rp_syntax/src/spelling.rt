@@ -1,8 +1,9 @@
 //! The one spelling of a command: its words, with one space between each two.
 ghost use Rattle.std.specs.Prelude.{◌≡◌, [], ◌∷◌, ◌++◌, drop, map, length, OnOk, OnErr, decimal, codes};
-ghost use Rattle.rp_model.specs.Grammar.{spelling, words_of_command, expression_words, half_space_words, point_words, box_words};
+ghost use Rattle.rp_language.specs.Grammar.{spelling, words_of_command, expression_words, half_space_words, point_words, box_words};
 ghost use Rattle.rp_space.specs.Boxes.{integer_box};
-ghost use Rattle.rp_syntax.specs.Spells.{AppendsFront, Spells, children_words};
+ghost use Rattle.rp_syntax.specs.Fronts.{AppendsFront};
+ghost use Rattle.rp_syntax.specs.Spells.{Spells, children_words};
 ghost use Rattle.rp_syntax.specs.Views.{expression_of, child_of, command_of};
 
 use crate::command::{Command, Entries, Expr};
@@ -222,6 +223,7 @@ fn verb_word(c: &Command) -> &'static [u8]
         Command::Asof(_, _) => b"asof",
         Command::Audit => b"audit",
         Command::List => b"list",
+        Command::Layer(_) => b"layer",
     }
 }
 
@@ -244,9 +246,10 @@ fn write_operands(c: &Command, out: &mut Vec<u8>) -> Result<(), AllocError>
         Command::Cut(lot, region, first, second) => write_cut(lot, region, first, second, out),
         Command::Subdivide(lot, children) => write_subdivision(lot, children, out),
         Command::Consolidate(new, lots) => write_consolidation(new, lots, out),
-        Command::Retire(lot) | Command::Neighbours(lot) | Command::History(lot) => {
-            write_word(lot.bytes(), out)
-        }
+        Command::Retire(name)
+        | Command::Neighbours(name)
+        | Command::History(name)
+        | Command::Layer(name) => write_word(name.bytes(), out),
         Command::At(point) => write_point(point, out),
         Command::Asof(line, point) => write_as_of(*line, point, out),
         Command::Audit | Command::List => Ok(()),
@@ -256,7 +259,7 @@ fn write_operands(c: &Command, out: &mut Vec<u8>) -> Result<(), AllocError>
 /// Appends the command's one spelling: its words with one space between, half-spaces and points in lowest terms.
 ///
 /// Answers `AllocError` only for want of memory. Then `out` has what it had and a front of the spelling.
-#[tactic(auto, unfolding(rp_model::specs::Grammar::spelling))]
+#[tactic(auto, unfolding(rp_language::specs::Grammar::spelling))]
 pub fn write_command(c: &Command, out: &mut Vec<u8>) -> Result<(), AllocError>
     ensures ok { OnOk result (out.new.items ≡ out.old.items ++ spelling (command_of c.now)) }
     ensures err { OnErr result (AppendsFront out.old.items out.new.items (spelling (command_of c.now))) }

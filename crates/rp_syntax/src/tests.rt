@@ -69,6 +69,8 @@ fn every_command_is_read_and_written(rt: HostRuntime) -> Result<(), Fail> {
         b"asof 16777216 -5 5 5 2",
         b"audit",
         b"list",
+        b"layer rights",
+        b"layer layer",
     ] {
         expect_spelling(&rt, rt.alloc(), line, line)?;
     }

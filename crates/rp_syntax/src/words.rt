@@ -1,7 +1,7 @@
 //! The words of a line, read from left to right.
 ghost use Rattle.std.specs.Prelude.{◌≡◌, ◌∷◌};
 ghost use Rattle.std.specs.List.{position};
-ghost use Rattle.rp_model.specs.Grammar.{words_of, next_word, end_of_line, count_node, name};
+ghost use Rattle.rp_language.specs.Grammar.{words_of, next_word, end_of_line, count_node, name};
 ghost use Rattle.rp_syntax.specs.Places.{is_space, words_left};
 ghost use Rattle.rp_syntax.specs.Reads.{Reads};
 
@@ -39,7 +39,7 @@ pub struct Words<'a> {
 }
 
 impl<'a> Model for Words<'a> {
-    ghost use Rattle.rp_model.specs.Grammar.{Place};
+    ghost use Rattle.rp_language.specs.Grammar.{Place};
     ghost use Rattle.rp_syntax.specs.Places.{words_left};
 
     ghost Value = { Place };

@@ -3,11 +3,11 @@ use Rattle.std.specs.Prelude.{◌≡◌, ◌↔◌, ℕ, Bool, false, IsTrue, Li
 use Rattle.std.specs.List.{list_any}
 use Rattle.rp_io.specs.Bytes.{Appends}
 use Rattle.rp_io.specs.Faults.{HasRisen}
-use Rattle.rp_model.specs.Grammar.{Reading, reading}
-use Rattle.rp_model.specs.Output.{Task, IsOutput, IsRefused, is_refused_line, is_bad_reading, spelled_lines}
-use Rattle.rp_model.specs.Report.{IsAnswerTo}
-use Rattle.rp_model.specs.State.{State}
-use Rattle.rp_model.specs.Text.{Answer, answer_lines, text_of_lines}
+use Rattle.rp_language.specs.Grammar.{Reading, reading}
+use Rattle.rp_model.specs.program.Output.{Task, IsOutput, IsRefused, is_refused_line, is_bad_reading, spelled_lines}
+use Rattle.rp_model.specs.reports.Report.{IsAnswerTo}
+use Rattle.rp_model.specs.states.State.{State}
+use Rattle.rp_model.specs.reports.Text.{Answer, answer_lines, text_of_lines}
 use Rattle.rp_tool.specs.declared.fault.OutputFault.{OutputFault}
 use Rattle.rp_tool.specs.declared.fault.OutputFault.TheVariants.{Put, Memory}
 

@@ -7,8 +7,8 @@ use Rattle.rp_algebra.proofs.IntLaws.{le_or_lt_ℤ}
 use Rattle.rp_algebra.proofs.Numbers.{nonneg_over, negative_over}
 use Rattle.rp_algebra.proofs.Reify.{by_ring_at, reify}
 use Rattle.rp_algebra.proofs.Tests.{is_nonnegative_true}
-use Rattle.rp_model.specs.Geometry.{RationalPoint, HalfSpace, IsPoint, SamePlace, side_value, all_nonnegative, reduced_point}
-use Rattle.rp_model.specs.Vertex.{lifts, vertex_if}
+use Rattle.rp_geometry.specs.Geometry.{RationalPoint, HalfSpace, IsPoint, SamePlace, side_value, all_nonnegative, reduced_point}
+use Rattle.rp_geometry.specs.searches.Vertex.{lifts, vertex_if}
 use Rattle.rp_convex.proofs.Lowest.{reduced_is}
 use Rattle.rp_convex.proofs.Places.{same_side}
 use Rattle.rp_convex.proofs.Signs.{same_sign}

@@ -1,7 +1,7 @@
 -- Which vertices a search is for.
 use Rattle.std.specs.Prelude.{Bool}
-use Rattle.rp_model.specs.Geometry.{RationalPoint}
-use Rattle.rp_model.specs.Vertex.{any_point, lifts}
+use Rattle.rp_geometry.specs.Geometry.{RationalPoint}
+use Rattle.rp_geometry.specs.searches.Vertex.{any_point, lifts}
 use Rattle.rp_vertex.specs.declared.search.Wanted.{Wanted}
 use Rattle.rp_vertex.specs.declared.search.Wanted.TheVariants.{Any, Lifting}
 

@@ -1,11 +1,11 @@
 //! The first certificates made of points.
 ghost use Rattle.std.specs.Prelude.{◌≡◌, ◌≤◌, length, ◌↔◌, IsNone, IfSome, IsTrue, false, Some};
-ghost use Rattle.rp_model.specs.Geometry.{RationalPoint};
-ghost use Rattle.rp_model.specs.Shape.{shape_of_cell};
-ghost use Rattle.rp_model.specs.Sets.{IsEmpty};
-ghost use Rattle.rp_model.specs.Certificate.{is_inside_certificate, is_weak_point};
-ghost use Rattle.rp_model.specs.Vertex.{first_inside, first_weak_point, first_vertex, any_point, points_from};
-ghost use Rattle.rp_model.specs.CellLaws.{IsSolution};
+ghost use Rattle.rp_geometry.specs.Geometry.{RationalPoint};
+ghost use Rattle.rp_geometry.specs.sets.Shape.{shape_of_cell};
+ghost use Rattle.rp_geometry.specs.sets.Sets.{IsEmpty};
+ghost use Rattle.rp_geometry.specs.searches.Certificate.{is_inside_certificate, is_weak_point};
+ghost use Rattle.rp_geometry.specs.searches.Vertex.{first_inside, first_weak_point, first_vertex, any_point, points_from};
+ghost use Rattle.rp_geometry.specs.laws.CellLaws.{IsSolution};
 
 use crate::flat::flat_at;
 use crate::search::{Wanted, first_vertex};

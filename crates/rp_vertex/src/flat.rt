@@ -1,7 +1,7 @@
 //! The half-spaces that are not yet positive at a point that was taken.
 ghost use Rattle.std.specs.Prelude.{◌≡◌, ◌≤◌, [], ◌∷◌, not, length};
-ghost use Rattle.rp_model.specs.Certificate.{is_positive_at_some};
-ghost use Rattle.rp_model.specs.Vertex.{flat_half_spaces};
+ghost use Rattle.rp_geometry.specs.searches.Certificate.{is_positive_at_some};
+ghost use Rattle.rp_geometry.specs.searches.Vertex.{flat_half_spaces};
 
 use rp_space::{Half, Point, System};
 

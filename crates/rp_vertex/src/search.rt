@@ -1,9 +1,9 @@
 //! The search for the first vertex: the first meeting point of three planes of a list, in the order of the triples,
 //! at which no half-space of the list is negative.
 ghost use Rattle.std.specs.Prelude.{◌≡◌, ◌&&◌};
-ghost use Rattle.rp_model.specs.Geometry.{all_nonnegative};
-ghost use Rattle.rp_model.specs.Search.{first_of, first_of_pairs};
-ghost use Rattle.rp_model.specs.Vertex.{lifts, vertex_at, first_vertex};
+ghost use Rattle.rp_geometry.specs.Geometry.{all_nonnegative};
+ghost use Rattle.rp_geometry.specs.searches.Search.{first_of, first_of_pairs};
+ghost use Rattle.rp_geometry.specs.searches.Vertex.{lifts, vertex_at, first_vertex};
 ghost use Rattle.rp_vertex.specs.Wanted.{is_wanted};
 
 use rp_space::{Half, Meeting, Pair, Point};
@@ -18,7 +18,7 @@ pub(crate) enum Wanted<'a> {
 }
 
 /// The first wanted vertex of a list of half-spaces.
-#[tactic(auto, unfolding(rp_model::specs::Vertex::first_vertex))]
+#[tactic(auto, unfolding(rp_geometry::specs::searches::Vertex::first_vertex))]
 pub(crate) fn first_vertex(wanted: Wanted, system: &[Half]) -> Option<Point>
     ensures { result ≡ first_vertex (is_wanted wanted.entry) system.now }
 {

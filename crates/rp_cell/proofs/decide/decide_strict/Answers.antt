@@ -1,6 +1,6 @@
 use Rattle.std.proofs.Common.{true, sym, ◌∙◌, ap}
 use Rattle.std.specs.Prelude.{IsTrue, is_some}
-use Rattle.rp_model.specs.Certificate.{is_inside_certificate, is_outside_certificate}
+use Rattle.rp_geometry.specs.searches.Certificate.{is_inside_certificate, is_outside_certificate}
 use Rattle.rp_convex.proofs.Certified.{inside_certificate_shows_member_spec}
 use Rattle.rp_cell.proofs.Answered.{of_some, outside_is_some, line_inside, line_outside}
 use Rattle.rp_cell.proofs.decide.decide_strict.Goals as goal

@@ -1,6 +1,6 @@
 use Rattle.std.proofs.Common.{false, sym, ◌∙◌, ap}
 use Rattle.std.specs.Prelude.{IsTrue, is_some}
-use Rattle.rp_model.specs.Certificate.{is_outside_certificate}
+use Rattle.rp_geometry.specs.searches.Certificate.{is_outside_certificate}
 use Rattle.rp_cell.proofs.Answered.{of_some, apart_is_some, line_at, line_apart}
 use Rattle.rp_cell.proofs.decide.decide_weak.Goals as goal
 

@@ -1,5 +1,5 @@
 use Rattle.std.proofs.Common.{◌≡◌, ◌*◌, ◌^◌, ◌≤◌, ◌+ℤ◌, drop, unsigned_abs}
-use Rattle.rp_model.specs.Certificate.{weighted_sum}
+use Rattle.rp_geometry.specs.searches.Certificate.{weighted_sum}
 use Rattle.rp_cert.specs.Numbers.{number_of}
 use Rattle.rp_cert.proofs.outside.weighted_sum.Given as goal
 

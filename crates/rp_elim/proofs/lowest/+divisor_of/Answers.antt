@@ -3,7 +3,7 @@ use Rattle.std.specs.Int.RustNames.{FitsSigned}
 use Rattle.std.proofs.lemmas.Int.{to_z-of_z}
 use mir.Syntax.{w128}
 use Rattle.rp_algebra.specs.Integer.{gcd}
-use Rattle.rp_model.specs.Certificate.{Multiple}
+use Rattle.rp_geometry.specs.searches.Certificate.{Multiple}
 use Rattle.rp_elim.proofs.Divisor.{divisor_none, divisor_more}
 use Rattle.rp_elim.proofs.lowest.+divisor_of.Goals as goal
 

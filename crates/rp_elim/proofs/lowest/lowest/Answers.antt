@@ -1,8 +1,8 @@
 use Rattle.std.proofs.Common.{◌<◌, ◌^◌, ℕ, map, subst, sym, ◌∙◌}
 use Rattle.std.proofs.lemmas.List.{take_all}
 use Rattle.rp_algebra.specs.Integer.{reduced_by}
-use Rattle.rp_model.specs.Certificate.{Multiple}
-use Rattle.rp_model.specs.Elimination.{multiple_of, reduced_terms}
+use Rattle.rp_geometry.specs.searches.Certificate.{Multiple}
+use Rattle.rp_geometry.specs.searches.Elimination.{multiple_of, reduced_terms}
 use Rattle.rp_elim.proofs.Divisor.{divisor_above, divisor_below}
 use Rattle.rp_elim.proofs.lowest.lowest.Goals as goal
 

@@ -1,6 +1,6 @@
 use Rattle.std.proofs.Common.{◌≡◌, take, map}
 use Rattle.rp_algebra.specs.Integer.{reduced_by}
-use Rattle.rp_model.specs.Elimination.{multiple_of}
+use Rattle.rp_geometry.specs.searches.Elimination.{multiple_of}
 use Rattle.rp_elim.proofs.lowest.lowest.Given as goal
 
 abbrev pub invariant-loop-term : goal.invariant-loop-term

@@ -1,6 +1,6 @@
 use Rattle.std.proofs.Common.{◌∙◌}
 use Rattle.rp_algebra.proofs.Machine.{code, fits_by, is_by, within_by}
-use Rattle.rp_model.specs.Vertex.{det2}
+use Rattle.rp_geometry.specs.searches.Vertex.{det2}
 use Rattle.rp_elim.proofs.minors.minor.Goals as goal
 
 pub overflow_sub-result : goal.overflow_sub-result

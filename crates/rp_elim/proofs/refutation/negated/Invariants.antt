@@ -1,5 +1,5 @@
 use Rattle.std.proofs.Common.{◌≡◌, take}
-use Rattle.rp_model.specs.Elimination.{negated_terms}
+use Rattle.rp_geometry.specs.searches.Elimination.{negated_terms}
 use Rattle.rp_elim.proofs.refutation.negated.Given as goal
 
 abbrev pub invariant-loop-term : goal.invariant-loop-term

@@ -1,6 +1,6 @@
 use Rattle.std.proofs.Common.{sym, ap, ◌∙◌, List}
 use Rattle.std.specs.List.{list_all}
-use Rattle.rp_model.specs.Certificate.{Multiple, is_multiplier}
+use Rattle.rp_geometry.specs.searches.Certificate.{Multiple, is_multiplier}
 use Rattle.rp_elim.proofs.Signs.{negated_multipliers, no_refutation}
 use Rattle.rp_elim.proofs.refutation.refutation.Goals as goal
 

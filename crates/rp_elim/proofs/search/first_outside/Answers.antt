@@ -1,6 +1,6 @@
 use Rattle.std.proofs.Common.{ap, ◌∙◌, List}
-use Rattle.rp_model.specs.Geometry.{HalfSpace}
-use Rattle.rp_model.specs.Elimination.{first_refutation, first_outside}
+use Rattle.rp_geometry.specs.Geometry.{HalfSpace}
+use Rattle.rp_geometry.specs.searches.Elimination.{first_refutation, first_outside}
 use Rattle.rp_elim.proofs.Found.{found_passes, none_where_solution}
 use Rattle.rp_elim.proofs.search.first_outside.Goals as goal
 

@@ -1,6 +1,6 @@
 use Rattle.std.proofs.Common.{◌≡◌, drop}
-use Rattle.rp_model.specs.Search.{first_of}
-use Rattle.rp_model.specs.Elimination.{refutation_of_three}
+use Rattle.rp_geometry.specs.searches.Search.{first_of}
+use Rattle.rp_geometry.specs.searches.Elimination.{refutation_of_three}
 use Rattle.rp_elim.proofs.search.first_three_with_couple.Given as goal
 
 -- the first of what is left is the first of all

@@ -1,5 +1,5 @@
 use Rattle.rp_algebra.specs.Integer.{gcd, gcd_of}
-use Rattle.rp_model.specs.Elimination.{reduced_terms, refutation_of_one}
+use Rattle.rp_geometry.specs.searches.Elimination.{reduced_terms, refutation_of_one}
 use Rattle.rp_elim.proofs.search.refutation_of_one.Goals as goal
 
 pub returns : goal.returns

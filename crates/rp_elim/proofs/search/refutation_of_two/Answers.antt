@@ -1,6 +1,6 @@
 use Rattle.std.proofs.Common.{ap, ◌∙◌, List}
-use Rattle.rp_model.specs.Certificate.{Multiple}
-use Rattle.rp_model.specs.Elimination.{normal_terms, terms_if, refutation_of_two}
+use Rattle.rp_geometry.specs.searches.Certificate.{Multiple}
+use Rattle.rp_geometry.specs.searches.Elimination.{normal_terms, terms_if, refutation_of_two}
 use Rattle.rp_elim.proofs.search.refutation_of_two.Goals as goal
 
 pub returns : goal.returns

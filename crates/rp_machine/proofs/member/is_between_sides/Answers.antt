@@ -1,7 +1,7 @@
 use Rattle.std.proofs.Common.{◌∙◌, ap, pos, get_or, ◌&&◌, rules}
 use Rattle.std.specs.Int.RustNames.{FitsSigned}
 use mir.Syntax.{w32, w128}
-use Rattle.rp_model.proofs.Boxes.{is_between_sides}
+use Rattle.rp_geometry.proofs.Boxes.{is_between_sides}
 use Rattle.rp_space.specs.Boxes.{integer_box}
 use Rattle.rp_machine.proofs.Between.{read_between}
 use Rattle.rp_machine.proofs.member.is_between_sides.Goals as goal

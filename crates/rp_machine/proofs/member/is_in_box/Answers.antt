@@ -1,5 +1,5 @@
 use Rattle.std.proofs.Common.{sym, ◌∙◌}
-use Rattle.rp_model.proofs.Boxes.{box_holds}
+use Rattle.rp_geometry.proofs.Boxes.{box_holds}
 use Rattle.rp_space.specs.Boxes.{integer_box}
 use Rattle.rp_machine.proofs.member.is_in_box.Goals as goal
 

@@ -1,6 +1,6 @@
 use Rattle.std.proofs.Common.{[], ◌∷◌, ◌++◌, map}
 use Rattle.std.proofs.lemmas.Result.{err_from_is_err_and}
-use Rattle.rp_model.specs.Grammar.{spaced}
+use Rattle.rp_language.specs.Grammar.{spaced}
 use Rattle.rp_report.proofs.FrontLemmas.{front_before, writes_third}
 use Rattle.rp_report.proofs.numbers.write_in_parentheses.Goals as goal
 

@@ -1,5 +1,5 @@
 use Rattle.std.proofs.Common.{◌∙◌, pos, negsuc, [], ◌∷◌}
-use Rattle.rp_model.specs.Geometry.{half_space_of}
+use Rattle.rp_geometry.specs.Geometry.{half_space_of}
 use Rattle.rp_space.specs.Boxes.{integer_box}
 use Rattle.rp_space.proofs.Sides.{box_is_small, lower_number, upper_number, lower_x, lower_y, lower_z, upper_x, upper_y, upper_z}
 use Rattle.rp_space.proofs.bounds.box_halves.Goals as goal

@@ -1,7 +1,7 @@
 use Rattle.std.proofs.Common.{◌≡◌, ◌∙◌, [], ◌∷◌, arith, subst, sym, ◌<◌, ℕ}
 use Rattle.rp_algebra.specs.Integer.{gcd_of}
-use Rattle.rp_model.specs.Geometry.{half_space_of}
-use Rattle.rp_model.proofs.InLowestTerms.{divisor_above}
+use Rattle.rp_geometry.specs.Geometry.{half_space_of}
+use Rattle.rp_geometry.proofs.InLowestTerms.{divisor_above}
 use Rattle.rp_space.proofs.Kept.{widened, half_space_divisor}
 use Rattle.rp_space.proofs.half.divisor_of.Goals as goal
 

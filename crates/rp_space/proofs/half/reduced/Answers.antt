@@ -1,7 +1,7 @@
 use Rattle.std.proofs.Common.{sym, ◌∙◌, subst, rules}
 use Rattle.std.specs.Int.RustNames.{FitsSigned}
 use mir.Syntax.{w64}
-use Rattle.rp_model.specs.Geometry.{half_space_of, reduced_half_space, IsKeptHalfSpace}
+use Rattle.rp_geometry.specs.Geometry.{half_space_of, reduced_half_space, IsKeptHalfSpace}
 use Rattle.rp_space.proofs.Kept.{read_quotient, read_divisor, kept_half_space}
 use Rattle.rp_space.proofs.half.reduced.Goals as goal
 

@@ -3,7 +3,7 @@ use Rattle.std.specs.Prelude.{int_lt}
 use mir.Syntax.{w128}
 use Rattle.rp_algebra.specs.Integer.{is_positive}
 use Rattle.rp_algebra.proofs.Machine.{read_is}
-use Rattle.rp_model.specs.Geometry.{point_of}
+use Rattle.rp_geometry.specs.Geometry.{point_of}
 use Rattle.rp_space.proofs.Negative.{negated_coordinate, negated_weight}
 use Rattle.rp_space.proofs.meeting.positive.Goals as goal
 

@@ -2,7 +2,7 @@ use Rattle.std.proofs.Common.{◌≡◌, ◌∙◌, [], ◌∷◌, arith, subst,
 use Rattle.std.proofs.lemmas.Int.{to_z-of_z}
 use mir.Syntax.{w128}
 use Rattle.rp_algebra.specs.Integer.{gcd_of}
-use Rattle.rp_model.specs.Geometry.{point_of}
+use Rattle.rp_geometry.specs.Geometry.{point_of}
 use Rattle.rp_space.proofs.Kept.{point_divisor_above, point_divisor}
 use Rattle.rp_space.proofs.point.divisor_of.Goals as goal
 

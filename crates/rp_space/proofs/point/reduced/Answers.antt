@@ -1,7 +1,7 @@
 use Rattle.std.proofs.Common.{sym, ◌∙◌, subst, rules}
 use Rattle.std.specs.Int.RustNames.{FitsSigned}
 use mir.Syntax.{w128}
-use Rattle.rp_model.specs.Geometry.{point_of, reduced_point, IsKeptPoint}
+use Rattle.rp_geometry.specs.Geometry.{point_of, reduced_point, IsKeptPoint}
 use Rattle.rp_space.proofs.Kept.{read_quotient, read_divisor, kept_point}
 use Rattle.rp_space.proofs.point.reduced.Goals as goal
 

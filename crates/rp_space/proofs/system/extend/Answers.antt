@@ -1,6 +1,6 @@
 use Rattle.std.proofs.Common.{arith, subst}
 use Rattle.std.proofs.lemmas.Grind.{common_steps}
-use Rattle.rp_model.specs.Geometry.{HalfSpace, IsHalfSpace}
+use Rattle.rp_geometry.specs.Geometry.{HalfSpace, IsHalfSpace}
 use Rattle.rp_space.proofs.Bounded.{bounds_more}
 use Rattle.rp_space.proofs.system.extend.Goals as goal
 

@@ -1,5 +1,5 @@
 use Rattle.std.proofs.Common.{◌≡◌, ◌++◌, take}
-use Rattle.rp_model.specs.CellLaws.{AreHalfSpaces}
+use Rattle.rp_geometry.specs.laws.CellLaws.{AreHalfSpaces}
 use Rattle.rp_space.proofs.system.extend.Given as goal
 
 -- the half-spaces so far stand behind the first ones, and they keep their bounds

@@ -1,5 +1,5 @@
 use Rattle.std.proofs.Common.{◌∙◌}
-use Rattle.rp_model.specs.Geometry.{half_space_of}
+use Rattle.rp_geometry.specs.Geometry.{half_space_of}
 use Rattle.rp_syntax.proofs.MadeLemmas.{made_within, read_made, read_zero, read_range}
 use Rattle.rp_syntax.proofs.space.half_space.Goals as goal
 

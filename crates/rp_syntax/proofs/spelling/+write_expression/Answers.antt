@@ -1,6 +1,6 @@
 use Rattle.std.proofs.Common.{◌≡◌, inl, inr, ℕ, List, [], ◌∷◌, ◌++◌, drop, refl, sym, ap, ◌∙◌}
 use Rattle.std.proofs.lemmas.Result.{err_from_is_err_and}
-use Rattle.rp_model.specs.Grammar.{expression_words, box_words, half_space_words}
+use Rattle.rp_language.specs.Grammar.{expression_words, box_words, half_space_words}
 use Rattle.rp_space.specs.Boxes.{integer_box}
 use Rattle.rp_syntax.specs.declared.command.Expr.{Expr}
 use Rattle.rp_syntax.specs.Views.{expression_of}

@@ -1,6 +1,6 @@
 use Rattle.std.proofs.Common.{[], ◌∷◌, refl, decimal}
 use Rattle.std.proofs.lemmas.Result.{err_from_is_err_and}
-use Rattle.rp_model.specs.Grammar.{point_words}
+use Rattle.rp_language.specs.Grammar.{point_words}
 use Rattle.rp_syntax.proofs.SpellLemmas.{stopped_first, spells_then}
 use Rattle.rp_syntax.proofs.spelling.write_as_of.Goals as goal
 

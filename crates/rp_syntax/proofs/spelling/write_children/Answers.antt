@@ -2,8 +2,8 @@ use Rattle.std.proofs.Common.{◌≡◌, ℕ, ◌<◌, ◌≤◌, List, ◌∷�
 use Rattle.std.specs.List.{flat_map}
 use Rattle.std.proofs.lemmas.Result.{err_from_is_err_and}
 use Rattle.std.proofs.lemmas.List.Folds.{flat_map-map}
-use Rattle.rp_model.specs.Expression.{Child}
-use Rattle.rp_model.specs.Grammar.{expression_words}
+use Rattle.rp_language.specs.Expression.{Child}
+use Rattle.rp_language.specs.Grammar.{expression_words}
 use Rattle.rp_syntax.specs.declared.command.Expr.{Expr}
 use Rattle.rp_syntax.specs.Spells.{behind_spaces, children_words}
 use Rattle.rp_syntax.specs.Views.{expression_of, child_of}

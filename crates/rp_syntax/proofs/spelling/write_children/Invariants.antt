@@ -1,6 +1,6 @@
 use Rattle.std.proofs.Common.{◌≡◌, ℕ, List, ◌∷◌, ◌++◌, take}
 use Rattle.std.specs.List.{flat_map}
-use Rattle.rp_model.specs.Grammar.{expression_words}
+use Rattle.rp_language.specs.Grammar.{expression_words}
 use Rattle.rp_syntax.specs.declared.command.Expr.{Expr}
 use Rattle.rp_syntax.specs.Spells.{behind_spaces}
 use Rattle.rp_syntax.specs.Views.{expression_of}

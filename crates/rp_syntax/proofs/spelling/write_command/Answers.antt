@@ -1,4 +1,4 @@
-use Rattle.rp_model.specs.Grammar.{spelling, words_of_command}
+use Rattle.rp_language.specs.Grammar.{spelling, words_of_command}
 use Rattle.rp_syntax.specs.Views.{command_of}
 use Rattle.rp_syntax.proofs.SpellLemmas.{spells_all, spells_front}
 use Rattle.rp_syntax.proofs.spelling.write_command.Goals as goal

@@ -1,6 +1,6 @@
 use Rattle.std.proofs.Common.{[], ◌∷◌, ◌++◌, refl}
 use Rattle.std.proofs.lemmas.Result.{err_from_is_err_and}
-use Rattle.rp_model.specs.Grammar.{expression_words}
+use Rattle.rp_language.specs.Grammar.{expression_words}
 use Rattle.rp_syntax.specs.Views.{expression_of}
 use Rattle.rp_syntax.proofs.SpellLemmas.{stopped_first, spells_then}
 use Rattle.rp_syntax.proofs.spelling.write_cut.Goals as goal

@@ -1,6 +1,6 @@
 use Rattle.std.proofs.Common.{ℕ, ◌+◌, ◌∷◌, List, take, ap, sym, ◌∙◌}
 use Rattle.std.proofs.lemmas.List.{take_rest}
-use Rattle.rp_model.specs.Grammar.{words_of}
+use Rattle.rp_language.specs.Grammar.{words_of}
 use Rattle.rp_syntax.proofs.WordLemmas.{words_of-at, words_of-none}
 use Rattle.rp_syntax.proofs.words.split_word.Goals as goal
 

@@ -1,6 +1,6 @@
 use Rattle.std.proofs.Common.{◌≡◌, List, ap, ◌∙◌}
-use Rattle.rp_model.specs.Geometry.{HalfSpace}
-use Rattle.rp_model.specs.Vertex.{first_weak_point, first_vertex, any_point}
+use Rattle.rp_geometry.specs.Geometry.{HalfSpace}
+use Rattle.rp_geometry.specs.searches.Vertex.{first_weak_point, first_vertex, any_point}
 use Rattle.rp_vertex.proofs.Found.{weak_passes, weak_none}
 use Rattle.rp_vertex.proofs.certificate.first_weak.Goals as goal
 

@@ -1,5 +1,5 @@
 use Rattle.std.proofs.Common.{◌≡◌, ◌≤◌, [], ◌∷◌, take, length}
-use Rattle.rp_model.specs.Vertex.{flat_half_spaces}
+use Rattle.rp_geometry.specs.searches.Vertex.{flat_half_spaces}
 use Rattle.rp_vertex.proofs.flat.flat_at.Given as goal
 
 -- those of the half-spaces so far

@@ -1,6 +1,6 @@
 use Rattle.std.proofs.Common.{◌≡◌, drop}
-use Rattle.rp_model.specs.Search.{first_of}
-use Rattle.rp_model.specs.Vertex.{vertex_at}
+use Rattle.rp_geometry.specs.searches.Search.{first_of}
+use Rattle.rp_geometry.specs.searches.Vertex.{vertex_at}
 use Rattle.rp_vertex.specs.Wanted.{is_wanted}
 use Rattle.rp_vertex.proofs.search.first_with_two.Given as goal
 

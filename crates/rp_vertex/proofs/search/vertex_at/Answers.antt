@@ -1,7 +1,7 @@
 use Rattle.std.proofs.Common.{true, false, sym, ap, ◌∙◌}
 use Rattle.std.specs.Prelude.{Some, None}
-use Rattle.rp_model.specs.Geometry.{reduced_point}
-use Rattle.rp_model.specs.Vertex.{meeting_point}
+use Rattle.rp_geometry.specs.Geometry.{reduced_point}
+use Rattle.rp_geometry.specs.searches.Vertex.{meeting_point}
 use Rattle.rp_vertex.proofs.Tested.{vertex_is}
 use Rattle.rp_vertex.proofs.search.vertex_at.Goals as goal
 

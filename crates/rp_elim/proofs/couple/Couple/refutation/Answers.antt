@@ -1,6 +1,6 @@
 use Rattle.std.proofs.Common.{◌&&◌, not, List, sym, ap, ◌∙◌}
-use Rattle.rp_model.specs.Certificate.{Multiple}
-use Rattle.rp_model.specs.Elimination.{minors_on_axes, normal_terms, terms_if, refutation_of_three}
+use Rattle.rp_geometry.specs.searches.Certificate.{Multiple}
+use Rattle.rp_geometry.specs.searches.Elimination.{minors_on_axes, normal_terms, terms_if, refutation_of_three}
 use Rattle.rp_elim.specs.Axes.{along, minor_on}
 use Rattle.rp_elim.specs.Sides.{has_sign}
 use Rattle.rp_elim.proofs.Three.{mixed_three, refutation_on_axes}

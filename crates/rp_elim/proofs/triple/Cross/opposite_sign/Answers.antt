@@ -1,5 +1,5 @@
 use Rattle.std.proofs.Common.{sym, ◌∙◌}
-use Rattle.rp_model.specs.Vertex.{meeting_weight}
+use Rattle.rp_geometry.specs.searches.Vertex.{meeting_weight}
 use Rattle.rp_elim.proofs.Mixed.{opposite_of_positive}
 use Rattle.rp_elim.proofs.triple.Cross.opposite_sign.Goals as goal
 

@@ -1,7 +1,7 @@
 use Rattle.std.proofs.Common.{◌∙◌, ◌+ℤ◌, ◌-ℤ◌, ◌*ℤ◌}
 use Rattle.rp_algebra.proofs.Machine.{code, fits_by, is_by, within_by}
-use Rattle.rp_model.specs.Geometry.{half_space_of}
-use Rattle.rp_model.specs.Vertex.{meeting_weight}
+use Rattle.rp_geometry.specs.Geometry.{half_space_of}
+use Rattle.rp_geometry.specs.searches.Vertex.{meeting_weight}
 use Rattle.rp_elim.proofs.Mixed.{weight_along_third}
 use Rattle.rp_elim.proofs.triple.Cross.weight.Goals as goal
 

@@ -1,7 +1,7 @@
 use Rattle.std.proofs.Common.{◌&&◌, not, List, sym, ap, ◌∙◌}
-use Rattle.rp_model.specs.Certificate.{Multiple}
-use Rattle.rp_model.specs.Vertex.{meeting_weight}
-use Rattle.rp_model.specs.Elimination.{normal_terms, terms_if, refutation_of_four}
+use Rattle.rp_geometry.specs.searches.Certificate.{Multiple}
+use Rattle.rp_geometry.specs.searches.Vertex.{meeting_weight}
+use Rattle.rp_geometry.specs.searches.Elimination.{normal_terms, terms_if, refutation_of_four}
 use Rattle.rp_elim.specs.Sides.{has_sign}
 use Rattle.rp_elim.proofs.Mixed.{mixed_signs}
 use Rattle.rp_elim.proofs.triple.Triple.refutation.Goals as goal

@@ -1,5 +1,5 @@
 use Rattle.std.proofs.Common.{ap}
-use Rattle.rp_model.specs.Expression.{ask_member}
+use Rattle.rp_language.specs.Expression.{ask_member}
 use Rattle.rp_syntax.specs.Views.{expression_of, command_of}
 use Rattle.rp_machine.proofs.OneState.{replies_in}
 use Rattle.rp_machine.proofs.machine.Machine.reply.Goals as goal

@@ -1,5 +1,5 @@
 use Rattle.std.proofs.Common.{ap, sym, ◌∙◌}
-use Rattle.rp_model.proofs.ReadBounds.{read_numbers_are_bounded_spec}
+use Rattle.rp_language.proofs.ReadBounds.{read_numbers_are_bounded_spec}
 use Rattle.rp_syntax.specs.Views.{command_of, line_of}
 use Rattle.rp_machine.proofs.machine.Machine.step.Goals as goal
 

@@ -1,6 +1,6 @@
 use Rattle.std.proofs.Common.{◌≡◌, true, false, sym, ◌∙◌, ap, Ok}
 use mir.Syntax.{w64}
-use Rattle.rp_model.specs.Geometry.{half_space_of, is_half_space_in_bounds, is_zero_half_space, reduced_half_space}
+use Rattle.rp_geometry.specs.Geometry.{half_space_of, is_half_space_in_bounds, is_zero_half_space, reduced_half_space}
 use Rattle.rp_space.proofs.Kept.{read_half_space}
 use Rattle.rp_space.proofs.half.Half.new.Goals as goal
 

@@ -1,5 +1,5 @@
 use Rattle.std.proofs.Common.{◌∙◌}
-use Rattle.rp_model.specs.Geometry.{point_of, side_value}
+use Rattle.rp_geometry.specs.Geometry.{point_of, side_value}
 use Rattle.rp_algebra.proofs.Machine.{code, fits_by, is_by}
 use Rattle.rp_space.proofs.half.Half.side_at.Goals as goal
 

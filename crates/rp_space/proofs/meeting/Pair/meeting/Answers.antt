@@ -2,8 +2,8 @@ use Rattle.std.proofs.Common.{◌≡◌, ap, ◌∙◌, rules}
 use Rattle.std.specs.Prelude.{None, option_map}
 use mir.Syntax.{w128}
 use Rattle.rp_algebra.proofs.Machine.{read_is}
-use Rattle.rp_model.specs.Geometry.{point_of, reduced_point}
-use Rattle.rp_model.specs.Vertex.{cramer_point, meeting_point}
+use Rattle.rp_geometry.specs.Geometry.{point_of, reduced_point}
+use Rattle.rp_geometry.specs.searches.Vertex.{cramer_point, meeting_point}
 use Rattle.rp_space.specs.PositivePoint.{positive_point}
 use Rattle.rp_space.proofs.Positive.{reduced_positive}
 use Rattle.rp_space.proofs.meeting.Pair.meeting.Goals as goal

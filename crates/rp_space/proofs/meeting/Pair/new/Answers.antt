@@ -1,6 +1,6 @@
 use Rattle.std.proofs.Common.{◌∙◌}
 use Rattle.rp_algebra.proofs.Machine.{code, is_by, within_by}
-use Rattle.rp_model.specs.Vertex.{det2}
+use Rattle.rp_geometry.specs.searches.Vertex.{det2}
 use Rattle.rp_space.proofs.meeting.Pair.new.Goals as goal
 
 pub invariant_of-result : goal.invariant_of-result

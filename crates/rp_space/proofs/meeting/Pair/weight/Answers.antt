@@ -1,7 +1,7 @@
 use Rattle.std.proofs.Common.{◌∙◌}
 use Rattle.rp_algebra.proofs.Machine.{code, fits_by, is_by, within_by}
-use Rattle.rp_model.specs.Geometry.{half_space_of}
-use Rattle.rp_model.specs.Vertex.{cramer_point}
+use Rattle.rp_geometry.specs.Geometry.{half_space_of}
+use Rattle.rp_geometry.specs.searches.Vertex.{cramer_point}
 use Rattle.rp_space.proofs.Cramer.{weight_is}
 use Rattle.rp_space.proofs.meeting.Pair.weight.Goals as goal
 

@@ -1,5 +1,5 @@
 use Rattle.std.proofs.Common.{◌≡◌, true, sym, ◌∙◌}
-use Rattle.rp_model.specs.Name.{is_name}
+use Rattle.rp_language.specs.Name.{is_name}
 use Rattle.rp_space.proofs.Named.{name_inside}
 use Rattle.rp_space.proofs.name.Name.new.Goals as goal
 

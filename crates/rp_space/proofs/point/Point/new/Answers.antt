@@ -1,7 +1,7 @@
 use Rattle.std.proofs.Common.{◌≡◌, true, sym, ◌∙◌, ap, subst, pos, Ok}
 use Rattle.std.specs.Prelude.{int_le}
 use mir.Syntax.{w128}
-use Rattle.rp_model.specs.Geometry.{point_of, is_point_in_bounds, IsSmallPoint, reduced_point}
+use Rattle.rp_geometry.specs.Geometry.{point_of, is_point_in_bounds, IsSmallPoint, reduced_point}
 use Rattle.rp_space.proofs.Kept.{read_point, small_point, from_one_on}
 use Rattle.rp_space.proofs.point.Point.new.Goals as goal
 

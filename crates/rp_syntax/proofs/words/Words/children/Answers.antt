@@ -1,7 +1,7 @@
 use Rattle.std.proofs.Common.{◌≡◌, ◌-◌, ◌+◌, suc, [], ◌∷◌, sym, ap, ◌∙◌, subst, arith, map}
 use Rattle.std.proofs.lemmas.Result.{err_from_is_err_and}
 use Rattle.std.proofs.lemmas.List.{map-append}
-use Rattle.rp_model.specs.Grammar.{many, child}
+use Rattle.rp_language.specs.Grammar.{many, child}
 use Rattle.rp_syntax.specs.Reads.{FaultIs}
 use Rattle.rp_syntax.specs.Views.{child_of}
 use Rattle.rp_syntax.proofs.ManyLemmas.{with_front, with_none, many-more, many-stopped}

@@ -1,5 +1,5 @@
 use Rattle.std.proofs.Common.{◌≡◌, ◌-◌, map}
-use Rattle.rp_model.specs.Grammar.{many, child}
+use Rattle.rp_language.specs.Grammar.{many, child}
 use Rattle.rp_syntax.specs.Views.{child_of}
 use Rattle.rp_syntax.proofs.ManyLemmas.{with_front}
 use Rattle.rp_syntax.proofs.words.Words.children.Given as goal

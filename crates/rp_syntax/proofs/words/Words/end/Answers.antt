@@ -1,5 +1,5 @@
 use Rattle.std.proofs.Common.{subst, ap, sym, ◌∙◌, ◌≡◌, Err}
-use Rattle.rp_model.specs.Grammar.{Place, end_of_line, bad_syntax}
+use Rattle.rp_language.specs.Grammar.{Place, end_of_line, bad_syntax}
 use Rattle.rp_syntax.specs.Places.{words_left}
 use Rattle.rp_syntax.proofs.WordLemmas.{text_not_ended}
 use Rattle.rp_syntax.proofs.words.Words.end.Goals as goal

@@ -1,6 +1,6 @@
 use Rattle.std.proofs.Common.{◌≡◌, ◌-◌, ◌+◌, suc, [], sym, ap, ◌∙◌, subst, arith}
 use Rattle.std.proofs.lemmas.Result.{err_from_is_err_and}
-use Rattle.rp_model.specs.Grammar.{many, name}
+use Rattle.rp_language.specs.Grammar.{many, name}
 use Rattle.rp_syntax.specs.Reads.{FaultIs}
 use Rattle.rp_syntax.proofs.ManyLemmas.{with_front, with_none, many-more, many-stopped}
 use Rattle.rp_syntax.proofs.words.Words.lots.Goals as goal

@@ -1,5 +1,5 @@
 use Rattle.std.proofs.Common.{◌≡◌, ◌-◌}
-use Rattle.rp_model.specs.Grammar.{many, name}
+use Rattle.rp_language.specs.Grammar.{many, name}
 use Rattle.rp_syntax.proofs.ManyLemmas.{with_front}
 use Rattle.rp_syntax.proofs.words.Words.lots.Given as goal
 

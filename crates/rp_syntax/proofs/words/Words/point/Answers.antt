@@ -2,8 +2,8 @@ use Rattle.std.proofs.Common.{subst, rules}
 use Rattle.std.specs.Int.RustNames.{FitsSigned}
 use Rattle.std.proofs.lemmas.Int.{to_z-of_z}
 use mir.Syntax.{w128}
-use Rattle.rp_model.specs.Geometry.{RationalPoint, point_of, reduced_point}
-use Rattle.rp_model.specs.Grammar.{point, gives}
+use Rattle.rp_geometry.specs.Geometry.{RationalPoint, point_of, reduced_point}
+use Rattle.rp_language.specs.Grammar.{point, gives}
 use Rattle.rp_syntax.specs.Reads.{Reads}
 use Rattle.rp_syntax.proofs.words.Words.point.Goals as goal
 
