@@ -5,7 +5,7 @@ use Rattle.std.specs.Int.RustNames.{unsigned_abs, FitsSigned}
 use Rattle.std.proofs.lemmas.Int.{ints, to_z-of_z}
 use mir.Syntax.{w32, w128}
 use Rattle.rp_algebra.proofs.Machine.{code, fits_by, is_by}
-use Rattle.rp_geometry.proofs.Boxes.{is_between}
+use Rattle.rp_geometry.specs.Geometry.{is_between}
 
 -- the product of a number of units and a weight fits
 pub scaled_fits : (units w : ℤ) → FitsSigned w32 units → unsigned_abs w < 2 ^ 75 → FitsSigned w128 (to_z w128 (of_z w128 (to_z w32 (of_z w32 units))) *ℤ to_z w128 (of_z w128 w))

@@ -3,7 +3,7 @@ ghost use Rattle.std.specs.Prelude.{◌≡◌, ◌∷◌, [], map, IfOk, OnOk};
 ghost use Rattle.std.specs.List.{AllByRecursion};
 ghost use Rattle.rp_language.specs.Expression.{ask_member, expressions_of, IsBounded};
 ghost use Rattle.rp_language.specs.Grammar.{reading};
-ghost use Rattle.rp_model.specs.reports.Report.{IsAnswerTo, after_reading, echoed, bad_answer};
+ghost use Rattle.rp_reports.specs.Report.{IsAnswerTo, after_reading, echoed, bad_answer};
 ghost use Rattle.rp_model.specs.commands.Rule.{rule_of};
 ghost use Rattle.rp_model.specs.states.State.{State, opening};
 ghost use Rattle.rp_report.specs.Views.{verdict_of, answer_of};

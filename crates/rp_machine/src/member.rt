@@ -4,7 +4,7 @@ ghost use Rattle.rp_language.specs.Expression.{closed, first_unknown};
 ghost use Rattle.rp_geometry.specs.Geometry.{all_hold, box_half_spaces, is_cube_point};
 ghost use Rattle.rp_geometry.specs.sets.Shape.{passes, is_member};
 ghost use Rattle.rp_model.specs.states.State.{State, opening, sets_in};
-ghost use Rattle.rp_geometry.proofs.Boxes.{is_between, is_between_sides};
+ghost use Rattle.rp_geometry.specs.Geometry.{is_between, is_in_box};
 ghost use Rattle.rp_space.specs.Boxes.{integer_box};
 ghost use Rattle.rp_syntax.specs.Views.{expression_of};
 
@@ -41,7 +41,7 @@ fn is_in_box(bounds: &IntBox, point: &Point) -> bool
 
 /// Whether each coordinate of the point is from the lower side of the box to below the upper one.
 fn is_between_sides(bounds: &IntBox, point: &Point) -> bool
-    ensures { result ≡ is_between_sides (integer_box bounds.now) point.now }
+    ensures { result ≡ is_in_box (integer_box bounds.now) point.now }
 {
     let [x1, y1, z1] = bounds.lo;
     let [x2, y2, z2] = bounds.hi;

@@ -4,7 +4,7 @@ use Rattle.std.specs.List.{flat_map}
 use Rattle.std.proofs.lemmas.List.Concat.{flat_map-append}
 use Rattle.rp_language.specs.Grammar.{space, spaced}
 use Rattle.rp_geometry.specs.searches.ProofLine.{ProofLine}
-use Rattle.rp_model.specs.reports.Text.{verdict_text, proof_text, proof_texts, echo_text, items_text, line_end, text_of_lines, answer_lines}
+use Rattle.rp_reports.specs.Text.{verdict_text, proof_text, proof_texts, echo_text, items_text, line_end, text_of_lines, answer_lines}
 use Rattle.rp_cert.specs.declared.proof.Proof.{Proof}
 use Rattle.rp_cert.specs.Lines.{line_of}
 use Rattle.rp_report.specs.declared.answer.Verdict.{Verdict}

@@ -2,7 +2,7 @@
 use Rattle.std.specs.Prelude.{ℕ, List, [], ◌∷◌, ◌++◌}
 use Rattle.rp_geometry.specs.searches.ProofLine.{ProofLine, in_line, out_line, at_line, apart_line, drop_line, box_line}
 use Rattle.rp_language.specs.Grammar.{spaced, box_words}
-use Rattle.rp_model.specs.reports.Text.{verdict_text, half_space_text, point_text, term_text, items_text, proof_text, line_end}
+use Rattle.rp_reports.specs.Text.{verdict_text, half_space_text, point_text, term_text, items_text, proof_text, line_end}
 use Rattle.rp_cert.specs.declared.proof.Proof.{Proof}
 use Rattle.rp_cert.specs.Lines.{line_of}
 use Rattle.rp_report.specs.declared.answer.Verdict.{Verdict}

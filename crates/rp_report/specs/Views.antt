@@ -1,7 +1,7 @@
 -- Answers of the code as those of the model.
 use Rattle.std.specs.Prelude.{map}
 use Rattle.rp_model.specs.commands.Verdict.{Refusal as ModelRefusal, bad, unknown, Verdict as ModelVerdict, says_yes, says_no, refused, unbuilt}
-use Rattle.rp_model.specs.reports.Text.{Answer as ModelAnswer}
+use Rattle.rp_reports.specs.Text.{Answer as ModelAnswer}
 use Rattle.rp_syntax.specs.Views.{fault_of}
 use Rattle.rp_cert.specs.Lines.{line_of}
 use Rattle.rp_report.specs.declared.answer.Refusal.{Refusal}

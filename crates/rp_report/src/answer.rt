@@ -49,7 +49,7 @@ pub struct Answer {
 
 impl Answer {
     ghost use Rattle.std.specs.Prelude.{◌≡◌, ◌∷◌, [], map, IfOk};
-    ghost use Rattle.rp_model.specs.reports.Report.{blank_answer};
+    ghost use Rattle.rp_reports.specs.Report.{blank_answer};
     ghost use Rattle.rp_cert.specs.Lines.{line_of};
     ghost use Rattle.rp_report.specs.Views.{verdict_of, answer_of};
 

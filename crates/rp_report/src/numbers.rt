@@ -1,7 +1,7 @@
 //! The text of whole numbers.
 ghost use Rattle.std.specs.Prelude.{◌≡◌, ◌∷◌, map};
 ghost use Rattle.rp_language.specs.Grammar.{spaced};
-ghost use Rattle.rp_model.specs.reports.Text.{in_parentheses, items_text};
+ghost use Rattle.rp_reports.specs.Text.{in_parentheses, items_text};
 ghost use Rattle.rp_report.specs.Fronts.{Writes};
 
 use crate::pieces::append;

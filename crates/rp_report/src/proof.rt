@@ -2,7 +2,7 @@
 ghost use Rattle.std.specs.Prelude.{◌≡◌, ◌++◌, map};
 ghost use Rattle.std.specs.List.{flat_map};
 ghost use Rattle.rp_language.specs.Grammar.{spaced, box_words};
-ghost use Rattle.rp_model.specs.reports.Text.{half_space_text, point_text, term_text, items_text, proof_text, proof_texts, text_of_lines};
+ghost use Rattle.rp_reports.specs.Text.{half_space_text, point_text, term_text, items_text, proof_text, proof_texts, text_of_lines};
 ghost use Rattle.rp_space.specs.Boxes.{integer_box};
 ghost use Rattle.rp_cert.specs.Lines.{line_of};
 ghost use Rattle.rp_report.specs.Fronts.{Writes};

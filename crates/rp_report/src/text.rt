@@ -1,7 +1,7 @@
 //! The text of an answer.
 ghost use Rattle.std.specs.Prelude.{◌≡◌, ◌∷◌, [], ◌++◌};
 ghost use Rattle.std.specs.List.{flat_map};
-ghost use Rattle.rp_model.specs.reports.Text.{fault_word, echo_text, line_end, text_of_lines, answer_lines};
+ghost use Rattle.rp_reports.specs.Text.{fault_word, echo_text, line_end, text_of_lines, answer_lines};
 ghost use Rattle.rp_syntax.specs.Views.{fault_of};
 ghost use Rattle.rp_report.specs.Fronts.{Writes};
 ghost use Rattle.rp_report.specs.LineTexts.{verdict_line};

@@ -5,7 +5,7 @@ use Rattle.std.proofs.lemmas.Bool.Decides.{nat_tests}
 use Rattle.std.proofs.lemmas.List.{nil_from_length}
 use Rattle.std.proofs.lemmas.List.Splits.{slice_split_none, slice_split_first, length-slice_split}
 use Rattle.rp_language.proofs.Places.{position_or_len-at_some, all_fail-at_none}
-use Rattle.rp_model.specs.reports.Report.{script_lines, lines_of_pieces, without_return}
+use Rattle.rp_reports.specs.Report.{script_lines, lines_of_pieces, without_return}
 use Rattle.rp_tool.specs.Lines.{is_line_end}
 
 -- each piece but the last loses its carriage return

@@ -2,9 +2,9 @@
 use Rattle.std.proofs.Common.{◌≡◌, ℕ, Bool, false, ◌||◌, List, [], ◌∷◌, ◌++◌, map, refl, sym, ap, ◌∙◌}
 use Rattle.std.proofs.Math.Bool.{or_assoc}
 use Rattle.std.specs.List.{list_any}
-use Rattle.rp_model.specs.program.Output.{is_refused_line}
+use Rattle.rp_reports.specs.Output.{is_refused_line}
 use Rattle.rp_geometry.specs.searches.ProofLine.{ProofLine, in_line, out_line, at_line, apart_line, drop_line, box_line}
-use Rattle.rp_model.specs.reports.Text.{lines_with, echo_text, proof_text, verdict_text, Answer}
+use Rattle.rp_reports.specs.Text.{lines_with, echo_text, proof_text, verdict_text, Answer}
 use Rattle.rp_report.specs.Views.{verdict_of}
 use Rattle.rp_report.specs.declared.answer.Verdict.{Verdict}
 

@@ -5,10 +5,10 @@ use Rattle.std.proofs.lemmas.List.{append-nil}
 use Rattle.std.proofs.lemmas.List.Concat.{flat_map-append}
 use Rattle.rp_io.specs.Bytes.{Appends}
 use Rattle.rp_language.specs.Grammar.{reading}
-use Rattle.rp_model.specs.reports.Report.{IsAnswerTo, IsReportFrom, after_reading, script_lines}
-use Rattle.rp_model.specs.program.Output.{is_refused_line, run_script}
+use Rattle.rp_reports.specs.Report.{IsAnswerTo, IsReportFrom, after_reading, script_lines}
+use Rattle.rp_reports.specs.Output.{is_refused_line, run_script}
 use Rattle.rp_model.specs.states.State.{State, opening}
-use Rattle.rp_model.specs.reports.Text.{Answer, answer_lines, text_of_lines, line_end}
+use Rattle.rp_reports.specs.Text.{Answer, answer_lines, text_of_lines, line_end}
 use Rattle.rp_tool.specs.Output.{PutsAnswer, PutsOutput}
 use Rattle.rp_tool.proofs.RefusalLemmas.{list_any-append}
 use Rattle.rp_tool.proofs.SinkLemmas.{Appends-append}

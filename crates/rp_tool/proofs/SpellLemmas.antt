@@ -6,9 +6,9 @@ use Rattle.std.proofs.lemmas.List.{append-nil}
 use Rattle.std.proofs.lemmas.List.Concat.{flat_map-append}
 use Rattle.rp_io.specs.Bytes.{Appends}
 use Rattle.rp_language.specs.Grammar.{reading}
-use Rattle.rp_model.specs.reports.Report.{script_lines}
-use Rattle.rp_model.specs.program.Output.{has_bad_line, is_bad_reading, spell_script, spelled_lines, spelled_script}
-use Rattle.rp_model.specs.reports.Text.{text_of_lines, line_end}
+use Rattle.rp_reports.specs.Report.{script_lines}
+use Rattle.rp_reports.specs.Output.{has_bad_line, is_bad_reading, spell_script, spelled_lines, spelled_script}
+use Rattle.rp_reports.specs.Text.{text_of_lines, line_end}
 use Rattle.rp_tool.specs.Output.{PutsSpelling, PutsOutput}
 use Rattle.rp_tool.proofs.RunLemmas.{IsTrue-both}
 use Rattle.rp_tool.proofs.SinkLemmas.{Appends-append}

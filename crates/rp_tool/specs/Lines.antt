@@ -1,7 +1,7 @@
 -- How a text is cut into the lines that are put one at a time.
 use Rattle.std.specs.Prelude.{ℕ, ◌+◌, ◌==◌, Bool, List, take, drop}
 use Rattle.std.specs.List.{position_or_len}
-use Rattle.rp_model.specs.reports.Text.{line_end}
+use Rattle.rp_reports.specs.Text.{line_end}
 
 -- whether a byte ends a line
 abbrev pub is_line_end : ℕ → Bool

@@ -4,10 +4,10 @@ use Rattle.std.specs.List.{list_any}
 use Rattle.rp_io.specs.Bytes.{Appends}
 use Rattle.rp_io.specs.Faults.{HasRisen}
 use Rattle.rp_language.specs.Grammar.{Reading, reading}
-use Rattle.rp_model.specs.program.Output.{Task, IsOutput, IsRefused, is_refused_line, is_bad_reading, spelled_lines}
-use Rattle.rp_model.specs.reports.Report.{IsAnswerTo}
+use Rattle.rp_reports.specs.Output.{Task, IsOutput, IsRefused, is_refused_line, is_bad_reading, spelled_lines}
+use Rattle.rp_reports.specs.Report.{IsAnswerTo}
 use Rattle.rp_model.specs.states.State.{State}
-use Rattle.rp_model.specs.reports.Text.{Answer, answer_lines, text_of_lines}
+use Rattle.rp_reports.specs.Text.{Answer, answer_lines, text_of_lines}
 use Rattle.rp_tool.specs.declared.fault.OutputFault.{OutputFault}
 use Rattle.rp_tool.specs.declared.fault.OutputFault.TheVariants.{Put, Memory}
 

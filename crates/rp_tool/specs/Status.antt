@@ -1,8 +1,8 @@
 -- What the tool is asked to do, and what a status says of its output.
 use Rattle.std.specs.Prelude.{◌≡◌, ◌↔◌, ℕ, Bool, true, false, List, Option, Some, Result, Ok, Err}
 use Rattle.rp_io.specs.Bytes.{Appends}
-use Rattle.rp_model.specs.reports.Text.{text_of_lines}
-use Rattle.rp_model.specs.program.Output.{Task as ModelTask, run_script, spell_script, task_of, IsOutput, IsRefused}
+use Rattle.rp_reports.specs.Text.{text_of_lines}
+use Rattle.rp_reports.specs.Output.{Task as ModelTask, run_script, spell_script, task_of, IsOutput, IsRefused}
 use Rattle.rp_tool.specs.declared.status.TheConstants.{DONE, REFUSED, READ_FAILED, PUT_FAILED, OUT_OF_MEMORY, TOO_LONG}
 use Rattle.rp_tool.specs.declared.intake.IntakeFault.{IntakeFault}
 use Rattle.rp_tool.specs.declared.intake.IntakeFault.TheVariants.{Failed, TooLong, Memory}

@@ -1,5 +1,5 @@
 ghost use Rattle.std.specs.Prelude.{◌≡◌, ◌<◌, ◌∷◌, ◌++◌, [], length, IfNone, IfSome};
-ghost use Rattle.rp_model.specs.reports.Report.{script_lines, without_return};
+ghost use Rattle.rp_reports.specs.Report.{script_lines, without_return};
 ghost use Rattle.std.specs.List.{position};
 ghost use Rattle.rp_tool.specs.Lines.{first_line, behind_first_line, is_line_end};
 

@@ -1,7 +1,7 @@
 ghost use Rattle.std.specs.Prelude.{◌≡◌, false};
 ghost use Rattle.std.specs.List.{list_any};
-ghost use Rattle.rp_model.specs.program.Output.{is_refused_line};
-ghost use Rattle.rp_model.specs.reports.Text.{answer_lines, verdict_text};
+ghost use Rattle.rp_reports.specs.Output.{is_refused_line};
+ghost use Rattle.rp_reports.specs.Text.{answer_lines, verdict_text};
 ghost use Rattle.rp_report.specs.Views.{answer_of, verdict_of};
 
 use rp_report::{Answer, Verdict};

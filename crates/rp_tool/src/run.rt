@@ -1,7 +1,7 @@
 ghost use Rattle.std.specs.Prelude.{◌≡◌, ◌≤◌, length, IfErr, IfOk, OnOk};
 ghost use Rattle.rp_language.specs.Grammar.{reading};
-ghost use Rattle.rp_model.specs.program.Output.{most_script_bytes, run_script};
-ghost use Rattle.rp_model.specs.reports.Report.{after_reading};
+ghost use Rattle.rp_reports.specs.Output.{most_script_bytes, run_script};
+ghost use Rattle.rp_reports.specs.Report.{after_reading};
 ghost use Rattle.rp_tool.specs.Output.{PutsAnswer, PutsOutput, HasOutputCause};
 
 use super::fault::OutputFault;

@@ -1,8 +1,8 @@
 ghost use Rattle.std.specs.Prelude.{◌≡◌, ◌≤◌, ◌∷◌, ◌++◌, [], length, IfErr, IfOk, OnOk};
 ghost use Rattle.rp_io.specs.Bytes.{Appends};
 ghost use Rattle.rp_language.specs.Grammar.{reading, spelling};
-ghost use Rattle.rp_model.specs.program.Output.{spell_script};
-ghost use Rattle.rp_model.specs.reports.Text.{line_end};
+ghost use Rattle.rp_reports.specs.Output.{spell_script};
+ghost use Rattle.rp_reports.specs.Text.{line_end};
 ghost use Rattle.rp_syntax.specs.Views.{command_of};
 ghost use Rattle.rp_tool.specs.Output.{PutsSpelling, PutsOutput, HasOutputCause};
 

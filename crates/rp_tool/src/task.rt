@@ -1,6 +1,6 @@
 ghost use Rattle.std.specs.Prelude.{◌≡◌, map, string_bytes};
 ghost use Rattle.std.specs.Option.{option_map};
-ghost use Rattle.rp_model.specs.program.Output.{task_of};
+ghost use Rattle.rp_reports.specs.Output.{task_of};
 ghost use Rattle.rp_tool.specs.Status.{meaning_of};
 
 /// What the words of a command line ask for.

@@ -1,6 +1,6 @@
 ghost use Rattle.std.specs.Prelude.{◌≡◌, ◌≢◌, ◌⊎◌, ◌↔◌, ◌<◌, ◌≤◌, [], length, map, string_bytes, IfErr, IfOk, IfSome};
 ghost use Rattle.rp_io.specs.Faults.{HasRisen};
-ghost use Rattle.rp_model.specs.program.Output.{task_of, most_script_bytes};
+ghost use Rattle.rp_reports.specs.Output.{task_of, most_script_bytes};
 ghost use Rattle.rp_tool.specs.Intake.{IsPastLimit};
 ghost use Rattle.rp_tool.specs.Output.{PutsOutput, HasOutputCause};
 ghost use Rattle.rp_tool.specs.Status.{IsOutputOf, meaning_of, status_of_intake, status_of_output};

@@ -1,7 +1,7 @@
 use Rattle.std.proofs.Common.{◌∙◌, ap, pos, get_or, ◌&&◌, rules}
 use Rattle.std.specs.Int.RustNames.{FitsSigned}
 use mir.Syntax.{w32, w128}
-use Rattle.rp_geometry.proofs.Boxes.{is_between_sides}
+use Rattle.rp_geometry.specs.Geometry.{is_in_box}
 use Rattle.rp_space.specs.Boxes.{integer_box}
 use Rattle.rp_machine.proofs.Between.{read_between}
 use Rattle.rp_machine.proofs.member.is_between_sides.Goals as goal
@@ -24,4 +24,4 @@ returns c =
     let on_x = c.is_between-on_x.ensures ∙ read_between _ _ n.0 n.3 x1 x2 x w in
     let on_y = c.is_between-on_y.ensures ∙ read_between _ _ n.1 n.3 y1 y2 y w in
     let on_z = c.is_between-on_z.ensures ∙ read_between _ _ n.2 n.3 z1 z2 z w in
-    (λ i. (on_x i && on_y i) && on_z i) ∙ ap (is_between_sides (integer_box c.args.bounds.now)) c.numbers-x.ensures.numbers
+    (λ i. (on_x i && on_y i) && on_z i) ∙ ap (is_in_box (integer_box c.args.bounds.now)) c.numbers-x.ensures.numbers

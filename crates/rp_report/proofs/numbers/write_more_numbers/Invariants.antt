@@ -1,5 +1,5 @@
 use Rattle.std.proofs.Common.{◌≡◌, ◌++◌, take}
-use Rattle.rp_model.specs.reports.Text.{items_text}
+use Rattle.rp_reports.specs.Text.{items_text}
 use Rattle.rp_report.proofs.numbers.write_more_numbers.Given as goal
 
 -- the numbers so far were appended

@@ -1,5 +1,5 @@
 use Rattle.std.proofs.lemmas.Result.{err_from_is_err_and}
-use Rattle.rp_model.specs.reports.Text.{half_space_text, term_text, items_text}
+use Rattle.rp_reports.specs.Text.{half_space_text, term_text, items_text}
 use Rattle.rp_report.proofs.FrontLemmas.{front_before, writes_behind}
 use Rattle.rp_report.proofs.proof.write_half_and_terms.Goals as goal
 

@@ -1,5 +1,5 @@
 use Rattle.std.proofs.Common.{◌≡◌, ◌++◌, take}
-use Rattle.rp_model.specs.reports.Text.{items_text, point_text}
+use Rattle.rp_reports.specs.Text.{items_text, point_text}
 use Rattle.rp_report.proofs.proof.write_points.Given as goal
 
 -- the points so far were appended

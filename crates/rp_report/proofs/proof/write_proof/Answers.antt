@@ -1,6 +1,6 @@
 use Rattle.std.proofs.Common.{ℕ, List, [], ◌∷◌, ◌++◌, sym, ap}
 use Rattle.std.proofs.lemmas.Result.{err_from_is_err_and}
-use Rattle.rp_model.specs.reports.Text.{line_end}
+use Rattle.rp_reports.specs.Text.{line_end}
 use Rattle.rp_cert.specs.Lines.{line_of}
 use Rattle.rp_report.specs.LineTexts.{operands_text}
 use Rattle.rp_report.proofs.FrontLemmas.{front_before, front_between, front_same, writes_third, writes_same}

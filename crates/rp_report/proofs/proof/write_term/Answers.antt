@@ -7,7 +7,7 @@ use mir.Syntax.{w128}
 use mir.Val.{to_z, of_z}
 use Rattle.rp_geometry.specs.searches.Certificate.{Multiple}
 use Rattle.rp_geometry.specs.Geometry.{HalfSpace}
-use Rattle.rp_model.specs.reports.Text.{half_space_text, term_text}
+use Rattle.rp_reports.specs.Text.{half_space_text, term_text}
 use Rattle.rp_report.proofs.FrontLemmas.{front_before, front_between, front_same, writes_third, writes_same}
 use Rattle.rp_report.proofs.proof.write_term.Goals as goal
 

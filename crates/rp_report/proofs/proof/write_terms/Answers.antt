@@ -1,7 +1,7 @@
 use Rattle.std.proofs.Common.{arith, ◌∷◌, [], length, ◌<◌}
 use Rattle.std.proofs.lemmas.Result.{err_from_is_err_and}
 use Rattle.rp_language.specs.Grammar.{space}
-use Rattle.rp_model.specs.reports.Text.{term_text}
+use Rattle.rp_reports.specs.Text.{term_text}
 use Rattle.rp_report.proofs.FrontLemmas.{front_before, front_behind, front_within}
 use Rattle.rp_report.proofs.proof.write_terms.Goals as goal
 

@@ -1,5 +1,5 @@
 use Rattle.std.proofs.Common.{◌≡◌, ◌++◌, take}
-use Rattle.rp_model.specs.reports.Text.{items_text, term_text}
+use Rattle.rp_reports.specs.Text.{items_text, term_text}
 use Rattle.rp_report.proofs.proof.write_terms.Given as goal
 
 -- the multiples so far were appended

@@ -1,5 +1,5 @@
 use Rattle.std.proofs.Common.{Bool, map, sym, ap, ◌∙◌}
-use Rattle.rp_model.specs.reports.Text.{proof_texts, text_of_lines}
+use Rattle.rp_reports.specs.Text.{proof_texts, text_of_lines}
 use Rattle.rp_cert.specs.Lines.{line_of}
 use Rattle.rp_report.proofs.FrontLemmas.{writes_same}
 use Rattle.rp_report.proofs.LineLemmas.{proofs_text}

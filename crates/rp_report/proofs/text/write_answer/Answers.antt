@@ -1,7 +1,7 @@
 use Rattle.std.proofs.Common.{◌≡◌, ◌++◌, ◌∷◌, [], List, ℕ, Bool, false, eqb, length, map, refl, sym, ap, ◌∙◌}
 use Rattle.std.specs.List.{flat_map}
 use Rattle.std.proofs.lemmas.Result.{err_from_is_err_and}
-use Rattle.rp_model.specs.reports.Text.{echo_text, line_end, proof_texts, text_of_lines, answer_lines}
+use Rattle.rp_reports.specs.Text.{echo_text, line_end, proof_texts, text_of_lines, answer_lines}
 use Rattle.rp_cert.specs.declared.proof.Proof.{Proof}
 use Rattle.rp_cert.specs.Lines.{line_of}
 use Rattle.rp_report.specs.declared.answer.Answer.{Answer}

@@ -1,5 +1,5 @@
 use Rattle.std.proofs.Common.{◌≤◌, ◌+◌, length}
-use Rattle.rp_model.specs.program.Output.{most_script_bytes}
+use Rattle.rp_reports.specs.Output.{most_script_bytes}
 use Rattle.rp_tool.proofs.RunLemmas.{HasTold}
 use Rattle.rp_tool.proofs.run.run.Given as goal
 

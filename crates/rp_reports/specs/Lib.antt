@@ -1,0 +1,10 @@
+pub mod Text
+pub mod Report
+pub mod Machine
+pub mod Built
+pub mod ProofText
+pub mod Check
+pub mod TrueReport
+pub mod Made
+pub mod Output
+pub mod laws

@@ -1,0 +1,48 @@
+-- The machine of parts: the same answers and changes, computed from the lists of parts alone.
+use Rattle.std.specs.Prelude.{ℕ, suc, Bool, List, [], ◌∷◌, ◌++◌}
+use Rattle.rp_walks.specs.Walk.{Outcome, done, stopped, Work}
+use Rattle.rp_model.specs.states.State.{PlainState, opening, Change, nothing_changes, changed}
+use Rattle.rp_model.specs.commands.Verdict.{Verdict, refused, limit}
+use Rattle.rp_model.specs.commands.Row.{Reply}
+use Rattle.rp_model.specs.commands.Rule.{walked, proofs_of}
+use Rattle.rp_language.specs.Grammar.{Reading, blank, command, bad, reading}
+use Rattle.rp_reports.specs.Text.{Answer, answer_lines}
+use Rattle.rp_reports.specs.Report.{script_lines, blank_answer, bad_answer}
+
+-- the verdict lines of a walked row
+abbrev pub verdicts_walked : Outcome Work Reply → List Verdict
+verdicts_walked (done r w) = r.verdicts
+verdicts_walked (stopped e w) = refused limit ∷ []
+
+-- what a walked row changes; a limit changes nothing
+abbrev pub change_walked : Outcome Work Reply → Change (Unit {0})
+change_walked (done r w) = r.change
+change_walked (stopped e w) = nothing_changes
+
+-- the answer to a line that is read so
+abbrev pub answer_read : PlainState → ℕ → List ℕ → Reading → Answer
+answer_read s n line blank = blank_answer n
+answer_read s n line (bad f) = bad_answer n line f
+answer_read s n line (command c) = record { number = n; echo = line; proofs = proofs_of s c; verdicts = verdicts_walked (walked s c) }
+
+-- the state after a line that is read so
+abbrev pub state_read : PlainState → ℕ → Reading → PlainState
+state_read s n (command c) = changed n s (change_walked (walked s c))
+state_read s n _ = s
+
+-- the answer to a line
+unfoldable pub step_answer : PlainState → ℕ → List ℕ → Answer
+step_answer s n line = answer_read s n line (reading line)
+
+-- the state after a line
+unfoldable pub step_state : PlainState → ℕ → List ℕ → PlainState
+step_state s n line = state_read s n (reading line)
+
+-- the report lines of all lines from a state on
+abbrev pub lines_from : Bool → PlainState → ℕ → List (List ℕ) → List (List ℕ)
+lines_from brief s n [] = []
+lines_from brief s n (line ∷ lines) = answer_lines brief (step_answer s n line) ++ lines_from brief (step_state s n line) (suc n) lines
+
+-- the report lines of a script, as they are computed
+unfoldable pub report : Bool → List ℕ → List (List ℕ)
+report brief bytes = lines_from brief opening 1 (script_lines bytes)

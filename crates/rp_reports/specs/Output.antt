@@ -1,0 +1,141 @@
+-- What the program writes for the words of its command line.
+use Rattle.std.specs.Prelude.{◌≡◌, ◌⊎◌, ℕ, Bool, true, false, ◌&&◌, nat_le, IsTrue, List, [], ◌∷◌, ◌++◌, length, take, Option, Some, None, codes, option_and_then}
+use Rattle.std.specs.List.{list_any, flat_map, slice_split}
+use Rattle.std.specs.Prelude.{◌==◌}
+use Rattle.std.specs.Fmt.{decimal}
+use Rattle.std.specs.Str.{bytes_eq}
+use Rattle.rp_language.specs.Grammar.{Reading, command, bad, reading, spelling, natural_spelled}
+use Rattle.rp_reports.specs.Text.{line_end}
+use Rattle.rp_reports.specs.Report.{script_lines, last_line}
+use Rattle.rp_reports.specs.Built.{IsReportSoFar, IsBriefReportSoFar}
+use Rattle.rp_reports.specs.Check.{is_accepted, IsFirstWrong}
+use Rattle.rp_reports.specs.Made.{made_script, trial_lines}
+
+-- what the program is asked to do
+pub data Task : Type 0 where
+  run_script : Task
+  run_brief : Task
+  check_report : Task
+  spell_script : Task
+  make_script : ℕ → ℕ → Task
+  try_script : ℕ → ℕ → Task
+
+-- a number within its bounds
+abbrev pub number_between : ℕ → ℕ → List ℕ → Option ℕ
+number_between least greatest word = option_and_then (λ n. elim (nat_le least n && nat_le n greatest) [ true ↦ Some n | false ↦ None ]) (natural_spelled word)
+
+-- a task of two numbers, if both are there
+abbrev pub with_numbers : (ℕ → ℕ → Task) → Option ℕ → Option ℕ → Option Task
+with_numbers task (Some n) (Some seed) = Some (task n seed)
+with_numbers task _ _ = None
+
+-- the task of one word
+abbrev pub task_of_one : List ℕ → Option Task
+task_of_one word =
+    elim (bytes_eq word (codes "run")) [
+      | true ↦ Some run_script
+      | false ↦ elim (bytes_eq word (codes "check")) [
+        | true ↦ Some check_report
+        | false ↦ elim (bytes_eq word (codes "script")) [ true ↦ Some spell_script | false ↦ None ]
+      ]
+    ]
+
+-- the task of two words
+abbrev pub task_of_two : List ℕ → List ℕ → Option Task
+task_of_two word next = elim (bytes_eq word (codes "run") && bytes_eq next (codes "brief")) [ true ↦ Some run_brief | false ↦ None ]
+
+-- the task of a word and two numbers
+abbrev pub task_of_three : List ℕ → Option ℕ → Option ℕ → Option Task
+task_of_three word n seed =
+    elim (bytes_eq word (codes "make")) [
+      | true ↦ with_numbers make_script n seed
+      | false ↦ elim (bytes_eq word (codes "trial")) [ true ↦ with_numbers try_script n seed | false ↦ None ]
+    ]
+
+-- the task of a list of words, if it is one of those listed
+abbrev pub task_of : List (List ℕ) → Option Task
+task_of (word ∷ []) = task_of_one word
+task_of (word ∷ next ∷ []) = task_of_two word next
+task_of (word ∷ first ∷ second ∷ []) = task_of_three word (number_between 1 1000 first) (number_between 0 18446744073709551615 second)
+task_of _ = None
+
+-- which tasks are built: whoever builds a task changes its line here
+abbrev pub is_task_built : Task → Bool
+is_task_built run_script = true
+is_task_built run_brief = false
+is_task_built check_report = false
+is_task_built spell_script = true
+is_task_built (make_script n seed) = false
+is_task_built (try_script n seed) = false
+
+-- the task of a list of words, if it is one of those listed that are built
+abbrev pub task_so_far : List (List ℕ) → Option Task
+task_so_far words = option_and_then (λ t. elim (is_task_built t) [ true ↦ Some t | false ↦ None ]) (task_of words)
+
+-- the most bytes of a script
+abbrev pub most_script_bytes : ℕ
+most_script_bytes = 16777216
+
+-- the most bytes of a report that is checked
+abbrev pub most_report_bytes : ℕ
+most_report_bytes = 67108864
+
+-- ---- every command in its one spelling
+
+-- the spelling of a command, and no line for any other reading
+abbrev pub spelled_lines : Reading → List (List ℕ)
+spelled_lines (command c) = spelling c ∷ []
+spelled_lines _ = []
+
+-- all commands of a script in their spellings
+abbrev pub spelled_script : List ℕ → List (List ℕ)
+spelled_script bytes = flat_map (λ line. spelled_lines (reading line)) (script_lines bytes)
+
+-- the line is no command and not blank
+abbrev pub is_bad_reading : Reading → Bool
+is_bad_reading (bad f) = true
+is_bad_reading _ = false
+
+-- some line of a script is bad
+abbrev pub has_bad_line : List ℕ → Bool
+has_bad_line bytes = list_any (λ line. is_bad_reading (reading line)) (script_lines bytes)
+
+-- ---- the lines of a report that is checked: no carriage return is taken away
+
+-- the lines of the pieces between line ends, as they stand; what stands behind the last line end is a line unless it is empty
+abbrev pub whole_lines : List (List ℕ) → List (List ℕ)
+whole_lines [] = []
+whole_lines (piece ∷ []) = last_line piece
+whole_lines (piece ∷ next ∷ pieces) = piece ∷ whole_lines (next ∷ pieces)
+
+-- the lines of a report
+unfoldable pub report_lines : List ℕ → List (List ℕ)
+report_lines bytes = whole_lines (slice_split (λ b. b == line_end) bytes)
+
+-- what is written for a report that is checked
+abbrev pub IsFound : List (List ℕ) → List (List ℕ) → Type 0
+IsFound lines told = (IsTrue (is_accepted lines) × (told ≡ codes "accepted" ∷ [])) ⊎ ((k : ℕ) × IsFirstWrong lines k × (told ≡ (codes "wrong " ++ decimal k) ∷ []))
+
+-- ---- outputs
+
+-- the lines are the whole output of a task on the input
+abbrev pub IsOutput : Task → List ℕ → List (List ℕ) → Type 0
+IsOutput run_script bytes lines = IsReportSoFar bytes lines
+IsOutput run_brief bytes lines = IsBriefReportSoFar bytes lines
+IsOutput check_report bytes lines = IsFound (report_lines bytes) lines
+IsOutput spell_script bytes lines = lines ≡ spelled_script bytes
+IsOutput (make_script n seed) bytes lines = lines ≡ made_script n seed
+IsOutput (try_script n seed) bytes lines = lines ≡ trial_lines n seed
+
+-- the line says that something was refused
+abbrev pub is_refused_line : List ℕ → Bool
+is_refused_line line = bytes_eq (codes "= refused") (take (length (codes "= refused")) line)
+
+-- something was refused: some line of the report says so, the report that is checked is not accepted, or some line of the script is bad
+abbrev pub IsRefused : Task → List ℕ → List (List ℕ) → Type 0
+IsRefused run_script bytes lines = IsTrue (list_any is_refused_line lines)
+IsRefused run_brief bytes lines = IsTrue (list_any is_refused_line lines)
+IsRefused check_report bytes lines = is_accepted (report_lines bytes) ≡ false
+IsRefused spell_script bytes lines = IsTrue (has_bad_line bytes)
+IsRefused (make_script n seed) bytes lines = ⊥
+IsRefused (try_script n seed) bytes lines = ⊥

@@ -1,0 +1,163 @@
+-- Reading back a proof line and an echo: exactly the spellings.
+use Rattle.std.specs.Prelude.{ℕ, Bool, true, false, ◌&&◌, ◌||◌, not, ◌==◌, nat_le, ℤ, pos, int_le, List, [], ◌∷◌, length, take, drop, Option, Some, None, codes, filter, option_and_then}
+use Rattle.std.specs.List.{list_all, slice_split}
+use Rattle.rp_algebra.specs.Integer.{int_eq}
+use Rattle.rp_geometry.specs.Geometry.{RationalPoint, HalfSpace, half_space_of, point_of, half_space_eq, is_half_space_in_bounds, is_zero_half_space, is_point_in_bounds, is_box_in_bounds, reduced_half_space, reduced_point}
+use Rattle.rp_geometry.specs.searches.Certificate.{Multiple, is_multiplier, is_one_to_four}
+use Rattle.rp_geometry.specs.searches.Elimination.{multiple_of}
+use Rattle.rp_geometry.specs.searches.ProofLine.{ProofLine, in_line, out_line, at_line, apart_line, drop_line, box_line}
+use Rattle.rp_language.specs.Name.{label_eq}
+use Rattle.rp_language.specs.Grammar.{Word, number_spelled, natural_spelled, space}
+use Rattle.rp_reports.specs.Text.{proof_text}
+
+-- ---- what may stand in a proof line
+
+-- a half-space within its bounds and in lowest terms
+abbrev pub is_written_half_space : HalfSpace → Bool
+is_written_half_space h = is_half_space_in_bounds h && not (is_zero_half_space h) && half_space_eq (reduced_half_space h) h
+
+-- whether two points have the same four numbers
+abbrev pub point_eq : RationalPoint → RationalPoint → Bool
+point_eq p q = int_eq p.x q.x && (int_eq p.y q.y && (int_eq p.z q.z && int_eq p.w q.w))
+
+-- a point within its bounds and in lowest terms
+abbrev pub is_written_point : RationalPoint → Bool
+is_written_point p = is_point_in_bounds p && int_le (pos 1) p.w && point_eq (reduced_point p) p
+
+-- a multiple within its bounds
+abbrev pub is_written_multiple : Multiple → Bool
+is_written_multiple t = is_multiplier t.factor && is_written_half_space t.of
+
+-- one to four multiples within their bounds
+abbrev pub are_written_terms : List Multiple → Bool
+are_written_terms terms = is_one_to_four (length terms) && list_all is_written_multiple terms
+
+-- a proof line whose numbers keep their bounds
+unfoldable pub is_written : ProofLine → Bool
+is_written (in_line points) = is_one_to_four (length points) && list_all is_written_point points
+is_written (out_line terms) = are_written_terms terms
+is_written (at_line p) = is_written_point p
+is_written (apart_line terms) = are_written_terms terms
+is_written (drop_line h terms) = is_written_half_space h && are_written_terms terms
+is_written (box_line b) = is_box_in_bounds b
+
+-- ---- reading
+
+-- a line is read loosely first: brackets and the sign of multiplication count as spaces, and the numbers between them are taken
+abbrev pub is_separator : ℕ → Bool
+is_separator b = b == space || b == 40 || b == 41 || b == 42
+
+-- a word with at least one byte
+abbrev pub is_filled : Word → Bool
+is_filled word = nat_le 1 (length word)
+
+-- the words of a line, without what separates them
+abbrev pub loose_words : List ℕ → List Word
+loose_words line = filter is_filled (slice_split is_separator line)
+
+-- a list with one more item, if both are there
+abbrev pub cons_some : {A : Type 0} → Option A → Option (List A) → Option (List A)
+cons_some None o = None
+cons_some (Some x) None = None
+cons_some (Some x) (Some xs) = Some (x ∷ xs)
+
+-- the numbers that words spell, if all do
+abbrev pub numbers_spelled : List Word → Option (List ℤ)
+numbers_spelled [] = Some []
+numbers_spelled (word ∷ words) = cons_some (number_spelled word) (numbers_spelled words)
+
+-- points of four numbers each
+abbrev pub points_of_numbers : List ℤ → Option (List RationalPoint)
+points_of_numbers [] = Some []
+points_of_numbers (x ∷ y ∷ z ∷ w ∷ vs) = cons_some (Some (point_of x y z w)) (points_of_numbers vs)
+points_of_numbers _ = None
+
+-- multiples of five numbers each
+abbrev pub terms_of_numbers : List ℤ → Option (List Multiple)
+terms_of_numbers [] = Some []
+terms_of_numbers (t ∷ a ∷ b ∷ c ∷ d ∷ vs) = cons_some (Some (multiple_of t (half_space_of a b c d))) (terms_of_numbers vs)
+terms_of_numbers _ = None
+
+-- what a function gives of a value, if there is one
+abbrev pub map_some : {A B : Type 0} → (A → B) → Option A → Option B
+map_some f None = None
+map_some f (Some x) = Some (f x)
+
+-- a proof line of one point
+abbrev pub at_of_numbers : (RationalPoint → ProofLine) → List ℤ → Option ProofLine
+at_of_numbers f (x ∷ y ∷ z ∷ w ∷ []) = Some (f (point_of x y z w))
+at_of_numbers f _ = None
+
+-- a proof line that drops a half-space
+abbrev pub drop_of_numbers : List ℤ → Option ProofLine
+drop_of_numbers (a ∷ b ∷ c ∷ d ∷ vs) = map_some (drop_line (half_space_of a b c d)) (terms_of_numbers vs)
+drop_of_numbers _ = None
+
+-- a proof line of a box
+abbrev pub box_of_numbers : List ℤ → Option ProofLine
+box_of_numbers (x1 ∷ y1 ∷ z1 ∷ x2 ∷ y2 ∷ z2 ∷ []) = Some (box_line (record { x1 = x1; y1 = y1; z1 = z1; x2 = x2; y2 = y2; z2 = z2 }))
+box_of_numbers _ = None
+
+-- the proof line of a word and numbers
+abbrev pub read_kind : Word → List ℤ → Option ProofLine
+read_kind kind vs =
+    elim (label_eq kind (codes "in")) [
+      | true ↦ map_some in_line (points_of_numbers vs)
+      | false ↦ elim (label_eq kind (codes "out")) [
+        | true ↦ map_some out_line (terms_of_numbers vs)
+        | false ↦ elim (label_eq kind (codes "at")) [
+          | true ↦ at_of_numbers at_line vs
+          | false ↦ elim (label_eq kind (codes "apart")) [
+            | true ↦ map_some apart_line (terms_of_numbers vs)
+            | false ↦ elim (label_eq kind (codes "drop")) [
+              | true ↦ drop_of_numbers vs
+              | false ↦ elim (label_eq kind (codes "box")) [ true ↦ box_of_numbers vs | false ↦ None ]
+            ]
+          ]
+        ]
+      ]
+    ]
+
+-- the proof line that loose words stand for
+abbrev pub read_words : List Word → Option ProofLine
+read_words [] = None
+read_words (kind ∷ words) = option_and_then (read_kind kind) (numbers_spelled words)
+
+-- what was read, if its numbers keep their bounds and the line is exactly its text
+abbrev pub if_spelled : List ℕ → ProofLine → Option ProofLine
+if_spelled line proof = elim (is_written proof && label_eq (proof_text proof) line) [ true ↦ Some proof | false ↦ None ]
+
+-- the proof line that a report line spells, if it does
+unfoldable pub proof_read : List ℕ → Option ProofLine
+proof_read line = option_and_then (if_spelled line) (read_words (loose_words line))
+
+-- ---- echo lines
+
+-- a number of a line, from 1 to 16777216
+abbrev pub line_number : Word → Option ℕ
+line_number word = option_and_then (λ n. elim (nat_le 1 n && nat_le n 16777216) [ true ↦ Some n | false ↦ None ]) (natural_spelled word)
+
+-- the bytes before a space, and those after it if there is one
+pub record Split : Type 0 where
+  pub word : Word
+  pub rest : Option (List ℕ)
+
+-- the bytes before and after the first space
+abbrev pub split_at_space : List ℕ → Split
+split_at_space [] = record { word = []; rest = None }
+split_at_space (b ∷ bs) =
+    let later = split_at_space bs in
+    elim (b == space) [ true ↦ record { word = []; rest = Some bs } | false ↦ record { word = b ∷ later.word; rest = later.rest } ]
+
+-- an echo: the number, and the text if there is one
+pub record Echo : Type 0 where
+  pub number : ℕ
+  pub text : Option (List ℕ)
+
+-- the echo of what stands behind its mark
+abbrev pub echo_after_mark : Split → Option Echo
+echo_after_mark s = option_and_then (λ n. Some (record { number = n; text = s.rest })) (line_number s.word)
+
+-- the echo that a report line spells: '> ', a number, and then nothing or one space and a text
+unfoldable pub echo_read : List ℕ → Option Echo
+echo_read line = elim (label_eq (take 2 line) (codes "> ")) [ true ↦ echo_after_mark (split_at_space (drop 2 line)) | false ↦ None ]
