@@ -1,2 +1,2 @@
 mod Between
-mod OneState
+mod Told

@@ -1,12 +1,13 @@
 -- What a reply says of a command.
 use Rattle.std.specs.Prelude.{◌≡◌, ℕ, Bool, true, false, List, [], ◌∷◌, map, Option, Some, None}
 use Rattle.rp_geometry.specs.Geometry.{HalfSpace}
+use Rattle.rp_geometry.specs.sets.Shape.{Part}
 use Rattle.rp_geometry.specs.searches.ProofLine.{strict_line}
 use Rattle.rp_geometry.specs.parts.PartTest.{has_member}
 use Rattle.rp_language.specs.Name.{Label}
-use Rattle.rp_language.specs.Expression.{Command}
+use Rattle.rp_language.specs.Expression.{Command, Meaning}
 use Rattle.rp_language.specs.Grammar.{command}
-use Rattle.rp_model.specs.states.State.{PlainState}
+use Rattle.rp_model.specs.states.State.{PlainState, opening, parts_in}
 use Rattle.rp_model.specs.commands.Verdict.{Verdict, says_yes, says_no, refused, unknown}
 use Rattle.rp_reports.specs.Text.{Answer}
 use Rattle.rp_reports.specs.Machine.{answer_read}
@@ -14,6 +15,10 @@ use Rattle.rp_reports.specs.Built.{is_built, early_answer, empty_verdicts}
 use Rattle.rp_cert.specs.Lines.{line_of}
 use Rattle.rp_report.specs.Views.{verdict_of}
 use Rattle.rp_machine.specs.declared.reply.Reply.{Reply}
+
+-- what names and lots stand for as long as none is kept
+abbrev pub nothing_kept : Meaning (List Part)
+nothing_kept = parts_in {S = Unit {0}} opening
 
 -- the answer that a reply is to a line with the number
 abbrev pub told : ℕ → List ℕ → Reply → Answer

@@ -1,12 +1,11 @@
 //! Whether a region is empty.
 ghost use Rattle.std.specs.Prelude.{◌≡◌, ◌∷◌, [], ◌≤◌, length, IfOk};
-ghost use Rattle.rp_cert.specs.Lines.{line_of};
-ghost use Rattle.rp_language.specs.Expression.{ask_empty, IsBounded};
 ghost use Rattle.rp_geometry.specs.searches.ProofLine.{strict_line};
-ghost use Rattle.rp_model.specs.commands.Rule.{yes_where};
-ghost use Rattle.rp_geometry.specs.sets.Sets.{IsEmpty};
-ghost use Rattle.rp_geometry.specs.sets.Shape.{shape_of_cell};
+ghost use Rattle.rp_geometry.specs.parts.PartTest.{has_member};
+ghost use Rattle.rp_language.specs.Expression.{ask_empty, IsBounded};
 ghost use Rattle.rp_model.specs.states.State.{opening};
+ghost use Rattle.rp_reports.specs.Built.{empty_verdicts};
+ghost use Rattle.rp_cert.specs.Lines.{line_of};
 ghost use Rattle.rp_report.specs.Views.{verdict_of};
 ghost use Rattle.rp_syntax.specs.Views.{expression_of};
 ghost use Rattle.rp_machine.specs.Replies.{Replies, TestsCell};
@@ -47,7 +46,7 @@ fn tested(alloc: Global, cell: &[Half]) -> Result<Reply, AllocError>
 fn judged(cell: &[Half]) -> (Proof, Verdict)
     requires { length cell.now ≤ 64 }
     ensures line { line_of result.0 ≡ strict_line cell.now }
-    ensures verdict { yes_where (IsEmpty (shape_of_cell cell.now)) (verdict_of result.1 ∷ []) }
+    ensures verdict { empty_verdicts (has_member cell.now) ≡ verdict_of result.1 ∷ [] }
 {
     match decide_strict(cell) {
         Strict::Inside(points) => (Proof::In(points), Verdict::No),

@@ -1,15 +1,16 @@
 //! One line of a script after the other.
-ghost use Rattle.std.specs.Prelude.{◌≡◌, ◌∷◌, [], map, IfOk, OnOk};
+ghost use Rattle.std.specs.Prelude.{◌≡◌, IfOk, OnOk};
 ghost use Rattle.std.specs.List.{AllByRecursion};
-ghost use Rattle.rp_language.specs.Expression.{ask_member, expressions_of, IsBounded};
+ghost use Rattle.rp_geometry.specs.sets.Shape.{is_member};
+ghost use Rattle.rp_language.specs.Expression.{ask_member, expressions_of, first_unknown, closed, IsBounded};
 ghost use Rattle.rp_language.specs.Grammar.{reading};
-ghost use Rattle.rp_reports.specs.Report.{IsAnswerTo, after_reading, echoed, bad_answer};
-ghost use Rattle.rp_model.specs.commands.Rule.{rule_of};
-ghost use Rattle.rp_model.specs.states.State.{State, opening};
+ghost use Rattle.rp_model.specs.states.State.{PlainState, opening};
+ghost use Rattle.rp_model.specs.commands.Row.{shapes_of_parts};
+ghost use Rattle.rp_reports.specs.Report.{echoed, bad_answer};
+ghost use Rattle.rp_reports.specs.Built.{answer_so_far, state_so_far};
 ghost use Rattle.rp_report.specs.Views.{verdict_of, answer_of};
-ghost use Rattle.rp_syntax.specs.Views.{expression_of, command_of, fault_of};
-ghost use Rattle.rp_cert.specs.Lines.{line_of};
-ghost use Rattle.rp_machine.specs.Replies.{Replies};
+ghost use Rattle.rp_syntax.specs.Views.{expression_of, command_of, line_of, fault_of};
+ghost use Rattle.rp_machine.specs.Replies.{Replies, told, member_verdict, nothing_kept};
 
 use crate::empty::emptiness;
 use crate::member::{first_unknown, is_member};
@@ -29,9 +30,9 @@ pub struct Machine {
 }
 
 impl Model for Machine {
-    ghost use Rattle.rp_model.specs.states.State.{State, opening};
+    ghost use Rattle.rp_model.specs.states.State.{PlainState, opening};
 
-    ghost Value = { State };
+    ghost Value = { PlainState };
 
     ghost view = { λ _. opening };
 }
@@ -45,7 +46,9 @@ fn membership(alloc: Global, region: &Expr, point: &Point) -> Reply
 
 /// The verdict on a question of membership.
 fn member_verdict(region: &Expr, point: &Point) -> Verdict
-    ensures { rule_of opening (ask_member (expression_of region.now) point.now) (verdict_of result ∷ []) }
+    ensures { verdict_of result
+        ≡ member_verdict (first_unknown nothing_kept (expression_of region.now))
+        (is_member (closed (shapes_of_parts nothing_kept) (expression_of region.now)) point.now) }
 {
     if let Some(name) = first_unknown(region) {
         return Verdict::Refused(Refusal::Unknown(name));
@@ -77,7 +80,7 @@ fn bad_line(alloc: Global, n: u32, line: &[u8], why: Why) -> Result<Answer, Allo
 
 /// The answer to a command, which is its echo and the reply. Answers `AllocError` only for want of memory.
 fn told(alloc: Global, n: u32, line: &[u8], reply: Reply) -> Result<Answer, AllocError>
-    ensures { IfOk result (λ a. answer_of a ≡ record { number = n; echo = line.now; proofs = map line_of reply.proofs.items; verdicts = verdict_of reply.verdict ∷ [] }) }
+    ensures { IfOk result (λ a. answer_of a ≡ told n line.now reply) }
 {
     Answer::with_verdict(alloc, n, line, reply.proofs, reply.verdict)
 }
@@ -90,11 +93,19 @@ impl Machine {
         Ok(Machine { _kept: () })
     }
 
+    /// So far no command changes what is kept.
+    fn expect_opening(&self)
+        ensures { self.now ≡ opening }
+    {
+        let Machine { _kept } = self;
+    }
+
     /// The reply to a command. Answers `AllocError` only for want of memory.
     fn reply(&self, alloc: Global, command: &Command) -> Result<Reply, AllocError>
         requires { AllByRecursion IsBounded (expressions_of (command_of command.now)) }
         ensures { IfOk result (Replies self.now (command_of command.now)) }
     {
+        self.expect_opening();
         match command {
             Command::Member(region, point) => Ok(membership(alloc, region, point)),
             Command::Empty(region) => emptiness(alloc, region),
@@ -111,11 +122,19 @@ impl Machine {
         n: u32,
         line: &[u8],
     ) -> Result<Answer, AllocError>
-        ensures answer { IfOk result (λ a. IsAnswerTo self.old n line.now (reading line.now) (answer_of a)) }
-        ensures state { OnOk result (self.new ≡ after_reading self.old (reading line.now)) }
+        ensures answer { IfOk result (λ a. answer_of a ≡ answer_so_far self.old n line.now) }
+        ensures state { OnOk result (self.new ≡ state_so_far self.old n line.now) }
     {
         let read = read_line(alloc, line)?;
-        match &read {
+        self.answer(alloc, n, line, &read)
+    }
+
+    /// The answer to a line that reads so. Answers `AllocError` only for want of memory.
+    fn answer(&self, alloc: Global, n: u32, line: &[u8], read: &Line) -> Result<Answer, AllocError>
+        requires { line_of read.now ≡ reading line.now }
+        ensures { IfOk result (λ a. answer_of a ≡ answer_so_far self.now n line.now) }
+    {
+        match read {
             Line::Blank => Ok(Answer::blank(alloc, n)),
             Line::Cmd(command) => {
                 let reply = self.reply(alloc, command)?;

@@ -3,10 +3,11 @@ ghost use Rattle.std.specs.Prelude.{◌≡◌, ◌<◌, ◌^◌, ◌*ℤ◌, uns
 ghost use Rattle.rp_language.specs.Expression.{closed, first_unknown};
 ghost use Rattle.rp_geometry.specs.Geometry.{all_hold, box_half_spaces, is_cube_point};
 ghost use Rattle.rp_geometry.specs.sets.Shape.{passes, is_member};
-ghost use Rattle.rp_model.specs.states.State.{State, opening, sets_in};
+ghost use Rattle.rp_model.specs.commands.Row.{shapes_of_parts};
 ghost use Rattle.rp_geometry.specs.Geometry.{is_between, is_in_box};
 ghost use Rattle.rp_space.specs.Boxes.{integer_box};
 ghost use Rattle.rp_syntax.specs.Views.{expression_of};
+ghost use Rattle.rp_machine.specs.Replies.{nothing_kept};
 
 use rp_space::{IntBox, Name, Point};
 use rp_syntax::Expr;
@@ -32,15 +33,15 @@ fn is_between(lo: i32, hi: i32, v: i128, w: i128) -> bool
     least <= v && v < limit
 }
 
-/// Whether the point lies in the box, its upper sides left out.
-fn is_in_box(bounds: &IntBox, point: &Point) -> bool
+/// Whether all six half-spaces of the box hold the point: it lies in the box, its upper sides left out.
+fn is_held_by_box(bounds: &IntBox, point: &Point) -> bool
     ensures { result ≡ all_hold (box_half_spaces (integer_box bounds.now)) point.now }
 {
-    is_between_sides(bounds, point)
+    is_in_box(bounds, point)
 }
 
 /// Whether each coordinate of the point is from the lower side of the box to below the upper one.
-fn is_between_sides(bounds: &IntBox, point: &Point) -> bool
+fn is_in_box(bounds: &IntBox, point: &Point) -> bool
     ensures { result ≡ is_in_box (integer_box bounds.now) point.now }
 {
     let [x1, y1, z1] = bounds.lo;
@@ -64,11 +65,11 @@ fn is_in_cube(point: &Point) -> bool
 
 /// Whether the point passes the test of the expression, in which each name and lot stands for nothing.
 fn passes(region: &Expr, point: &Point) -> bool
-    ensures { result ≡ passes (closed (sets_in opening) (expression_of region.now)) point.now }
+    ensures { result ≡ passes (closed (shapes_of_parts nothing_kept) (expression_of region.now)) point.now }
 {
     match region {
         Expr::Half(half) => half.holds(point),
-        Expr::Block(bounds) => is_in_box(bounds, point),
+        Expr::Block(bounds) => is_held_by_box(bounds, point),
         Expr::All => true,
         Expr::Nothing => false,
         Expr::Name(_) => false,
@@ -82,14 +83,14 @@ fn passes(region: &Expr, point: &Point) -> bool
 
 /// Whether the point is a member of the expression: it lies in the cube and passes its test.
 pub fn is_member(region: &Expr, point: &Point) -> bool
-    ensures { result ≡ is_member (closed (sets_in opening) (expression_of region.now)) point.now }
+    ensures { result ≡ is_member (closed (shapes_of_parts nothing_kept) (expression_of region.now)) point.now }
 {
     is_in_cube(point) && passes(region, point)
 }
 
 /// The first name or lot of the expression, in reading order; none of them stands for anything yet.
 pub fn first_unknown(region: &Expr) -> Option<Name>
-    ensures { result ≡ first_unknown (sets_in opening) (expression_of region.now) }
+    ensures { result ≡ first_unknown nothing_kept (expression_of region.now) }
 {
     match region {
         Expr::Half(_) => None,

@@ -2,7 +2,7 @@
 use Rattle.std.specs.Prelude.{◌≡◌, ◌↔◌, ℕ, Bool, true, false, List, Option, Some, Result, Ok, Err}
 use Rattle.rp_io.specs.Bytes.{Appends}
 use Rattle.rp_reports.specs.Text.{text_of_lines}
-use Rattle.rp_reports.specs.Output.{Task as ModelTask, run_script, spell_script, task_of, IsOutput, IsRefused}
+use Rattle.rp_reports.specs.Output.{Task as ModelTask, run_script, spell_script, task_so_far, IsOutput, IsRefused}
 use Rattle.rp_tool.specs.declared.status.TheConstants.{DONE, REFUSED, READ_FAILED, PUT_FAILED, OUT_OF_MEMORY, TOO_LONG}
 use Rattle.rp_tool.specs.declared.intake.IntakeFault.{IntakeFault}
 use Rattle.rp_tool.specs.declared.intake.IntakeFault.TheVariants.{Failed, TooLong, Memory}
@@ -21,7 +21,7 @@ meaning_of Script = spell_script
 pub record IsOutputOf (words : List (List ℕ)) (input : List ℕ) (old new : Option (List ℕ)) (status : ℕ) : Type 0 where
   pub task : ModelTask
   pub lines : List (List ℕ)
-  pub listed : task_of words ≡ Some task
+  pub listed : task_so_far words ≡ Some task
   pub output : IsOutput task input lines
   pub written : Appends old new (text_of_lines lines)
   pub refused : (status ≡ 1) ↔ IsRefused task input lines

@@ -1,7 +1,6 @@
 ghost use Rattle.std.specs.Prelude.{◌≡◌, ◌≤◌, length, IfErr, IfOk, OnOk};
-ghost use Rattle.rp_language.specs.Grammar.{reading};
 ghost use Rattle.rp_reports.specs.Output.{most_script_bytes, run_script};
-ghost use Rattle.rp_reports.specs.Report.{after_reading};
+ghost use Rattle.rp_reports.specs.Built.{state_so_far};
 ghost use Rattle.rp_tool.specs.Output.{PutsAnswer, PutsOutput, HasOutputCause};
 
 use super::fault::OutputFault;
@@ -27,7 +26,7 @@ fn run_line<R: Threads + Sync, K: Sink>(
     ensures counts { K.faults sink.old ≤ K.faults sink.new }
     ensures answer { IfOk result (λ refused.
         PutsAnswer machine.old number line.now (K.said sink.old) (K.said sink.new) refused) }
-    ensures state { OnOk result (machine.new ≡ after_reading machine.old (reading line.now)) }
+    ensures state { OnOk result (machine.new ≡ state_so_far machine.old number line.now) }
     ensures cause { IfErr result (HasOutputCause (K.faults sink.old) (K.faults sink.new)) }
 {
     let answer = machine.step(rt, alloc, number, line)?;

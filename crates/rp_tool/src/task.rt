@@ -1,6 +1,6 @@
 ghost use Rattle.std.specs.Prelude.{◌≡◌, map, string_bytes};
 ghost use Rattle.std.specs.Option.{option_map};
-ghost use Rattle.rp_reports.specs.Output.{task_of};
+ghost use Rattle.rp_reports.specs.Output.{task_so_far};
 ghost use Rattle.rp_tool.specs.Status.{meaning_of};
 
 /// What the words of a command line ask for.
@@ -14,7 +14,7 @@ pub enum Task {
 
 /// The task of the words, if they are listed.
 pub fn listed_task(words: &[String]) -> Option<Task>
-    ensures { option_map meaning_of result ≡ task_of (map string_bytes words.now) }
+    ensures { option_map meaning_of result ≡ task_so_far (map string_bytes words.now) }
 {
     match words {
         [word] if word.as_str() == "run" => Some(Task::Run),

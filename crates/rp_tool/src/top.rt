@@ -1,6 +1,6 @@
 ghost use Rattle.std.specs.Prelude.{◌≡◌, ◌≢◌, ◌⊎◌, ◌↔◌, ◌<◌, ◌≤◌, [], length, map, string_bytes, IfErr, IfOk, IfSome};
 ghost use Rattle.rp_io.specs.Faults.{HasRisen};
-ghost use Rattle.rp_reports.specs.Output.{task_of, most_script_bytes};
+ghost use Rattle.rp_reports.specs.Output.{task_so_far, most_script_bytes};
 ghost use Rattle.rp_tool.specs.Intake.{IsPastLimit};
 ghost use Rattle.rp_tool.specs.Output.{PutsOutput, HasOutputCause};
 ghost use Rattle.rp_tool.specs.Status.{IsOutputOf, meaning_of, status_of_intake, status_of_output};
@@ -45,7 +45,7 @@ pub fn tool<R: Threads + Sync, S: Source, K: Sink>(
     ensures at_end { result ≤ REFUSED → IfSome (S.left source.old) (λ _. S.left source.new ≡ Some []) }
 
     // Nothing is read or written for words that are not listed.
-    ensures unlisted { (result ≡ UNLISTED) ↔ (task_of (map string_bytes words.now) ≡ None) }
+    ensures unlisted { (result ≡ UNLISTED) ↔ (task_so_far (map string_bytes words.now) ≡ None) }
     ensures untouched { result ≡ UNLISTED → (source.new ≡ source.old) × (sink.new ≡ sink.old) }
 
     // What each other status says.
@@ -55,10 +55,10 @@ pub fn tool<R: Threads + Sync, S: Source, K: Sink>(
     ensures nothing_written { (result ≡ READ_FAILED) ⊎ (result ≡ TOO_LONG) → sink.new ≡ sink.old }
 
     // When an input past the limit is refused, and when one within it is done.
-    ensures refuses { task_of (map string_bytes words.now) ≢ None
+    ensures refuses { task_so_far (map string_bytes words.now) ≢ None
         → (¬ HasRisen (S.faults source.old) (S.faults source.new))
         → IfSome (S.left source.old) (λ input. most_script_bytes < length input → (result ≡ TOO_LONG) ⊎ (result ≡ OUT_OF_MEMORY)) }
-    ensures completes { task_of (map string_bytes words.now) ≢ None
+    ensures completes { task_so_far (map string_bytes words.now) ≢ None
         → (¬ HasRisen (S.faults source.old) (S.faults source.new)) → (¬ HasRisen (K.faults sink.old) (K.faults sink.new))
         → IfSome (S.left source.old) (λ input. length input ≤ most_script_bytes → (result ≤ REFUSED) ⊎ (result ≡ OUT_OF_MEMORY)) }
 {

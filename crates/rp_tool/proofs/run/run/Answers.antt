@@ -1,6 +1,15 @@
 use Rattle.std.proofs.Common.{arith}
-use Rattle.rp_tool.proofs.RunLemmas.{HasTold-more, PutsOutput-run}
+use Rattle.rp_tool.proofs.RunLemmas.{HasTold-start, HasTold-more, PutsOutput-run}
 use Rattle.rp_tool.proofs.run.run.Goals as goal
+
+pub loop-line-init : goal.loop-line-init
+loop-line-init g c =
+    let said = g.K.Sink.said c.args.sink.now in
+    record {
+      counts = omega arith;
+      number = omega (arith, c.requires);
+      told = HasTold-start c.args.script.now said c.in_ok-machine.machine c.in_ok-machine.ensures;
+    }
 
 pub loop-line-preserved : goal.loop-line-preserved
 loop-line-preserved g c =

@@ -1,7 +1,6 @@
-use Rattle.std.proofs.Common.{ap, sym, ◌∙◌}
-use Rattle.rp_language.proofs.ReadBounds.{read_numbers_are_bounded_spec}
-use Rattle.rp_syntax.specs.Views.{command_of, line_of}
+use Rattle.std.proofs.Common.{sym}
+use Rattle.rp_machine.proofs.Told.{keeps_so_far, where_ok}
 use Rattle.rp_machine.proofs.machine.Machine.step.Goals as goal
 
-pub reply-requires : goal.reply-requires
-reply-requires g c = read_numbers_are_bounded_spec c.args.line.now (command_of c.in-Cmd.command) (sym c.in_ok-read.ensures ∙ ap line_of c.in-Cmd.is)
+pub returns-clause-state : goal.returns-clause-state
+returns-clause-state g c = where_ok c.answer.result _ (sym (keeps_so_far _ c.args.n c.args.line.now))
