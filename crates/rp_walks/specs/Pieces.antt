@@ -1,5 +1,5 @@
 -- The pieces of a list of parts, test by test: each two parts are tested for contact.
-use Rattle.std.specs.Prelude.{ℕ, ◌+◌, Bool, true, false, List, [], ◌∷◌, ◌++◌, length}
+use Rattle.std.specs.Prelude.{ℕ, ◌+◌, true, false, List, [], ◌∷◌, ◌++◌, length}
 use Rattle.rp_geometry.specs.sets.Shape.{Part}
 use Rattle.rp_geometry.specs.parts.Groups.{groups_of}
 use Rattle.rp_walks.specs.Walk.{Walk, pass, ◌>>=◌, ◌>>◌, Tester}
