@@ -1,4 +1,5 @@
 pub mod IntakeLemmas
+pub mod KnownLemmas
 pub mod LineLemmas
 pub mod RefusalLemmas
 pub mod RunLemmas

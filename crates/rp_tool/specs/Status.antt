@@ -1,5 +1,5 @@
 -- What the tool is asked to do, and what a status says of its output.
-use Rattle.std.specs.Prelude.{◌≡◌, ◌↔◌, ℕ, Bool, true, false, List, Option, Some, Result, Ok, Err}
+use Rattle.std.specs.Prelude.{◌≡◌, ◌↔◌, ℕ, Bool, true, false, List, ◌++◌, Option, Some, Result, Ok, Err}
 use Rattle.rp_io.specs.Bytes.{Appends}
 use Rattle.rp_reports.specs.Text.{text_of_lines}
 use Rattle.rp_reports.specs.Output.{Task as ModelTask, run_script, spell_script, task_so_far, IsOutput, IsRefused}
@@ -24,6 +24,15 @@ pub record IsOutputOf (words : List (List ℕ)) (input : List ℕ) (old new : Op
   pub listed : task_so_far words ≡ Some task
   pub output : IsOutput task input lines
   pub written : Appends old new (text_of_lines lines)
+  pub refused : (status ≡ 1) ↔ IsRefused task input lines
+
+-- the same of a sink whose bytes are known: those before, followed by the text of the whole output
+pub record HasWritten (words : List (List ℕ)) (input old new : List ℕ) (status : ℕ) : Type 0 where
+  pub task : ModelTask
+  pub lines : List (List ℕ)
+  pub listed : task_so_far words ≡ Some task
+  pub output : IsOutput task input lines
+  pub written : new ≡ old ++ text_of_lines lines
   pub refused : (status ≡ 1) ↔ IsRefused task input lines
 
 -- the status where the input was not read whole

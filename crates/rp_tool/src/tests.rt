@@ -1,7 +1,10 @@
 //! The worked rows of the report, and what the tool answers where it does not come to the end.
-ghost use Rattle.std.specs.Prelude.{◌≢◌, ◌≤◌};
+ghost use Rattle.std.specs.Prelude.{◌≡◌, ◌≢◌, ◌≤◌, ◌<◌, ◌⊎◌, false, [], map, length, None, string_bytes};
+ghost use Rattle.rp_io.specs.Faults.{last_count};
+ghost use Rattle.rp_reports.specs.Output.{task_so_far, most_script_bytes};
+ghost use Rattle.rp_tool.specs.Status.{HasWritten};
 
-use crate::status::{DONE, PUT_FAILED, READ_FAILED, REFUSED, TOO_LONG, UNLISTED};
+use crate::status::{DONE, OUT_OF_MEMORY, PUT_FAILED, READ_FAILED, REFUSED, TOO_LONG, UNLISTED};
 use crate::tool;
 use rp_io::{MemorySink, MemorySource, QuietSink, QuietSource};
 use std::alloc::{AllocError, Global};
@@ -17,7 +20,9 @@ fn words_of(alloc: Global, texts: &[&str]) -> Result<Vec<String>, AllocError> {
     Ok(words)
 }
 
-/// The status of the tool over a source and a sink that never fail: neither a read nor a put is to blame.
+/// The status of the tool over a source and a sink that never fail: neither a read nor a put is to blame. With status 0 or
+/// 1 the sink has the whole output behind what it had, as long as its room was not passed; and for listed words and an
+/// input within its limit nothing but want of memory stands in the way.
 fn quiet_status<R: Threads + Sync>(
     rt: &R,
     alloc: Global,
@@ -28,6 +33,29 @@ fn quiet_status<R: Threads + Sync>(
     ensures status { result ≤ TOO_LONG }
     ensures read { result ≢ READ_FAILED }
     ensures put { result ≢ PUT_FAILED }
+    ensures whole { result ≤ REFUSED → sink.new.is_passed ≡ false
+        → HasWritten (map string_bytes words.now) source.old sink.old.bytes sink.new.bytes result }
+    ensures completes { task_so_far (map string_bytes words.now) ≢ None → length source.old ≤ most_script_bytes
+        → (result ≤ REFUSED) ⊎ (result ≡ OUT_OF_MEMORY) }
+{
+    tool(rt, alloc, words, source, sink)
+}
+
+/// The same over a source and a sink in memory, whose faults are listed: where none came the output is whole.
+fn memory_status<R: Threads + Sync>(
+    rt: &R,
+    alloc: Global,
+    words: &[String],
+    source: &mut MemorySource<'_>,
+    sink: &mut MemorySink<'_>,
+) -> u8
+    ensures whole { result ≤ REFUSED
+        → HasWritten (map string_bytes words.now) source.old.left sink.old.bytes sink.new.bytes result }
+    ensures at_end { result ≤ REFUSED → source.new.left ≡ [] }
+    ensures completes { task_so_far (map string_bytes words.now) ≢ None → length source.old.left ≤ most_script_bytes
+        → source.new.faults ≡ source.old.faults → source.old.faults < last_count
+        → sink.new.faults ≡ sink.old.faults → sink.old.faults < last_count
+        → (result ≤ REFUSED) ⊎ (result ≡ OUT_OF_MEMORY) }
 {
     tool(rt, alloc, words, source, sink)
 }
