@@ -72,6 +72,18 @@ fn lists_grow(rt: HostRuntime) -> Result<(), Fail> {
 }
 
 #[test]
+fn lists_are_joined_and_taken_apart(rt: HostRuntime) -> Result<(), Fail> {
+    let mut front = Numbers::copy_of(rt.alloc(), &[7, 9])?;
+    let back = Numbers::copy_of(rt.alloc(), &[1, 2, 3])?;
+    front.append(back)?;
+    front.append(Numbers::new(rt.alloc()))?;
+    assert_eq!(rt; front.items(), [7, 9, 1, 2, 3].as_slice());
+    let items = front.into_items();
+    assert_eq!(rt; items.as_slice(), [7, 9, 1, 2, 3].as_slice());
+    Ok(())
+}
+
+#[test]
 fn half_spaces_and_points_are_kept_in_lowest_terms(rt: HostRuntime) -> Result<(), Fail> {
     let half = Half::new(2, 0, 0, -4).ok().ok_or("no half-space")?;
     assert_eq!(rt; half.numbers(), (1, 0, 0, -2));
