@@ -1,7 +1,8 @@
 use crate::{
-    Half, Halves, Inside, IntBox, Meeting, Name, Names, Numbers, Outside, Pair, Point, Term,
-    box_halves, cube, greatest_common_divisor, meet, quotient, with_cube,
+    Half, HalfFault, Halves, Inside, IntBox, Meeting, Name, Names, Numbers, Outside, Pair, Point,
+    PointFault, Term, box_halves, cube, greatest_common_divisor, meet, quotient, with_cube,
 };
+use std::collections::HashMap;
 use std::test::Fail;
 
 /// Shows that a type may be sent to other threads and shared with them.
@@ -10,7 +11,9 @@ fn needs_send_sync<T: Send + Sync>() {}
 #[test]
 fn types_cross_threads() {
     needs_send_sync::<Half>();
+    needs_send_sync::<HalfFault>();
     needs_send_sync::<Point>();
+    needs_send_sync::<PointFault>();
     needs_send_sync::<IntBox>();
     needs_send_sync::<Name>();
     needs_send_sync::<Names>();
@@ -52,6 +55,20 @@ fn names_are_told_from_others(rt: HostRuntime) {
 fn a_name_gives_its_bytes(rt: HostRuntime) -> Result<(), Fail> {
     let name = Name::new(b"tower.2").ok_or("no name")?;
     assert_eq!(rt; name.bytes(), b"tower.2".as_slice());
+    Ok(())
+}
+
+#[test]
+fn a_name_is_a_key(rt: HostRuntime) -> Result<(), Fail> {
+    let east = Name::new(b"east").ok_or("no name")?;
+    let again = Name::new(b"east").ok_or("no name")?;
+    let west = Name::new(b"west").ok_or("no name")?;
+    assert!(rt; east == again);
+    assert!(rt; east != west);
+    let mut numbers = HashMap::new(rt.alloc());
+    numbers.insert(east, 7)?;
+    assert_eq!(rt; numbers.get(&again).copied(), Some(7));
+    assert_eq!(rt; numbers.get(&west).copied(), None);
     Ok(())
 }
 
