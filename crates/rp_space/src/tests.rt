@@ -1,6 +1,7 @@
 use crate::{
     Half, HalfFault, Halves, Inside, IntBox, Meeting, Name, Names, Numbers, Outside, Pair, Point,
-    PointFault, Term, box_halves, cube, greatest_common_divisor, meet, quotient, with_cube,
+    PointFault, Term, box_halves, cube, greatest_common_divisor, is_balanced, is_contradiction,
+    is_multiplier, meet, quotient, with_cube,
 };
 use std::collections::HashMap;
 use std::test::Fail;
@@ -190,4 +191,19 @@ fn short_lists_are_copied(rt: HostRuntime) {
     terms.push(Term::default());
     assert_eq!(rt; terms.copy().items().len(), 2);
     assert_eq!(rt; Outside::default().items().len(), 0);
+}
+
+#[test]
+fn multiples_are_added_up(rt: HostRuntime) -> Result<(), Fail> {
+    assert!(rt; is_multiplier(37778931862957161709567));
+    assert!(rt; !is_multiplier(37778931862957161709568));
+    assert!(rt; !is_multiplier(0));
+    let above = Half::new(1, 0, 0, -3).ok().ok_or("no half-space")?;
+    let below = Half::new(-2, 0, 0, 6).ok().ok_or("no half-space")?;
+    let terms = [Term { by: 1, half: above }, Term { by: 1, half: below }];
+    assert!(rt; is_balanced(&terms));
+    assert!(rt; is_contradiction(&terms, true));
+    assert!(rt; !is_contradiction(&terms, false));
+    assert!(rt; !is_balanced(&[Term { by: 1, half: above }]));
+    Ok(())
 }
