@@ -1,10 +1,10 @@
 -- What a certificate shows, for the answer of a check.
 use Rattle.std.proofs.Common.{◌≡◌, Bool, true, false, List, sym, ap, ◌∙◌}
 use Rattle.std.specs.Prelude.{IsTrue}
-use Rattle.rp_geometry.specs.Geometry.{RationalPoint, HalfSpace, IsPoint}
+use Rattle.rp_geometry.specs.Geometry.{RationalPoint, HalfSpace}
 use Rattle.rp_geometry.specs.sets.Shape.{shape_of_cell}
 use Rattle.rp_geometry.specs.sets.Sets.{IsNonempty, IsEmpty}
-use Rattle.rp_geometry.specs.searches.Certificate.{Multiple, is_inside_certificate, is_weak_point, is_outside_certificate}
+use Rattle.rp_geometry.specs.searches.Certificate.{Multiple, is_inside_certificate, is_outside_certificate}
 use Rattle.rp_geometry.specs.laws.CellLaws.{AreHalfSpaces, IsSolution}
 use Rattle.rp_convex.proofs.Certified.{inside_certificate_shows_member_spec}
 use Rattle.rp_convex.proofs.Inside.{member_moves_inside_spec}
@@ -13,10 +13,6 @@ use Rattle.rp_alternative.proofs.Never.{never_both}
 -- points that pass show a member
 pub member_shown : (cell : List HalfSpace) (points : List RationalPoint) (b : Bool) → b ≡ is_inside_certificate cell points → IsTrue b → IsNonempty (shape_of_cell cell)
 member_shown cell points b e told = inside_certificate_shows_member_spec cell points (sym e ∙ told)
-
--- a true point that passes solves the weak system
-pub solution_shown : (cell : List HalfSpace) (p : RationalPoint) (b : Bool) → IsPoint p → b ≡ is_weak_point cell p → IsTrue b → IsSolution false cell p
-solution_shown cell p b w e told = (w, sym e ∙ told)
 
 -- terms that pass for this kind of solution exclude all of that kind
 none_shown : (kind strict : Bool) (cell : List HalfSpace) (terms : List Multiple) (b : Bool) → b ≡ is_outside_certificate strict cell terms → strict ≡ kind → IsTrue b → (p : RationalPoint) → ¬ IsSolution kind cell p
