@@ -1,6 +1,5 @@
 -- The text of an answer, line by line.
 use Rattle.std.proofs.Common.{◌≡◌, ℕ, Bool, false, eqb, List, [], ◌∷◌, ◌++◌, length, map, refl, sym, ap, ◌∙◌, append_assoc, append-nil}
-use Rattle.std.specs.List.{flat_map}
 use Rattle.std.proofs.lemmas.List.Concat.{flat_map-append}
 use Rattle.rp_language.specs.Grammar.{space, spaced}
 use Rattle.rp_geometry.specs.searches.ProofLine.{ProofLine}

@@ -85,7 +85,7 @@ impl Answer {
         Answer::with_verdict(alloc, n, echo, Proofs::new(alloc), verdict)
     }
 
-    /// An answer with these proof lines and one verdict line. Answers `AllocError` only for want of memory.
+    /// The answer with this echo, these proof lines and one verdict line. Answers `AllocError` only for want of memory.
     pub fn with_verdict(
         alloc: Global,
         n: u32,
@@ -100,7 +100,7 @@ impl Answer {
         Answer::with_verdicts(alloc, n, echo, proofs, verdicts)
     }
 
-    /// An answer with these proof lines and verdict lines. Answers `AllocError` only for want of memory.
+    /// The answer with this echo, these proof lines and these verdict lines. Answers `AllocError` only for want of memory.
     pub fn with_verdicts(
         alloc: Global,
         n: u32,

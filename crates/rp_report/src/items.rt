@@ -8,7 +8,7 @@ ghost use Rattle.rp_report.specs.LineTexts.{lines_text};
 use crate::pieces::append;
 use std::alloc::AllocError;
 
-/// What has a text.
+/// What has a text of its own in a report.
 pub(crate) trait WriteText {
     ghost text: { Self → List ℕ };
 
@@ -39,7 +39,7 @@ pub(crate) fn write_lines<T: WriteText>(items: &[T], out: &mut Vec<u8>) -> Resul
     Ok(())
 }
 
-/// Appends a word, and behind a space what it is said of.
+/// Appends a word, and behind a space its operand.
 pub(crate) fn write_operand<T: WriteText>(
     word: &[u8],
     operand: &T,
@@ -52,7 +52,7 @@ pub(crate) fn write_operand<T: WriteText>(
     operand.write_text(out)
 }
 
-/// Appends a word, and each behind a space what it is said of.
+/// Appends a word, and its operands, each behind a space.
 pub(crate) fn write_operands<T: WriteText>(
     word: &[u8],
     operands: &[T],

@@ -6,6 +6,7 @@ mod items;
 mod numbers;
 mod pieces;
 mod proof;
+mod space;
 mod text;
 mod verdict;
 

@@ -1,5 +1,5 @@
 //! The text of whole numbers.
-ghost use Rattle.std.specs.Prelude.{◌≡◌, ◌∷◌, map, decimal};
+ghost use Rattle.std.specs.Prelude.{◌∷◌, map, decimal};
 ghost use Rattle.std.specs.Fmt.{signed_decimal};
 ghost use Rattle.rp_language.specs.Grammar.{spaced};
 ghost use Rattle.rp_reports.specs.Text.{in_parentheses};

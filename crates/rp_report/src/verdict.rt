@@ -7,17 +7,8 @@ ghost use Rattle.rp_report.specs.Views.{refusal_of, verdict_of};
 use crate::answer::{Refusal, Verdict};
 use crate::items::{WriteText, write_operand, write_operands};
 use crate::pieces::append;
-use rp_space::Name;
 use rp_syntax::Why;
 use std::alloc::AllocError;
-
-impl WriteText for Name {
-    ghost text = { λ x. x };
-
-    fn write_text(&self, out: &mut Vec<u8>) -> Result<(), AllocError> {
-        append(self.bytes(), out)
-    }
-}
 
 /// The word of a fault of a line.
 fn fault_word(why: Why) -> &'static [u8]
