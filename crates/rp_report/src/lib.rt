@@ -2,10 +2,13 @@
 #![tactic(auto)]
 
 mod answer;
+mod items;
 mod numbers;
 mod pieces;
 mod proof;
+mod space;
 mod text;
+mod verdict;
 
 pub use answer::{Answer, Echo, Refusal, Verdict, Verdicts};
 pub use text::write_answer;
