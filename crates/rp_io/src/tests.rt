@@ -4,6 +4,8 @@ use super::{
 use std::process::Abort;
 use std::test::Fail;
 
+mod told;
+
 // One read through the trait: what it answers, and the bytes that it gave.
 fn expect_read<S: Source>(rt: &impl Abort, source: &mut S, want: Result<&[u8], Failed>) {
     let mut buf = [0u8; 16];
