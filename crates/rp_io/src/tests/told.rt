@@ -3,8 +3,12 @@
 ghost use Rattle.std.specs.Prelude.{◌≡◌, ℕ, ◌≤◌, ◌<◌, ◌++◌, [], false, length, take, drop, IfOk, IsOk, OnErr, OnOk};
 ghost use Rattle.rp_io.specs.Bytes.{Appends, AppendsPrefix, IsAtEnd, Takes};
 ghost use Rattle.rp_io.specs.Faults.{HasRisen, last_count};
+ghost use Rattle.rp_io.specs.Standard.{put_faults, read_faults};
 
-use crate::{Failed, MemorySink, MemorySource, QuietSink, QuietSource, Sink, Source};
+use crate::{
+    Failed, MemorySink, MemorySource, QuietSink, QuietSource, Sink, Source, StdSink, StdSource,
+};
+use std::io::{Read, Write};
 use std::test::Fail;
 
 // One read of some source: no more is known of it than the trait promises.
@@ -71,13 +75,31 @@ fn put_memory(sink: &mut MemorySink<'_>, piece: &[u8]) -> Result<(), Failed>
     put_once(sink, piece)
 }
 
+fn read_std<R: Read>(source: &mut StdSource<R>, buf: &mut [u8]) -> Result<usize, Failed>
+    ensures counts { read_faults source.old ≤ read_faults source.new }
+    ensures failed { OnErr result (HasRisen (read_faults source.old) (read_faults source.new)) }
+{
+    read_once(source, buf)
+}
+
+fn put_std<W: Write>(sink: &mut StdSink<W>, piece: &[u8]) -> Result<(), Failed>
+    ensures counts { put_faults sink.old ≤ put_faults sink.new }
+    ensures failed { OnErr result (HasRisen (put_faults sink.old) (put_faults sink.new)) }
+{
+    put_once(sink, piece)
+}
+
 #[test]
-fn each_form_tells_its_bytes(rt: HostRuntime) -> Result<(), Fail> {
+fn each_form_is_read_or_put(rt: HostRuntime) -> Result<(), Fail> {
     let mut buf = [0u8; 2];
     assert_eq!(rt; read_quiet(&mut QuietSource::new(b"abc"), &mut buf), Ok(2));
     assert_eq!(rt;
         read_memory(&mut MemorySource::new(b"abc", 1, &[]), &mut buf),
         Ok(1)
+    );
+    assert_eq!(rt;
+        read_std(&mut StdSource::new(b"abc".as_slice()), &mut buf),
+        Ok(2)
     );
     assert_eq!(rt;
         put_quiet(&mut QuietSink::new(rt.alloc(), 3)?, b"abc"),
@@ -86,6 +108,10 @@ fn each_form_tells_its_bytes(rt: HostRuntime) -> Result<(), Fail> {
     assert_eq!(rt;
         put_memory(&mut MemorySink::new(rt.alloc(), 3, &[])?, b"abcd"),
         Err(Failed)
+    );
+    assert_eq!(rt;
+        put_std(&mut StdSink::new(Vec::new(rt.alloc())), b"abc"),
+        Ok(())
     );
     Ok(())
 }
