@@ -52,7 +52,7 @@ fn main(rt: HostRuntime) -> ExitCode {
         Err(error) => status_of_error(&error),
     };
     if let Some(text) = message(status) {
-        let _ = eprintln!(rt; "rp_cli: {text}");
+        let _ = eprintln!(rt; "rpstore: {text}");
     }
     ExitCode::from(status)
 }

@@ -1,8 +1,9 @@
-use super::{
-    Failed, MemorySink, MemorySource, QuietSink, QuietSource, Sink, Source, StdSink, StdSource,
-};
+use super::{Failed, MemorySink, MemorySource, QuietSink, QuietSource, Sink, Source};
 use std::process::Abort;
 use std::test::Fail;
+
+mod standard;
+mod told;
 
 // One read through the trait: what it answers, and the bytes that it gave.
 fn expect_read<S: Source>(rt: &impl Abort, source: &mut S, want: Result<&[u8], Failed>) {
@@ -78,27 +79,5 @@ fn quiet_sink_keeps_what_fits_and_goes_on(rt: HostRuntime) -> Result<(), Fail> {
         expect_put(&rt, &mut sink, piece, Ok(()));
         assert_eq!(rt; sink.bytes(), bytes);
     }
-    Ok(())
-}
-
-#[test]
-fn std_forms_read_and_write(rt: HostRuntime) -> Result<(), Fail> {
-    let mut source = StdSource::new(b"abcdefghijklmnopqr".as_slice());
-    expect_read(&rt, &mut source, Ok(b"abcdefghijklmnop"));
-    expect_read(&rt, &mut source, Ok(b"qr"));
-    expect_read(&rt, &mut source, Ok(b""));
-
-    let mut written = Vec::new(rt.alloc());
-    let mut sink = StdSink::new(&mut written);
-    expect_put(&rt, &mut sink, b"one\n", Ok(()));
-    expect_put(&rt, &mut sink, b"", Ok(()));
-    expect_put(&rt, &mut sink, b"two\n", Ok(()));
-    assert_eq!(rt; written.as_slice(), b"one\ntwo\n".as_slice());
-
-    let mut room = [0u8; 5];
-    let mut short = StdSink::new(room.as_mut_slice());
-    expect_put(&rt, &mut short, b"abc", Ok(()));
-    expect_put(&rt, &mut short, b"def", Err(Failed));
-    assert_eq!(rt; room.as_slice(), b"abcde".as_slice());
     Ok(())
 }
