@@ -7,7 +7,7 @@ use rp_io::{Failed, Sink};
 
 /// Puts a text line by line, one put for each line with its line end.
 ///
-/// Answers [`Failed`] where a put did. Then a front of the text was put.
+/// Answers [`Failed`] where a put did. Lines before it were put then.
 pub fn put_lines<K: Sink>(sink: &mut K, text: &[u8]) -> Result<(), Failed>
     ensures counts { K.faults sink.old ≤ K.faults sink.new }
     ensures failed { OnErr result (HasRisen (K.faults sink.old) (K.faults sink.new)) }

@@ -12,10 +12,10 @@ pub const UNLISTED: u8 = 2;
 /// A read failed. Nothing was written.
 pub const READ_FAILED: u8 = 3;
 
-/// A put failed. What was written is a front of the whole output.
+/// A put failed. Lines of the output may have been written before.
 pub const PUT_FAILED: u8 = 4;
 
-/// Memory ran out. What was written is a front of the whole output.
+/// Memory ran out. Lines of the output may have been written before.
 pub const OUT_OF_MEMORY: u8 = 5;
 
 /// The source gave a byte past the limit of 16,777,216. Nothing was written.
