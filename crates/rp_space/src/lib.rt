@@ -21,7 +21,7 @@ pub use meeting::{Meeting, Pair, meet};
 pub use name::Name;
 pub use outside::{Outside, Term};
 pub use point::{Point, PointFault};
-pub use system::{System, with_cube};
+pub use system::{System, joined, with_cube};
 
 #[cfg(test)]
 mod tests;
