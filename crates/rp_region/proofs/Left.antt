@@ -62,3 +62,7 @@ makes_left view (Err (Memory e)) {start = start} {now = now} new h m = record {
   told = more_still start now new h.told m.told;
   untold = subst (λ o. TellsMore new (work_after o)) h.same m.untold;
 }
+
+-- where memory is wanting before a walk has told anything, it is given up
+pub not_begun : {A : Type 0} (walk : Walk Work A) (old new : Work) → OnlyTells walk → new ≡ old → IsCutShort old new (walk old)
+not_begun walk old new f e = subst (λ w. IsCutShort old w (walk old)) (sym e) (record { told = no_more old; untold = f.tells old })

@@ -1,3 +1,5 @@
 pub mod Grows
 pub mod Left
 pub mod Steps
+pub mod Tested
+pub mod Members

@@ -95,5 +95,5 @@ fn boxes_meet(first: &IntBox, second: &IntBox) -> bool
     let [x2, y2, z2] = first.hi;
     let [u1, v1, w1] = second.lo;
     let [u2, v2, w2] = second.hi;
-    x1 < u2 && u1 < x2 && y1 < v2 && v1 < y2 && z1 < w2 && w1 < z2
+    (x1 < u2) & (u1 < x2) & (y1 < v2) & (v1 < y2) & (z1 < w2) & (w1 < z2)
 }

@@ -5,6 +5,8 @@ ghost use Rattle.rp_geometry.specs.sets.Shape.{shape_of_cell};
 ghost use Rattle.rp_geometry.specs.sets.Sets.{IsEmpty};
 ghost use Rattle.rp_geometry.specs.searches.Vertex.{first_inside, first_weak_point};
 ghost use Rattle.rp_geometry.specs.laws.CellLaws.{IsSolution};
+ghost use Rattle.rp_geometry.specs.parts.Parts.{IsPart};
+ghost use Rattle.rp_walks.specs.FormLaws.{IsMadeOf};
 ghost use Rattle.rp_walks.specs.Walk.{most_tests, no_work, with_lines, count_tests, strict_test, weak_test, part_test};
 ghost use Rattle.rp_cert.specs.Lines.{line_of};
 ghost use Rattle.rp_region.specs.Makes.{counted, op_result, Makes};
@@ -164,7 +166,8 @@ impl Work {
     /// point. Its lines are appended; it isn't counted. `Limit` exactly where the slim cell has more than 32 half-spaces.
     pub(crate) fn part(&mut self, _alloc: Global, cell: &[Half]) -> Result<Option<Part>, OpFault>
         requires { length cell.now ≤ 64 }
-        ensures { Makes (λ o. o) result self.old self.new (part_test cell.now) }
+        ensures makes { Makes (λ o. o) result self.old self.new (part_test cell.now) }
+        ensures made { IfOk result (λ o. IsMadeOf IsPart cell.now o) }
     {
         let _ = cell;
         Err(OpFault::Memory(AllocError))
