@@ -1,12 +1,14 @@
 -- What a test has found, of the proof line that tells it.
-use Rattle.std.proofs.Common.{◌≡◌, true, false, List, [], ◌∷◌, refl, sym, ap, ◌∙◌}
-use Rattle.std.specs.Prelude.{Option, Some, None, is_some}
+use Rattle.std.proofs.Common.{◌≡◌, true, false, List, [], ◌∷◌, length, refl, sym, ap, ◌∙◌}
+use Rattle.std.specs.Prelude.{nat_le, Option, Some, None, is_some}
 use Rattle.rp_geometry.specs.Geometry.{RationalPoint, HalfSpace}
+use Rattle.rp_geometry.specs.sets.Shape.{Part}
 use Rattle.rp_geometry.specs.searches.Certificate.{Multiple}
 use Rattle.rp_geometry.specs.searches.Vertex.{first_inside, first_weak_point}
 use Rattle.rp_geometry.specs.searches.ProofLine.{ProofLine, in_line, out_line, at_line, apart_line, outside_terms, strict_line, weak_line}
-use Rattle.rp_geometry.specs.parts.PartTest.{has_member, has_weak_point}
-use Rattle.rp_walks.specs.Walk.{done, Work, with_lines, strict_test, weak_test}
+use Rattle.rp_geometry.specs.parts.PartTest.{has_member, has_weak_point, slimmed, part_lines, part_of}
+use Rattle.rp_geometry.specs.parts.Parts.{most_half_spaces}
+use Rattle.rp_walks.specs.Walk.{Outcome, done, stopped, limit_met, Work, with_lines, strict_test, weak_test, part_test}
 
 -- the work with one line in other words
 one_line : (w v : Work) (told line : ProofLine) → told ≡ line → v ≡ with_lines w (told ∷ []) → with_lines w (line ∷ []) ≡ v
@@ -39,3 +41,17 @@ strict_told cell o told w v e l m = λ i. done (is_some (e i)) (one_line w v tol
 pub weak_told : (cell : List HalfSpace) (o : Option RationalPoint) (told : ProofLine) (w v : Work) → first_weak_point cell ≡ o → told ≡ weak_line cell → v ≡ with_lines w (told ∷ []) → weak_test cell w ≡ done (is_some o) v
 unfolding weak_test has_weak_point
 weak_told cell o told w v e l m = λ i. done (is_some (e i)) (one_line w v told (weak_line cell) l m i)
+
+-- a part test that finds no member
+pub no_part : (cell : List HalfSpace) (told : ProofLine) (w v : Work) → first_inside cell ≡ None → told ≡ strict_line cell → v ≡ with_lines w (told ∷ []) → part_test cell w ≡ done None v
+unfolding part_test has_member
+no_part cell told w v e l m = ap by_found e ∙ ap (λ u. done None u) (one_line w v told (strict_line cell) l m)
+  where
+    by_found : Option (List RationalPoint) → Outcome Work (Option Part)
+    by_found o = elim (is_some o) as (λ _. Outcome Work (Option Part)) [
+      | false ↦ done None (with_lines w (strict_line cell ∷ []))
+      | true ↦ elim (nat_le (length (slimmed cell).kept) most_half_spaces) as (λ _. Outcome Work (Option Part)) [
+        | true ↦ done (Some (part_of (slimmed cell))) (with_lines w (strict_line cell ∷ part_lines (slimmed cell)))
+        | false ↦ stopped limit_met w
+      ]
+    ]
