@@ -1,0 +1,232 @@
+//! What a command has done so far: the number of tests counted, and the proof lines of its tests.
+ghost use Rattle.std.specs.Prelude.{◌≡◌, ◌+◌, ◌≤◌, ◌↔◌, ◌++◌, ◌∷◌, [], false, length, map, is_some, Some, IfOk, OnOk, OnErr, IsNone};
+ghost use Rattle.rp_geometry.specs.Geometry.{RationalPoint};
+ghost use Rattle.rp_geometry.specs.sets.Shape.{shape_of_cell};
+ghost use Rattle.rp_geometry.specs.sets.Sets.{IsNonempty, IsEmpty};
+ghost use Rattle.rp_geometry.specs.searches.ProofLine.{in_line, strict_line};
+ghost use Rattle.rp_geometry.specs.searches.Vertex.{first_inside, first_weak_point};
+ghost use Rattle.rp_geometry.specs.laws.CellLaws.{IsSolution};
+ghost use Rattle.rp_geometry.specs.parts.Parts.{IsPart};
+ghost use Rattle.rp_walks.specs.FormLaws.{IsMadeOf};
+ghost use Rattle.rp_walks.specs.Walk.{most_tests, no_work, with_lines, count_tests, strict_test, weak_test, part_test};
+ghost use Rattle.rp_cert.specs.Lines.{line_of};
+ghost use Rattle.rp_cell.specs.Lines.{drop_line_of, side_line_of};
+ghost use Rattle.rp_region.specs.Makes.{counted, op_result, telling, Makes};
+
+use crate::fault::OpFault;
+use crate::part::Part;
+use rp_cell::{
+    Drops, SideProofs, Sides, Slimmed, Strict, Weak, decide_strict, decide_weak, sides_of, slim,
+};
+use rp_cert::{Proof, Proofs};
+use rp_space::{Half, Inside, Point, joined};
+use std::alloc::{AllocError, Global};
+use std::marker::Model;
+
+/// The most tests that a command may count.
+const MAX_TESTS: u32 = 65536;
+
+/// The most half-spaces of a part.
+const MAX_HALVES: usize = 32;
+
+/// The number of tests that a command has counted, at most 65,536, and the proof lines of its tests so far.
+/// After `Limit` or want of memory the lines are those before with a front of the new ones, and it isn't used further.
+#[derive(Debug, Drop)]
+pub struct Work {
+    tests: u32,
+    proofs: Proofs,
+}
+
+impl Model for Work {
+    ghost use Rattle.std.specs.Prelude.{◌≤◌, map};
+    ghost use Rattle.rp_walks.specs.Walk.{Work, most_tests};
+    ghost use Rattle.rp_cert.specs.Lines.{line_of};
+
+    ghost Value = { Work };
+
+    ghost view = { λ a. record { tests = a.tests; proofs = map line_of a.proofs.items } };
+
+    ghost invariant = { λ a. a.tests ≤ most_tests };
+}
+
+impl Work {
+    /// Nothing done yet. Takes no memory.
+    pub fn new(alloc: Global) -> Work
+        ensures { result ≡ no_work }
+    {
+        Work {
+            tests: 0,
+            proofs: Proofs::new(alloc),
+        }
+    }
+
+    /// The number of tests counted.
+    pub fn tests(&self) -> u32
+        ensures value { result ≡ self.now.tests }
+        ensures few { result ≤ most_tests }
+    {
+        self.tests
+    }
+
+    /// The proof lines in order.
+    pub fn proofs(&self) -> &[Proof]
+        ensures { map line_of result.now ≡ self.now.proofs }
+    {
+        self.proofs.items()
+    }
+
+    /// The proof lines in order, without the number of tests. Takes no memory.
+    pub fn into_proofs(self) -> Proofs
+        ensures { map line_of result.items ≡ self.proofs }
+    {
+        self.proofs
+    }
+
+    /// Counts n more tests. `false` exactly where their number would be above 65,536; then all is as before.
+    pub fn count(&mut self, n: u64) -> bool
+        ensures { count_tests n self.old ≡ counted result self.new }
+    {
+        let left = MAX_TESTS - self.tests;
+        if n > left as u64 {
+            return false;
+        }
+        self.tests += n as u32;
+        true
+    }
+
+    /// Appends a proof line. Answers `AllocError` only for want of memory; then all is as before.
+    fn tell(&mut self, proof: Proof) -> Result<(), AllocError>
+        ensures ok { OnOk result (self.new ≡ with_lines self.old (line_of proof ∷ [])) }
+        ensures err { OnErr result (self.new ≡ self.old) }
+    {
+        self.proofs.push(proof)
+    }
+
+    /// Adds what another work has counted, and appends its proof lines in order; they are moved. The two numbers of tests
+    /// add up to at most 65,536. Answers `AllocError` only for want of memory; then all is as before.
+    pub fn append(&mut self, _alloc: Global, other: Work) -> Result<(), AllocError>
+        requires { self.old.tests + other.tests ≤ most_tests }
+        ensures ok { OnOk result (self.new ≡ record { tests = self.old.tests + other.tests; proofs = self.old.proofs ++ other.proofs }) }
+        ensures err { OnErr result (self.new ≡ self.old) }
+    {
+        self.proofs.append(other.proofs)?;
+        self.tests += other.tests;
+        Ok(())
+    }
+
+    /// A strict test of the cell of `first` followed by `second`, at most 64 half-spaces together: the first inside
+    /// certificate, and `None` exactly where the cell has no point. Its line is appended; it isn't counted.
+    /// Answers `AllocError` only for want of memory.
+    pub fn strict(
+        &mut self,
+        _alloc: Global,
+        first: &[Half],
+        second: &[Half],
+    ) -> Result<Option<Inside>, AllocError>
+        requires { length first.now + length second.now ≤ 64 }
+        ensures makes { Makes is_some (op_result result) self.old self.new (strict_test (first.now ++ second.now)) }
+        ensures first { IfOk result (λ o. o ≡ first_inside (first.now ++ second.now)) }
+        ensures none { IfOk result (λ o. IsNone o ↔ IsEmpty (shape_of_cell (first.now ++ second.now))) }
+    {
+        let cell = joined(first, second);
+        match decide_strict(cell.as_slice()) {
+            Strict::Inside(points) => {
+                let found = points.copy();
+                self.tell(Proof::In(points))?;
+                Ok(Some(found))
+            }
+            Strict::Outside(terms) => {
+                self.tell(Proof::Out(terms))?;
+                Ok(None)
+            }
+        }
+    }
+
+    /// A weak test of the cell of `first` followed by `second`, at most 64 half-spaces together: the first weak point, and
+    /// `None` exactly where the weak system of the cell has no point. Its line is appended; it isn't counted.
+    /// Answers `AllocError` only for want of memory.
+    pub fn weak(
+        &mut self,
+        _alloc: Global,
+        first: &[Half],
+        second: &[Half],
+    ) -> Result<Option<Point>, AllocError>
+        requires { length first.now + length second.now ≤ 64 }
+        ensures makes { Makes is_some (op_result result) self.old self.new (weak_test (first.now ++ second.now)) }
+        ensures first { IfOk result (λ o. o ≡ first_weak_point (first.now ++ second.now)) }
+        ensures none { IfOk result (λ o. IsNone o ↔ ((p : RationalPoint) → ¬ IsSolution false (first.now ++ second.now) p)) }
+    {
+        let cell = joined(first, second);
+        match decide_weak(cell.as_slice()) {
+            Weak::At(point) => {
+                self.tell(Proof::At(point))?;
+                Ok(Some(point))
+            }
+            Weak::Outside(terms) => {
+                self.tell(Proof::Apart(terms))?;
+                Ok(None)
+            }
+        }
+    }
+
+    /// A part test of a cell of at most 64 half-spaces: the part of its slim cell, and `None` exactly where the cell has no
+    /// point. Its lines are appended; it isn't counted. `Limit` exactly where the slim cell has more than 32 half-spaces.
+    pub(crate) fn part(&mut self, alloc: Global, cell: &[Half]) -> Result<Option<Part>, OpFault>
+        requires { length cell.now ≤ 64 }
+        ensures makes { Makes (λ o. o) result self.old self.new (part_test cell.now) }
+        ensures made { IfOk result (λ o. IsMadeOf IsPart cell.now o) }
+    {
+        match decide_strict(cell) {
+            Strict::Inside(points) => {
+                let part = self.slim_part(alloc, cell, points)?;
+                Ok(Some(part))
+            }
+            Strict::Outside(terms) => {
+                self.tell(Proof::Out(terms))?;
+                Ok(None)
+            }
+        }
+    }
+
+    /// The part of the slim cell of a cell in which a strict test has found these points. The lines of the test and of the
+    /// part are appended.
+    fn slim_part(&mut self, alloc: Global, cell: &[Half], points: Inside) -> Result<Part, OpFault>
+        requires few { length cell.now ≤ 64 }
+        requires found { first_inside cell.now ≡ Some points }
+        requires line { in_line points ≡ strict_line cell.now }
+        requires member { IsNonempty (shape_of_cell cell.now) }
+        ensures makes { Makes Some result self.old self.new (part_test cell.now) }
+        ensures made { IfOk result (λ part. IsMadeOf IsPart cell.now (Some part)) }
+    {
+        let Slimmed { kept, dropped } = slim(alloc, cell)?;
+        if kept.items().len() > MAX_HALVES {
+            return Err(OpFault::Limit);
+        }
+        self.tell(Proof::In(points))?;
+        self.tell_drops(dropped)?;
+        let Sides { bounds, proofs } = sides_of(kept.items());
+        self.tell(Proof::Bounds(bounds))?;
+        self.tell_sides(proofs)?;
+        Ok(Part::of_slim(kept, bounds))
+    }
+
+    /// Appends the lines of the half-spaces that were dropped from a cell.
+    fn tell_drops(&mut self, dropped: Drops) -> Result<(), AllocError>
+        ensures { Makes (λ x. x) (op_result result) self.old self.new (telling (map drop_line_of dropped.items)) }
+    {
+        for (half, terms) in dropped.into_items() {
+            self.tell(Proof::Dropped(half, terms))?;
+        }
+        Ok(())
+    }
+
+    /// Appends the lines of the sides of a box.
+    fn tell_sides(&mut self, proofs: SideProofs) -> Result<(), AllocError>
+        ensures { Makes (λ x. x) (op_result result) self.old self.new (telling (map side_line_of proofs)) }
+    {
+        for terms in proofs.into_items() {
+            self.tell(Proof::Out(terms))?;
+        }
+        Ok(())
+    }
+}
