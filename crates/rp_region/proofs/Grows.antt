@@ -1,10 +1,10 @@
 -- Walks only append proof lines.
-use Rattle.std.proofs.Common.{◌≡◌, ℕ, Bool, true, false, List, [], ◌∷◌, ◌++◌, length, refl, sym, ap, ◌∙◌, append_assoc}
+use Rattle.std.proofs.Common.{ℕ, Bool, true, false, List, [], ◌∷◌, ◌++◌, length, refl, sym, ap, ◌∙◌, append_assoc}
 use Rattle.std.specs.Prelude.{◌+◌, nat_le, Option, Some, None}
 use Rattle.std.proofs.lemmas.List.{append-nil}
 use Rattle.rp_geometry.specs.Geometry.{HalfSpace, boxes_meet, complement}
 use Rattle.rp_geometry.specs.sets.Shape.{Part}
-use Rattle.rp_geometry.specs.searches.ProofLine.{ProofLine, strict_line, weak_line}
+use Rattle.rp_geometry.specs.searches.ProofLine.{strict_line, weak_line}
 use Rattle.rp_geometry.specs.parts.PartTest.{has_member, slimmed, part_lines, part_of}
 use Rattle.rp_geometry.specs.parts.Parts.{most_half_spaces, most_parts}
 use Rattle.rp_walks.specs.Walk.{Outcome, done, stopped, limit_met, Walk, pass, stop, after_first, ◌>>=◌, ◌>>◌, Work, with_lines, most_tests, count_tests, strict_test, weak_test, part_test, first_tester}

@@ -1,5 +1,5 @@
 -- The members of the regions that walks come to, and points in them.
-use Rattle.std.proofs.Common.{◌≡◌, ◌≤◌, ◌*◌, ℤ, to_z, of_z, Bool, ◌&&◌, ◌||◌, List, [], ◌∷◌, ◌++◌, length, refl, ap, ◌∙◌, subst, arith}
+use Rattle.std.proofs.Common.{◌≡◌, ◌≤◌, ◌*◌, ℤ, to_z, of_z, ◌&&◌, ◌||◌, List, [], ◌∷◌, ◌++◌, length, refl, ap, ◌∙◌, subst, arith}
 use Rattle.std.specs.Prelude.{int_lt, Option, Some, None}
 use Rattle.std.specs.Int.RustNames.{FitsSigned}
 use Rattle.std.specs.List.{list_any}
@@ -8,7 +8,6 @@ use mir.Syntax.{w32}
 use Rattle.rp_algebra.proofs.Listed.{all_append}
 use Rattle.rp_geometry.specs.Geometry.{RationalPoint, HalfSpace, holds, all_hold}
 use Rattle.rp_geometry.specs.sets.Shape.{Shape, Part, passes, shape_of_cell, shape_of_parts}
-use Rattle.rp_geometry.specs.sets.Sets.{SameMembers}
 use Rattle.rp_geometry.specs.parts.Parts.{most_parts, IsPart, IsRegion, AreOf}
 use Rattle.rp_geometry.proofs.SameMembers.{same_itself}
 use Rattle.rp_walks.specs.Walk.{Outcome, done, after_first, Work, count_tests, first_tester}

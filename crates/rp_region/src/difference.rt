@@ -1,7 +1,7 @@
 //! What is left of a list of parts outside a second one, test by test.
 ghost use Rattle.std.specs.Prelude.{◌≡◌, ◌+◌, ◌≤◌, ◌<◌, [], length};
 ghost use Rattle.rp_geometry.specs.parts.Parts.{most_half_spaces};
-ghost use Rattle.rp_walks.specs.Walk.{first_tester};
+ghost use Rattle.rp_walks.specs.Walk.{count_tests, first_tester};
 ghost use Rattle.rp_walks.specs.Form.{carve_one, carve, carve_or_keep, subtract_pair, subtract_part, subtract};
 ghost use Rattle.rp_region.specs.Makes.{Makes};
 
@@ -62,9 +62,7 @@ fn subtract_pair(
         left.push(part)?;
         return Ok(());
     }
-    if !work.count(1) {
-        return Err(OpFault::Limit);
-    }
+    count_test(work)?;
     match work.strict(alloc, part.halves(), other.halves())? {
         Some(_) => carve(alloc, left, part.halves(), other.halves(), work),
         None => {
@@ -104,13 +102,21 @@ fn carve_one(
     requires { length cell.now + length before.now < 64 }
     ensures { Makes (λ _. left.new.items) result work.old work.new (carve_one first_tester left.old.items cell.now before.now half.now) }
 {
-    if !work.count(1) {
-        return Err(OpFault::Limit);
-    }
+    count_test(work)?;
     let mut piece = joined(cell, before);
     piece.push(half.not());
     if let Some(part) = work.part(alloc, piece.as_slice())? {
         left.push(part)?;
+    }
+    Ok(())
+}
+
+/// Counts one test.
+fn count_test(work: &mut Work) -> Result<(), OpFault>
+    ensures { Makes (λ x. x) result work.old work.new (count_tests 1) }
+{
+    if !work.count(1) {
+        return Err(OpFault::Limit);
     }
     Ok(())
 }

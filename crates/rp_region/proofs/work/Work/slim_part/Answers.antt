@@ -96,7 +96,7 @@ returns-clause-makes c =
     let bounds = c.sides_of-proofs.ensures.value ∙ ap least_box kept in
     let few = few_kept c.in_ok-kept.field-0.kept.items c.items.result.now cell c.items.ensures slim c.if-items-gt-MAX_HALVES.false in
     part_told cell points c.requires.found c.requires.line few c.args.self.now u v x y (line_told (in_line points) c.args.self.now u c.in_ok-tell.ensures.ok)
-        ((λ i. telling (sym c.in_ok-kept.ensures.lines i) u) ∙ c.in_ok-tell_drops.ensures)
-        (line_told (box_line (least_box (slimmed cell).kept)) v x (c.in_ok-tell-2.ensures.ok ∙ ap (λ b. with_lines v (box_line b ∷ [])) bounds))
-        ((λ i. telling (sym (c.sides_of-proofs.ensures.lines ∙ ap (λ hs. side_lines hs (box_half_spaces (least_box hs))) kept) i) x) ∙ c.in_ok-tell_sides.ensures)
+    ((λ i. telling (sym c.in_ok-kept.ensures.lines i) u) ∙ c.in_ok-tell_drops.ensures)
+    (line_told (box_line (least_box (slimmed cell).kept)) v x (c.in_ok-tell-2.ensures.ok ∙ ap (λ b. with_lines v (box_line b ∷ [])) bounds))
+    ((λ i. telling (sym (c.sides_of-proofs.ensures.lines ∙ ap (λ hs. side_lines hs (box_half_spaces (least_box hs))) kept) i) x) ∙ c.in_ok-tell_sides.ensures)
     ∙ (λ i. done (Some (record { cell = sym slim i; bounds = sym bounds i })) y) ∙ ap (λ (p : Part). done (Some p) y) (sym c.of_slim.ensures)
