@@ -1,7 +1,7 @@
 use crate::{
     Half, HalfFault, Halves, Inside, IntBox, Meeting, Name, Names, Numbers, Outside, Pair, Point,
     PointFault, Term, box_halves, cube, greatest_common_divisor, is_balanced, is_contradiction,
-    is_multiplier, meet, quotient, with_cube,
+    is_multiplier, joined, meet, quotient, with_cube,
 };
 use std::collections::HashMap;
 use std::test::Fail;
@@ -130,6 +130,13 @@ fn boxes_have_six_sides(rt: HostRuntime) {
     let [first, second, ..] = cube();
     assert_eq!(rt; first.numbers(), (1, 0, 0, 16777216));
     assert_eq!(rt; second.numbers(), (-1, 0, 0, 16777216));
+}
+
+#[test]
+fn half_spaces_of_two_lists_stand_in_one(rt: HostRuntime) {
+    let [first, second, third, ..] = cube();
+    let system = joined(&[first], &[second, third]);
+    assert_eq!(rt; system.as_slice(), [first, second, third].as_slice());
 }
 
 #[test]
