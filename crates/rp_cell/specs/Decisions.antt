@@ -3,7 +3,7 @@ use Rattle.std.specs.Prelude.{◌≡◌, true, false, IsTrue, List, Some}
 use Rattle.rp_geometry.specs.Geometry.{RationalPoint, HalfSpace}
 use Rattle.rp_geometry.specs.sets.Shape.{shape_of_cell}
 use Rattle.rp_geometry.specs.sets.Sets.{IsNonempty, IsEmpty}
-use Rattle.rp_geometry.specs.searches.Certificate.{is_inside_certificate, is_weak_point, is_outside_certificate}
+use Rattle.rp_geometry.specs.searches.Certificate.{is_inside_certificate, is_outside_certificate}
 use Rattle.rp_geometry.specs.searches.Vertex.{first_inside, first_weak_point}
 use Rattle.rp_geometry.specs.searches.Elimination.{first_outside}
 use Rattle.rp_geometry.specs.laws.CellLaws.{IsSolution}
@@ -28,7 +28,7 @@ abbrev pub DecidesStrict : List HalfSpace → Strict → Type 0
 DecidesStrict cell (Inside points) = (first_inside cell ≡ Some points) × IsTrue (is_inside_certificate cell points) × IsNonempty (shape_of_cell cell)
 DecidesStrict cell (Outside terms) = (first_outside true cell ≡ Some terms) × IsTrue (is_outside_certificate true cell terms) × IsEmpty (shape_of_cell cell)
 
--- the first weak point, or the first outside certificate of the weak system, which shows that no point is in it
+-- the first weak point, which solves the weak system, or the first outside certificate of the weak system, which shows that no point is in it
 abbrev pub DecidesWeak : List HalfSpace → Weak → Type 0
-DecidesWeak cell (At p) = (first_weak_point cell ≡ Some p) × IsTrue (is_weak_point cell p)
+DecidesWeak cell (At p) = (first_weak_point cell ≡ Some p) × IsSolution false cell p
 DecidesWeak cell (Apart terms) = (first_outside false cell ≡ Some terms) × IsTrue (is_outside_certificate false cell terms) × ((p : RationalPoint) → ¬ IsSolution false cell p)

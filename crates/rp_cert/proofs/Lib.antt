@@ -1,1 +1,2 @@
 mod Multipliers
+mod Shown

@@ -1,7 +1,10 @@
 //! Certificates made of points.
-ghost use Rattle.std.specs.Prelude.{◌≡◌, ◌&&◌};
+ghost use Rattle.std.specs.Prelude.{◌≡◌, false, ◌&&◌, IsTrue};
 ghost use Rattle.std.specs.List.{list_all, list_any};
 ghost use Rattle.rp_geometry.specs.Geometry.{all_nonnegative, with_cube};
+ghost use Rattle.rp_geometry.specs.sets.Shape.{shape_of_cell};
+ghost use Rattle.rp_geometry.specs.sets.Sets.{IsNonempty};
+ghost use Rattle.rp_geometry.specs.laws.CellLaws.{IsSolution};
 ghost use Rattle.rp_geometry.specs.searches.Certificate.{is_one_to_four, is_positive_at_some, is_nonnegative_at_all, is_inside_certificate, is_weak_point};
 
 use rp_space::{Half, Point, cube};
@@ -9,15 +12,20 @@ use rp_space::{Half, Point, cube};
 /// Whether the points show that the cell has a member: there are one to four points, and every half-space of the cell
 /// and of the domain cube has a side value of at least 0 at all of them and above 0 at one.
 pub fn check_inside(cell: &[Half], points: &[Point]) -> bool
-    ensures { result ≡ is_inside_certificate cell.now points.now }
+    ensures value { result ≡ is_inside_certificate cell.now points.now }
+    ensures member { IsTrue result → IsNonempty (shape_of_cell cell.now) }
 {
     is_one_to_four(points.len()) && are_reached(cell, points) && are_reached(&cube(), points)
 }
 
-/// Whether every half-space of the cell and of the domain cube has a side value of at least 0 at the point.
+/// Whether every half-space of the cell and of the domain cube has a side value of at least 0 at the point: the point
+/// solves the weak system of the cell.
 pub fn check_weak(cell: &[Half], p: &Point) -> bool
-    ensures { result ≡ is_weak_point cell.now p.now }
+    ensures value { result ≡ is_weak_point cell.now p.now }
+    ensures solution { IsTrue result → IsSolution false cell.now p.now }
 {
+    // Only for what `numbers` ensures, that the weight is positive.
+    let _ = p.numbers();
     are_nonnegative(cell, p) && are_nonnegative(&cube(), p)
 }
 

@@ -7,7 +7,7 @@ mod outside;
 mod proof;
 
 pub use inside::{check_inside, check_weak};
-pub use outside::{check_outside, is_balanced, is_contradiction, is_multiplier};
+pub use outside::check_outside;
 pub use proof::{Proof, Proofs};
 
 #[cfg(test)]

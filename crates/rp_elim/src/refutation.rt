@@ -6,11 +6,7 @@ ghost use Rattle.rp_geometry.specs.searches.Elimination.{terms_if, reduced_terms
 ghost use Rattle.rp_elim.specs.Factors.{AreFactorsSmall};
 
 use crate::lowest::lowest;
-use rp_cert::{is_balanced, is_contradiction, is_multiplier};
-use rp_space::{Outside, Term};
-
-/// The greatest multiplier, 2^75 - 1.
-const MAX_MULTIPLIER: i128 = 37778931862957161709567;
+use rp_space::{Outside, Term, is_balanced, is_contradiction, is_multiplier};
 
 /// The terms with positive multipliers in lowest terms, if they refute; the multipliers may have either sign.
 /// `None` where two multipliers have different signs or one is 0: then no positive multiples of them all cancel, or a
@@ -70,7 +66,8 @@ fn are_negated_multipliers(terms: &[Term]) -> bool
 fn is_negated_multiplier(by: i128) -> bool
     ensures { result ≡ is_multiplier (neg_ℤ by) }
 {
-    by <= -1 && -MAX_MULTIPLIER <= by
+    by.checked_neg()
+        .is_some_and(|opposite| is_multiplier(opposite))
 }
 
 /// The terms with their multipliers negated.

@@ -7,6 +7,7 @@ mod half;
 mod inside;
 mod listed;
 mod meeting;
+mod multiples;
 mod name;
 mod outside;
 mod point;
@@ -18,10 +19,11 @@ pub use half::{Half, HalfFault};
 pub use inside::Inside;
 pub use listed::{Halves, Listed, Names, Numbers};
 pub use meeting::{Meeting, Pair, meet};
+pub use multiples::{is_balanced, is_contradiction, is_multiplier};
 pub use name::Name;
 pub use outside::{Outside, Term};
 pub use point::{Point, PointFault};
-pub use system::{System, with_cube};
+pub use system::{System, keep_bounds, with_cube};
 
 #[cfg(test)]
 mod tests;

@@ -1,5 +1,5 @@
 //! Lists that grow, whose room contracts see.
-ghost use Rattle.std.specs.Prelude.{◌≡◌, IfOk, IsOk, OnOk, OnErr, [], ◌∷◌, ◌++◌, ◌≤◌, ◌<◌, ◌+◌};
+ghost use Rattle.std.specs.Prelude.{◌≡◌, IfOk, IsOk, OnOk, OnErr, [], ◌∷◌, ◌++◌, ◌≤◌, ◌<◌, ◌+◌, length};
 
 use crate::half::Half;
 use crate::name::Name;
@@ -43,10 +43,24 @@ impl<T: Drop> Listed<T> {
         Ok(())
     }
 
-    /// Makes room for so many more items. Answers `AllocError` only for want of memory; the items stay in any case.
+    /// Appends all items of another list in order; they are moved. Answers `AllocError` only for want of memory, and then
+    /// the items stay. Where there is room for all of them it succeeds, and takes as many places of it at most.
+    pub fn append(&mut self, other: Listed<T>) -> Result<(), AllocError>
+        ensures ok { OnOk result (self.new.items ≡ self.old.items ++ other.items) }
+        ensures err { OnErr result (self.new.items ≡ self.old.items) }
+        ensures room { length other.items ≤ self.old.spare → IsOk result }
+        ensures spare { OnOk result (self.old.spare ≤ self.new.spare + length other.items) }
+    {
+        let mut items = other.into_items();
+        self.items.append(&mut items)
+    }
+
+    /// Makes room for so many more items. Answers `AllocError` only for want of memory. In any case the items stay, and
+    /// so does the room that there was.
     pub fn reserve(&mut self, n: usize) -> Result<(), AllocError>
         ensures items { self.new.items ≡ self.old.items }
         ensures ok { OnOk result (n ≤ self.new.spare) }
+        ensures spare { self.old.spare ≤ self.new.spare }
     {
         self.items.reserve(n)
     }
@@ -56,6 +70,13 @@ impl<T: Drop> Listed<T> {
         ensures { result.now ≡ self.now.items }
     {
         &self.items
+    }
+
+    /// The items in order, without the list; this takes no memory.
+    pub fn into_items(self) -> Vec<T>
+        ensures { result.items ≡ self.items }
+    {
+        self.items
     }
 }
 

@@ -1,8 +1,12 @@
 //! Names of regions and lots.
 ghost use Rattle.std.specs.Prelude.{◌≡◌, true};
 ghost use Rattle.std.specs.List.{list_all};
-ghost use Rattle.rp_language.specs.Name.{is_letter, is_name_byte, is_name, name_of};
+ghost use Rattle.std.specs.Hash as fed;
+ghost use Rattle.std.specs.Cmp.Rules.{comparing, hashing};
+ghost use Rattle.std.proofs.Common.{rules};
+ghost use Rattle.rp_language.specs.Name.{label_eq, is_letter, is_name_byte, is_name, name_of};
 
+use std::hash::{Hash, Hasher};
 use std::marker::Model;
 
 /// The greatest number of bytes of a name.
@@ -10,7 +14,7 @@ const MAX_NAME: usize = 32;
 
 /// A name of 1 to 32 bytes: letters `a` to `z` and `A` to `Z`, digits, `_`, `-` and `.`, the first of them a letter.
 /// A contract sees the list of its bytes.
-#[derive(Clone, Copy, Debug, PartialEq, Eq)]
+#[derive(Clone, Copy, Debug)]
 pub struct Name {
     bytes: [u8; 32],
     len: u8,
@@ -54,6 +58,31 @@ impl Name {
         ensures name { is_name result.now ≡ true }
     {
         &self.bytes[..self.len as usize]
+    }
+}
+
+/// Two names are the same where their bytes are.
+impl PartialEq for Name {
+    ghost eq = { label_eq };
+
+    ghost laws = { Prim.search (comparing, rules) };
+
+    fn eq(&self, other: &Name) -> bool {
+        self.bytes() == other.bytes()
+    }
+}
+
+impl Eq for Name {
+    ghost laws = { Prim.search (comparing, rules) };
+}
+
+impl Hash for Name {
+    ghost hash_input = { fed.slice fed.u8 };
+
+    ghost respects_eq = { Prim.search (hashing, rules) };
+
+    fn hash<H: Hasher>(&self, state: &mut H) {
+        self.bytes().hash(state);
     }
 }
 

@@ -17,21 +17,28 @@ pub fn with_cube(cell: &[Half]) -> System
     ensures items { result.items ≡ with_cube cell.now }
     ensures bounds { AreHalfSpaces cell.now }
 {
+    keep_bounds(cell);
     let mut system = System::new();
     extend(&mut system, cell);
     extend(&mut system, &cube());
     system
 }
 
+/// Does nothing: every half-space keeps its bounds, and this makes it known of all half-spaces of a list.
+pub fn keep_bounds(halves: &[Half])
+    ensures { AreHalfSpaces halves.now }
+{
+    for half in halves {
+        let _ = half.numbers();
+    }
+}
+
 /// Appends half-spaces, for which there is room.
 fn extend(system: &mut System, halves: &[Half])
     requires { array_vec_len system.old + length halves.now ≤ 70 }
-    ensures items { system.new.items ≡ system.old.items ++ halves.now }
-    ensures bounds { AreHalfSpaces halves.now }
+    ensures { system.new.items ≡ system.old.items ++ halves.now }
 {
     for half in halves {
-        // Only for what `numbers` ensures, that they keep their bounds.
-        let _ = half.numbers();
         system.push(*half);
     }
 }

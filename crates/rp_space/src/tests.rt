@@ -1,7 +1,9 @@
 use crate::{
-    Half, Halves, Inside, IntBox, Meeting, Name, Names, Numbers, Outside, Pair, Point, Term,
-    box_halves, cube, greatest_common_divisor, meet, quotient, with_cube,
+    Half, HalfFault, Halves, Inside, IntBox, Meeting, Name, Names, Numbers, Outside, Pair, Point,
+    PointFault, Term, box_halves, cube, greatest_common_divisor, is_balanced, is_contradiction,
+    is_multiplier, meet, quotient, with_cube,
 };
+use std::collections::HashMap;
 use std::test::Fail;
 
 /// Shows that a type may be sent to other threads and shared with them.
@@ -10,7 +12,9 @@ fn needs_send_sync<T: Send + Sync>() {}
 #[test]
 fn types_cross_threads() {
     needs_send_sync::<Half>();
+    needs_send_sync::<HalfFault>();
     needs_send_sync::<Point>();
+    needs_send_sync::<PointFault>();
     needs_send_sync::<IntBox>();
     needs_send_sync::<Name>();
     needs_send_sync::<Names>();
@@ -56,6 +60,20 @@ fn a_name_gives_its_bytes(rt: HostRuntime) -> Result<(), Fail> {
 }
 
 #[test]
+fn a_name_is_a_key(rt: HostRuntime) -> Result<(), Fail> {
+    let east = Name::new(b"east").ok_or("no name")?;
+    let again = Name::new(b"east").ok_or("no name")?;
+    let west = Name::new(b"west").ok_or("no name")?;
+    assert!(rt; east == again);
+    assert!(rt; east != west);
+    let mut numbers = HashMap::new(rt.alloc());
+    numbers.insert(east, 7)?;
+    assert_eq!(rt; numbers.get(&again).copied(), Some(7));
+    assert_eq!(rt; numbers.get(&west).copied(), None);
+    Ok(())
+}
+
+#[test]
 fn lists_grow(rt: HostRuntime) -> Result<(), Fail> {
     let mut numbers = Numbers::new(rt.alloc());
     numbers.reserve(2)?;
@@ -68,6 +86,18 @@ fn lists_grow(rt: HostRuntime) -> Result<(), Fail> {
     let mut halves = Halves::new(rt.alloc());
     halves.push(Half::new(2, 0, 0, -4).ok().ok_or("no half-space")?)?;
     assert_eq!(rt; halves.items().len(), 1);
+    Ok(())
+}
+
+#[test]
+fn lists_are_joined_and_taken_apart(rt: HostRuntime) -> Result<(), Fail> {
+    let mut front = Numbers::copy_of(rt.alloc(), &[7, 9])?;
+    let back = Numbers::copy_of(rt.alloc(), &[1, 2, 3])?;
+    front.append(back)?;
+    front.append(Numbers::new(rt.alloc()))?;
+    assert_eq!(rt; front.items(), [7, 9, 1, 2, 3].as_slice());
+    let items = front.into_items();
+    assert_eq!(rt; items.as_slice(), [7, 9, 1, 2, 3].as_slice());
     Ok(())
 }
 
@@ -161,4 +191,19 @@ fn short_lists_are_copied(rt: HostRuntime) {
     terms.push(Term::default());
     assert_eq!(rt; terms.copy().items().len(), 2);
     assert_eq!(rt; Outside::default().items().len(), 0);
+}
+
+#[test]
+fn multiples_are_added_up(rt: HostRuntime) -> Result<(), Fail> {
+    assert!(rt; is_multiplier(37778931862957161709567));
+    assert!(rt; !is_multiplier(37778931862957161709568));
+    assert!(rt; !is_multiplier(0));
+    let above = Half::new(1, 0, 0, -3).ok().ok_or("no half-space")?;
+    let below = Half::new(-2, 0, 0, 6).ok().ok_or("no half-space")?;
+    let terms = [Term { by: 1, half: above }, Term { by: 1, half: below }];
+    assert!(rt; is_balanced(&terms));
+    assert!(rt; is_contradiction(&terms, true));
+    assert!(rt; !is_contradiction(&terms, false));
+    assert!(rt; !is_balanced(&[Term { by: 1, half: above }]));
+    Ok(())
 }

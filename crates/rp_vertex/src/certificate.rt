@@ -3,7 +3,7 @@ ghost use Rattle.std.specs.Prelude.{◌≡◌, ◌≤◌, length, ◌↔◌, IsN
 ghost use Rattle.rp_geometry.specs.Geometry.{RationalPoint};
 ghost use Rattle.rp_geometry.specs.sets.Shape.{shape_of_cell};
 ghost use Rattle.rp_geometry.specs.sets.Sets.{IsEmpty};
-ghost use Rattle.rp_geometry.specs.searches.Certificate.{is_inside_certificate, is_weak_point};
+ghost use Rattle.rp_geometry.specs.searches.Certificate.{is_inside_certificate};
 ghost use Rattle.rp_geometry.specs.searches.Vertex.{first_inside, first_weak_point, first_vertex, any_point, points_from};
 ghost use Rattle.rp_geometry.specs.laws.CellLaws.{IsSolution};
 
@@ -32,7 +32,7 @@ pub fn first_inside(cell: &[Half]) -> Option<Inside>
 pub fn first_weak(cell: &[Half]) -> Option<Point>
     requires { length cell.now ≤ 64 }
     ensures first { result ≡ first_weak_point cell.now }
-    ensures passes { IfSome result (λ p. IsTrue (is_weak_point cell.now p)) }
+    ensures passes { IfSome result (λ p. IsSolution false cell.now p) }
     ensures none { IsNone result ↔ ((p : RationalPoint) → ¬ IsSolution false cell.now p) }
 {
     let system = with_cube(cell);

@@ -1,8 +1,8 @@
 -- The four numbers of a half-space by name.
 use Rattle.std.specs.Prelude.{ℤ}
 use Rattle.rp_geometry.specs.Geometry.{HalfSpace}
-use Rattle.rp_cert.specs.declared.outside.Number.{Number}
-use Rattle.rp_cert.specs.declared.outside.Number.TheVariants.{A, B, C, D}
+use Rattle.rp_space.specs.declared.multiples.Number.{Number}
+use Rattle.rp_space.specs.declared.multiples.Number.TheVariants.{A, B, C, D}
 
 -- the number of that name
 abbrev pub number_of : Number → HalfSpace → ℤ

@@ -1,7 +1,7 @@
 use Rattle.std.proofs.Common.{◌≡◌, ◌*◌, ◌^◌, ◌≤◌, ◌+ℤ◌, drop, unsigned_abs}
 use Rattle.rp_geometry.specs.searches.Certificate.{weighted_sum}
-use Rattle.rp_cert.specs.Numbers.{number_of}
-use Rattle.rp_cert.proofs.outside.weighted_sum.Given as goal
+use Rattle.rp_space.specs.FourNumbers.{number_of}
+use Rattle.rp_space.proofs.multiples.weighted_sum.Given as goal
 
 abbrev pub invariant-loop-term : goal.invariant-loop-term
 invariant-loop-term l = record {
