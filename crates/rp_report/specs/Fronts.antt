@@ -2,13 +2,7 @@
 use Rattle.std.specs.Prelude.{◌≡◌, ℕ, List, ◌++◌, Result, Ok, Err}
 use Rattle.std.specs.List.{flat_map}
 use denote.Ref.{Bor}
-
--- new is old with a front of the text at its end
-pub record AppendsFront (old new text : List ℕ) : Type 0 where
-  pub front : List ℕ
-  pub rest : List ℕ
-  pub whole : text ≡ front ++ rest
-  pub appended : new ≡ old ++ front
+use Rattle.rp_syntax.specs.Fronts.{AppendsFront}
 
 -- a call that was to append the text has appended it; where it failed, a front of it
 abbrev pub Writes : {X E : Type 0} → Result X E → List ℕ → List ℕ → List ℕ → Type 0

@@ -1,24 +1,29 @@
 -- Answers of the code as those of the model.
 use Rattle.std.specs.Prelude.{map}
-use Rattle.rp_model.specs.commands.Verdict.{Refusal as ModelRefusal, bad, unknown, Verdict as ModelVerdict, says_yes, says_no, refused, unbuilt}
+use Rattle.rp_model.specs.commands.Verdict.{Refusal as ModelRefusal, bad, unknown, known, limit, Verdict as ModelVerdict, says_yes, says_no, says_ok, parts, part, refused, unbuilt}
 use Rattle.rp_reports.specs.Text.{Answer as ModelAnswer}
 use Rattle.rp_syntax.specs.Views.{fault_of}
 use Rattle.rp_cert.specs.Lines.{line_of}
 use Rattle.rp_report.specs.declared.answer.Refusal.{Refusal}
-use Rattle.rp_report.specs.declared.answer.Refusal.TheVariants.{Bad, Unknown}
+use Rattle.rp_report.specs.declared.answer.Refusal.TheVariants.{Bad, Unknown, Known, Limit}
 use Rattle.rp_report.specs.declared.answer.Verdict.{Verdict}
-use Rattle.rp_report.specs.declared.answer.Verdict.TheVariants.{Yes, No, Refused, Unbuilt}
+use Rattle.rp_report.specs.declared.answer.Verdict.TheVariants.{Yes, No, Ok, Parts, Part, Refused, Unbuilt}
 use Rattle.rp_report.specs.declared.answer.Answer.{Answer}
 
 -- the refusal of the model
 abbrev pub refusal_of : Refusal → ModelRefusal
 refusal_of (Bad why) = bad (fault_of why)
 refusal_of (Unknown x) = unknown x
+refusal_of (Known x) = known x
+refusal_of Limit = limit
 
 -- the verdict of the model
 abbrev pub verdict_of : Verdict → ModelVerdict
 verdict_of Yes = says_yes
 verdict_of No = says_no
+verdict_of Ok = says_ok
+verdict_of (Parts k) = parts k
+verdict_of (Part hs) = part hs.items
 verdict_of (Refused r) = refused (refusal_of r)
 verdict_of Unbuilt = unbuilt
 

@@ -1,7 +1,7 @@
 //! What is told of a line.
 
 use rp_cert::Proofs;
-use rp_space::{Listed, Name};
+use rp_space::{Halves, Listed, Name};
 use rp_syntax::Why;
 use std::alloc::{AllocError, Global};
 
@@ -12,15 +12,25 @@ pub enum Refusal {
     Bad(Why),
     /// The first name or lot, in reading order, that isn't there.
     Unknown(Name),
+    /// A new name that is there already.
+    Known(Name),
+    /// The work that the line asks for passes a limit.
+    Limit,
 }
 
 /// A verdict line.
-#[derive(Clone, Copy, Debug, PartialEq, Eq)]
+#[derive(Debug, Drop)]
 pub enum Verdict {
     /// It is so.
     Yes,
     /// It isn't so.
     No,
+    /// It is done.
+    Ok,
+    /// How many parts there are; a line for each follows.
+    Parts(u32),
+    /// A part, by its half-spaces: the points that all of them hold.
+    Part(Halves),
     /// The line is refused.
     Refused(Refusal),
     /// The line is refused, since its command is not built yet.
@@ -49,6 +59,7 @@ pub struct Answer {
 
 impl Answer {
     ghost use Rattle.std.specs.Prelude.{◌≡◌, ◌∷◌, [], map, IfOk};
+    ghost use Rattle.rp_model.specs.commands.Verdict.{refused, limit};
     ghost use Rattle.rp_reports.specs.Report.{blank_answer};
     ghost use Rattle.rp_cert.specs.Lines.{line_of};
     ghost use Rattle.rp_report.specs.Views.{verdict_of, answer_of};
@@ -65,7 +76,16 @@ impl Answer {
         }
     }
 
-    /// An answer with these proof lines and one verdict. Answers `AllocError` only for want of memory.
+    /// The answer to a line whose work passes a limit: it is refused, and no proof line is told.
+    /// Answers `AllocError` only for want of memory.
+    pub fn past_limit(alloc: Global, n: u32, echo: &[u8]) -> Result<Answer, AllocError>
+        ensures { IfOk result (λ a. answer_of a ≡ record { number = n; echo = echo.now; proofs = []; verdicts = refused limit ∷ [] }) }
+    {
+        let verdict = Verdict::Refused(Refusal::Limit);
+        Answer::with_verdict(alloc, n, echo, Proofs::new(alloc), verdict)
+    }
+
+    /// An answer with these proof lines and one verdict line. Answers `AllocError` only for want of memory.
     pub fn with_verdict(
         alloc: Global,
         n: u32,
@@ -75,8 +95,22 @@ impl Answer {
     ) -> Result<Answer, AllocError>
         ensures { IfOk result (λ a. answer_of a ≡ record { number = n; echo = echo.now; proofs = map line_of proofs.items; verdicts = verdict_of verdict ∷ [] }) }
     {
+        let mut verdicts = Verdicts::new(alloc);
+        verdicts.push(verdict)?;
+        Answer::with_verdicts(alloc, n, echo, proofs, verdicts)
+    }
+
+    /// An answer with these proof lines and verdict lines. Answers `AllocError` only for want of memory.
+    pub fn with_verdicts(
+        alloc: Global,
+        n: u32,
+        echo: &[u8],
+        proofs: Proofs,
+        verdicts: Verdicts,
+    ) -> Result<Answer, AllocError>
+        ensures { IfOk result (λ a. answer_of a ≡ record { number = n; echo = echo.now; proofs = map line_of proofs.items; verdicts = map verdict_of verdicts.items }) }
+    {
         let echo = Echo::copy_of(alloc, echo)?;
-        let verdicts = Verdicts::copy_of(alloc, &[verdict])?;
         Ok(Answer {
             n,
             echo,

@@ -2,10 +2,12 @@
 #![tactic(auto)]
 
 mod answer;
+mod items;
 mod numbers;
 mod pieces;
 mod proof;
 mod text;
+mod verdict;
 
 pub use answer::{Answer, Echo, Refusal, Verdict, Verdicts};
 pub use text::write_answer;

@@ -1,51 +1,74 @@
 //! The text of whole numbers.
-ghost use Rattle.std.specs.Prelude.{◌≡◌, ◌∷◌, map};
+ghost use Rattle.std.specs.Prelude.{◌≡◌, ◌∷◌, map, decimal};
+ghost use Rattle.std.specs.Fmt.{signed_decimal};
 ghost use Rattle.rp_language.specs.Grammar.{spaced};
-ghost use Rattle.rp_reports.specs.Text.{in_parentheses, items_text};
+ghost use Rattle.rp_reports.specs.Text.{in_parentheses};
 ghost use Rattle.rp_report.specs.Fronts.{Writes};
 
+use crate::items::{WriteText, write_items};
 use crate::pieces::append;
 use itoa::{Buffer, Integer};
 use std::alloc::AllocError;
 
 /// Appends a number.
-pub(crate) fn write_number<I: Integer>(number: I, out: &mut Vec<u8>) -> Result<(), AllocError>
+fn write_number<I: Integer>(number: I, out: &mut Vec<u8>) -> Result<(), AllocError>
     ensures { Writes result out.old.items out.new.items (I.text number) }
 {
     let mut buffer = Buffer::new();
     append(buffer.format(number).as_bytes(), out)
 }
 
-/// Appends numbers, each behind a space.
-fn write_more_numbers<I: Integer>(numbers: &[I], out: &mut Vec<u8>) -> Result<(), AllocError>
-    ensures { Writes result out.old.items out.new.items (items_text I.text numbers.now) }
-{
-    for number in numbers {
-        append(b" ", out)?;
-        write_number(*number, out)?;
+impl WriteText for u32 {
+    ghost text = { decimal };
+
+    fn write_text(&self, out: &mut Vec<u8>) -> Result<(), AllocError> {
+        write_number(*self, out)
     }
-    Ok(())
+}
+
+impl WriteText for i32 {
+    ghost text = { signed_decimal };
+
+    fn write_text(&self, out: &mut Vec<u8>) -> Result<(), AllocError> {
+        write_number(*self, out)
+    }
+}
+
+impl WriteText for i64 {
+    ghost text = { signed_decimal };
+
+    fn write_text(&self, out: &mut Vec<u8>) -> Result<(), AllocError> {
+        write_number(*self, out)
+    }
+}
+
+impl WriteText for i128 {
+    ghost text = { signed_decimal };
+
+    fn write_text(&self, out: &mut Vec<u8>) -> Result<(), AllocError> {
+        write_number(*self, out)
+    }
 }
 
 /// Appends a number and others, with one space between each two.
-pub(crate) fn write_spaced<I: Integer>(
-    first: I,
-    others: &[I],
+pub(crate) fn write_spaced<N: WriteText>(
+    first: &N,
+    others: &[N],
     out: &mut Vec<u8>,
 ) -> Result<(), AllocError>
-    ensures { Writes result out.old.items out.new.items (spaced (I.text first ∷ map I.text others.now)) }
+    ensures { Writes result out.old.items out.new.items (spaced (N.text first.now ∷ map N.text others.now)) }
 {
-    write_number(first, out)?;
-    write_more_numbers(others, out)
+    first.write_text(out)?;
+    write_items(others, out)
 }
 
 /// Appends a number and others in parentheses, with one space between each two.
-pub(crate) fn write_in_parentheses<I: Integer>(
-    first: I,
-    others: &[I],
+pub(crate) fn write_in_parentheses<N: WriteText>(
+    first: &N,
+    others: &[N],
     out: &mut Vec<u8>,
 ) -> Result<(), AllocError>
-    ensures { Writes result out.old.items out.new.items (in_parentheses (I.text first ∷ map I.text others.now)) }
+    ensures { Writes result out.old.items out.new.items (in_parentheses (N.text first.now ∷ map N.text others.now)) }
 {
     append(b"(", out)?;
     write_spaced(first, others, out)?;

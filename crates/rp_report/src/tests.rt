@@ -1,6 +1,6 @@
-use crate::{Answer, Refusal, Verdict, write_answer};
+use crate::{Answer, Refusal, Verdict, Verdicts, write_answer};
 use rp_cert::{Proof, Proofs};
-use rp_space::{Half, Inside, IntBox, Name, Outside, Point, Term};
+use rp_space::{Half, Halves, Inside, IntBox, Name, Outside, Point, Term};
 use rp_syntax::Why;
 use std::alloc::{AllocError, Global};
 use std::process::Abort;
@@ -23,34 +23,82 @@ fn expect_text(
 
 #[test]
 fn each_verdict_has_its_line(rt: HostRuntime) -> Result<(), Fail> {
-    let name = Name::new(b"west").ok_or("no name")?;
     for (verdict, want) in [
         (Verdict::Yes, b"> 7 all\n= yes\n".as_slice()),
         (Verdict::No, b"> 7 all\n= no\n"),
+        (Verdict::Ok, b"> 7 all\n= ok\n"),
+        (Verdict::Parts(0), b"> 7 all\n= parts 0\n"),
+        (Verdict::Parts(1024), b"> 7 all\n= parts 1024\n"),
         (Verdict::Unbuilt, b"> 7 all\n= refused unbuilt\n"),
-        (
-            Verdict::Refused(Refusal::Unknown(name)),
-            b"> 7 all\n= refused unknown west\n",
-        ),
-        (
-            Verdict::Refused(Refusal::Bad(Why::Syntax)),
-            b"> 7 all\n= refused syntax\n",
-        ),
-        (
-            Verdict::Refused(Refusal::Bad(Why::Range)),
-            b"> 7 all\n= refused range\n",
-        ),
-        (
-            Verdict::Refused(Refusal::Bad(Why::Zero)),
-            b"> 7 all\n= refused zero\n",
-        ),
-        (
-            Verdict::Refused(Refusal::Bad(Why::Nodes)),
-            b"> 7 all\n= refused nodes\n",
-        ),
     ] {
         expect_text(&rt, rt.alloc(), (7, b"all"), verdict, want)?;
     }
+    Ok(())
+}
+
+#[test]
+fn each_refusal_has_its_words(rt: HostRuntime) -> Result<(), Fail> {
+    let name = Name::new(b"west").ok_or("no name")?;
+    for (refusal, want) in [
+        (
+            Refusal::Bad(Why::Syntax),
+            b"> 7 all\n= refused syntax\n".as_slice(),
+        ),
+        (Refusal::Bad(Why::Range), b"> 7 all\n= refused range\n"),
+        (Refusal::Bad(Why::Zero), b"> 7 all\n= refused zero\n"),
+        (Refusal::Bad(Why::Nodes), b"> 7 all\n= refused nodes\n"),
+        (Refusal::Unknown(name), b"> 7 all\n= refused unknown west\n"),
+        (Refusal::Known(name), b"> 7 all\n= refused known west\n"),
+        (Refusal::Limit, b"> 7 all\n= refused limit\n"),
+    ] {
+        let verdict = Verdict::Refused(refusal);
+        expect_text(&rt, rt.alloc(), (7, b"all"), verdict, want)?;
+    }
+    Ok(())
+}
+
+#[test]
+fn parts_stand_below_their_number(rt: HostRuntime) -> Result<(), Fail> {
+    let near = Half::new(-1, 0, 0, 10).ok().ok_or("no half-space")?;
+    let right = Half::new(0, 1, 0, 0).ok().ok_or("no half-space")?;
+    let mut verdicts = Verdicts::new(rt.alloc());
+    verdicts.push(Verdict::Parts(1))?;
+    verdicts.push(Verdict::Part(Halves::copy_of(rt.alloc(), &[near, right])?))?;
+    let answer = Answer::with_verdicts(
+        rt.alloc(),
+        7,
+        b"show q",
+        Proofs::new(rt.alloc()),
+        verdicts,
+    )?;
+    let mut out = Vec::new(rt.alloc());
+    write_answer(&answer, false, &mut out)?;
+    assert_eq!(rt;
+        out.as_slice(),
+        b"> 7 show q\n= parts 1\n= part (-1 0 0 10) (0 1 0 0)\n".as_slice()
+    );
+    Ok(())
+}
+
+#[test]
+fn a_part_of_all_points_has_its_word_alone(rt: HostRuntime) -> Result<(), Fail> {
+    let all = Verdict::Part(Halves::new(rt.alloc()));
+    expect_text(
+        &rt,
+        rt.alloc(),
+        (7, b"show all"),
+        all,
+        b"> 7 show all\n= part\n",
+    )?;
+    Ok(())
+}
+
+#[test]
+fn past_a_limit_nothing_but_the_refusal_is_told(rt: HostRuntime) -> Result<(), Fail> {
+    let answer = Answer::past_limit(rt.alloc(), 7, b"show q")?;
+    let mut out = Vec::new(rt.alloc());
+    write_answer(&answer, false, &mut out)?;
+    assert_eq!(rt; out.as_slice(), b"> 7 show q\n= refused limit\n".as_slice());
     Ok(())
 }
 

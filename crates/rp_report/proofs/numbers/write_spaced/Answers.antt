@@ -4,19 +4,22 @@ use Rattle.rp_report.proofs.FrontLemmas.{front_before, front_same, writes_behind
 use Rattle.rp_report.proofs.LineLemmas.{spaced_text}
 use Rattle.rp_report.proofs.numbers.write_spaced.Goals as goal
 
-pub returns-in_err-write_number : goal.returns-in_err-write_number
-returns-in_err-write_number g c =
+pub returns-in_err-write_text : goal.returns-in_err-write_text
+returns-in_err-write_text g c =
     let p = err_from_is_err_and c.from_residual.result c.from_residual.ensures.1 in
-    let text = g.I.Integer.text in
+    let text = g.N.WriteText.text in
+    let first = text c.args.first.now in
+    let others = c.args.others.now in
     let old = c.args.out.now.items in
-    let new = c.write_number.new.out.items in
-    rw (p.1)
-    (front_same old new _ _ (spaced_text text (text c.args.first) c.args.others.now) (front_before old new (text c.args.first) (items_text text c.args.others.now) c.in_err-write_number.ensures))
+    let new = c.write_text.new.out.items in
+    rw (p.1) (front_same old new _ _ (spaced_text text first others) (front_before old new first (items_text text others) c.in_err-write_text.ensures))
 
 pub returns : goal.returns
 returns g c =
-    let text = g.I.Integer.text in
+    let text = g.N.WriteText.text in
+    let first = text c.args.first.now in
+    let others = c.args.others.now in
     let old = c.args.out.now.items in
-    let new = c.write_more_numbers.new.out.items in
-    writes_same c.write_more_numbers.result old new _ _ (spaced_text text (text c.args.first) c.args.others.now)
-    (writes_behind c.write_more_numbers.result old c.write_number.new.out.items new (text c.args.first) (items_text text c.args.others.now) c.in_ok-write_number.ensures c.write_more_numbers.ensures)
+    let new = c.write_items.new.out.items in
+    writes_same c.write_items.result old new _ _ (spaced_text text first others)
+    (writes_behind c.write_items.result old c.write_text.new.out.items new first (items_text text others) c.in_ok-write_text.ensures c.write_items.ensures)

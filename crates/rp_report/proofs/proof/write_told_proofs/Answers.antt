@@ -8,5 +8,5 @@ use Rattle.rp_report.proofs.proof.write_told_proofs.Goals as goal
 pub returns : goal.returns
 returns c =
     let proofs = c.args.proofs.now in
-    writes_same c.write_proofs.result c.args.out.now.items c.write_proofs.new.out.items _ _
-    (proofs_text proofs ∙ ap (λ (brief : Bool). text_of_lines (proof_texts brief (map line_of proofs))) (sym c.if-brief.false)) c.write_proofs.ensures
+    writes_same c.write_lines.result c.args.out.now.items c.write_lines.new.out.items _ _
+    (proofs_text proofs ∙ ap (λ (brief : Bool). text_of_lines (proof_texts brief (map line_of proofs))) (sym c.if-brief.false)) c.write_lines.ensures

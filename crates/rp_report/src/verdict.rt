@@ -1,0 +1,62 @@
+//! The text of verdict lines.
+ghost use Rattle.std.specs.Prelude.{◌≡◌};
+ghost use Rattle.rp_reports.specs.Text.{fault_word, refusal_text, verdict_text};
+ghost use Rattle.rp_syntax.specs.Views.{fault_of};
+ghost use Rattle.rp_report.specs.Views.{refusal_of, verdict_of};
+
+use crate::answer::{Refusal, Verdict};
+use crate::items::{WriteText, write_operand, write_operands};
+use crate::pieces::append;
+use rp_space::Name;
+use rp_syntax::Why;
+use std::alloc::AllocError;
+
+impl WriteText for Name {
+    ghost text = { λ x. x };
+
+    fn write_text(&self, out: &mut Vec<u8>) -> Result<(), AllocError> {
+        append(self.bytes(), out)
+    }
+}
+
+/// The word of a fault of a line.
+fn fault_word(why: Why) -> &'static [u8]
+    ensures { result.now ≡ fault_word (fault_of why) }
+{
+    match why {
+        Why::Syntax => b"syntax",
+        Why::Range => b"range",
+        Why::Zero => b"zero",
+        Why::Nodes => b"nodes",
+        Why::Long => b"long",
+    }
+}
+
+impl WriteText for Refusal {
+    ghost text = { λ r. refusal_text (refusal_of r) };
+
+    fn write_text(&self, out: &mut Vec<u8>) -> Result<(), AllocError> {
+        match self {
+            Refusal::Bad(why) => append(fault_word(*why), out),
+            Refusal::Unknown(name) => write_operand(b"unknown", name, out),
+            Refusal::Known(name) => write_operand(b"known", name, out),
+            Refusal::Limit => append(b"limit", out),
+        }
+    }
+}
+
+impl WriteText for Verdict {
+    ghost text = { λ v. verdict_text (verdict_of v) };
+
+    fn write_text(&self, out: &mut Vec<u8>) -> Result<(), AllocError> {
+        match self {
+            Verdict::Yes => append(b"= yes", out),
+            Verdict::No => append(b"= no", out),
+            Verdict::Ok => append(b"= ok", out),
+            Verdict::Parts(count) => write_operand(b"= parts", count, out),
+            Verdict::Part(halves) => write_operands(b"= part", halves.items(), out),
+            Verdict::Refused(refusal) => write_operand(b"= refused", refusal, out),
+            Verdict::Unbuilt => append(b"= refused unbuilt", out),
+        }
+    }
+}
