@@ -23,7 +23,7 @@ pub use multiples::{is_balanced, is_contradiction, is_multiplier};
 pub use name::Name;
 pub use outside::{Outside, Term};
 pub use point::{Point, PointFault};
-pub use system::{System, keep_bounds, with_cube};
+pub use system::{System, joined, keep_bounds, with_cube};
 
 #[cfg(test)]
 mod tests;

@@ -33,6 +33,17 @@ pub fn keep_bounds(halves: &[Half])
     }
 }
 
+/// The half-spaces of two lists, those of the first before those of the second: at most 70 together.
+pub fn joined(first: &[Half], second: &[Half]) -> System
+    requires { length first.now + length second.now ≤ 70 }
+    ensures { result.items ≡ first.now ++ second.now }
+{
+    let mut system = System::new();
+    extend(&mut system, first);
+    extend(&mut system, second);
+    system
+}
+
 /// Appends half-spaces, for which there is room.
 fn extend(system: &mut System, halves: &[Half])
     requires { array_vec_len system.old + length halves.now ≤ 70 }

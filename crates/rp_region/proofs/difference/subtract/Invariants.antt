@@ -1,0 +1,11 @@
+use Rattle.std.proofs.Common.{drop}
+use Rattle.rp_walks.specs.Walk.{first_tester}
+use Rattle.rp_walks.specs.Form.{subtract}
+use Rattle.rp_region.proofs.Left.{IsLeft}
+use Rattle.rp_region.proofs.difference.subtract.Given as goal
+
+-- the other parts still to come are left
+abbrev pub invariant-loop-other : goal.invariant-loop-other
+invariant-loop-other l =
+    IsLeft l.initial.work (subtract first_tester l.fn.parts.items l.others)
+    l.work (subtract first_tester l.current.items (drop l.other-index l.others))

@@ -1,0 +1,12 @@
+use Rattle.std.proofs.Common.{[]}
+use Rattle.std.specs.Vec.Iter.{into_iter_items}
+use Rattle.rp_walks.specs.Walk.{first_tester}
+use Rattle.rp_walks.specs.Form.{subtract_part}
+use Rattle.rp_region.proofs.Left.{IsLeft}
+use Rattle.rp_region.proofs.difference.subtract_part.Given as goal
+
+-- the parts still to come are left
+abbrev pub invariant-loop-part : goal.invariant-loop-part
+invariant-loop-part l =
+    IsLeft l.initial.work (subtract_part first_tester [] l.fn.parts.items l.other)
+    l.work (subtract_part first_tester l.left.items (into_iter_items l.part-iterator) l.other)

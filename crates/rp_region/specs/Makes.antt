@@ -1,0 +1,39 @@
+-- What a call that makes a walk has made of it.
+use Rattle.std.specs.Prelude.{◌≡◌, Bool, true, false, List, ◌++◌, Result, Ok, Err}
+use Rattle.std.specs.declared.alloc.AllocError.{AllocError}
+use Rattle.rp_geometry.specs.searches.ProofLine.{ProofLine}
+use Rattle.rp_walks.specs.Walk.{Outcome, done, stopped, limit_met, Walk, Work}
+use Rattle.rp_region.specs.declared.fault.OpFault.{OpFault}
+use Rattle.rp_region.specs.declared.fault.OpFault.TheVariants.{Limit, Memory}
+
+-- whether tests were counted, as what a walk comes to
+abbrev pub counted : Bool → Work → Outcome Work (Unit {0})
+counted true w = done tt w
+counted false w = stopped limit_met w
+
+-- a want of memory, as a fault of an operation
+abbrev pub op_result : {A : Type 0} → Result A AllocError → Result A OpFault
+op_result (Ok x) = Ok x
+op_result (Err e) = Err (Memory e)
+
+-- the work as it is at the end of a walk
+abbrev pub work_after : {A : Type 0} → Outcome Work A → Work
+work_after (done x w) = w
+work_after (stopped s w) = w
+
+-- the second work has the proof lines of the first, and further ones behind them
+pub record TellsMore (v w : Work) : Type 0 where
+  pub more : List ProofLine
+  pub lines : w.proofs ≡ v.proofs ++ more
+
+-- a walk was given up on the way: the proof lines are those before, with a front of those that the whole walk appends
+pub record IsCutShort {A : Type 0} (old new : Work) (outcome : Outcome Work A) : Type 0 where
+  pub told : TellsMore old new
+  pub untold : TellsMore new (work_after outcome)
+
+-- The walk was made, from the work old to the work new. With a result it comes to this result, as the model sees it, and to the new work;
+-- with Limit it meets a limit there; for want of memory it was given up.
+abbrev pub Makes : {A B : Type 0} → (A → B) → Result A OpFault → Work → Work → Walk Work B → Type 0
+Makes view (Ok x) old new walk = walk old ≡ done (view x) new
+Makes view (Err Limit) old new walk = walk old ≡ stopped limit_met new
+Makes view (Err (Memory e)) old new walk = IsCutShort old new (walk old)

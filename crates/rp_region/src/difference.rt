@@ -1,0 +1,116 @@
+//! What is left of a list of parts outside a second one, test by test.
+ghost use Rattle.std.specs.Prelude.{◌≡◌, ◌+◌, ◌≤◌, ◌<◌, [], length};
+ghost use Rattle.rp_geometry.specs.parts.Parts.{most_half_spaces};
+ghost use Rattle.rp_walks.specs.Walk.{first_tester};
+ghost use Rattle.rp_walks.specs.Form.{carve_one, carve, carve_or_keep, subtract_pair, subtract_part, subtract};
+ghost use Rattle.rp_region.specs.Makes.{Makes};
+
+use crate::fault::OpFault;
+use crate::part::Part;
+use crate::region::MAX_PARTS;
+use crate::work::Work;
+use rp_space::{Half, Listed, joined};
+use std::alloc::Global;
+
+/// The parts of a list without those of a second list, one after the other.
+pub(crate) fn subtract(
+    alloc: Global,
+    parts: Listed<Part>,
+    others: &[Part],
+    work: &mut Work,
+) -> Result<Listed<Part>, OpFault>
+    ensures { Makes (λ left. left.items) result work.old work.new (subtract first_tester parts.items others.now) }
+{
+    let mut current = parts;
+    for other in others {
+        current = subtract_part(alloc, current, other, work)?;
+        if current.items().len() > MAX_PARTS {
+            return Err(OpFault::Limit);
+        }
+    }
+    Ok(current)
+}
+
+/// The parts of a list without one part.
+fn subtract_part(
+    alloc: Global,
+    parts: Listed<Part>,
+    other: &Part,
+    work: &mut Work,
+) -> Result<Listed<Part>, OpFault>
+    ensures { Makes (λ left. left.items) result work.old work.new (subtract_part first_tester [] parts.items other.now) }
+{
+    let mut left = Listed::new(alloc);
+    for part in parts.into_items() {
+        subtract_pair(alloc, &mut left, part, other, work)?;
+    }
+    Ok(left)
+}
+
+/// What is left of one part outside another, behind what is left already: the part itself, without a test, where the
+/// boxes do not meet.
+fn subtract_pair(
+    alloc: Global,
+    left: &mut Listed<Part>,
+    part: Part,
+    other: &Part,
+    work: &mut Work,
+) -> Result<(), OpFault>
+    ensures { Makes (λ _. left.new.items) result work.old work.new (subtract_pair first_tester left.old.items part other.now) }
+{
+    if !part.is_near(other) {
+        left.push(part)?;
+        return Ok(());
+    }
+    if !work.count(1) {
+        return Err(OpFault::Limit);
+    }
+    match work.strict(alloc, part.halves(), other.halves())? {
+        Some(_) => carve(alloc, left, part.halves(), other.halves(), work),
+        None => {
+            left.push(part)?;
+            Ok(())
+        }
+    }
+}
+
+/// What is left of a cell outside some half-spaces, piece by piece: outside each of them, inside those before.
+fn carve(
+    alloc: Global,
+    left: &mut Listed<Part>,
+    cell: &[Half],
+    halves: &[Half],
+    work: &mut Work,
+) -> Result<(), OpFault>
+    requires cell { length cell.now ≤ most_half_spaces }
+    requires halves { length halves.now ≤ most_half_spaces }
+    ensures { Makes (λ _. left.new.items) result work.old work.new (carve first_tester left.old.items cell.now [] halves.now) }
+{
+    for (i, half) in halves.iter().enumerate() {
+        carve_one(alloc, left, cell, &halves[..i], half, work)?;
+    }
+    Ok(())
+}
+
+/// What is left of a cell outside one half-space, inside those before.
+fn carve_one(
+    alloc: Global,
+    left: &mut Listed<Part>,
+    cell: &[Half],
+    before: &[Half],
+    half: &Half,
+    work: &mut Work,
+) -> Result<(), OpFault>
+    requires { length cell.now + length before.now < 64 }
+    ensures { Makes (λ _. left.new.items) result work.old work.new (carve_one first_tester left.old.items cell.now before.now half.now) }
+{
+    if !work.count(1) {
+        return Err(OpFault::Limit);
+    }
+    let mut piece = joined(cell, before);
+    piece.push(half.not());
+    if let Some(part) = work.part(alloc, piece.as_slice())? {
+        left.push(part)?;
+    }
+    Ok(())
+}

@@ -1,0 +1,14 @@
+//! Regions of space as lists of parts, and their algebra: intersection, union, difference and complement, test by test.
+#![tactic(auto)]
+
+mod difference;
+mod fault;
+mod join;
+mod part;
+mod region;
+mod work;
+
+pub use fault::OpFault;
+pub use part::Part;
+pub use region::Region;
+pub use work::Work;

@@ -1,0 +1,99 @@
+//! Parts: cells with a member, each with the least box round its members.
+ghost use Rattle.std.specs.Prelude.{◌≡◌, ◌≤◌, IfOk, length};
+ghost use Rattle.rp_geometry.specs.Geometry.{boxes_meet};
+ghost use Rattle.rp_geometry.specs.parts.PartTest.{whole_part};
+ghost use Rattle.rp_geometry.specs.parts.Parts.{IsPart, most_half_spaces};
+ghost use Rattle.rp_space.specs.Boxes.{integer_box};
+
+use rp_space::{Half, Halves, IntBox};
+use std::alloc::{AllocError, Global};
+use std::marker::Model;
+
+/// Half the edge of the domain cube, in units.
+const HALF_EDGE: i32 = 16777216;
+
+/// A part of a region: a cell of at most 32 half-spaces with a member, and the least box with whole corners round its
+/// members.
+#[derive(Debug, Drop)]
+pub struct Part {
+    halves: Halves,
+    bounds: IntBox,
+}
+
+impl Model for Part {
+    ghost use Rattle.rp_geometry.specs.sets.Shape.{Part};
+    ghost use Rattle.rp_geometry.specs.parts.Parts.{IsPart};
+    ghost use Rattle.rp_space.specs.Boxes.{integer_box};
+
+    ghost Value = { Part };
+
+    ghost view = { λ a. record { cell = a.halves.items; bounds = integer_box a.bounds } };
+
+    ghost invariant = { λ a. IsPart (record { cell = a.halves.items; bounds = integer_box a.bounds }) };
+}
+
+impl Part {
+    /// The whole cube, which has no half-space. Takes no memory.
+    pub(crate) fn whole(alloc: Global) -> Part
+        ensures { result ≡ whole_part }
+    {
+        Part {
+            halves: Halves::new(alloc),
+            bounds: IntBox {
+                lo: [-HALF_EDGE; 3],
+                hi: [HALF_EDGE; 3],
+            },
+        }
+    }
+
+    /// The part of a slim cell and its least box.
+    pub(crate) fn of_slim(halves: Halves, bounds: IntBox) -> Part
+        requires { IsPart (record { cell = halves.items; bounds = integer_box bounds }) }
+        ensures { result ≡ record { cell = halves.items; bounds = integer_box bounds } }
+    {
+        Part { halves, bounds }
+    }
+
+    /// The half-spaces in order, at most 32. The members are the points of the cube that all of them hold.
+    pub fn halves(&self) -> &[Half]
+        ensures value { result.now ≡ self.now.cell }
+        ensures few { length result.now ≤ most_half_spaces }
+    {
+        self.halves.items()
+    }
+
+    /// The least box round the members: on each axis the greatest whole lower and the least whole upper bound.
+    pub fn bounds(&self) -> &IntBox
+        ensures { integer_box result.now ≡ self.now.bounds }
+    {
+        &self.bounds
+    }
+
+    /// The same part. Answers `AllocError` only for want of memory.
+    pub(crate) fn copy(&self, alloc: Global) -> Result<Part, AllocError>
+        ensures { IfOk result (λ part. part ≡ self.now) }
+    {
+        Ok(Part {
+            halves: Halves::copy_of(alloc, self.halves.items())?,
+            bounds: self.bounds,
+        })
+    }
+
+    /// Whether the boxes of two parts share more than boundary.
+    pub(crate) fn is_near(&self, other: &Part) -> bool
+        ensures { result ≡ boxes_meet self.now.bounds other.now.bounds }
+    {
+        boxes_meet(&self.bounds, &other.bounds)
+    }
+}
+
+/// Whether each of two boxes begins before the other ends, on each axis.
+fn boxes_meet(first: &IntBox, second: &IntBox) -> bool
+    ensures { result ≡ boxes_meet (integer_box first.now) (integer_box second.now) }
+{
+    let [x1, y1, z1] = first.lo;
+    let [x2, y2, z2] = first.hi;
+    let [u1, v1, w1] = second.lo;
+    let [u2, v2, w2] = second.hi;
+    x1 < u2 && u1 < x2 && y1 < v2 && v1 < y2 && z1 < w2 && w1 < z2
+}

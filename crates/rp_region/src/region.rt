@@ -1,0 +1,201 @@
+//! Regions and their algebra.
+ghost use Rattle.std.specs.Prelude.{◌≡◌, ◌≤◌, ◌∷◌, [], ◌++◌, length, IfOk};
+ghost use Rattle.rp_geometry.specs.Geometry.{is_cube_point, all_hold};
+ghost use Rattle.rp_geometry.specs.sets.Shape.{Shape, is_member, passes, shape_of_cell, shape_of_parts};
+ghost use Rattle.rp_geometry.specs.sets.Sets.{SameMembers};
+ghost use Rattle.rp_geometry.specs.parts.PartTest.{whole_part};
+ghost use Rattle.rp_geometry.specs.parts.Parts.{most_parts};
+ghost use Rattle.rp_walks.specs.Walk.{first_tester};
+ghost use Rattle.rp_walks.specs.Form.{if_at_most, join, subtract, subtract_from_whole, parts_of_cell};
+ghost use Rattle.rp_region.specs.Makes.{Makes};
+
+use crate::difference::subtract;
+use crate::fault::OpFault;
+use crate::join::join_each;
+use crate::part::Part;
+use crate::work::Work;
+use rp_space::{Half, Listed, Point, cube};
+use std::alloc::{AllocError, Global};
+use std::marker::Model;
+
+/// The most parts of a region.
+pub(crate) const MAX_PARTS: usize = 1024;
+
+/// A region of space: a list of at most 1,024 parts, whose members are those of any part.
+#[derive(Debug, Drop)]
+pub struct Region {
+    parts: Listed<Part>,
+}
+
+impl Model for Region {
+    ghost use Rattle.std.specs.Prelude.{List};
+    ghost use Rattle.rp_geometry.specs.sets.Shape.{Part};
+    ghost use Rattle.rp_geometry.specs.parts.Parts.{IsRegion};
+
+    ghost Value = { List Part };
+
+    ghost view = { λ a. a.parts.items };
+
+    ghost invariant = { λ a. IsRegion a.parts.items };
+}
+
+impl Region {
+    /// The region without parts. Takes no memory.
+    pub fn none(alloc: Global) -> Region
+        ensures { result ≡ [] }
+    {
+        Region {
+            parts: Listed::new(alloc),
+        }
+    }
+
+    /// The whole cube: one part without half-spaces. Answers `AllocError` only for want of memory.
+    pub fn all(alloc: Global) -> Result<Region, AllocError>
+        ensures { IfOk result (λ region. region ≡ whole_part ∷ []) }
+    {
+        let mut parts = Listed::new(alloc);
+        parts.push(Part::whole(alloc))?;
+        Ok(Region { parts })
+    }
+
+    /// The region of a cell of at most 64 half-spaces: the part that one part test makes of it, or no part where the cell
+    /// has no point. The test isn't counted. `Limit` exactly where more than 32 half-spaces are left of the cell without
+    /// those that add nothing.
+    pub fn of_cell(alloc: Global, cell: &[Half], work: &mut Work) -> Result<Region, OpFault>
+        requires { length cell.now ≤ 64 }
+        ensures makes { Makes (λ region. region) result work.old work.new (parts_of_cell first_tester cell.now) }
+        ensures members { IfOk result (λ region. SameMembers (shape_of_parts region) (shape_of_cell cell.now)) }
+    {
+        let mut parts = Listed::new(alloc);
+        if let Some(part) = work.part(alloc, cell)? {
+            parts.push(part)?;
+        }
+        Ok(Region { parts })
+    }
+
+    /// What two regions have in common: a part test of each part of the first with each part of the second. As many tests
+    /// are counted as there are pairs. `Limit` exactly where too many tests are counted, where a part would have more than
+    /// 32 half-spaces or where more than 1,024 parts are made.
+    pub fn both(&self, alloc: Global, other: &Region, work: &mut Work) -> Result<Region, OpFault>
+        ensures makes { Makes (λ region. region) result work.old work.new (join first_tester self.now other.now) }
+        ensures members { IfOk result (λ region. SameMembers (shape_of_parts region) (Shape.intersection (shape_of_parts self.now) (shape_of_parts other.now))) }
+    {
+        let first = self.parts.items();
+        let second = other.parts.items();
+        if !work.count(first.len() as u64 * second.len() as u64) {
+            return Err(OpFault::Limit);
+        }
+        let mut parts = Listed::new(alloc);
+        join_each(alloc, &mut parts, first, second, work)?;
+        Ok(Region { parts })
+    }
+
+    /// Two regions together: the parts of the first, and then those of the second. It rests on no test. `Limit` exactly
+    /// where these are more than 1,024.
+    pub fn either(&self, alloc: Global, other: &Region, work: &mut Work) -> Result<Region, OpFault>
+        ensures makes { Makes (λ region. region) result work.old work.new (if_at_most most_parts (self.now ++ other.now)) }
+        ensures members { IfOk result (λ region. SameMembers (shape_of_parts region) (Shape.union (shape_of_parts self.now) (shape_of_parts other.now))) }
+    {
+        let first = self.copy(alloc)?;
+        first.into_either(other.copy(alloc)?, work)
+    }
+
+    /// As `either`, with the parts of both regions moved.
+    pub fn into_either(self, other: Region, work: &mut Work) -> Result<Region, OpFault>
+        ensures makes { Makes (λ region. region) result work.old work.new (if_at_most most_parts (self ++ other)) }
+        ensures members { IfOk result (λ region. SameMembers (shape_of_parts region) (Shape.union (shape_of_parts self) (shape_of_parts other))) }
+    {
+        // No test is made, so the work stays as it is.
+        let _ = work;
+        let mut parts = self.parts;
+        let more = other.parts;
+        if parts.items().len() + more.items().len() > MAX_PARTS {
+            return Err(OpFault::Limit);
+        }
+        parts.append(more)?;
+        Ok(Region { parts })
+    }
+
+    /// What is left of a region outside another one: each part of the other is taken away in turn. `Limit` exactly where
+    /// too many tests are counted, where a part would have more than 32 half-spaces, or where more than 1,024 parts are left
+    /// behind a part of the other.
+    pub fn minus(&self, alloc: Global, other: &Region, work: &mut Work) -> Result<Region, OpFault>
+        ensures makes { Makes (λ region. region) result work.old work.new (subtract first_tester self.now other.now) }
+        ensures members { IfOk result (λ region. SameMembers (shape_of_parts region) (Shape.difference (shape_of_parts self.now) (shape_of_parts other.now))) }
+    {
+        let first = self.copy(alloc)?;
+        first.into_minus(alloc, other, work)
+    }
+
+    /// As `minus`, with those parts moved that stay as they are.
+    pub fn into_minus(
+        self,
+        alloc: Global,
+        other: &Region,
+        work: &mut Work,
+    ) -> Result<Region, OpFault>
+        ensures makes { Makes (λ region. region) result work.old work.new (subtract first_tester self other.now) }
+        ensures members { IfOk result (λ region. SameMembers (shape_of_parts region) (Shape.difference (shape_of_parts self) (shape_of_parts other.now))) }
+    {
+        let parts = subtract(alloc, self.parts, other.parts.items(), work)?;
+        Ok(Region { parts })
+    }
+
+    /// What is left of the cube outside a region. `Limit` as for `minus`.
+    pub fn outside(&self, alloc: Global, work: &mut Work) -> Result<Region, OpFault>
+        ensures makes { Makes (λ region. region) result work.old work.new (subtract_from_whole first_tester self.now) }
+        ensures members { IfOk result (λ region. SameMembers (shape_of_parts region) (Shape.opposite (shape_of_parts self.now))) }
+    {
+        let whole = Region::all(alloc)?;
+        whole.into_minus(alloc, self, work)
+    }
+
+    /// The same list of parts. Answers `AllocError` only for want of memory.
+    pub fn copy(&self, alloc: Global) -> Result<Region, AllocError>
+        ensures { IfOk result (λ region. region ≡ self.now) }
+    {
+        let mut parts = Listed::new(alloc);
+        for part in self.parts.items() {
+            parts.push(part.copy(alloc)?)?;
+        }
+        Ok(Region { parts })
+    }
+
+    /// The parts in order.
+    pub fn parts(&self) -> &[Part]
+        ensures value { result.now ≡ self.now }
+        ensures few { length result.now ≤ most_parts }
+    {
+        self.parts.items()
+    }
+
+    /// Whether the point is a member: it is in the cube and in a part.
+    pub fn holds(&self, p: &Point) -> bool
+        ensures { result ≡ is_member (shape_of_parts self.now) p.now }
+    {
+        is_in_cube(p) && is_in_some(self.parts.items(), p)
+    }
+}
+
+/// Whether the point lies in the domain cube, its upper sides left out.
+fn is_in_cube(p: &Point) -> bool
+    ensures { result ≡ is_cube_point p.now }
+{
+    // Only for what `numbers` ensures, that the weight is positive.
+    let _ = p.numbers();
+    all_hold(&cube(), p)
+}
+
+/// Whether the half-spaces of one of the parts all hold the point.
+fn is_in_some(parts: &[Part], p: &Point) -> bool
+    ensures { result ≡ passes (shape_of_parts parts.now) p.now }
+{
+    parts.iter().any(|part| all_hold(part.halves(), p))
+}
+
+/// Whether all half-spaces hold the point.
+fn all_hold(halves: &[Half], p: &Point) -> bool
+    ensures { result ≡ all_hold halves.now p.now }
+{
+    halves.iter().all(|half| half.holds(p))
+}
