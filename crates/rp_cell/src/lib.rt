@@ -1,9 +1,16 @@
-//! Decisions about cells. Each is one of two answers, and carries the certificate that shows it.
+//! Decisions about cells, slim cells, and the least whole boxes round them. Each answer carries the certificates that show it.
 #![tactic(auto)]
 
+mod bounds;
 mod decide;
+mod others;
+mod side_proofs;
+mod slimming;
 
+pub use bounds::{Sides, box_of, sides_of};
 pub use decide::{Strict, Weak, decide_strict, decide_weak};
+pub use side_proofs::SideProofs;
+pub use slimming::{Cell, Drops, Slimmed, slim};
 
 #[cfg(test)]
 mod tests;

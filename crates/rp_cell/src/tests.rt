@@ -1,4 +1,7 @@
-use crate::{Strict, Weak, decide_strict, decide_weak};
+use crate::{
+    Cell, Drops, SideProofs, Sides, Slimmed, Strict, Weak, box_of, decide_strict, decide_weak,
+    sides_of, slim,
+};
 use rp_space::{Half, HalfFault, IntBox, Term, box_halves};
 use std::test::Fail;
 
@@ -14,10 +17,25 @@ fn term(by: i128, numbers: (i64, i64, i64, i64)) -> Result<Term, HalfFault> {
     })
 }
 
+/// A tetrahedron with a corner at the origin, whose fourth side cuts the axes at 7/2, 7/3 and 7/5.
+fn tetrahedron() -> Result<[Half; 4], HalfFault> {
+    Ok([
+        Half::new(1, 0, 0, 0)?,
+        Half::new(0, 1, 0, 0)?,
+        Half::new(0, 0, 1, 0)?,
+        Half::new(-2, -3, -5, 7)?,
+    ])
+}
+
 #[test]
 fn types_cross_threads() {
     needs_send_sync::<Strict>();
     needs_send_sync::<Weak>();
+    needs_send_sync::<Cell>();
+    needs_send_sync::<Drops>();
+    needs_send_sync::<Slimmed>();
+    needs_send_sync::<SideProofs>();
+    needs_send_sync::<Sides>();
 }
 
 #[test]
@@ -66,5 +84,78 @@ fn a_box_turned_over_is_empty_with_its_closure(rt: HostRuntime) -> Result<(), Fa
     };
     let wanted = [term(1, (1, 0, 0, -1))?, term(1, (-1, 0, 0, 0))?];
     assert_eq!(rt; terms.items(), wanted.as_slice());
+    Ok(())
+}
+
+#[test]
+fn a_tetrahedron_is_slim(rt: HostRuntime) -> Result<(), Fail> {
+    let cell = tetrahedron()?;
+    let slimmed = slim(rt.alloc(), &cell)?;
+    assert_eq!(rt; slimmed.kept.items(), cell.as_slice());
+    assert_eq!(rt; slimmed.dropped.items().len(), 0);
+    Ok(())
+}
+
+#[test]
+fn a_tetrahedron_has_its_least_box_and_its_sides(rt: HostRuntime) -> Result<(), Fail> {
+    let cell = tetrahedron()?;
+    let bounds = IntBox {
+        lo: [0, 0, 0],
+        hi: [4, 3, 2],
+    };
+    assert_eq!(rt; box_of(&cell), bounds);
+    let sides = sides_of(&cell);
+    assert_eq!(rt; sides.bounds, bounds);
+    let [x, y, z, cut] = [(1, 0, 0, 0), (0, 1, 0, 0), (0, 0, 1, 0), (-2, -3, -5, 7)];
+    let wanted = [
+        [
+            term(3, y)?,
+            term(5, z)?,
+            term(1, cut)?,
+            term(2, (1, 0, 0, -4))?,
+        ],
+        [
+            term(2, x)?,
+            term(5, z)?,
+            term(1, cut)?,
+            term(3, (0, 1, 0, -3))?,
+        ],
+        [
+            term(2, x)?,
+            term(3, y)?,
+            term(1, cut)?,
+            term(5, (0, 0, 1, -2))?,
+        ],
+    ];
+    let copy = sides.proofs.copy();
+    assert_eq!(rt; copy.items().len(), 3);
+    for (proof, terms) in copy.items().iter().zip(&wanted) {
+        assert_eq!(rt; proof.items(), terms.as_slice());
+    }
+    let mut all = SideProofs::new();
+    for proof in sides.proofs.into_items() {
+        all.push(proof);
+    }
+    assert_eq!(rt; all.items().len(), 3);
+    Ok(())
+}
+
+#[test]
+fn a_half_space_of_all_points_is_dropped(rt: HostRuntime) -> Result<(), Fail> {
+    let all = Half::new(0, 0, 0, 1)?;
+    let slimmed = slim(rt.alloc(), &[all])?;
+    assert_eq!(rt; slimmed.kept.items().len(), 0);
+    assert_eq!(rt; slimmed.dropped.items().len(), 1);
+    for (half, terms) in slimmed.dropped.items() {
+        assert_eq!(rt; *half, all);
+        assert_eq!(rt; terms.items(), [term(1, (0, 0, 0, -1))?].as_slice());
+    }
+    let edge = 16777216;
+    let cube = IntBox {
+        lo: [-edge, -edge, -edge],
+        hi: [edge, edge, edge],
+    };
+    assert_eq!(rt; box_of(&[all]), cube);
+    assert_eq!(rt; sides_of(&[all]).proofs.items().len(), 0);
     Ok(())
 }

@@ -99,6 +99,7 @@ impl Half {
     pub fn numbers(&self) -> (i64, i64, i64, i64)
         ensures numbers { half_space_of result.0 result.1 result.2 result.3 ≡ self.now }
         ensures small { IsHalfSpace (half_space_of result.0 result.1 result.2 result.3) }
+        ensures kept { IsKeptHalfSpace self.now }
     {
         (self.a, self.b, self.c, self.d)
     }

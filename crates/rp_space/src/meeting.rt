@@ -2,7 +2,7 @@
 ghost use Rattle.std.specs.Prelude.{◌≡◌, ◌*◌, ◌^◌, false, Some, IfSome, option_map};
 ghost use Rattle.rp_algebra.specs.Integer.{is_zero};
 ghost use Rattle.rp_algebra.specs.Within.{IsWithin};
-ghost use Rattle.rp_geometry.specs.Geometry.{IsPoint, point_of, reduced_point, side_value};
+ghost use Rattle.rp_geometry.specs.Geometry.{IsPoint, IsSmallPoint, point_of, reduced_point, side_value};
 ghost use Rattle.rp_geometry.specs.searches.Vertex.{det2, cramer_point, meeting_point};
 ghost use Rattle.rp_space.specs.PositivePoint.{positive_point};
 ghost use Rattle.rp_space.specs.TwoHalfSpaces.{two_of};
@@ -40,6 +40,14 @@ impl Model for Meeting {
 }
 
 impl Meeting {
+    /// The four numbers of the point, not yet in lowest terms.
+    pub fn numbers(&self) -> (i128, i128, i128, i128)
+        ensures numbers { point_of result.0 result.1 result.2 result.3 ≡ self.now }
+        ensures small { IsSmallPoint self.now }
+    {
+        (self.x, self.y, self.z, self.w)
+    }
+
     /// The same point in lowest terms.
     pub fn point(&self) -> Point
         ensures { result ≡ reduced_point self.now }

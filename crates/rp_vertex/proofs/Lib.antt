@@ -1,3 +1,6 @@
 mod Found
+mod InBounds
+mod Joined
+mod Rounded
 mod Rounds
 mod Tested

@@ -1,5 +1,5 @@
 -- The tests of a vertex answer the same before and after a point is put into lowest terms.
-use Rattle.std.proofs.Common.{◌≡◌, ℤ, pos, ◌*ℤ◌, ◌≤ℤ◌, ◌<ℤ◌, ⊎_elim, true, false, ◌&&◌, ◌||◌, List, [], ◌∷◌, refl, sym, ◌∙◌, subst, arith}
+use Rattle.std.proofs.Common.{◌≡◌, ℤ, pos, ◌*ℤ◌, ◌≤ℤ◌, ◌<ℤ◌, ⊎_elim, Bool, true, false, ◌&&◌, ◌||◌, List, [], ◌∷◌, refl, sym, ap, ◌∙◌, subst, arith}
 use Rattle.std.specs.Prelude.{Option, Some, None}
 use Rattle.std.proofs.lemmas.Int.{ints}
 use Rattle.rp_algebra.specs.Integer.{is_positive, is_nonnegative}
@@ -8,7 +8,7 @@ use Rattle.rp_algebra.proofs.Numbers.{nonneg_over, negative_over}
 use Rattle.rp_algebra.proofs.Reify.{by_ring_at, reify}
 use Rattle.rp_algebra.proofs.Tests.{is_nonnegative_true}
 use Rattle.rp_geometry.specs.Geometry.{RationalPoint, HalfSpace, IsPoint, SamePlace, side_value, all_nonnegative, reduced_point}
-use Rattle.rp_geometry.specs.searches.Vertex.{lifts, vertex_if}
+use Rattle.rp_geometry.specs.searches.Vertex.{any_point, lifts, vertex_if}
 use Rattle.rp_convex.proofs.Lowest.{reduced_is}
 use Rattle.rp_convex.proofs.Places.{same_side}
 use Rattle.rp_convex.proofs.Signs.{same_sign}
@@ -79,3 +79,11 @@ pub vertex_is : (w : Wanted) (hs : List HalfSpace) (p : RationalPoint) (o : Opti
 vertex_is w hs p o k e =
     subst (λ (r : Option RationalPoint). elim (all_nonnegative hs p && is_wanted w p) [ true ↦ Some (reduced_point p) | false ↦ None ] ≡ vertex_if (is_wanted w) hs r) e
     (λ i. elim (all_reduced hs p k i && wanted_reduced w p k i) [ true ↦ Some (reduced_point p) | false ↦ None ])
+
+-- the point that passed, in lowest terms, is the vertex
+pub vertex_some : (hs : List HalfSpace) (p : RationalPoint) (o : Option RationalPoint) → IsPoint p → Some (reduced_point p) ≡ o → all_nonnegative hs p ≡ true → vertex_if any_point hs o ≡ Some (reduced_point p)
+vertex_some hs p o k e f = sym (ap (λ (b : Bool). elim (b && any_point p) [ true ↦ Some (reduced_point p) | false ↦ None ]) (sym f) ∙ vertex_is Any hs p o k e)
+
+-- no vertex is there where it failed
+pub vertex_none : (hs : List HalfSpace) (p : RationalPoint) (o : Option RationalPoint) → IsPoint p → Some (reduced_point p) ≡ o → all_nonnegative hs p ≡ false → vertex_if any_point hs o ≡ None
+vertex_none hs p o k e f = sym (ap (λ (b : Bool). elim (b && any_point p) [ true ↦ Some (reduced_point p) | false ↦ None ]) (sym f) ∙ vertex_is Any hs p o k e)

@@ -2,10 +2,12 @@
 //! of the planes in the list of the cell, which is the cell's half-spaces and then the domain cube's six.
 #![tactic(auto)]
 
+mod bounds;
 mod certificate;
 mod flat;
 mod search;
 
+pub use bounds::box_of_vertices;
 pub use certificate::{first_inside, first_weak};
 
 #[cfg(test)]

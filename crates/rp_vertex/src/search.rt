@@ -78,7 +78,7 @@ fn passes(wanted: Wanted, system: &[Half], p: &Meeting) -> bool
 }
 
 /// Whether no half-space of the list is negative at the point.
-fn are_nonnegative(system: &[Half], p: &Meeting) -> bool
+pub(crate) fn are_nonnegative(system: &[Half], p: &Meeting) -> bool
     ensures { result ≡ all_nonnegative system.now p.now }
 {
     system.iter().all(|half| p.side(half) >= 0)

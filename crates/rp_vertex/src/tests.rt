@@ -1,5 +1,5 @@
-use crate::{first_inside, first_weak};
-use rp_space::Half;
+use crate::{box_of_vertices, first_inside, first_weak};
+use rp_space::{Half, IntBox};
 use std::process::Abort;
 use std::test::Fail;
 
@@ -52,4 +52,19 @@ fn the_cube_alone_has_its_corners(rt: HostRuntime) -> Result<(), Fail> {
     assert_eq!(rt; points[2].numbers(), (-edge, edge, -edge, 1));
     assert_eq!(rt; points[3].numbers(), (edge, -edge, -edge, 1));
     Ok(())
+}
+
+#[test]
+fn corners_are_rounded_down_and_up(rt: HostRuntime) {
+    let cell = [
+        half(&rt, (2, 0, 0, 3)),
+        half(&rt, (0, 1, 0, 0)),
+        half(&rt, (0, 0, 1, 0)),
+        half(&rt, (-2, -3, -5, 7)),
+    ];
+    let bounds = IntBox {
+        lo: [-2, 0, 0],
+        hi: [4, 4, 2],
+    };
+    assert_eq!(rt; box_of_vertices(&cell), bounds);
 }

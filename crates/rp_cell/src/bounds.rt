@@ -1,0 +1,83 @@
+//! The least whole box round a cell, and what shows that the cell has nothing outside it.
+ghost use Rattle.std.specs.Prelude.{◌≡◌, ◌≤◌, [], ◌∷◌, ◌++◌, true, ◌||◌, length, map};
+ghost use Rattle.rp_geometry.specs.Geometry.{box_half_spaces, complement, cube_half_spaces, is_box_in_bounds, is_listed};
+ghost use Rattle.rp_geometry.specs.sets.Shape.{shape_of_cell};
+ghost use Rattle.rp_geometry.specs.sets.Sets.{IsNonempty, IsEmpty};
+ghost use Rattle.rp_geometry.specs.parts.LeastBox.{IsLeastBox, least_box};
+ghost use Rattle.rp_geometry.specs.parts.PartTest.{side_lines};
+ghost use Rattle.rp_geometry.specs.searches.ProofLine.{outside_terms};
+ghost use Rattle.rp_space.specs.Boxes.{integer_box};
+ghost use Rattle.rp_cell.specs.Lines.{side_line_of};
+
+use crate::others::outside_of;
+use crate::side_proofs::SideProofs;
+use rp_elim::first_outside;
+use rp_space::{Half, IntBox, Outside, box_halves, cube};
+use rp_vertex::box_of_vertices;
+
+/// The least box of a cell, and what shows of its sides that no member lies beyond them.
+#[derive(Debug, Drop)]
+pub struct Sides {
+    /// The least whole box that holds every member of the cell.
+    pub bounds: IntBox,
+    /// For each side of the box that is neither in the cell nor one of the cube's, in the order of the sides, multiples that
+    /// show that the cell has no member outside it.
+    pub proofs: SideProofs,
+}
+
+/// The least whole box round a cell that has a member: on each axis the greatest `lo` and the least `hi` with
+/// `lo <= x < hi` for all members. It is the box of the vertices. A cell has at most 64 half-spaces. Takes no memory.
+pub fn box_of(cell: &[Half]) -> IntBox
+    requires few { length cell.now ≤ 64 }
+    requires member { IsNonempty (shape_of_cell cell.now) }
+    ensures value { integer_box result ≡ least_box cell.now }
+    ensures least { IsLeastBox cell.now (integer_box result) }
+    ensures bounds { is_box_in_bounds (integer_box result) ≡ true }
+{
+    box_of_vertices(cell)
+}
+
+/// The least whole box round a cell that has a member, with the first outside certificate of the cell and the complement
+/// of a side for each side of the box, the lower and the upper one of x, of y and of z, that is neither in the cell nor one
+/// of the cube's. A cell has at most 32 half-spaces here. Takes no memory.
+pub fn sides_of(cell: &[Half]) -> Sides
+    requires few { length cell.now ≤ 32 }
+    requires member { IsNonempty (shape_of_cell cell.now) }
+    ensures value { integer_box result.bounds ≡ least_box cell.now }
+    ensures least { IsLeastBox cell.now (integer_box result.bounds) }
+    ensures bounds { is_box_in_bounds (integer_box result.bounds) ≡ true }
+    ensures lines { map side_line_of result.proofs ≡ side_lines cell.now (box_half_spaces (least_box cell.now)) }
+{
+    let bounds = box_of(cell);
+    let mut proofs = SideProofs::new();
+    for side in &box_halves(&bounds) {
+        if !is_given(cell, side) {
+            proofs.push(side_proof(cell, side));
+        }
+    }
+    Sides { bounds, proofs }
+}
+
+/// Whether a side of a box is one of the half-spaces of a cell or of the domain cube.
+fn is_given(cell: &[Half], side: &Half) -> bool
+    ensures { result ≡ (is_listed side.now cell.now || is_listed side.now cube_half_spaces) }
+{
+    is_listed(side, cell) || is_listed(side, &cube())
+}
+
+/// Whether a half-space stands in a list.
+fn is_listed(half: &Half, halves: &[Half]) -> bool
+    ensures { result ≡ is_listed half.now halves.now }
+{
+    halves.iter().any(|other| half == other)
+}
+
+/// The multiples that show that no member of a cell lies outside a half-space.
+fn side_proof(cell: &[Half], side: &Half) -> Outside
+    requires few { length cell.now ≤ 63 }
+    requires none { IsEmpty (shape_of_cell (cell.now ++ complement side.now ∷ [])) }
+    ensures { result ≡ outside_terms true (cell.now ++ complement side.now ∷ []) }
+{
+    let outside = outside_of(side, cell, &[]);
+    first_outside(outside.as_slice(), true).unwrap()
+}

@@ -1,0 +1,21 @@
+//! The cell in which a half-space is tested against others.
+ghost use Rattle.std.specs.Prelude.{◌≡◌, ◌+◌, ◌<◌, [], ◌∷◌, ◌++◌, length};
+ghost use Rattle.rp_geometry.specs.Geometry.{IsKeptHalfSpace, complement};
+
+use rp_space::{Half, System};
+
+/// The cell of two lists of half-spaces and the complement of one more: its members are those of the lists that are
+/// outside that one.
+pub(crate) fn outside_of(half: &Half, first: &[Half], second: &[Half]) -> System
+    requires { length first.now + length second.now < 64 }
+    ensures items { result.items ≡ first.now ++ second.now ++ complement half.now ∷ [] }
+    ensures kept { IsKeptHalfSpace half.now }
+{
+    // Only for what `numbers` ensures, that the half-space keeps its bounds and is in lowest terms.
+    let _ = half.numbers();
+    let mut outside = System::new();
+    outside.try_extend_from_slice(first).unwrap();
+    outside.try_extend_from_slice(second).unwrap();
+    outside.push(half.not());
+    outside
+}

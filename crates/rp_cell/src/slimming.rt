@@ -1,0 +1,51 @@
+//! Slim cells: half-spaces that add nothing are dropped.
+ghost use Rattle.std.specs.Prelude.{◌≡◌, ◌≤◌, IfOk, length, map};
+ghost use Rattle.rp_geometry.specs.sets.Shape.{shape_of_cell};
+ghost use Rattle.rp_geometry.specs.sets.Sets.{IsNonempty, SameMembers};
+ghost use Rattle.rp_geometry.specs.parts.Parts.{IsPart, most_half_spaces};
+ghost use Rattle.rp_geometry.specs.parts.PartTest.{part_of, slimmed};
+ghost use Rattle.rp_cell.specs.Lines.{drop_line_of};
+
+use crate::decide::{Strict, decide_strict};
+use crate::others::outside_of;
+use rp_space::{Half, Listed, Outside};
+use std::alloc::{AllocError, Global};
+
+/// A cell, as a list of half-spaces.
+pub type Cell = Listed<Half>;
+
+/// Half-spaces that were dropped from a cell, each with the multiples that show that it adds nothing.
+pub type Drops = Listed<(Half, Outside)>;
+
+/// A slim cell, and what was dropped on the way to it.
+#[derive(Debug, Drop)]
+pub struct Slimmed {
+    /// The half-spaces that are kept, in the order of the cell.
+    pub kept: Cell,
+    /// Those that are dropped, in the order of the cell.
+    pub dropped: Drops,
+}
+
+/// The slim cell of a cell. From the first half-space to the last, one is dropped where no member of the others that are
+/// still kept lies outside it: the first outside certificate of these others and its complement shows it. The slim cell has
+/// the members of the cell. Where these are some, and at most 32 half-spaces are kept, the slim cell and its least box are a
+/// part. A cell has at most 64 half-spaces. Answers `AllocError` only for want of memory.
+pub fn slim(alloc: Global, cell: &[Half]) -> Result<Slimmed, AllocError>
+    requires { length cell.now ≤ 64 }
+    ensures kept { IfOk result (λ slim. slim.kept.items ≡ (slimmed cell.now).kept) }
+    ensures lines { IfOk result (λ slim. map drop_line_of slim.dropped.items ≡ (slimmed cell.now).lines) }
+    ensures members { IfOk result (λ slim. SameMembers (shape_of_cell slim.kept.items) (shape_of_cell cell.now)) }
+    ensures part { IfOk result (λ slim. IsNonempty (shape_of_cell cell.now) → length slim.kept.items ≤ most_half_spaces → IsPart (part_of (slimmed cell.now))) }
+{
+    let mut kept = Cell::new(alloc);
+    let mut dropped = Drops::new(alloc);
+    for i in 0..cell.len() {
+        let half = cell[i];
+        let outside = outside_of(&half, kept.items(), &cell[i + 1..]);
+        match decide_strict(outside.as_slice()) {
+            Strict::Inside(_) => kept.push(half)?,
+            Strict::Outside(terms) => dropped.push((half, terms))?,
+        }
+    }
+    Ok(Slimmed { kept, dropped })
+}

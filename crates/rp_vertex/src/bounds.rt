@@ -1,0 +1,151 @@
+//! The least box with whole corners that holds the vertices of a cell.
+ghost use Rattle.std.specs.Prelude.{◌≡◌, ◌≤◌, ◌<◌, ◌^◌, true, None, length, filter_map, option_map, pos, ◌<ℤ◌, unsigned_abs};
+ghost use Rattle.std.specs.Option.{option_to_list};
+ghost use Rattle.rp_algebra.specs.Integer.{floor_of, ceiling_of};
+ghost use Rattle.rp_algebra.specs.Within.{IsWithin};
+ghost use Rattle.rp_geometry.specs.Geometry.{half_edge, is_box_in_bounds, is_closed_cube_point, is_in_closed_range};
+ghost use Rattle.rp_geometry.specs.laws.CellLaws.{AreHalfSpaces};
+ghost use Rattle.rp_geometry.specs.parts.LeastBox.{box_of_vertex, box_of_vertices, box_union};
+ghost use Rattle.rp_geometry.specs.searches.Search.{all_of_pairs, all_of_triples};
+ghost use Rattle.rp_geometry.specs.searches.Vertex.{any_point, vertex_at, vertices};
+ghost use Rattle.rp_space.specs.Boxes.{integer_box};
+ghost use Rattle.rp_vertex.specs.Joined.{HasCube, joined};
+
+use crate::search::are_nonnegative;
+use rp_space::{Half, IntBox, Meeting, Pair, with_cube};
+
+/// The domain cube, from -2^24 to 2^24 on each axis.
+const CUBE: IntBox = IntBox {
+    lo: [-16777216; 3],
+    hi: [16777216; 3],
+};
+
+/// The least box with whole corners that holds all vertices of a cell, with the domain cube's six half-spaces: each
+/// coordinate of each vertex is rounded down and up. Where there is no vertex, which is where the weak system has no point,
+/// it is the cube's box. A cell has at most 64 half-spaces. Takes no memory.
+pub fn box_of_vertices(cell: &[Half]) -> IntBox
+    requires { length cell.now ≤ 64 }
+    ensures value { integer_box result ≡ box_of_vertices (vertices cell.now) }
+    ensures bounds { is_box_in_bounds (integer_box result) ≡ true }
+    ensures half_spaces { AreHalfSpaces cell.now }
+{
+    let system = with_cube(cell);
+    box_of_system(system.as_slice()).unwrap_or(CUBE)
+}
+
+/// The least box that holds the vertices of a list of half-spaces; none where there is no vertex.
+fn box_of_system(system: &[Half]) -> Option<IntBox>
+    requires { HasCube system.now }
+    ensures { option_map integer_box result ≡ joined None (all_of_triples (vertex_at any_point system.now) system.now) }
+{
+    let mut bounds = None;
+    for i in 0..system.len() {
+        bounds = joined_with_one(bounds, system, &system[i], &system[i + 1..]);
+    }
+    bounds
+}
+
+/// The least box that holds a box and the vertices on the plane of `f` and two planes of `others`.
+fn joined_with_one(
+    bounds: Option<IntBox>,
+    system: &[Half],
+    f: &Half,
+    others: &[Half],
+) -> Option<IntBox>
+    requires { HasCube system.now }
+    ensures { option_map integer_box result ≡ joined (option_map integer_box bounds) (all_of_pairs (vertex_at any_point system.now f.now) others.now) }
+{
+    let mut bounds = bounds;
+    for i in 0..others.len() {
+        let pair = Pair::new(f, &others[i]);
+        bounds = joined_with_two(bounds, system, &pair, &others[i + 1..]);
+    }
+    bounds
+}
+
+/// The least box that holds a box and the vertices on both planes of a pair and one of `others`.
+fn joined_with_two(
+    bounds: Option<IntBox>,
+    system: &[Half],
+    pair: &Pair,
+    others: &[Half],
+) -> Option<IntBox>
+    requires { HasCube system.now }
+    ensures { option_map integer_box result ≡ joined (option_map integer_box bounds) (filter_map (vertex_at any_point system.now pair.now.first pair.now.second) others.now) }
+{
+    let mut bounds = bounds;
+    for h in others {
+        bounds = joined_with_three(bounds, system, pair, h);
+    }
+    bounds
+}
+
+/// The least box that holds a box and the meeting point of three planes, where it is a vertex. The point is not put into
+/// lowest terms, since its quotients are the same.
+fn joined_with_three(
+    bounds: Option<IntBox>,
+    system: &[Half],
+    pair: &Pair,
+    h: &Half,
+) -> Option<IntBox>
+    requires { HasCube system.now }
+    ensures { option_map integer_box result ≡ joined (option_map integer_box bounds) (option_to_list (vertex_at any_point system.now pair.now.first pair.now.second h.now)) }
+{
+    let Some(p) = pair.meeting(h) else {
+        return bounds;
+    };
+    if !are_nonnegative(system, &p) {
+        return bounds;
+    }
+    let vertex = box_of_vertex(&p);
+    match bounds {
+        Some(others) => Some(union(&others, &vertex)),
+        None => Some(vertex),
+    }
+}
+
+/// The least box with whole corners that holds a point of the closed cube.
+fn box_of_vertex(p: &Meeting) -> IntBox
+    requires { is_closed_cube_point p.now ≡ true }
+    ensures { integer_box result ≡ box_of_vertex p.now }
+{
+    let (x, y, z, w) = p.numbers();
+    IntBox {
+        lo: [floor(x, w), floor(y, w), floor(z, w)],
+        hi: [ceiling(x, w), ceiling(y, w), ceiling(z, w)],
+    }
+}
+
+/// The least box that holds both boxes.
+fn union(b: &IntBox, e: &IntBox) -> IntBox
+    ensures { integer_box result ≡ box_union (integer_box b.now) (integer_box e.now) }
+{
+    let [bx1, by1, bz1] = b.lo;
+    let [bx2, by2, bz2] = b.hi;
+    let [ex1, ey1, ez1] = e.lo;
+    let [ex2, ey2, ez2] = e.hi;
+    IntBox {
+        lo: [bx1.min(ex1), by1.min(ey1), bz1.min(ez1)],
+        hi: [bx2.max(ex2), by2.max(ey2), bz2.max(ez2)],
+    }
+}
+
+/// The coordinate `v / w` of a point of the closed cube, rounded down.
+fn floor(v: i128, w: i128) -> i32
+    requires weight { pos 0 <ℤ w }
+    requires range { is_in_closed_range v w ≡ true }
+    ensures value { result ≡ floor_of v w }
+    ensures small { IsWithin half_edge result }
+{
+    v.div_euclid(w) as i32
+}
+
+/// The coordinate `v / w` of a point of the closed cube, rounded up.
+fn ceiling(v: i128, w: i128) -> i32
+    requires weight { pos 0 <ℤ w }
+    requires size { unsigned_abs v < 2 ^ 101 }
+    requires range { is_in_closed_range v w ≡ true }
+    ensures { result ≡ ceiling_of v w }
+{
+    -floor(-v, w)
+}
