@@ -6,12 +6,12 @@ use Rattle.rp_language.specs.Grammar.{Reading, reading}
 use Rattle.rp_model.specs.states.State.{State, opening}
 use Rattle.rp_reports.specs.Text.{Answer, answer_lines}
 use Rattle.rp_reports.specs.Report.{script_lines, IsAnswerTo, after_reading, IsReportFrom}
-use Rattle.rp_reports.specs.Built.{is_unbuilt, IsEarlyAnswer, IsReportSoFarFrom, are_built}
+use Rattle.rp_reports.specs.Built.{is_unbuilt, unbuilt_answer, IsReportSoFarFrom, are_built}
 use Rattle.rp_reports.specs.laws.BuiltLaws.{BuiltScriptsHaveWholeReports}
 
 -- an answer of either kind, by the test that chooses between them
 abbrev pub AnswersIf : Bool → State → ℕ → List ℕ → Reading → Answer → Type 0
-AnswersIf b s n line r a = elim b [ true ↦ IsEarlyAnswer s n line r a | false ↦ IsAnswerTo s n line r a ]
+AnswersIf b s n line r a = elim b [ true ↦ a ≡ unbuilt_answer n line | false ↦ IsAnswerTo s n line r a ]
 
 -- the state after either, by the same test
 abbrev pub after_if : Bool → ℕ → State → Reading → State

@@ -1,26 +1,21 @@
--- What is built so far: the report of the program while some commands are still to come. A command that is not built is answered with one line that says so, but for `empty` of one cell, which has one test then; it changes nothing. Every other line is answered as in the whole report.
-use Rattle.std.specs.Prelude.{◌≡◌, ℕ, suc, Bool, true, false, not, List, [], ◌∷◌, ◌++◌, Option, Some, None}
+-- What is built so far: the report of the program while some commands are still to come. A command that is not built is answered with one line that says so, and changes nothing. Every other line is answered as in the whole report.
+use Rattle.std.specs.Prelude.{◌≡◌, ℕ, suc, Bool, true, false, not, List, [], ◌∷◌, ◌++◌}
 use Rattle.std.specs.List.{list_all}
-use Rattle.rp_geometry.specs.Geometry.{HalfSpace}
-use Rattle.rp_geometry.specs.sets.Sets.{IsEmpty}
-use Rattle.rp_geometry.specs.searches.ProofLine.{strict_line}
-use Rattle.rp_geometry.specs.parts.PartTest.{has_member}
-use Rattle.rp_language.specs.Expression.{Expression, Command, one_cell, define, ask_member, ask_empty, ask_pieces, ask_show, ask_equal, ask_within, ask_overlap, ask_contact, ask_relation, register, cut, subdivide, consolidate, retire, ask_neighbours, ask_history, ask_at, ask_as_of, ask_audit, ask_list, set_layer}
+use Rattle.rp_language.specs.Expression.{Command, define, ask_member, ask_empty, ask_pieces, ask_show, ask_equal, ask_within, ask_overlap, ask_contact, ask_relation, register, cut, subdivide, consolidate, retire, ask_neighbours, ask_history, ask_at, ask_as_of, ask_audit, ask_list, set_layer}
 use Rattle.rp_language.specs.Grammar.{Reading, command, reading}
 use Rattle.rp_model.specs.states.State.{State, PlainState, opening}
-use Rattle.rp_model.specs.commands.Verdict.{Verdict, says_yes, says_no, unbuilt}
-use Rattle.rp_model.specs.commands.Rule.{yes_where, set_of}
+use Rattle.rp_model.specs.commands.Verdict.{unbuilt}
 use Rattle.rp_reports.specs.Text.{Answer, answer_lines}
 use Rattle.rp_reports.specs.Report.{script_lines, IsAnswerTo, after_reading}
 use Rattle.rp_reports.specs.Machine.{step_answer, step_state}
 
 -- which commands are built: whoever builds a command changes its line here, and no other line of the definitions
 abbrev pub is_built : Command → Bool
-is_built (define x e) = false
+is_built (define x e) = true
 is_built (ask_member e p) = true
-is_built (ask_empty e) = false
+is_built (ask_empty e) = true
 is_built (ask_pieces e) = false
-is_built (ask_show e) = false
+is_built (ask_show e) = true
 is_built (ask_equal e f) = false
 is_built (ask_within e f) = false
 is_built (ask_overlap e f) = false
@@ -48,44 +43,11 @@ is_unbuilt _ = false
 abbrev pub unbuilt_answer : ℕ → List ℕ → Answer
 unbuilt_answer n line = record { number = n; echo = line; proofs = []; verdicts = unbuilt ∷ [] }
 
--- ---- `empty` of one half-space or one box, until it is built whole: one test, and its proof line
-
--- the verdict lines, by whether the cell has a member
-abbrev pub empty_verdicts : Bool → List Verdict
-empty_verdicts has = elim has [ true ↦ says_no ∷ [] | false ↦ says_yes ∷ [] ]
-
--- the answer of the machine of sets
-pub record AnswersOneCell (s : State) (n : ℕ) (line : List ℕ) (e : Expression) (cell : List HalfSpace) (a : Answer) : Type 0 where
-  pub number : a.number ≡ n
-  pub echo : a.echo ≡ line
-  pub proofs : a.proofs ≡ strict_line cell ∷ []
-  pub verdicts : yes_where (IsEmpty (set_of s e)) a.verdicts
-
--- the same of any expression, by its cell if it is one
-abbrev pub AnswersEmpty : State → ℕ → List ℕ → Expression → Option (List HalfSpace) → Answer → Type 0
-AnswersEmpty s n line e None a = a ≡ unbuilt_answer n line
-AnswersEmpty s n line e (Some cell) a = AnswersOneCell s n line e cell a
-
--- the answer to a line whose command is not built
-abbrev pub IsEarlyAnswer : State → ℕ → List ℕ → Reading → Answer → Type 0
-IsEarlyAnswer s n line (command (ask_empty e)) a = AnswersEmpty s n line e (one_cell e) a
-IsEarlyAnswer s n line _ a = a ≡ unbuilt_answer n line
-
--- the answer that is computed
-abbrev pub empty_answer : ℕ → List ℕ → Option (List HalfSpace) → Answer
-empty_answer n line None = unbuilt_answer n line
-empty_answer n line (Some cell) = record { number = n; echo = line; proofs = strict_line cell ∷ []; verdicts = empty_verdicts (has_member cell) }
-
--- the same of a line whose command is not built
-abbrev pub early_answer : ℕ → List ℕ → Reading → Answer
-early_answer n line (command (ask_empty e)) = empty_answer n line (one_cell e)
-early_answer n line _ = unbuilt_answer n line
-
 -- ---- the machine of sets, so far
 
 -- the answer to the line with the number, as it is read
 abbrev pub IsAnswerSoFar : State → ℕ → List ℕ → Reading → Answer → Type 0
-IsAnswerSoFar s n line r a = elim (is_unbuilt r) [ true ↦ IsEarlyAnswer s n line r a | false ↦ IsAnswerTo s n line r a ]
+IsAnswerSoFar s n line r a = elim (is_unbuilt r) [ true ↦ a ≡ unbuilt_answer n line | false ↦ IsAnswerTo s n line r a ]
 
 -- the state after the line with the number, as it is read
 abbrev pub after_so_far : ℕ → State → Reading → State
@@ -109,7 +71,7 @@ IsBriefReportSoFar bytes told = IsReportSoFarFrom true opening 1 (script_lines b
 
 -- the answer to the line with the number
 abbrev pub answer_so_far : PlainState → ℕ → List ℕ → Answer
-answer_so_far s n line = elim (is_unbuilt (reading line)) [ true ↦ early_answer n line (reading line) | false ↦ step_answer s n line ]
+answer_so_far s n line = elim (is_unbuilt (reading line)) [ true ↦ unbuilt_answer n line | false ↦ step_answer s n line ]
 
 -- the state after the line with the number
 abbrev pub state_so_far : PlainState → ℕ → List ℕ → PlainState
