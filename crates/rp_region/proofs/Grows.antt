@@ -24,7 +24,7 @@ pub record OnlyTells {A : Type 0} (walk : Walk Work A) : Type 0 where
   pub tells : (w : Work) → TellsMore w (work_after (walk w))
 
 -- what comes after a walk that has come to its end
-after_tells : {A B : Type 0} (next : A → Walk Work B) → ((x : A) → OnlyTells (next x)) → (o : Outcome Work A) → TellsMore (work_after o) (work_after (after_first next o))
+pub after_tells : {A B : Type 0} (next : A → Walk Work B) → ((x : A) → OnlyTells (next x)) → (o : Outcome Work A) → TellsMore (work_after o) (work_after (after_first next o))
 after_tells next each (done x w) = (each x).tells w
 after_tells next each (stopped s w) = no_more w
 

@@ -1,9 +1,10 @@
 -- What is left of a walk while it is made step by step.
-use Rattle.std.proofs.Common.{◌≡◌, List, ◌++◌, refl, sym, ap, ◌∙◌, subst, Result, Ok, Err}
-use Rattle.rp_walks.specs.Walk.{Outcome, done, stopped, limit_met, Walk, pass, after_first, ◌>>=◌, Work}
+use Rattle.std.proofs.Common.{◌≡◌, ℕ, ◌+◌, ◌<◌, List, ◌∷◌, length, get_or, drop, Result, Ok, Err, refl, sym, ap, ◌∙◌, subst}
+use Rattle.std.proofs.lemmas.List.{drop_more}
+use Rattle.rp_walks.specs.Walk.{Outcome, done, stopped, Walk, pass, after_first, ◌>>=◌, Work}
 use Rattle.rp_region.specs.declared.fault.OpFault.{OpFault}
 use Rattle.rp_region.specs.declared.fault.OpFault.TheVariants.{Limit, Memory}
-use Rattle.rp_region.specs.Makes.{work_after, TellsMore, IsCutShort, Makes}
+use Rattle.rp_region.specs.Makes.{work_after, TellsMore, IsCutShort, IsFaultOf, Makes}
 use Rattle.rp_region.proofs.Grows.{OnlyTells, no_more, more_still, after_tells}
 
 -- what is left, from now, comes to the same as the whole walk, from the start; on the way lines were appended
@@ -15,28 +16,49 @@ pub record IsLeft {A : Type 0} (start : Work) (whole : Walk Work A) (now : Work)
 pub all_left : {A : Type 0} (start : Work) (whole : Walk Work A) → IsLeft start whole start whole
 all_left start whole = record { same = refl; told = no_more start }
 
+-- the same walk in other words
+pub left_as : {A : Type 0} {start now : Work} {whole left other : Walk Work A} → left ≡ other → IsLeft start whole now left → IsLeft start whole now other
+left_as {start = start} {now = now} {whole = whole} e h = subst (λ walk. IsLeft start whole now walk) e h
+
 -- the lines of a step that has come to its end
 step_told : {A : Type 0} (first : Walk Work A) (o : Outcome Work A) (now : Work) → OnlyTells first → first now ≡ o → TellsMore now (work_after o)
-step_told first o now f e = subst (λ o. TellsMore now (work_after o)) e (f.tells now)
+step_told first o now f e = subst (λ r. TellsMore now (work_after r)) e (f.tells now)
 
 -- after one step the next walk is left
-pub next_left : {A B C : Type 0} (view : C → B) (x : C) (start : Work) (whole : Walk Work A) (now new : Work) (first : Walk Work B) (next : B → Walk Work A)
-    → OnlyTells first → IsLeft start whole now (first >>= next) → Makes view (Ok x) now new first → IsLeft start whole new (next (view x))
-next_left view x start whole now new first next f h m = record {
+pub next_left : {A B : Type 0} {start now new : Work} {whole : Walk Work A} {x : B} (first : Walk Work B) (next : B → Walk Work A)
+    → OnlyTells first → IsLeft start whole now (first >>= next) → first now ≡ done x new → IsLeft start whole new (next x)
+next_left {start = start} {now = now} {new = new} {x = x} first next f h m = record {
   same = sym (ap (after_first next) m) ∙ h.same;
-  told = more_still start now new h.told (step_told first (done (view x) new) now f m);
+  told = more_still start now new h.told (step_told first (done x new) now f m);
 }
 
 -- where the first step has a fault, the whole walk has it
-pub fault_left : {A B C D : Type 0} (view : C → B) (sight : D → A) (e : OpFault) (start : Work) (whole : Walk Work A) (now new : Work) (first : Walk Work B) (next : B → Walk Work A)
-    → ((y : B) → OnlyTells (next y)) → IsLeft start whole now (first >>= next) → Makes view (Err e) now new first → Makes sight (Err e) start new whole
-fault_left view sight Limit start whole now new first next each h m = sym h.same ∙ ap (after_first next) m
-fault_left view sight (Memory e) start whole now new first next each h m = record {
+pub fault_left : {A B : Type 0} {start now : Work} {whole : Walk Work A} (first : Walk Work B) (next : B → Walk Work A)
+    → ((y : B) → OnlyTells (next y)) → IsLeft start whole now (first >>= next) → (e : OpFault) (new : Work) → IsFaultOf e now new first → IsFaultOf e start new whole
+fault_left first next each h Limit new m = sym h.same ∙ ap (after_first next) m
+fault_left {start = start} {now = now} first next each h (Memory e) new m = record {
   told = more_still start now new h.told m.told;
-  untold = subst (λ o. TellsMore new (work_after o)) h.same
+  untold = subst (λ r. TellsMore new (work_after r)) h.same
       (more_still new (work_after (first now)) (work_after (after_first next (first now))) m.untold (after_tells next each (first now)));
 }
 
--- the end
-pub end_left : {A C : Type 0} (view : C → A) (x : C) (y : A) (start : Work) (whole : Walk Work A) (now : Work) → IsLeft start whole now (pass y) → y ≡ view x → Makes view (Ok x) start now whole
-end_left view x y start whole now h e = sym h.same ∙ ap (λ z. done z now) e
+-- where memory is wanting between two steps, the whole walk is given up
+pub given_up : {A : Type 0} {start now : Work} {whole : Walk Work A} (left : Walk Work A) → OnlyTells left → IsLeft start whole now left → IsCutShort start now (whole start)
+given_up {now = now} left f h = record { told = h.told; untold = subst (λ r. TellsMore now (work_after r)) h.same (f.tells now) }
+
+-- what is left comes to this, and so does the whole walk
+pub end_left : {A : Type 0} {start now : Work} {whole left : Walk Work A} (o : Outcome Work A) → IsLeft start whole now left → left now ≡ o → whole start ≡ o
+end_left o h e = sym h.same ∙ e
+
+-- what is left of a list at an item
+pub drop_item : {X : Type 0} (xs : List X) (i : ℕ) (x : X) → i < length xs → x ≡ get_or xs i x → drop i xs ≡ x ∷ drop (i + 1) xs
+drop_item xs i x h e = drop_more xs i x h ∙ ap (λ y. y ∷ drop (i + 1) xs) (sym e)
+
+-- a last walk that is made is what was left
+pub makes_left : {A C : Type 0} (view : C → A) (r : Result C OpFault) {start now : Work} {whole left : Walk Work A} (new : Work) → IsLeft start whole now left → Makes view r now new left → Makes view r start new whole
+makes_left view (Ok x) new h m = sym h.same ∙ m
+makes_left view (Err Limit) new h m = sym h.same ∙ m
+makes_left view (Err (Memory e)) {start = start} {now = now} new h m = record {
+  told = more_still start now new h.told m.told;
+  untold = subst (λ o. TellsMore new (work_after o)) h.same m.untold;
+}

@@ -1,2 +1,3 @@
 pub mod Grows
 pub mod Left
+pub mod Steps

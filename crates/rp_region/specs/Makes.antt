@@ -31,9 +31,12 @@ pub record IsCutShort {A : Type 0} (old new : Work) (outcome : Outcome Work A) :
   pub told : TellsMore old new
   pub untold : TellsMore new (work_after outcome)
 
--- The walk was made, from the work old to the work new. With a result it comes to this result, as the model sees it, and to the new work;
--- with Limit it meets a limit there; for want of memory it was given up.
+-- the fault is that of the walk: with Limit it meets a limit at the new work; for want of memory it was given up
+abbrev pub IsFaultOf : {A : Type 0} → OpFault → Work → Work → Walk Work A → Type 0
+IsFaultOf Limit old new walk = walk old ≡ stopped limit_met new
+IsFaultOf (Memory e) old new walk = IsCutShort old new (walk old)
+
+-- the walk was made, from the work old to the work new: it comes to the result, as the model sees it, or has the fault
 abbrev pub Makes : {A B : Type 0} → (A → B) → Result A OpFault → Work → Work → Walk Work B → Type 0
 Makes view (Ok x) old new walk = walk old ≡ done (view x) new
-Makes view (Err Limit) old new walk = walk old ≡ stopped limit_met new
-Makes view (Err (Memory e)) old new walk = IsCutShort old new (walk old)
+Makes view (Err e) old new walk = IsFaultOf e old new walk

@@ -1,0 +1,47 @@
+use Rattle.std.proofs.Common.{true, false, List, ◌∷◌, [], ◌++◌, sym, ap, ◌∙◌, subst}
+use Rattle.std.specs.Prelude.{Option, is_some}
+use Rattle.std.proofs.lemmas.Result.{err_from_is_err_and}
+use Rattle.rp_region.specs.declared.fault.OpFault.TheVariants.{Memory}
+use Rattle.rp_geometry.specs.Geometry.{RationalPoint, HalfSpace}
+use Rattle.rp_region.specs.Makes.{IsCutShort}
+use Rattle.rp_walks.specs.Walk.{done, pass, strict_test, first_tester}
+use Rattle.rp_walks.specs.Form.{carve, carve_or_keep}
+use Rattle.rp_region.proofs.Grows.{pass_tells, carve_or_keep_tells}
+use Rattle.rp_region.proofs.Left.{left_as, fault_left, given_up, makes_left}
+use Rattle.rp_region.proofs.Steps.{pair_counted, pair_tested}
+use Rattle.rp_region.proofs.difference.subtract_pair.Goals as goal
+
+pub returns-in_err-strict : goal.returns-in_err-strict
+returns-in_err-strict c =
+    let p = err_from_is_err_and c.from_residual-in_err-strict.result c.from_residual-in_err-strict.ensures.1 in
+    let made = c.args.left.now.items in
+    let part = c.args.part in
+    let other = c.args.other.now in
+    let v = c.strict.new.self in
+    rw (p.1, p.2)
+    (fault_left (strict_test (part.cell ++ other.cell)) (λ found. carve_or_keep first_tester found made part other)
+    (λ found. carve_or_keep_tells found made part other) (pair_counted made part other (sym c.if-not-is_near.ensures) c.if-not-count.ensures) (Memory c.in_err-strict.field-0.0) v
+    (subst (λ (cell : List HalfSpace). IsCutShort c.count.new.self v (strict_test cell c.count.new.self))
+    (λ i. c.halves.ensures.value i ++ c.halves-2.ensures.value i) c.in_err-strict.ensures.makes))
+
+pub returns-in_err-push-in-None : goal.returns-in_err-push-in-None
+returns-in_err-push-in-None c =
+    let p = err_from_is_err_and c.from_residual-in_err-push-in-None.result c.from_residual-in_err-push-in-None.ensures.1 in
+    let made = c.args.left.now.items in
+    let part = c.args.part in
+    let other = c.args.other.now in
+    rw (p.1, p.2)
+    (given_up (pass (made ++ part ∷ [])) (pass_tells (made ++ part ∷ []))
+    (pair_tested made part other (c.halves.result.now ++ c.halves-2.result.now) {found = false} (λ i. c.halves.ensures.value i ++ c.halves-2.ensures.value i) (sym c.if-not-is_near.ensures) c.if-not-count.ensures
+    (c.in_ok-strict.ensures.makes ∙ ap (λ (o : Option (List RationalPoint)). done (is_some o) c.strict.new.self) c.in-None.is)))
+
+pub returns-in-Some : goal.returns-in-Some
+returns-in-Some c =
+    let made = c.args.left.now.items in
+    let part = c.args.part in
+    let other = c.args.other.now in
+    makes_left _ c.carve.result c.carve.new.work
+    (left_as (λ i. carve first_tester made (sym c.halves-in-Some.ensures.value i) [] (sym c.halves-in-Some-2.ensures.value i))
+    (pair_tested made part other (c.halves.result.now ++ c.halves-2.result.now) {found = true} (λ i. c.halves.ensures.value i ++ c.halves-2.ensures.value i) (sym c.if-not-is_near.ensures) c.if-not-count.ensures
+    (c.in_ok-strict.ensures.makes ∙ ap (λ (o : Option (List RationalPoint)). done (is_some o) c.strict.new.self) c.in-Some.is)))
+    c.carve.ensures
