@@ -1,10 +1,10 @@
 -- Walks only append proof lines.
-use Rattle.std.proofs.Common.{◌≡◌, ℕ, Bool, true, false, List, [], ◌∷◌, ◌++◌, length, refl, sym, ap, ◌∙◌, append_assoc}
+use Rattle.std.proofs.Common.{ℕ, Bool, true, false, List, [], ◌∷◌, ◌++◌, length, refl, sym, ap, ◌∙◌, append_assoc}
 use Rattle.std.specs.Prelude.{◌+◌, nat_le, Option, Some, None}
 use Rattle.std.proofs.lemmas.List.{append-nil}
 use Rattle.rp_geometry.specs.Geometry.{HalfSpace, boxes_meet, complement}
 use Rattle.rp_geometry.specs.sets.Shape.{Part}
-use Rattle.rp_geometry.specs.searches.ProofLine.{ProofLine, strict_line}
+use Rattle.rp_geometry.specs.searches.ProofLine.{strict_line, weak_line}
 use Rattle.rp_geometry.specs.parts.PartTest.{has_member, slimmed, part_lines, part_of}
 use Rattle.rp_geometry.specs.parts.Parts.{most_half_spaces, most_parts}
 use Rattle.rp_walks.specs.Walk.{Outcome, done, stopped, limit_met, Walk, pass, stop, after_first, ◌>>=◌, ◌>>◌, Work, with_lines, most_tests, count_tests, strict_test, weak_test, part_test, first_tester}
@@ -50,6 +50,11 @@ count_tells n = record { tells = λ w. by_test w (nat_le (w.tests + n) most_test
 pub strict_tells : (cell : List HalfSpace) → OnlyTells (strict_test cell)
 unfolding strict_test
 strict_tells cell = record { tells = λ w. record { more = strict_line cell ∷ []; lines = refl } }
+
+-- a weak test
+pub weak_tells : (cell : List HalfSpace) → OnlyTells (weak_test cell)
+unfolding weak_test
+weak_tells cell = record { tells = λ w. record { more = weak_line cell ∷ []; lines = refl } }
 
 -- a part test
 pub part_tells : (cell : List HalfSpace) → OnlyTells (part_test cell)

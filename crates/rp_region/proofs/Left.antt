@@ -1,7 +1,7 @@
 -- What is left of a walk while it is made step by step.
 use Rattle.std.proofs.Common.{◌≡◌, ℕ, ◌+◌, ◌<◌, List, ◌∷◌, length, get_or, drop, Result, Ok, Err, refl, sym, ap, ◌∙◌, subst}
 use Rattle.std.proofs.lemmas.List.{drop_more}
-use Rattle.rp_walks.specs.Walk.{Outcome, done, stopped, Walk, pass, after_first, ◌>>=◌, Work}
+use Rattle.rp_walks.specs.Walk.{Outcome, done, Walk, after_first, ◌>>=◌, Work}
 use Rattle.rp_region.specs.declared.fault.OpFault.{OpFault}
 use Rattle.rp_region.specs.declared.fault.OpFault.TheVariants.{Limit, Memory}
 use Rattle.rp_region.specs.Makes.{work_after, TellsMore, IsCutShort, IsFaultOf, Makes}
@@ -32,15 +32,20 @@ next_left {start = start} {now = now} {new = new} {x = x} first next f h m = rec
   told = more_still start now new h.told (step_told first (done x new) now f m);
 }
 
--- where the first step has a fault, the whole walk has it
-pub fault_left : {A B : Type 0} {start now : Work} {whole : Walk Work A} (first : Walk Work B) (next : B → Walk Work A)
-    → ((y : B) → OnlyTells (next y)) → IsLeft start whole now (first >>= next) → (e : OpFault) (new : Work) → IsFaultOf e now new first → IsFaultOf e start new whole
-fault_left first next each h Limit new m = sym h.same ∙ ap (after_first next) m
-fault_left {start = start} {now = now} first next each h (Memory e) new m = record {
+-- where the first step is given up, so is the whole walk
+pub cut_left : {A B : Type 0} {start now : Work} {whole : Walk Work A} (first : Walk Work B) (next : B → Walk Work A)
+    → ((y : B) → OnlyTells (next y)) → IsLeft start whole now (first >>= next) → (new : Work) → IsCutShort now new (first now) → IsCutShort start new (whole start)
+cut_left {start = start} {now = now} first next each h new m = record {
   told = more_still start now new h.told m.told;
   untold = subst (λ r. TellsMore new (work_after r)) h.same
       (more_still new (work_after (first now)) (work_after (after_first next (first now))) m.untold (after_tells next each (first now)));
 }
+
+-- where the first step has a fault, the whole walk has it
+pub fault_left : {A B : Type 0} {start now : Work} {whole : Walk Work A} (first : Walk Work B) (next : B → Walk Work A)
+    → ((y : B) → OnlyTells (next y)) → IsLeft start whole now (first >>= next) → (e : OpFault) (new : Work) → IsFaultOf e now new first → IsFaultOf e start new whole
+fault_left first next each h Limit new m = sym h.same ∙ ap (after_first next) m
+fault_left first next each h (Memory e) new m = cut_left first next each h new m
 
 -- where memory is wanting between two steps, the whole walk is given up
 pub given_up : {A : Type 0} {start now : Work} {whole : Walk Work A} (left : Walk Work A) → OnlyTells left → IsLeft start whole now left → IsCutShort start now (whole start)
@@ -62,3 +67,7 @@ makes_left view (Err (Memory e)) {start = start} {now = now} new h m = record {
   told = more_still start now new h.told m.told;
   untold = subst (λ o. TellsMore new (work_after o)) h.same m.untold;
 }
+
+-- where memory is wanting before a walk has told anything, it is given up
+pub not_begun : {A : Type 0} (walk : Walk Work A) (old new : Work) → OnlyTells walk → new ≡ old → IsCutShort old new (walk old)
+not_begun walk old new f e = subst (λ w. IsCutShort old w (walk old)) (sym e) (record { told = no_more old; untold = f.tells old })

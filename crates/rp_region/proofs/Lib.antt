@@ -1,3 +1,6 @@
 pub mod Grows
 pub mod Left
+pub mod PartMade
 pub mod Steps
+pub mod Tested
+pub mod Members

@@ -1,12 +1,12 @@
 -- What is left of the walks of one pair and of one half-space after each of their tests.
-use Rattle.std.proofs.Common.{◌≡◌, ℕ, ◌≤◌, Bool, true, false, List, [], ◌∷◌, ◌++◌, length, refl, sym, ap, ◌∙◌, subst, arith}
+use Rattle.std.proofs.Common.{◌≡◌, ℕ, ◌≤◌, Bool, true, false, List, [], ◌∷◌, ◌++◌, length, ap, subst, arith}
 use Rattle.std.specs.Prelude.{nat_le, Option}
 use Rattle.rp_geometry.specs.Geometry.{HalfSpace, complement, boxes_meet}
 use Rattle.rp_geometry.specs.sets.Shape.{Part}
 use Rattle.rp_geometry.specs.parts.Parts.{most_parts}
-use Rattle.rp_walks.specs.Walk.{Outcome, done, limit_met, Walk, pass, stop, ◌>>=◌, ◌>>◌, Work, count_tests, strict_test, part_test, first_tester}
+use Rattle.rp_walks.specs.Walk.{done, limit_met, Walk, pass, stop, ◌>>=◌, ◌>>◌, Work, count_tests, strict_test, part_test, first_tester}
 use Rattle.rp_walks.specs.Form.{made_part, if_at_most, join_pair, carve_one, carve_or_keep, subtract_pair}
-use Rattle.rp_region.proofs.Grows.{count_tells, strict_tells, part_tells, few_tells, pass_tells}
+use Rattle.rp_region.proofs.Grows.{count_tells, strict_tells, part_tells}
 use Rattle.rp_region.proofs.Left.{IsLeft, all_left, left_as, next_left}
 
 -- two parts were tested together: the length of the list is left

@@ -2,7 +2,7 @@
 use Rattle.std.specs.Prelude.{◌≡◌, Bool, true, false, List, ◌++◌, Result, Ok, Err}
 use Rattle.std.specs.declared.alloc.AllocError.{AllocError}
 use Rattle.rp_geometry.specs.searches.ProofLine.{ProofLine}
-use Rattle.rp_walks.specs.Walk.{Outcome, done, stopped, limit_met, Walk, Work}
+use Rattle.rp_walks.specs.Walk.{Outcome, done, stopped, limit_met, Walk, Work, with_lines}
 use Rattle.rp_region.specs.declared.fault.OpFault.{OpFault}
 use Rattle.rp_region.specs.declared.fault.OpFault.TheVariants.{Limit, Memory}
 
@@ -15,6 +15,10 @@ counted false w = stopped limit_met w
 abbrev pub op_result : {A : Type 0} → Result A AllocError → Result A OpFault
 op_result (Ok x) = Ok x
 op_result (Err e) = Err (Memory e)
+
+-- lines of proof are told, without a test
+abbrev pub telling : List ProofLine → Walk Work (Unit {0})
+telling lines w = done tt (with_lines w lines)
 
 -- the work as it is at the end of a walk
 abbrev pub work_after : {A : Type 0} → Outcome Work A → Work

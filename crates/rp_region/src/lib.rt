@@ -12,3 +12,6 @@ pub use fault::OpFault;
 pub use part::Part;
 pub use region::Region;
 pub use work::Work;
+
+#[cfg(test)]
+mod tests;

@@ -5,7 +5,8 @@ ghost use Rattle.rp_geometry.specs.parts.PartTest.{whole_part};
 ghost use Rattle.rp_geometry.specs.parts.Parts.{IsPart, most_half_spaces};
 ghost use Rattle.rp_space.specs.Boxes.{integer_box};
 
-use rp_space::{Half, Halves, IntBox};
+use rp_cell::Cell;
+use rp_space::{Half, IntBox};
 use std::alloc::{AllocError, Global};
 use std::marker::Model;
 
@@ -16,7 +17,7 @@ const HALF_EDGE: i32 = 16777216;
 /// members.
 #[derive(Debug, Drop)]
 pub struct Part {
-    halves: Halves,
+    halves: Cell,
     bounds: IntBox,
 }
 
@@ -38,7 +39,7 @@ impl Part {
         ensures { result ≡ whole_part }
     {
         Part {
-            halves: Halves::new(alloc),
+            halves: Cell::new(alloc),
             bounds: IntBox {
                 lo: [-HALF_EDGE; 3],
                 hi: [HALF_EDGE; 3],
@@ -47,7 +48,7 @@ impl Part {
     }
 
     /// The part of a slim cell and its least box.
-    pub(crate) fn of_slim(halves: Halves, bounds: IntBox) -> Part
+    pub(crate) fn of_slim(halves: Cell, bounds: IntBox) -> Part
         requires { IsPart (record { cell = halves.items; bounds = integer_box bounds }) }
         ensures { result ≡ record { cell = halves.items; bounds = integer_box bounds } }
     {
@@ -74,7 +75,7 @@ impl Part {
         ensures { IfOk result (λ part. part ≡ self.now) }
     {
         Ok(Part {
-            halves: Halves::copy_of(alloc, self.halves.items())?,
+            halves: Cell::copy_of(alloc, self.halves.items())?,
             bounds: self.bounds,
         })
     }
@@ -95,5 +96,5 @@ fn boxes_meet(first: &IntBox, second: &IntBox) -> bool
     let [x2, y2, z2] = first.hi;
     let [u1, v1, w1] = second.lo;
     let [u2, v2, w2] = second.hi;
-    x1 < u2 && u1 < x2 && y1 < v2 && v1 < y2 && z1 < w2 && w1 < z2
+    (x1 < u2) & (u1 < x2) & (y1 < v2) & (v1 < y2) & (z1 < w2) & (w1 < z2)
 }

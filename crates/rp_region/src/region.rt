@@ -1,7 +1,8 @@
 //! Regions and their algebra.
 ghost use Rattle.std.specs.Prelude.{◌≡◌, ◌≤◌, ◌∷◌, [], ◌++◌, length, IfOk};
+ghost use Rattle.std.specs.List.{list_any};
 ghost use Rattle.rp_geometry.specs.Geometry.{is_cube_point, all_hold};
-ghost use Rattle.rp_geometry.specs.sets.Shape.{Shape, is_member, passes, shape_of_cell, shape_of_parts};
+ghost use Rattle.rp_geometry.specs.sets.Shape.{Shape, is_member, shape_of_cell, shape_of_parts};
 ghost use Rattle.rp_geometry.specs.sets.Sets.{SameMembers};
 ghost use Rattle.rp_geometry.specs.parts.PartTest.{whole_part};
 ghost use Rattle.rp_geometry.specs.parts.Parts.{most_parts};
@@ -188,7 +189,7 @@ fn is_in_cube(p: &Point) -> bool
 
 /// Whether the half-spaces of one of the parts all hold the point.
 fn is_in_some(parts: &[Part], p: &Point) -> bool
-    ensures { result ≡ passes (shape_of_parts parts.now) p.now }
+    ensures { result ≡ list_any (λ part. all_hold part.cell p.now) parts.now }
 {
     parts.iter().any(|part| all_hold(part.halves(), p))
 }

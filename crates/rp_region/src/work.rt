@@ -1,17 +1,23 @@
 //! What a command has done so far: the number of tests counted, and the proof lines of its tests.
-ghost use Rattle.std.specs.Prelude.{◌≡◌, ◌+◌, ◌≤◌, ◌↔◌, ◌++◌, ◌∷◌, [], false, length, map, is_some, IfOk, OnOk, OnErr, IsNone};
+ghost use Rattle.std.specs.Prelude.{◌≡◌, ◌+◌, ◌≤◌, ◌↔◌, ◌++◌, ◌∷◌, [], false, length, map, is_some, Some, IfOk, OnOk, OnErr, IsNone};
 ghost use Rattle.rp_geometry.specs.Geometry.{RationalPoint};
 ghost use Rattle.rp_geometry.specs.sets.Shape.{shape_of_cell};
-ghost use Rattle.rp_geometry.specs.sets.Sets.{IsEmpty};
+ghost use Rattle.rp_geometry.specs.sets.Sets.{IsNonempty, IsEmpty};
+ghost use Rattle.rp_geometry.specs.searches.ProofLine.{in_line, strict_line};
 ghost use Rattle.rp_geometry.specs.searches.Vertex.{first_inside, first_weak_point};
 ghost use Rattle.rp_geometry.specs.laws.CellLaws.{IsSolution};
+ghost use Rattle.rp_geometry.specs.parts.Parts.{IsPart};
+ghost use Rattle.rp_walks.specs.FormLaws.{IsMadeOf};
 ghost use Rattle.rp_walks.specs.Walk.{most_tests, no_work, with_lines, count_tests, strict_test, weak_test, part_test};
 ghost use Rattle.rp_cert.specs.Lines.{line_of};
-ghost use Rattle.rp_region.specs.Makes.{counted, op_result, Makes};
+ghost use Rattle.rp_cell.specs.Lines.{drop_line_of, side_line_of};
+ghost use Rattle.rp_region.specs.Makes.{counted, op_result, telling, Makes};
 
 use crate::fault::OpFault;
 use crate::part::Part;
-use rp_cell::{Strict, Weak, decide_strict, decide_weak};
+use rp_cell::{
+    Drops, SideProofs, Sides, Slimmed, Strict, Weak, decide_strict, decide_weak, sides_of, slim,
+};
 use rp_cert::{Proof, Proofs};
 use rp_space::{Half, Inside, Point, joined};
 use std::alloc::{AllocError, Global};
@@ -19,6 +25,9 @@ use std::marker::Model;
 
 /// The most tests that a command may count.
 const MAX_TESTS: u32 = 65536;
+
+/// The most half-spaces of a part.
+const MAX_HALVES: usize = 32;
 
 /// The number of tests that a command has counted, at most 65,536, and the proof lines of its tests so far.
 /// After `Limit` or want of memory the lines are those before with a front of the new ones, and it isn't used further.
@@ -162,11 +171,62 @@ impl Work {
 
     /// A part test of a cell of at most 64 half-spaces: the part of its slim cell, and `None` exactly where the cell has no
     /// point. Its lines are appended; it isn't counted. `Limit` exactly where the slim cell has more than 32 half-spaces.
-    pub(crate) fn part(&mut self, _alloc: Global, cell: &[Half]) -> Result<Option<Part>, OpFault>
+    pub(crate) fn part(&mut self, alloc: Global, cell: &[Half]) -> Result<Option<Part>, OpFault>
         requires { length cell.now ≤ 64 }
-        ensures { Makes (λ o. o) result self.old self.new (part_test cell.now) }
+        ensures makes { Makes (λ o. o) result self.old self.new (part_test cell.now) }
+        ensures made { IfOk result (λ o. IsMadeOf IsPart cell.now o) }
     {
-        let _ = cell;
-        Err(OpFault::Memory(AllocError))
+        match decide_strict(cell) {
+            Strict::Inside(points) => {
+                let part = self.slim_part(alloc, cell, points)?;
+                Ok(Some(part))
+            }
+            Strict::Outside(terms) => {
+                self.tell(Proof::Out(terms))?;
+                Ok(None)
+            }
+        }
+    }
+
+    /// The part of the slim cell of a cell in which a strict test has found these points. The lines of the test and of the
+    /// part are appended.
+    fn slim_part(&mut self, alloc: Global, cell: &[Half], points: Inside) -> Result<Part, OpFault>
+        requires few { length cell.now ≤ 64 }
+        requires found { first_inside cell.now ≡ Some points }
+        requires line { in_line points ≡ strict_line cell.now }
+        requires member { IsNonempty (shape_of_cell cell.now) }
+        ensures makes { Makes Some result self.old self.new (part_test cell.now) }
+        ensures made { IfOk result (λ part. IsMadeOf IsPart cell.now (Some part)) }
+    {
+        let Slimmed { kept, dropped } = slim(alloc, cell)?;
+        if kept.items().len() > MAX_HALVES {
+            return Err(OpFault::Limit);
+        }
+        self.tell(Proof::In(points))?;
+        self.tell_drops(dropped)?;
+        let Sides { bounds, proofs } = sides_of(kept.items());
+        self.tell(Proof::Bounds(bounds))?;
+        self.tell_sides(proofs)?;
+        Ok(Part::of_slim(kept, bounds))
+    }
+
+    /// Appends the lines of the half-spaces that were dropped from a cell.
+    fn tell_drops(&mut self, dropped: Drops) -> Result<(), AllocError>
+        ensures { Makes (λ x. x) (op_result result) self.old self.new (telling (map drop_line_of dropped.items)) }
+    {
+        for (half, terms) in dropped.into_items() {
+            self.tell(Proof::Dropped(half, terms))?;
+        }
+        Ok(())
+    }
+
+    /// Appends the lines of the sides of a box.
+    fn tell_sides(&mut self, proofs: SideProofs) -> Result<(), AllocError>
+        ensures { Makes (λ x. x) (op_result result) self.old self.new (telling (map side_line_of proofs)) }
+    {
+        for terms in proofs.into_items() {
+            self.tell(Proof::Out(terms))?;
+        }
+        Ok(())
     }
 }

@@ -15,4 +15,4 @@ returns-in_err-push c =
     rw (p.1, p.2)
     (given_up (pass longer) (pass_tells longer)
     (piece_made made c.args.cell.now c.args.before.now c.args.half.now c.as_slice.result.now
-    (c.as_slice.ensures.value ∙ c.push.ensures.items ∙ (λ i. c.joined-piece.ensures i ++ c.not.ensures i ∷ [])) c.if-not-count.ensures c.in_ok-part.ensures))
+    (c.as_slice.ensures.value ∙ c.push.ensures.items ∙ (λ i. c.joined-piece.ensures i ++ c.not.ensures i ∷ [])) c.if-not-count.ensures c.in_ok-part.ensures.makes))

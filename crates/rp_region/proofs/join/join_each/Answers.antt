@@ -1,6 +1,5 @@
-use Rattle.std.proofs.Common.{◌+◌, List, drop, ap}
+use Rattle.std.proofs.Common.{◌+◌, drop, ap}
 use Rattle.std.proofs.lemmas.Result.{err_from_is_err_and}
-use Rattle.rp_geometry.specs.sets.Shape.{Part}
 use Rattle.rp_walks.specs.Walk.{first_tester}
 use Rattle.rp_walks.specs.Form.{join_with_part, join_each}
 use Rattle.rp_region.proofs.Grows.{join_with_part_tells, join_each_tells}

@@ -15,4 +15,4 @@ returns-in_err-push c =
     rw (p.1, p.2)
     (given_up (if_at_most most_parts longer) (few_tells most_parts longer)
     (pair_joined made c.args.part.now c.args.other.now c.as_slice.result.now
-    (c.as_slice.ensures.value ∙ c.joined-cell.ensures ∙ (λ i. c.halves.ensures.value i ++ c.halves-2.ensures.value i)) c.in_ok-common.ensures))
+    (c.as_slice.ensures.value ∙ c.joined-cell.ensures ∙ (λ i. c.halves.ensures.value i ++ c.halves-2.ensures.value i)) c.in_ok-common.ensures.makes))

@@ -1,0 +1,13 @@
+use Rattle.std.proofs.Common.{refl, ◌∷◌, []}
+use Rattle.std.proofs.lemmas.Result.{err_from_is_err_and}
+use Rattle.rp_geometry.specs.parts.PartTest.{whole_part}
+use Rattle.rp_walks.specs.Walk.{first_tester}
+use Rattle.rp_walks.specs.Form.{subtract}
+use Rattle.rp_region.proofs.Grows.{subtract_tells}
+use Rattle.rp_region.proofs.Left.{not_begun}
+use Rattle.rp_region.proofs.region.Region.outside.Goals as goal
+
+pub returns-in_err-whole-clause-makes : goal.returns-in_err-whole-clause-makes
+returns-in_err-whole-clause-makes c =
+    let p = err_from_is_err_and c.from_residual.result c.from_residual.ensures.1 in
+    rw (p.1, p.2) (not_begun (subtract first_tester (whole_part ∷ []) c.args.self.now) c.args.work.now c.args.work.now (subtract_tells (whole_part ∷ []) c.args.self.now) refl)
