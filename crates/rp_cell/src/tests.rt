@@ -2,7 +2,7 @@ use crate::{
     Cell, Drops, SideProofs, Sides, Slimmed, Strict, Weak, box_of, decide_strict, decide_weak,
     sides_of, slim,
 };
-use rp_space::{Half, HalfFault, IntBox, Term, box_halves};
+use rp_space::{Half, HalfFault, IntBox, Outside, Term, box_halves};
 use std::test::Fail;
 
 /// Shows that a type may be sent to other threads and shared with them.
@@ -99,6 +99,9 @@ fn a_tetrahedron_is_slim(rt: HostRuntime) -> Result<(), Fail> {
 #[test]
 fn a_tetrahedron_has_its_least_box_and_its_sides(rt: HostRuntime) -> Result<(), Fail> {
     let cell = tetrahedron()?;
+    let Strict::Inside(_) = decide_strict(&cell) else {
+        return Err("the tetrahedron is empty".into());
+    };
     let bounds = IntBox {
         lo: [0, 0, 0],
         hi: [4, 3, 2],
@@ -132,30 +135,44 @@ fn a_tetrahedron_has_its_least_box_and_its_sides(rt: HostRuntime) -> Result<(), 
     for (proof, terms) in copy.items().iter().zip(&wanted) {
         assert_eq!(rt; proof.items(), terms.as_slice());
     }
-    let mut all = SideProofs::new();
-    for proof in sides.proofs.into_items() {
-        all.push(proof);
+    assert_eq!(rt; sides.proofs.into_items().len(), 3);
+    Ok(())
+}
+
+#[test]
+fn certificates_of_sides_are_appended(rt: HostRuntime) -> Result<(), Fail> {
+    let mut terms = Outside::new();
+    terms.push(term(1, (0, 0, 0, -1))?);
+    let mut proofs = SideProofs::new();
+    proofs.push(terms.copy());
+    proofs.push(terms);
+    assert_eq!(rt; proofs.items().len(), 2);
+    for proof in proofs.items() {
+        assert_eq!(rt; proof.items().len(), 1);
     }
-    assert_eq!(rt; all.items().len(), 3);
     Ok(())
 }
 
 #[test]
 fn a_half_space_of_all_points_is_dropped(rt: HostRuntime) -> Result<(), Fail> {
     let all = Half::new(0, 0, 0, 1)?;
-    let slimmed = slim(rt.alloc(), &[all])?;
+    let cell = [all];
+    let slimmed = slim(rt.alloc(), &cell)?;
     assert_eq!(rt; slimmed.kept.items().len(), 0);
     assert_eq!(rt; slimmed.dropped.items().len(), 1);
     for (half, terms) in slimmed.dropped.items() {
         assert_eq!(rt; *half, all);
         assert_eq!(rt; terms.items(), [term(1, (0, 0, 0, -1))?].as_slice());
     }
+    let Strict::Inside(_) = decide_strict(&cell) else {
+        return Err("the cube is empty".into());
+    };
     let edge = 16777216;
     let cube = IntBox {
         lo: [-edge, -edge, -edge],
         hi: [edge, edge, edge],
     };
-    assert_eq!(rt; box_of(&[all]), cube);
-    assert_eq!(rt; sides_of(&[all]).proofs.items().len(), 0);
+    assert_eq!(rt; box_of(&cell), cube);
+    assert_eq!(rt; sides_of(&cell).proofs.items().len(), 0);
     Ok(())
 }

@@ -157,6 +157,7 @@ fn three_planes_meet_in_lowest_terms(rt: HostRuntime) -> Result<(), Fail> {
     let meeting = Pair::new(&x, &y).meeting(&z.not()).ok_or("no point")?;
     assert_eq!(rt; meeting.side(&z), 0);
     assert_eq!(rt; meeting.side(&Half::default()), 12);
+    assert_eq!(rt; meeting.numbers(), (12, 16, 2, 8));
     assert_eq!(rt; meeting.point().numbers(), (6, 8, 1, 4));
     Ok(())
 }

@@ -47,7 +47,7 @@ fn box_of_system(system: &[Half]) -> Option<IntBox>
 
 /// The least box that holds a box and the vertices on the plane of `f` and two planes of `others`.
 fn joined_with_one(
-    bounds: Option<IntBox>,
+    mut bounds: Option<IntBox>,
     system: &[Half],
     f: &Half,
     others: &[Half],
@@ -55,7 +55,6 @@ fn joined_with_one(
     requires { HasCube system.now }
     ensures { option_map integer_box result ≡ joined (option_map integer_box bounds) (all_of_pairs (vertex_at any_point system.now f.now) others.now) }
 {
-    let mut bounds = bounds;
     for i in 0..others.len() {
         let pair = Pair::new(f, &others[i]);
         bounds = joined_with_two(bounds, system, &pair, &others[i + 1..]);
@@ -65,7 +64,7 @@ fn joined_with_one(
 
 /// The least box that holds a box and the vertices on both planes of a pair and one of `others`.
 fn joined_with_two(
-    bounds: Option<IntBox>,
+    mut bounds: Option<IntBox>,
     system: &[Half],
     pair: &Pair,
     others: &[Half],
@@ -73,7 +72,6 @@ fn joined_with_two(
     requires { HasCube system.now }
     ensures { option_map integer_box result ≡ joined (option_map integer_box bounds) (filter_map (vertex_at any_point system.now pair.now.first pair.now.second) others.now) }
 {
-    let mut bounds = bounds;
     for h in others {
         bounds = joined_with_three(bounds, system, pair, h);
     }
