@@ -1,2 +1,5 @@
 mod Between
+mod Formed
+mod Names
+mod RowLemmas
 mod Told

@@ -1,12 +1,13 @@
 //! The machine that answers one line of a script after the other.
 #![tactic(auto)]
 
-mod empty;
+mod fault;
+mod form;
 mod machine;
 mod member;
+mod named;
 mod reply;
+mod rows;
 
+pub use fault::FormFault;
 pub use machine::Machine;
-
-#[cfg(test)]
-mod tests;

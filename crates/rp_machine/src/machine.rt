@@ -1,63 +1,48 @@
 //! One line of a script after the other.
-ghost use Rattle.std.specs.Prelude.{◌≡◌, IfOk, OnOk};
-ghost use Rattle.std.specs.List.{AllByRecursion};
-ghost use Rattle.rp_geometry.specs.sets.Shape.{is_member};
-ghost use Rattle.rp_language.specs.Expression.{ask_member, expressions_of, first_unknown, closed, IsBounded};
-ghost use Rattle.rp_language.specs.Grammar.{reading};
-ghost use Rattle.rp_model.specs.states.State.{PlainState, opening};
+ghost use Rattle.std.specs.Prelude.{◌≡◌, ◌+◌, ◌&&◌, ℕ, length, map, nat_le, option_copied, IfOk, OnOk, OnErr};
+ghost use Rattle.rp_geometry.specs.parts.Parts.{IsPart};
+ghost use Rattle.rp_language.specs.Grammar.{reading, command};
+ghost use Rattle.rp_walks.specs.FormLaws.{MeaningsAgree};
+ghost use Rattle.rp_model.specs.states.State.{opening, parts_in, state_of_parts, changed, parts_under_names, most_names, most_kept_parts};
+ghost use Rattle.rp_model.specs.states.Sound.{IsSound};
 ghost use Rattle.rp_model.specs.commands.Row.{shapes_of_parts};
 ghost use Rattle.rp_reports.specs.Report.{echoed, bad_answer};
 ghost use Rattle.rp_reports.specs.Built.{answer_so_far, state_so_far};
-ghost use Rattle.rp_report.specs.Views.{verdict_of, answer_of};
-ghost use Rattle.rp_syntax.specs.Views.{expression_of, command_of, line_of, fault_of};
-ghost use Rattle.rp_machine.specs.Replies.{Replies, told, member_verdict, nothing_kept};
+ghost use Rattle.rp_cert.specs.Lines.{line_of};
+ghost use Rattle.rp_report.specs.Views.{answer_of, verdict_of};
+ghost use Rattle.rp_syntax.specs.Views.{command_of, fault_of};
+ghost use Rattle.rp_machine.specs.Replies.{change_of, Fits, IsAnswerToFault};
 
-use crate::empty::emptiness;
-use crate::member::{first_unknown, is_member};
-use crate::reply::Reply;
+use crate::fault::FormFault;
+use crate::named::NamedRegions;
+use crate::reply::{Change, Reply};
 use rp_cert::Proofs;
+use rp_region::{Region, Work};
 use rp_report::{Answer, Refusal, Verdict};
-use rp_space::Point;
-use rp_syntax::{Command, Expr, Line, Why, read_line};
+use rp_space::Name;
+use rp_syntax::{Command, Line, Why, read_line};
 use std::alloc::{AllocError, Global};
 use std::marker::Model;
 use std::thread::Threads;
 
-/// The machine that answers the lines of a script. A contract sees what it keeps between them: no names and no lots yet.
+/// The machine that answers the lines of a script. A contract sees what it keeps between them: what names stand for, and
+/// no lots yet. That is a sound state: the names are distinct, each stands for a region, and the limits of their number
+/// and of their parts are kept.
 #[derive(Debug, Drop)]
 pub struct Machine {
-    _kept: (),
+    names: NamedRegions,
 }
 
 impl Model for Machine {
-    ghost use Rattle.rp_model.specs.states.State.{PlainState, opening};
+    ghost use Rattle.rp_model.specs.states.State.{PlainState, state_of_parts};
+    ghost use Rattle.rp_model.specs.states.Sound.{IsSound};
+    ghost use Rattle.rp_machine.specs.Named.{state_of_names};
 
     ghost Value = { PlainState };
 
-    ghost view = { λ _. opening };
-}
+    ghost view = { λ a. state_of_names a.names };
 
-/// The reply to a question of membership. It rests on no test.
-fn membership(alloc: Global, region: &Expr, point: &Point) -> Reply
-    ensures { Replies opening (ask_member (expression_of region.now) point.now) result }
-{
-    Reply::of_verdict(alloc, member_verdict(region, point))
-}
-
-/// The verdict on a question of membership.
-fn member_verdict(region: &Expr, point: &Point) -> Verdict
-    ensures { verdict_of result
-        ≡ member_verdict (first_unknown nothing_kept (expression_of region.now))
-        (is_member (closed (shapes_of_parts nothing_kept) (expression_of region.now)) point.now) }
-{
-    if let Some(name) = first_unknown(region) {
-        return Verdict::Refused(Refusal::Unknown(name));
-    }
-    if is_member(region, point) {
-        Verdict::Yes
-    } else {
-        Verdict::No
-    }
+    ghost invariant = { λ a. IsSound (state_of_parts (state_of_names a.names)) };
 }
 
 /// The bytes of a line that is no command, as they are echoed: none of a line that is too long.
@@ -78,43 +63,72 @@ fn bad_line(alloc: Global, n: u32, line: &[u8], why: Why) -> Result<Answer, Allo
     Answer::with_verdict(alloc, n, echoed(line, why), Proofs::new(alloc), verdict)
 }
 
-/// The answer to a command, which is its echo and the reply. Answers `AllocError` only for want of memory.
-fn told(alloc: Global, n: u32, line: &[u8], reply: Reply) -> Result<Answer, AllocError>
-    ensures { IfOk result (λ a. answer_of a ≡ told n line.now reply) }
+/// The answer to a command that has no reply. What was proved until a limit is given back before anything is told.
+/// Answers `AllocError` only for want of memory.
+fn refused(
+    alloc: Global,
+    n: u32,
+    line: &[u8],
+    work: Work,
+    fault: FormFault,
+) -> Result<Answer, AllocError>
+    ensures { IfOk result (IsAnswerToFault n line.now work fault) }
 {
-    Answer::with_verdict(alloc, n, line, reply.proofs, reply.verdict)
+    match fault {
+        FormFault::Unknown(name) => {
+            let verdict = Verdict::Refused(Refusal::Unknown(name));
+            Answer::with_verdict(alloc, n, line, work.into_proofs(), verdict)
+        }
+        FormFault::Limit => {
+            drop(work);
+            Answer::past_limit(alloc, n, line)
+        }
+        FormFault::Memory(fault) => Err(fault),
+    }
 }
 
 impl Machine {
     /// The machine in its opening state. Answers `AllocError` only for want of memory.
-    pub fn new(_alloc: Global) -> Result<Machine, AllocError>
+    pub fn new(alloc: Global) -> Result<Machine, AllocError>
         ensures { IfOk result (λ m. m ≡ opening) }
     {
-        Ok(Machine { _kept: () })
+        Ok(Machine {
+            names: NamedRegions::new(alloc),
+        })
     }
 
-    /// So far no command changes what is kept.
-    fn expect_opening(&self)
-        ensures { self.now ≡ opening }
+    /// Does nothing: a machine is a sound state, whose names stand for regions, and this makes it known.
+    pub(crate) fn keep_sound(&self)
+        ensures sound { IsSound (state_of_parts self.now) }
+        ensures regions { MeaningsAgree IsPart (parts_in self.now) (shapes_of_parts (parts_in self.now)) }
     {
-        let Machine { _kept } = self;
+        let _ = &self.names;
     }
 
-    /// The reply to a command. Answers `AllocError` only for want of memory.
-    fn reply(&self, alloc: Global, command: &Command) -> Result<Reply, AllocError>
-        requires { AllByRecursion IsBounded (expressions_of (command_of command.now)) }
-        ensures { IfOk result (Replies self.now (command_of command.now)) }
+    /// The region that a name stands for.
+    pub(crate) fn region_named(&self, name: &Name) -> Option<&Region>
+        ensures { option_copied result ≡ (parts_in self.now).of_name name.now }
     {
-        self.expect_opening();
-        match command {
-            Command::Member(region, point) => Ok(membership(alloc, region, point)),
-            Command::Empty(region) => emptiness(alloc, region),
-            _ => Ok(Reply::of_verdict(alloc, Verdict::Unbuilt)),
-        }
+        self.names.find(name)
+    }
+
+    /// The region of a live lot. There are no lots yet.
+    pub(crate) fn region_of_lot(&self, _lot: &Name) -> Option<&Region>
+        ensures { option_copied result ≡ (parts_in self.now).of_lot _lot.now }
+    {
+        let _ = &self.names;
+        None
+    }
+
+    /// Whether one more name may stand for the region.
+    pub(crate) fn has_room_for(&self, region: &Region) -> bool
+        ensures { result ≡ (nat_le (length self.now.names + 1) most_names && nat_le (parts_under_names self.now.names + length region.now) most_kept_parts) }
+    {
+        self.names.have_room_for(region)
     }
 
     /// The answer to the line with the number `n`, and what it changes. A blank line has an answer without echo and verdicts.
-    /// Answers `AllocError` only for want of memory; the machine isn't used further then.
+    /// A line that is refused changes nothing. Answers `AllocError` only for want of memory; then the machine is as it was.
     pub fn step<R: Threads + Sync>(
         &mut self,
         _rt: &R,
@@ -124,23 +138,64 @@ impl Machine {
     ) -> Result<Answer, AllocError>
         ensures answer { IfOk result (λ a. answer_of a ≡ answer_so_far self.old n line.now) }
         ensures state { OnOk result (self.new ≡ state_so_far self.old n line.now) }
+        ensures unchanged { OnErr result (self.new ≡ self.old) }
     {
-        let read = read_line(alloc, line)?;
-        self.answer(alloc, n, line, &read)
+        match read_line(alloc, line)? {
+            Line::Blank => Ok(Answer::blank(alloc, n)),
+            Line::Cmd(command) => self.answer(alloc, n, line, &command),
+            Line::Bad(why) => bad_line(alloc, n, line, why),
+        }
     }
 
-    /// The answer to a line that reads so. Answers `AllocError` only for want of memory.
-    fn answer(&self, alloc: Global, n: u32, line: &[u8], read: &Line) -> Result<Answer, AllocError>
-        requires { line_of read.now ≡ reading line.now }
-        ensures { IfOk result (λ a. answer_of a ≡ answer_so_far self.now n line.now) }
+    /// The answer to a line that reads as the command, and what it changes.
+    fn answer(
+        &mut self,
+        alloc: Global,
+        n: u32,
+        line: &[u8],
+        asked: &Command,
+    ) -> Result<Answer, AllocError>
+        requires { reading line.now ≡ command (command_of asked.now) }
+        ensures answer { IfOk result (λ a. answer_of a ≡ answer_so_far self.old n line.now) }
+        ensures state { OnOk result (self.new ≡ state_so_far self.old n line.now) }
+        ensures unchanged { OnErr result (self.new ≡ self.old) }
     {
-        match read {
-            Line::Blank => Ok(Answer::blank(alloc, n)),
-            Line::Cmd(command) => {
-                let reply = self.reply(alloc, command)?;
-                told(alloc, n, line, reply)
-            }
-            Line::Bad(why) => bad_line(alloc, n, line, *why),
+        let mut work = Work::new(alloc);
+        match self.row(alloc, asked, &mut work) {
+            Ok(reply) => self.complete(alloc, n, line, work.into_proofs(), reply),
+            Err(fault) => refused(alloc, n, line, work, fault),
+        }
+    }
+
+    /// The answer to a command with a reply, whose change is made last: nothing can want memory behind it.
+    /// Answers `AllocError` only for want of memory; then the machine is as it was.
+    fn complete(
+        &mut self,
+        alloc: Global,
+        n: u32,
+        line: &[u8],
+        proofs: Proofs,
+        reply: Reply,
+    ) -> Result<Answer, AllocError>
+        requires { Fits self.old reply.change }
+        ensures answer { IfOk result (λ a. answer_of a ≡ record { number = n; echo = line.now; proofs = map line_of proofs.items; verdicts = map verdict_of reply.verdicts.items }) }
+        ensures state { OnOk result ((m : ℕ) → self.new ≡ changed m self.old (change_of reply.change)) }
+        ensures unchanged { OnErr result (self.new ≡ self.old) }
+    {
+        let answer = Answer::with_verdicts(alloc, n, line, proofs, reply.verdicts)?;
+        self.accept(reply.change)?;
+        Ok(answer)
+    }
+
+    /// Makes a change that fits. Answers `AllocError` only for want of memory; then the machine is as it was.
+    fn accept(&mut self, change: Change) -> Result<(), AllocError>
+        requires { Fits self.old change }
+        ensures ok { OnOk result ((n : ℕ) → self.new ≡ changed n self.old (change_of change)) }
+        ensures unchanged { OnErr result (self.new ≡ self.old) }
+    {
+        match change {
+            Change::Nothing => Ok(()),
+            Change::Named(name, region) => self.names.keep(name, region),
         }
     }
 }

@@ -1,15 +1,17 @@
 //! Membership of points, by signs.
-ghost use Rattle.std.specs.Prelude.{◌≡◌, ◌<◌, ◌^◌, ◌*ℤ◌, unsigned_abs};
-ghost use Rattle.rp_language.specs.Expression.{closed, first_unknown};
+ghost use Rattle.std.specs.Prelude.{◌≡◌, ◌<◌, ◌^◌, ◌*ℤ◌, true, unsigned_abs, option_copied, option_map};
+ghost use Rattle.rp_language.specs.Expression.{closed, shape_or_nothing};
 ghost use Rattle.rp_geometry.specs.Geometry.{all_hold, box_half_spaces, is_cube_point};
-ghost use Rattle.rp_geometry.specs.sets.Shape.{passes, is_member};
+ghost use Rattle.rp_geometry.specs.sets.Shape.{passes, is_member, shape_of_parts};
+ghost use Rattle.rp_model.specs.states.State.{parts_in};
 ghost use Rattle.rp_model.specs.commands.Row.{shapes_of_parts};
 ghost use Rattle.rp_geometry.specs.Geometry.{is_between, is_in_box};
 ghost use Rattle.rp_space.specs.Boxes.{integer_box};
 ghost use Rattle.rp_syntax.specs.Views.{expression_of};
-ghost use Rattle.rp_machine.specs.Replies.{nothing_kept};
 
-use rp_space::{IntBox, Name, Point};
+use crate::machine::Machine;
+use rp_region::Region;
+use rp_space::{IntBox, Point};
 use rp_syntax::Expr;
 
 /// Half the edge of the domain cube, in units.
@@ -53,6 +55,17 @@ fn is_in_box(bounds: &IntBox, point: &Point) -> bool
     on_x & on_y & on_z
 }
 
+/// Whether a point of the cube lies in the region, if there is one.
+fn is_held(region: Option<&Region>, point: &Point) -> bool
+    requires { is_cube_point point.now ≡ true }
+    ensures { result ≡ passes (shape_or_nothing (option_map shape_of_parts (option_copied region.entry))) point.now }
+{
+    match region {
+        Some(region) => region.holds(point),
+        None => false,
+    }
+}
+
 /// Whether the point lies in the domain cube, its upper sides left out.
 fn is_in_cube(point: &Point) -> bool
     ensures { result ≡ is_cube_point point.now }
@@ -63,54 +76,30 @@ fn is_in_cube(point: &Point) -> bool
         && is_between(-HALF_EDGE, HALF_EDGE, z, w)
 }
 
-/// Whether the point passes the test of the expression, in which each name and lot stands for nothing.
-fn passes(region: &Expr, point: &Point) -> bool
-    ensures { result ≡ passes (closed (shapes_of_parts nothing_kept) (expression_of region.now)) point.now }
-{
-    match region {
-        Expr::Half(half) => half.holds(point),
-        Expr::Block(bounds) => is_held_by_box(bounds, point),
-        Expr::All => true,
-        Expr::Nothing => false,
-        Expr::Name(_) => false,
-        Expr::Lot(_) => false,
-        Expr::And(first, second) => passes(first, point) && passes(second, point),
-        Expr::Or(first, second) => passes(first, point) || passes(second, point),
-        Expr::Minus(first, second) => passes(first, point) && !passes(second, point),
-        Expr::Not(operand) => !passes(operand, point),
+impl Machine {
+    /// Whether a point of the cube passes the test of the expression, in which each name and lot stands for its region.
+    fn passes(&self, region: &Expr, point: &Point) -> bool
+        requires { is_cube_point point.now ≡ true }
+        ensures { result ≡ passes (closed (shapes_of_parts (parts_in self.now)) (expression_of region.now)) point.now }
+    {
+        match region {
+            Expr::Half(half) => half.holds(point),
+            Expr::Block(bounds) => is_held_by_box(bounds, point),
+            Expr::All => true,
+            Expr::Nothing => false,
+            Expr::Name(name) => is_held(self.region_named(name), point),
+            Expr::Lot(name) => is_held(self.region_of_lot(name), point),
+            Expr::And(first, second) => self.passes(first, point) && self.passes(second, point),
+            Expr::Or(first, second) => self.passes(first, point) || self.passes(second, point),
+            Expr::Minus(first, second) => self.passes(first, point) && !self.passes(second, point),
+            Expr::Not(operand) => !self.passes(operand, point),
+        }
     }
-}
 
-/// Whether the point is a member of the expression: it lies in the cube and passes its test.
-pub fn is_member(region: &Expr, point: &Point) -> bool
-    ensures { result ≡ is_member (closed (shapes_of_parts nothing_kept) (expression_of region.now)) point.now }
-{
-    is_in_cube(point) && passes(region, point)
-}
-
-/// The first name or lot of the expression, in reading order; none of them stands for anything yet.
-pub fn first_unknown(region: &Expr) -> Option<Name>
-    ensures { result ≡ first_unknown nothing_kept (expression_of region.now) }
-{
-    match region {
-        Expr::Half(_) => None,
-        Expr::Block(_) => None,
-        Expr::All => None,
-        Expr::Nothing => None,
-        Expr::Name(name) => Some(*name),
-        Expr::Lot(name) => Some(*name),
-        Expr::And(first, second) => match first_unknown(first) {
-            Some(name) => Some(name),
-            None => first_unknown(second),
-        },
-        Expr::Or(first, second) => match first_unknown(first) {
-            Some(name) => Some(name),
-            None => first_unknown(second),
-        },
-        Expr::Minus(first, second) => match first_unknown(first) {
-            Some(name) => Some(name),
-            None => first_unknown(second),
-        },
-        Expr::Not(operand) => first_unknown(operand),
+    /// Whether the point is a member of the expression: it lies in the cube and passes its test.
+    pub(crate) fn is_member(&self, region: &Expr, point: &Point) -> bool
+        ensures { result ≡ is_member (closed (shapes_of_parts (parts_in self.now)) (expression_of region.now)) point.now }
+    {
+        is_in_cube(point) && self.passes(region, point)
     }
 }

@@ -63,6 +63,13 @@ impl Part {
         self.halves.items()
     }
 
+    /// The half-spaces in order, without the part. Takes no memory.
+    pub fn into_halves(self) -> Cell
+        ensures { result.items ≡ self.cell }
+    {
+        self.halves
+    }
+
     /// The least box round the members: on each axis the greatest whole lower and the least whole upper bound.
     pub fn bounds(&self) -> &IntBox
         ensures { integer_box result.now ≡ self.now.bounds }

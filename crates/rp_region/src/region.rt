@@ -5,7 +5,7 @@ ghost use Rattle.rp_geometry.specs.Geometry.{is_cube_point, all_hold};
 ghost use Rattle.rp_geometry.specs.sets.Shape.{Shape, is_member, shape_of_cell, shape_of_parts};
 ghost use Rattle.rp_geometry.specs.sets.Sets.{SameMembers};
 ghost use Rattle.rp_geometry.specs.parts.PartTest.{whole_part};
-ghost use Rattle.rp_geometry.specs.parts.Parts.{most_parts};
+ghost use Rattle.rp_geometry.specs.parts.Parts.{IsRegion, most_parts};
 ghost use Rattle.rp_walks.specs.Walk.{first_tester};
 ghost use Rattle.rp_walks.specs.Form.{if_at_most, join, subtract, subtract_from_whole, parts_of_cell};
 ghost use Rattle.rp_region.specs.Makes.{Makes};
@@ -166,8 +166,16 @@ impl Region {
     pub fn parts(&self) -> &[Part]
         ensures value { result.now ≡ self.now }
         ensures few { length result.now ≤ most_parts }
+        ensures kept { IsRegion self.now }
     {
         self.parts.items()
+    }
+
+    /// The parts in order, without the region. Takes no memory.
+    pub fn into_parts(self) -> Vec<Part>
+        ensures { result.items ≡ self }
+    {
+        self.parts.into_items()
     }
 
     /// Whether the point is a member: it is in the cube and in a part.

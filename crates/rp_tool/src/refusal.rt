@@ -11,7 +11,7 @@ fn is_refusal(verdict: &Verdict) -> bool
     ensures { result ≡ is_refused_line (verdict_text (verdict_of verdict.now)) }
 {
     match verdict {
-        Verdict::Yes | Verdict::No => false,
+        Verdict::Yes | Verdict::No | Verdict::Ok | Verdict::Parts(_) | Verdict::Part(_) => false,
         Verdict::Refused(_) | Verdict::Unbuilt => true,
     }
 }

@@ -1,31 +1,43 @@
-use Rattle.std.proofs.Common.{◌≡◌, ap, sym, ◌∙◌}
-use Rattle.rp_language.specs.Grammar.{reading, command}
-use Rattle.rp_language.proofs.ReadBounds.{read_numbers_are_bounded_spec}
-use Rattle.rp_reports.specs.Report.{bad_answer}
-use Rattle.rp_reports.specs.Built.{answer_so_far}
-use Rattle.rp_report.specs.Views.{answer_of}
-use Rattle.rp_syntax.specs.Views.{command_of, line_of, fault_of}
-use Rattle.rp_machine.specs.Replies.{told}
-use Rattle.rp_machine.proofs.Told.{answered, blank_answered, bad_answered, in_other_words}
+use Rattle.std.proofs.Common.{◌≡◌, map, subst}
+use Rattle.rp_cert.specs.Lines.{line_of}
+use Rattle.rp_language.proofs.ReadBounds.{read_expressions_are_kept_spec}
+use Rattle.rp_walks.specs.Walk.{Work, done}
+use Rattle.rp_syntax.specs.Views.{command_of}
+use Rattle.rp_machine.specs.Replies.{row_so_far, reply_of, ComesTo}
+use Rattle.rp_machine.proofs.Told.{reply_answered, reply_changes, fault_answered, fault_unchanged}
 use Rattle.rp_machine.proofs.machine.Machine.answer.Goals as goal
 
-pub reply-requires : goal.reply-requires
-reply-requires c = read_numbers_are_bounded_spec c.args.line.now (command_of c.in-Cmd.command) (sym c.requires ∙ ap line_of c.in-Cmd.is)
+pub row-requires : goal.row-requires
+row-requires c = read_expressions_are_kept_spec c.args.line.now (command_of c.args.asked.now) c.requires
 
-pub returns-in-Blank : goal.returns-in-Blank
-returns-in-Blank c = c.blank.ensures ∙ blank_answered c.args.self.now c.args.n c.args.line.now (sym c.requires ∙ ap line_of c.in-Blank.is)
+pub returns-in-Ok-clause-answer : goal.returns-in-Ok-clause-answer
+returns-in-Ok-clause-answer c =
+    let s = c.args.self.now in
+    let asked = command_of c.args.asked.now in
+    let new = c.row.new.work in
+    let walked = subst (λ (w : Work). row_so_far s asked w ≡ done (reply_of c.in-Ok.reply) new) c.new-work.ensures c.in-Ok.ensures.walks in
+    reply_answered s c.args.n c.args.line.now asked new c.in-Ok.reply (map line_of c.into_proofs.result.items) c.complete.result c.requires walked c.into_proofs.ensures c.complete.ensures.answer
 
-pub returns-in_ok-reply-in-Cmd : goal.returns-in_ok-reply-in-Cmd
-returns-in_ok-reply-in-Cmd c =
-    let n = c.args.n in
-    let line = c.args.line.now in
-    let read : reading line ≡ command (command_of c.in-Cmd.command) = sym c.requires ∙ ap line_of c.in-Cmd.is in
-    let same = c.in_ok-reply-in-Cmd.ensures n line ∙ answered c.args.self.now n line (command_of c.in-Cmd.command) read in
-    in_other_words c.told.result (λ a. answer_of a ≡ told n line c.in_ok-reply-in-Cmd.reply) (λ a. answer_of a ≡ answer_so_far c.args.self.now n line) (λ a h. h ∙ same) c.told.ensures
+pub returns-in-Ok-clause-state : goal.returns-in-Ok-clause-state
+returns-in-Ok-clause-state c =
+    let s = c.args.self.now in
+    let asked = command_of c.args.asked.now in
+    let new = c.row.new.work in
+    let walked = subst (λ (w : Work). row_so_far s asked w ≡ done (reply_of c.in-Ok.reply) new) c.new-work.ensures c.in-Ok.ensures.walks in
+    reply_changes s c.complete.new.self c.args.n c.args.line.now asked new c.in-Ok.reply c.complete.result c.requires walked c.complete.ensures.state
 
-pub returns-in-Bad : goal.returns-in-Bad
-returns-in-Bad c =
-    let n = c.args.n in
-    let line = c.args.line.now in
-    let same = bad_answered c.args.self.now n line (fault_of c.in-Bad.why) (sym c.requires ∙ ap line_of c.in-Bad.is) in
-    in_other_words c.bad_line.result (λ a. answer_of a ≡ bad_answer n line (fault_of c.in-Bad.why)) (λ a. answer_of a ≡ answer_so_far c.args.self.now n line) (λ a h. h ∙ same) c.bad_line.ensures
+pub returns-in-Err-clause-answer : goal.returns-in-Err-clause-answer
+returns-in-Err-clause-answer c =
+    let s = c.args.self.now in
+    let asked = command_of c.args.asked.now in
+    let new = c.row.new.work in
+    let comes = subst (λ (w : Work). ComesTo c.in-Err.fault new (row_so_far s asked w)) c.new-work.ensures c.in-Err.ensures.walks in
+    fault_answered s c.args.n c.args.line.now asked new c.in-Err.fault c.refused.result c.requires comes c.refused.ensures
+
+pub returns-in-Err-clause-state : goal.returns-in-Err-clause-state
+returns-in-Err-clause-state c =
+    let s = c.args.self.now in
+    let asked = command_of c.args.asked.now in
+    let new = c.row.new.work in
+    let comes = subst (λ (w : Work). ComesTo c.in-Err.fault new (row_so_far s asked w)) c.new-work.ensures c.in-Err.ensures.walks in
+    fault_unchanged s c.args.n c.args.line.now asked new c.in-Err.fault c.refused.result c.requires comes c.refused.ensures

@@ -1,0 +1,72 @@
+-- What the rows of commands come to.
+use Rattle.std.proofs.Common.{◌≡◌, ℕ, ◌+◌, ◌≤◌, Bool, true, false, ◌&&◌, List, [], ◌∷◌, length, Option, Some, None, Result, Ok, Err, refl, sym, ap, ◌∙◌, subst, arith}
+use Rattle.std.specs.Prelude.{nat_le, IfSome, IsNone, option_map}
+use Rattle.rp_algebra.proofs.Tests.{and_first, and_second}
+use Rattle.rp_geometry.specs.sets.Shape.{Part}
+use Rattle.rp_language.specs.Name.{Label, is_among}
+use Rattle.rp_language.specs.Expression.{first_of_two}
+use Rattle.rp_walks.specs.Walk.{Walk, Work, done, stopped, limit_met, pass, stop, after_first, ◌>>=◌, ◌>>◌}
+use Rattle.rp_model.specs.states.State.{PlainState, name_added, names_of, parts_under_names, most_names, most_kept_parts}
+use Rattle.rp_model.specs.commands.Verdict.{known, unknown}
+use Rattle.rp_model.specs.commands.Checks.{refuse_if}
+use Rattle.rp_model.specs.commands.Row.{Reply, refusal, accepted, check, row_define}
+use Rattle.rp_machine.specs.declared.fault.FormFault.{FormFault}
+use Rattle.rp_machine.specs.declared.fault.FormFault.TheVariants.{Unknown}
+use Rattle.rp_machine.specs.declared.reply.Reply.{Reply as CodeReply}
+use Rattle.rp_machine.specs.Named.{kept_under, IsNewName}
+use Rattle.rp_machine.specs.Replies.{ComesTo, Walks}
+
+-- ---- one form, and then a row
+
+-- a row that goes on behind a form: no name is unknown, the form was made, and the rest was walked
+pub goes_on : (o : Option Label) (walk : Walk Work (List Part)) (next : List Part → Walk Work Reply) (ps : List Part) (old mid new : Work) (r : Result CodeReply FormFault)
+    → IfSome o (λ x. (Ok ps ≡ Err (Unknown x)) × (mid ≡ old)) → (IsNone o → walk old ≡ done ps mid) → Walks r mid new (next ps) → Walks r old new (check (option_map unknown (first_of_two o None)) (walk >>= next))
+goes_on (Some x) walk next ps old mid new r absent made rest = let e : Ok ps ≡ Err (Unknown x) = absent.0 in absurd (cc)
+goes_on None walk next ps old mid new (Ok reply) absent made rest = ap (after_first next) (made refl) ∙ rest
+goes_on None walk next ps old mid new (Err e) absent made rest = subst (ComesTo e new) (sym (ap (after_first next) (made refl))) rest
+
+-- ---- `let`
+
+-- the row of a definition, by its three tests
+abbrev define_by : Label → List Part → Bool → Bool → Bool → Walk Work Reply
+define_by x ps there names parts = check (refuse_if there (known x)) do
+  elim names as (λ _. Walk Work (Unit {0})) [ true ↦ pass tt | false ↦ stop limit_met ]
+  elim parts as (λ _. Walk Work (Unit {0})) [ true ↦ pass tt | false ↦ stop limit_met ]
+  pass (accepted (name_added (kept_under x ps)))
+
+-- whether there is room for one more name
+abbrev room_for_name : PlainState → Bool
+room_for_name s = nat_le (length s.names + 1) most_names
+
+-- whether there is room for more parts
+abbrev room_for_parts : PlainState → List Part → Bool
+room_for_parts s ps = nat_le (parts_under_names s.names + length ps) most_kept_parts
+
+-- a known name is refused
+pub known_name : (s : PlainState) (x : Label) (ps : List Part) → is_among x (names_of s.names) ≡ true → (w : Work) → row_define s x ps w ≡ done (refusal (known x)) w
+known_name s x ps e w = ap (λ there. define_by x ps there (room_for_name s) (room_for_parts s ps) w) e
+
+-- where there is no room, a new name is past a limit
+pub no_room : (s : PlainState) (x : Label) (ps : List Part) → is_among x (names_of s.names) ≡ false → (room_for_name s && room_for_parts s ps) ≡ false → (w : Work) → row_define s x ps w ≡ stopped limit_met w
+no_room s x ps e full w = ap (λ there. define_by x ps there (room_for_name s) (room_for_parts s ps) w) e ∙ by (room_for_name s) (room_for_parts s ps) full
+  where
+    by : (names parts : Bool) → (names && parts) ≡ false → define_by x ps false names parts w ≡ stopped limit_met w
+    by true true h = absurd (cc)
+    by true false h = refl
+    by false parts h = refl
+
+-- else it is kept
+pub new_name : (s : PlainState) (x : Label) (ps : List Part) → is_among x (names_of s.names) ≡ false → (room_for_name s && room_for_parts s ps) ≡ true → (w : Work) → row_define s x ps w ≡ done (accepted (name_added (kept_under x ps))) w
+new_name s x ps e room w = ap (λ there. define_by x ps there (room_for_name s) (room_for_parts s ps) w) e ∙ by (room_for_name s) (room_for_parts s ps) room
+  where
+    by : (names parts : Bool) → (names && parts) ≡ true → define_by x ps false names parts w ≡ done (accepted (name_added (kept_under x ps))) w
+    by true true h = refl
+    by true false h = absurd (cc)
+    by false parts h = absurd (cc)
+
+-- and it may be
+pub fits_new : (s : PlainState) (x : Label) (ps : List Part) → is_among x (names_of s.names) ≡ false → (room_for_name s && room_for_parts s ps) ≡ true → IsNewName s.names x ps
+fits_new s x ps e room = record { fresh = e; few_names = few (length s.names + 1) most_names (and_first (room_for_name s) (room_for_parts s ps) room); few_parts = few (parts_under_names s.names + length ps) most_kept_parts (and_second (room_for_name s) (room_for_parts s ps) room) }
+  where
+    few : (m n : ℕ) → nat_le m n ≡ true → m ≤ n
+    few m n h = grind arith
