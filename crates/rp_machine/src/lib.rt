@@ -11,3 +11,6 @@ mod rows;
 
 pub use fault::FormFault;
 pub use machine::Machine;
+
+#[cfg(test)]
+mod tests;
