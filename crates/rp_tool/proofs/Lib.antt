@@ -1,5 +1,4 @@
 pub mod IntakeLemmas
-pub mod KnownLemmas
 pub mod LineLemmas
 pub mod RefusalLemmas
 pub mod RunLemmas
