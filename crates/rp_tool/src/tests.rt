@@ -97,7 +97,7 @@ fn reports_the_worked_rows(rt: HostRuntime) -> Result<(), Fail> {
         ),
         (
             "empty box 0 0 0 10 10 10\n",
-            "> 1 empty box 0 0 0 10 10 10\n  in (0 0 0 1) (0 0 10 1) (0 10 0 1) (10 0 0 1)\n= no\n",
+            "> 1 empty box 0 0 0 10 10 10\n  in (0 0 0 1) (0 0 10 1) (0 10 0 1) (10 0 0 1)\n  box 0 0 0 10 10 10\n  in (0 0 0 1) (0 0 10 1) (0 10 0 1) (10 0 0 1)\n= no\n",
         ),
         (
             "empty box 0 0 0 0 10 10\n",
@@ -158,16 +158,16 @@ fn answers_within_the_bounds_and_refuses_past_them(rt: HostRuntime) -> Result<()
         ("member half 1 0 0 0 0 0 0 0", "= refused range"),
         // The last line of a script keeps its carriage return where no line end follows.
         ("member half 1 0 0 0 0 5 5 1\r", "= refused syntax"),
-        // No name and no lot is there yet.
+        // No such name is there, and no lot yet.
         (
             "member and all or none lot b 0 0 0 1",
             "= refused unknown b",
         ),
         ("member minus name a lot b 0 0 0 1", "= refused unknown a"),
-        // Emptiness is built for one half-space or one box, and no name is looked up elsewhere.
         ("empty half 0 0 0 0", "= refused zero"),
-        ("empty all", "= refused unbuilt"),
-        ("empty name a", "= refused unbuilt"),
+        ("empty name a", "= refused unknown a"),
+        // A command that is not built.
+        ("audit", "= refused unbuilt"),
     ];
     for (line, verdict) in rows {
         let report = report_of(rt.alloc(), line, verdict)?;
