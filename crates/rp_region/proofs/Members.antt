@@ -1,22 +1,18 @@
 -- The members of the regions that walks come to, and points in them.
-use Rattle.std.proofs.Common.{◌≡◌, ◌≤◌, ◌*◌, ℤ, to_z, of_z, ◌&&◌, ◌||◌, List, [], ◌∷◌, ◌++◌, length, refl, ap, ◌∙◌, subst, arith}
+use Rattle.std.proofs.Common.{◌≡◌, ◌*◌, ℤ, to_z, of_z, ◌&&◌, ◌||◌, List, [], ◌∷◌, length, refl, ap, ◌∙◌, subst, arith}
 use Rattle.std.specs.Prelude.{int_lt, Option, Some, None}
 use Rattle.std.specs.Int.RustNames.{FitsSigned}
 use Rattle.std.specs.List.{list_any}
 use Rattle.std.proofs.lemmas.Int.{to_z-of_z}
 use mir.Syntax.{w32}
-use Rattle.rp_algebra.proofs.Listed.{all_append}
 use Rattle.rp_geometry.specs.Geometry.{RationalPoint, HalfSpace, holds, all_hold}
 use Rattle.rp_geometry.specs.sets.Shape.{Shape, Part, passes, shape_of_cell, shape_of_parts}
-use Rattle.rp_geometry.specs.parts.Parts.{most_parts, IsPart, IsRegion, AreOf}
-use Rattle.rp_geometry.proofs.SameMembers.{same_itself}
+use Rattle.rp_geometry.specs.parts.Parts.{IsPart, IsRegion, AreOf}
 use Rattle.rp_walks.specs.Walk.{Outcome, done, after_first, Work, count_tests, first_tester}
-use Rattle.rp_walks.specs.Form.{made_part, join_each, join, subtract, subtract_from_whole}
+use Rattle.rp_walks.specs.Form.{made_part, join_each, join, subtract}
 use Rattle.rp_walks.specs.FormLaws.{IfDone, IsMadeOf}
-use Rattle.rp_forms.proofs.Alike.{parts_append, same_of_alike}
 use Rattle.rp_forms.proofs.Difference.{difference_is_right_spec}
 use Rattle.rp_forms.proofs.First.{first_tester_is_right_spec}
-use Rattle.rp_forms.proofs.Forms.{rest_told}
 use Rattle.rp_forms.proofs.Join.{join_is_right_spec}
 
 -- what is known of the end of a walk, of the end it has come to
@@ -36,19 +32,6 @@ joined_of ps qs made w v hp hq e =
 pub left_of : (ps qs made : List Part) (w v : Work) → IsRegion ps → IsRegion qs → subtract first_tester ps qs w ≡ done made v → AreOf IsPart (Shape.difference (shape_of_parts ps) (shape_of_parts qs)) made
 left_of ps qs made w v hp hq e =
     at_done (λ made. AreOf IsPart (Shape.difference (shape_of_parts ps) (shape_of_parts qs)) made) (subtract first_tester ps qs w) made v e (difference_is_right_spec IsPart first_tester first_tester_is_right_spec ps qs hp hq w)
-
--- what is left of the cube has the members that are none of the region
-pub rest_of : (ps made : List Part) (w v : Work) → IsRegion ps → subtract_from_whole first_tester ps w ≡ done made v → AreOf IsPart (Shape.opposite (shape_of_parts ps)) made
-rest_of ps made w v hp e =
-    at_done (λ made. AreOf IsPart (Shape.opposite (shape_of_parts ps)) made) (subtract_from_whole first_tester ps w) made v e
-    (rest_told IsPart first_tester first_tester_is_right_spec (shape_of_parts ps) ps (record { all = hp; members = same_itself (shape_of_parts ps) }) w)
-
--- two lists together have the members of one of them
-pub together_of : (ps qs : List Part) → IsRegion ps → IsRegion qs → length (ps ++ qs) ≤ most_parts → AreOf IsPart (Shape.union (shape_of_parts ps) (shape_of_parts qs)) (ps ++ qs)
-together_of ps qs hp hq few = record {
-  all = record { each = all_append IsPart ps qs hp.each hq.each; few = few };
-  members = same_of_alike (shape_of_parts (ps ++ qs)) (Shape.union (shape_of_parts ps) (shape_of_parts qs)) (λ p w c. parts_append ps qs p);
-}
 
 -- ---- points
 

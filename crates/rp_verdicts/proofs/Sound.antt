@@ -1,6 +1,6 @@
 -- In a sound state names and live lots stand for parts that have the members of their sets.
-use Rattle.std.proofs.Common.{Bool, true, false, cond, List, [], ◌∷◌}
-use Rattle.std.specs.Prelude.{Option, Some, filter}
+use Rattle.std.proofs.Common.{true, false, List, [], ◌∷◌}
+use Rattle.std.specs.Prelude.{Option, Some}
 use Rattle.std.specs.List.{AllByRecursion}
 use Rattle.rp_language.specs.Name.{Label, label_eq}
 use Rattle.rp_geometry.specs.sets.Shape.{Shape, Part}
@@ -12,15 +12,7 @@ use Rattle.rp_walks.specs.FormLaws.{Agree, MeaningsAgree}
 use Rattle.rp_reports.specs.laws.RowLaws.{FormHasTheMembers}
 use Rattle.rp_forms.proofs.First.{first_tester_is_right_spec}
 use Rattle.rp_forms.proofs.Forms.{form_is_right_spec}
-
--- a fact that is true of all items is true of those that pass a test
-pub all_filtered : {A : Type 0} (P : A → Type 0) (test : A → Bool) (xs : List A) → AllByRecursion P xs → AllByRecursion P (filter test xs)
-all_filtered P test [] h = tt
-all_filtered P test (x ∷ xs) h = by_test (test x) (all_filtered P test xs h.1)
-  where
-    by_test : (b : Bool) → AllByRecursion P (filter test xs) → AllByRecursion P (cond b (x ∷ filter test xs) (filter test xs))
-    by_test true k = (h.0, k)
-    by_test false k = k
+use Rattle.rp_verdicts.proofs.Meanings.{all_filter}
 
 module _ (P : Part → Type 0) where
   -- the parts and the set of what is kept
@@ -45,7 +37,7 @@ module _ (P : Part → Type 0) where
   pub sound_agrees : (s : State) → IsSoundWith P s → MeaningsAgree P (parts_in s) (sets_in s)
   sound_agrees s sound = record {
     names = λ x. kept_agrees x s.names sound.names_keep_parts;
-    lots = λ x. lot_agrees x (live_lots s.lots) (all_filtered (λ l. AreOf P l.set l.parts) is_live s.lots sound.lots_keep_parts);
+    lots = λ x. lot_agrees x (live_lots s.lots) (all_filter (λ l. AreOf P l.set l.parts) is_live s.lots sound.lots_keep_parts);
   }
 
 -- the law
