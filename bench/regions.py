@@ -26,9 +26,9 @@ def joined(word, operands):
     return " ".join([word] * (len(operands) - 1) + operands)
 
 
-def row(count):
+def row(count, south=0):
     """Boxes in a row that do not touch each other."""
-    return [box((1000 * number, 0, 0), (1000 * number + 900, 800, 600)) for number in range(count)]
+    return [box((1000 * number, south, 0), (1000 * number + 900, south + 800, 600)) for number in range(count)]
 
 
 def named_row(count):

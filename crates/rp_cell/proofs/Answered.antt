@@ -20,6 +20,11 @@ some_unless : {A : Type 0} (o : Option A) → (IsNone o → ⊥) → IsSome o
 some_unless (Some x) n = refl
 some_unless None n = absurd (n refl)
 
+-- an answer that is not some is none
+pub none_unless : {A : Type 0} (o : Option A) → (IsSome o → ⊥) → o ≡ None
+none_unless (Some x) n = absurd (n refl)
+none_unless None n = refl
+
 -- where a cell has no member, an outside certificate is found
 pub outside_is_some : (cell : List HalfSpace) (o : Option (List Multiple)) → (IsNone o ↔ ((p : RationalPoint) × IsSolution true cell p)) → IsEmpty (shape_of_cell cell) → IsSome o
 outside_is_some cell o none empty = some_unless o (λ e. let s = none.0 e in empty s.0 (strict_solution_is_member_spec cell s.0 s.1))

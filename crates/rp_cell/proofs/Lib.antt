@@ -1,3 +1,3 @@
-mod Answered
+pub mod Answered
 mod Beyond
 mod SlimSoFar

@@ -1,10 +1,16 @@
 //! Whether a cell has a point, and whether its weak system has one.
-ghost use Rattle.std.specs.Prelude.{◌≡◌, ◌≤◌, length};
-ghost use Rattle.rp_geometry.specs.searches.ProofLine.{strict_line, weak_line};
+ghost use Rattle.std.specs.Prelude.{◌≡◌, ◌≤◌, true, false, length, IsTrue, Some};
+ghost use Rattle.rp_geometry.specs.Geometry.{RationalPoint};
+ghost use Rattle.rp_geometry.specs.sets.Shape.{shape_of_cell};
+ghost use Rattle.rp_geometry.specs.sets.Sets.{IsEmpty};
+ghost use Rattle.rp_geometry.specs.laws.CellLaws.{IsSolution};
+ghost use Rattle.rp_geometry.specs.searches.Certificate.{is_outside_certificate};
+ghost use Rattle.rp_geometry.specs.searches.Elimination.{first_outside};
+ghost use Rattle.rp_geometry.specs.searches.ProofLine.{strict_line, weak_line, out_line, apart_line};
 ghost use Rattle.rp_cell.specs.Decisions.{line_of_strict, line_of_weak, DecidesStrict, DecidesWeak};
 
 use rp_elim::first_outside;
-use rp_space::{Half, Inside, Outside, Point};
+use rp_space::{Half, Inside, Outside, Point, keep_bounds};
 use rp_vertex::{first_inside, first_weak};
 
 /// Whether a cell has a point.
@@ -36,7 +42,7 @@ pub fn decide_strict(cell: &[Half]) -> Strict
 {
     match first_inside(cell) {
         Some(points) => Strict::Inside(points),
-        None => Strict::Outside(first_outside(cell, true).unwrap()),
+        None => Strict::Outside(refute_strict(cell)),
     }
 }
 
@@ -50,6 +56,32 @@ pub fn decide_weak(cell: &[Half]) -> Weak
 {
     match first_weak(cell) {
         Some(p) => Weak::At(p),
-        None => Weak::Outside(first_outside(cell, false).unwrap()),
+        None => Weak::Outside(refute_weak(cell)),
     }
+}
+
+/// The first outside certificate of a cell that is known to have no point. Points are not searched for.
+/// A cell has at most 64 half-spaces. Takes no memory.
+pub fn refute_strict(cell: &[Half]) -> Outside
+    requires few { length cell.now ≤ 64 }
+    requires empty { IsEmpty (shape_of_cell cell.now) }
+    ensures first { first_outside true cell.now ≡ Some result }
+    ensures passes { IsTrue (is_outside_certificate true cell.now result) }
+    ensures line { out_line result ≡ strict_line cell.now }
+{
+    keep_bounds(cell);
+    first_outside(cell, true).unwrap()
+}
+
+/// The first outside certificate that is not strict of a cell whose weak system is known to have no point. Points are not
+/// searched for. A cell has at most 64 half-spaces. Takes no memory.
+pub fn refute_weak(cell: &[Half]) -> Outside
+    requires few { length cell.now ≤ 64 }
+    requires empty { (p : RationalPoint) → ¬ IsSolution false cell.now p }
+    ensures first { first_outside false cell.now ≡ Some result }
+    ensures passes { IsTrue (is_outside_certificate false cell.now result) }
+    ensures line { apart_line result ≡ weak_line cell.now }
+{
+    keep_bounds(cell);
+    first_outside(cell, false).unwrap()
 }

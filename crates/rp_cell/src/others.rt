@@ -2,7 +2,7 @@
 ghost use Rattle.std.specs.Prelude.{◌≡◌, ◌+◌, ◌<◌, [], ◌∷◌, ◌++◌, length};
 ghost use Rattle.rp_geometry.specs.Geometry.{IsKeptHalfSpace, complement};
 
-use rp_space::{Half, System};
+use rp_space::{Half, System, joined};
 
 /// The cell of two lists of half-spaces and the complement of one more: its members are those of the lists that are
 /// outside that one.
@@ -13,9 +13,7 @@ pub(crate) fn outside_of(half: &Half, first: &[Half], second: &[Half]) -> System
 {
     // Only for what `numbers` ensures, that the half-space keeps its bounds and is in lowest terms.
     let _ = half.numbers();
-    let mut outside = System::new();
-    outside.try_extend_from_slice(first).unwrap();
-    outside.try_extend_from_slice(second).unwrap();
+    let mut outside = joined(first, second);
     outside.push(half.not());
     outside
 }

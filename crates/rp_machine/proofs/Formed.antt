@@ -1,5 +1,5 @@
 -- How the walk of an expression's form is made: node by node.
-use Rattle.std.proofs.Common.{◌≡◌, ◌*◌, List, [], ◌∷◌, ◌++◌, length, Ok, Err, sym, ap, ◌∙◌, subst}
+use Rattle.std.proofs.Common.{◌≡◌, ◌*◌, List, [], ◌∷◌, ◌++◌, length, subst}
 use Rattle.std.specs.Prelude.{Result}
 use Rattle.rp_geometry.specs.Geometry.{box_half_spaces, HalfSpace}
 use Rattle.rp_geometry.specs.sets.Shape.{Shape, Part, shape_of_parts}
@@ -13,8 +13,8 @@ use Rattle.rp_walks.specs.FormLaws.{IfDone, MeaningsAgree}
 use Rattle.rp_forms.proofs.First.{first_tester_is_right_spec}
 use Rattle.rp_forms.proofs.Forms.{form_is_right_spec}
 use Rattle.rp_region.specs.declared.fault.OpFault.{OpFault}
-use Rattle.rp_region.specs.Makes.{IsFaultOf, Makes}
-use Rattle.rp_region.proofs.Grows.{OnlyTells, then_tells, pass_tells, count_tells, part_tells, few_tells, join_each_tells, subtract_tells}
+use Rattle.rp_region.specs.Makes.{IsFaultOf, Makes, OnlyTells}
+use Rattle.rp_region.proofs.Grows.{then_tells, pass_tells, count_tells, part_tells, few_tells, join_each_tells, subtract_tells}
 use Rattle.rp_region.proofs.Left.{IsLeft, all_left, next_left, fault_left, makes_left}
 
 -- ---- forms only append proof lines

@@ -1,4 +1,4 @@
-mod Between
+mod Compared
 mod Formed
 mod Names
 mod RowLemmas

@@ -12,7 +12,7 @@ use Rattle.rp_geometry.specs.sets.Shape.{Shape, Part, shape_of_parts}
 use Rattle.rp_geometry.specs.parts.Parts.{IsPart, IsRegion, AreOf}
 use Rattle.rp_language.specs.Name.{Label, label_eq, is_among}
 use Rattle.rp_walks.specs.FormLaws.{Agree, MeaningsAgree}
-use Rattle.rp_model.specs.states.State.{Kept, kept_of_parts, state_of_parts, parts_in, kept_named, parts_of_kept, names_of, parts_under_names, most_names, most_kept_parts}
+use Rattle.rp_model.specs.states.State.{Kept, kept_of_parts, state_of_parts, parts_in, kept_named, parts_of_kept, names_of, most_names, most_kept_parts}
 use Rattle.rp_model.specs.states.Sound.{are_distinct, IsSound}
 use Rattle.rp_model.specs.commands.Row.{shapes_of_parts}
 use Rattle.rp_states.proofs.Labels.{distinct_together}

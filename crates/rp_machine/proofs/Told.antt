@@ -1,11 +1,11 @@
 -- What was walked of a command, as the answer and the state that are computed.
-use Rattle.std.proofs.Common.{◌≡◌, ℕ, Bool, true, false, not, List, [], Result, Ok, Err, refl, sym, ap, ◌∙◌, subst}
+use Rattle.std.proofs.Common.{◌≡◌, ℕ, Bool, true, false, not, List, Result, Ok, Err, refl, sym, ap, ◌∙◌}
 use Rattle.std.specs.Prelude.{IfOk, OnOk}
 use Rattle.rp_geometry.specs.searches.ProofLine.{ProofLine}
 use Rattle.rp_language.specs.Expression.{Command}
 use Rattle.rp_language.specs.Grammar.{Fault, Reading, blank, bad, command, reading}
-use Rattle.rp_walks.specs.Walk.{Outcome, done, stopped, limit_met, Work, no_work, pass, first_tester}
-use Rattle.rp_model.specs.states.State.{PlainState, Change, nothing_changes, changed}
+use Rattle.rp_walks.specs.Walk.{Outcome, done, Work, no_work, pass, first_tester}
+use Rattle.rp_model.specs.states.State.{PlainState, nothing_changes, changed}
 use Rattle.rp_model.specs.commands.Verdict.{unbuilt}
 use Rattle.rp_model.specs.commands.Row.{Reply, reply, row}
 use Rattle.rp_model.specs.commands.Rule.{walked}

@@ -1,6 +1,5 @@
 -- What a call that makes the form of an expression has made of it.
-use Rattle.std.specs.Prelude.{◌≡◌, List, Result, Ok, Err}
-use Rattle.rp_geometry.specs.sets.Shape.{Part}
+use Rattle.std.specs.Prelude.{◌≡◌, Result, Ok, Err}
 use Rattle.rp_walks.specs.Walk.{done, stopped, limit_met, Walk, Work}
 use Rattle.rp_region.specs.declared.fault.OpFault.{OpFault}
 use Rattle.rp_region.specs.declared.fault.OpFault.TheVariants.{Limit as OpLimit, Memory as OpMemory}
@@ -13,9 +12,9 @@ abbrev pub fault_of_form : OpFault → FormFault
 fault_of_form OpLimit = Limit
 fault_of_form (OpMemory e) = Memory e
 
--- the form was made, from the work old to the work new: it comes to the parts, meets a limit, or was given up for want of memory; no name is unknown
-abbrev pub MakesForm : Result (List Part) FormFault → Work → Work → Walk Work (List Part) → Type 0
-MakesForm (Ok ps) old new walk = walk old ≡ done ps new
-MakesForm (Err (Unknown x)) old new walk = ⊥
-MakesForm (Err Limit) old new walk = walk old ≡ stopped limit_met new
-MakesForm (Err (Memory e)) old new walk = IsCutShort old new (walk old)
+-- forms were made, from the work old to the work new: the walk comes to the result, as the model sees it, meets a limit, or was given up for want of memory; no name is unknown
+abbrev pub MakesForm : {A B : Type 0} → (A → B) → Result A FormFault → Work → Work → Walk Work B → Type 0
+MakesForm view (Ok x) old new walk = walk old ≡ done (view x) new
+MakesForm view (Err (Unknown x)) old new walk = ⊥
+MakesForm view (Err Limit) old new walk = walk old ≡ stopped limit_met new
+MakesForm view (Err (Memory e)) old new walk = IsCutShort old new (walk old)

@@ -1,3 +1,4 @@
+pub mod Compared
 pub mod Forms
 pub mod Named
 pub mod Replies

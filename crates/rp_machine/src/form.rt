@@ -76,7 +76,7 @@ impl Machine {
     pub fn form(&self, alloc: Global, region: &Expr, work: &mut Work) -> Result<Region, FormFault>
         requires { IsKeptExpression (expression_of region.now) }
         ensures unknown { IfSome (first_unknown (parts_in self.now) (expression_of region.now)) (λ x. (result ≡ Err (FormFault.Unknown x)) × (work.new ≡ work.old)) }
-        ensures makes { IsNone (first_unknown (parts_in self.now) (expression_of region.now)) → MakesForm result work.old work.new (form first_tester (parts_in self.now) (expression_of region.now)) }
+        ensures makes { IsNone (first_unknown (parts_in self.now) (expression_of region.now)) → MakesForm (λ form. form) result work.old work.new (form first_tester (parts_in self.now) (expression_of region.now)) }
         ensures members { IfOk result (λ form. SameMembers (shape_of_parts form) (closed (shapes_of_parts (parts_in self.now)) (expression_of region.now))) }
         ensures sound { IsSound (state_of_parts self.now) }
     {
@@ -88,7 +88,12 @@ impl Machine {
     }
 
     /// The form of an expression, in which a name or lot that isn't there stands for no part.
-    fn formed(&self, alloc: Global, region: &Expr, work: &mut Work) -> Result<Region, OpFault>
+    pub(crate) fn formed(
+        &self,
+        alloc: Global,
+        region: &Expr,
+        work: &mut Work,
+    ) -> Result<Region, OpFault>
         requires { IsKeptExpression (expression_of region.now) }
         ensures { Makes (λ form. form) result work.old work.new (form first_tester (parts_in self.now) (expression_of region.now)) }
     {

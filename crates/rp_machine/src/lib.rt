@@ -1,6 +1,7 @@
 //! The machine that answers one line of a script after the other.
 #![tactic(auto)]
 
+mod compare;
 mod fault;
 mod form;
 mod machine;

@@ -3,18 +3,19 @@ ghost use Rattle.std.specs.Prelude.{◌≡◌, IfOk, map};
 ghost use Rattle.std.specs.List.{AllByRecursion};
 ghost use Rattle.rp_language.specs.Expression.{IsKeptExpression, expressions_of, define, ask_member, ask_empty, ask_show};
 ghost use Rattle.rp_walks.specs.Walk.{Work, first_tester};
-ghost use Rattle.rp_walks.specs.Compare.{show_then_no};
 ghost use Rattle.rp_model.specs.commands.Verdict.{part_lines_of};
 ghost use Rattle.rp_model.specs.commands.Row.{row, row_define};
-ghost use Rattle.rp_region.specs.Makes.{op_result, Makes};
+ghost use Rattle.rp_region.specs.Makes.{Makes};
 ghost use Rattle.rp_report.specs.Views.{verdict_of};
 ghost use Rattle.rp_syntax.specs.Views.{expression_of, command_of};
 ghost use Rattle.rp_machine.specs.Replies.{Fits, row_so_far, Walks};
 
+use crate::compare::Question;
 use crate::fault::FormFault;
 use crate::machine::Machine;
 use crate::reply::{Change, Reply};
 use rp_region::{Region, Work};
+use rp_relate::is_empty;
 use rp_report::{Refusal, Verdict, Verdicts};
 use rp_space::{Name, Point};
 use rp_syntax::{Command, Expr};
@@ -30,20 +31,6 @@ fn part_lines(alloc: Global, form: Region) -> Result<Verdicts, AllocError>
         lines.push(Verdict::Part(part.into_halves()))?;
     }
     Ok(lines)
-}
-
-/// Whether a form has no part. The first part that it has is shown to have a point, by one more test, which isn't counted.
-/// Answers `AllocError` only for want of memory.
-fn is_empty(alloc: Global, form: &Region, work: &mut Work) -> Result<bool, AllocError>
-    ensures { Makes (λ is_so. is_so) (op_result result) work.old work.new (show_then_no first_tester form.now) }
-{
-    match form.parts() {
-        [] => Ok(true),
-        [first, ..] => {
-            work.strict(alloc, first.halves(), &[])?;
-            Ok(false)
-        }
-    }
 }
 
 impl Machine {
@@ -63,6 +50,11 @@ impl Machine {
             Command::Member(region, point) => self.membership(alloc, region, point),
             Command::Empty(region) => self.emptiness(alloc, region, work),
             Command::Show(region) => self.show(alloc, region, work),
+            Command::Equal(a, b) => self.comparison(alloc, Question::Equal, a, b, work),
+            Command::Within(a, b) => self.comparison(alloc, Question::Within, a, b, work),
+            Command::Overlap(a, b) => self.comparison(alloc, Question::Overlap, a, b, work),
+            Command::Contact(a, b) => self.comparison(alloc, Question::Contact, a, b, work),
+            Command::Rcc(a, b) => self.relation(alloc, a, b, work),
             _ => Ok(Reply::of_verdict(alloc, Verdict::Unbuilt)?),
         }
     }

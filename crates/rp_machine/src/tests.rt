@@ -135,6 +135,51 @@ fn refused_lines_leave_the_names_as_they_were(rt: HostRuntime) -> Result<(), Fai
 }
 
 #[test]
+fn two_regions_are_compared(rt: HostRuntime) -> Result<(), Fail> {
+    let rows = [
+        ("let a = box 0 0 0 10 10 10", "= ok"),
+        ("let b = box 10 0 0 20 10 10", "= ok"),
+        ("overlap name a name b", "= no"),
+        ("contact name a name b", "= yes"),
+        ("rcc name a name b", "= EC"),
+        ("rcc name a box 11 0 0 20 10 10", "= DC"),
+        ("contact name a box 10 10 10 20 20 20", "= yes"),
+        ("rcc name a name a", "= EQ"),
+        ("rcc name a box 5 0 0 15 10 10", "= PO"),
+        ("rcc box 0 0 0 5 5 5 name a", "= TPP"),
+        ("rcc box 1 1 1 9 9 9 name a", "= NTPP"),
+        ("rcc name a box 0 0 0 5 5 5", "= TPPi"),
+        ("rcc name a box 1 1 1 9 9 9", "= NTPPi"),
+        // The whole cube has no outside.
+        ("rcc box -16777216 0 0 0 10 10 all", "= NTPP"),
+        ("within box 1 1 1 9 9 9 name a", "= yes"),
+        ("within name a box 1 1 1 9 9 9", "= no"),
+        ("equal not not name a name a", "= yes"),
+        ("equal name a name b", "= no"),
+        ("equal or name a name b box 0 0 0 20 10 10", "= yes"),
+    ];
+    expect_in_turn(&rt, rt.alloc(), &rows)?;
+    Ok(())
+}
+
+#[test]
+fn comparisons_are_refused_in_order(rt: HostRuntime) -> Result<(), Fail> {
+    for (line, verdict) in [
+        ("rcc none all", "= refused emptyregion 1"),
+        ("rcc none none", "= refused emptyregion 1"),
+        ("rcc all none", "= refused emptyregion 2"),
+        ("rcc none name a", "= refused unknown a"),
+        ("overlap name a name b", "= refused unknown a"),
+        ("contact all name b", "= refused unknown b"),
+        ("within lot c name b", "= refused unknown c"),
+        ("equal all name b", "= refused unknown b"),
+    ] {
+        expect_alone(&rt, rt.alloc(), line, verdict)?;
+    }
+    Ok(())
+}
+
+#[test]
 fn lines_that_are_no_command_or_not_built_are_refused(rt: HostRuntime) -> Result<(), Fail> {
     for (line, verdict) in [
         ("member half 1 0 0 0 0 5 5", "= refused syntax"),
@@ -143,7 +188,6 @@ fn lines_that_are_no_command_or_not_built_are_refused(rt: HostRuntime) -> Result
         ("member half 16777217 0 0 0 0 5 5 1", "= refused range"),
         ("audit", "= refused unbuilt"),
         ("pieces all", "= refused unbuilt"),
-        ("equal name a name b", "= refused unbuilt"),
     ] {
         expect_alone(&rt, rt.alloc(), line, verdict)?;
     }

@@ -4,12 +4,13 @@ use Rattle.std.specs.Prelude.{◌+◌, nat_le, Option, Some, None}
 use Rattle.std.proofs.lemmas.List.{append-nil}
 use Rattle.rp_geometry.specs.Geometry.{HalfSpace, boxes_meet, complement}
 use Rattle.rp_geometry.specs.sets.Shape.{Part}
-use Rattle.rp_geometry.specs.searches.ProofLine.{strict_line, weak_line}
+use Rattle.rp_geometry.specs.searches.ProofLine.{strict_line}
 use Rattle.rp_geometry.specs.parts.PartTest.{has_member, slimmed, part_lines, part_of}
 use Rattle.rp_geometry.specs.parts.Parts.{most_half_spaces, most_parts}
-use Rattle.rp_walks.specs.Walk.{Outcome, done, stopped, limit_met, Walk, pass, stop, after_first, ◌>>=◌, ◌>>◌, Work, with_lines, most_tests, count_tests, strict_test, weak_test, part_test, first_tester}
+use Rattle.rp_walks.specs.Walk.{Outcome, done, stopped, limit_met, Walk, pass, stop, after_first, ◌>>=◌, ◌>>◌, Work, with_lines, most_tests, count_tests, strict_test, part_test, first_tester}
 use Rattle.rp_walks.specs.Form.{made_part, if_at_most, join_pair, join_with_part, join_each, carve_one, carve, carve_or_keep, subtract_pair, subtract_part, subtract}
-use Rattle.rp_region.specs.Makes.{work_after, TellsMore}
+use Rattle.rp_region.specs.Makes.{work_after, TellsMore, OnlyTells}
+use Rattle.rp_region.specs.Tells.{strict_tells}
 
 -- the same lines
 pub no_more : (w : Work) → TellsMore w w
@@ -18,10 +19,6 @@ no_more w = record { more = []; lines = sym (append-nil w.proofs) }
 -- lines behind lines
 pub more_still : (u v w : Work) → TellsMore u v → TellsMore v w → TellsMore u w
 more_still u v w a b = record { more = a.more ++ b.more; lines = b.lines ∙ ap (λ ls. ls ++ b.more) a.lines ∙ append_assoc u.proofs a.more b.more }
-
--- the walk only appends lines, whatever the work is
-pub record OnlyTells {A : Type 0} (walk : Walk Work A) : Type 0 where
-  pub tells : (w : Work) → TellsMore w (work_after (walk w))
 
 -- what comes after a walk that has come to its end
 pub after_tells : {A B : Type 0} (next : A → Walk Work B) → ((x : A) → OnlyTells (next x)) → (o : Outcome Work A) → TellsMore (work_after o) (work_after (after_first next o))
@@ -45,16 +42,6 @@ count_tells n = record { tells = λ w. by_test w (nat_le (w.tests + n) most_test
     by_test : (w : Work) (b : Bool) → TellsMore w (work_after (elim b as (λ _. Outcome Work (Unit {0})) [ true ↦ done tt (record { tests = w.tests + n; proofs = w.proofs }) | false ↦ stopped limit_met w ]))
     by_test w true = record { more = []; lines = sym (append-nil w.proofs) }
     by_test w false = no_more w
-
--- a strict test
-pub strict_tells : (cell : List HalfSpace) → OnlyTells (strict_test cell)
-unfolding strict_test
-strict_tells cell = record { tells = λ w. record { more = strict_line cell ∷ []; lines = refl } }
-
--- a weak test
-pub weak_tells : (cell : List HalfSpace) → OnlyTells (weak_test cell)
-unfolding weak_test
-weak_tells cell = record { tells = λ w. record { more = weak_line cell ∷ []; lines = refl } }
 
 -- a part test
 pub part_tells : (cell : List HalfSpace) → OnlyTells (part_test cell)

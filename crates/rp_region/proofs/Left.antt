@@ -4,8 +4,8 @@ use Rattle.std.proofs.lemmas.List.{drop_more}
 use Rattle.rp_walks.specs.Walk.{Outcome, done, Walk, after_first, ◌>>=◌, Work}
 use Rattle.rp_region.specs.declared.fault.OpFault.{OpFault}
 use Rattle.rp_region.specs.declared.fault.OpFault.TheVariants.{Limit, Memory}
-use Rattle.rp_region.specs.Makes.{work_after, TellsMore, IsCutShort, IsFaultOf, Makes}
-use Rattle.rp_region.proofs.Grows.{OnlyTells, no_more, more_still, after_tells}
+use Rattle.rp_region.specs.Makes.{work_after, TellsMore, IsCutShort, IsFaultOf, Makes, OnlyTells}
+use Rattle.rp_region.proofs.Grows.{no_more, more_still, after_tells}
 
 -- what is left, from now, comes to the same as the whole walk, from the start; on the way lines were appended
 pub record IsLeft {A : Type 0} (start : Work) (whole : Walk Work A) (now : Work) (left : Walk Work A) : Type 0 where

@@ -1,19 +1,26 @@
 -- The members of the regions that walks come to, and points in them.
-use Rattle.std.proofs.Common.{◌≡◌, ◌*◌, ℤ, to_z, of_z, ◌&&◌, ◌||◌, List, [], ◌∷◌, length, refl, ap, ◌∙◌, subst, arith}
-use Rattle.std.specs.Prelude.{int_lt, Option, Some, None}
+use Rattle.std.proofs.Common.{◌≡◌, ◌≤◌, ◌*◌, ℤ, to_z, of_z, ◌&&◌, ◌||◌, List, [], ◌∷◌, ◌++◌, length, refl, ap, ◌∙◌, subst, arith}
+use Rattle.std.specs.Prelude.{int_le, int_lt, Bool, true, false, Option, Some, None, Result, Ok, Err, is_some, IsSome, IsTrue, IfOk, ◌↔◌}
 use Rattle.std.specs.Int.RustNames.{FitsSigned}
 use Rattle.std.specs.List.{list_any}
 use Rattle.std.proofs.lemmas.Int.{to_z-of_z}
 use mir.Syntax.{w32}
 use Rattle.rp_geometry.specs.Geometry.{RationalPoint, HalfSpace, holds, all_hold}
 use Rattle.rp_geometry.specs.sets.Shape.{Shape, Part, passes, shape_of_cell, shape_of_parts}
-use Rattle.rp_geometry.specs.parts.Parts.{IsPart, IsRegion, AreOf}
-use Rattle.rp_walks.specs.Walk.{Outcome, done, after_first, Work, count_tests, first_tester}
-use Rattle.rp_walks.specs.Form.{made_part, join_each, join, subtract}
+use Rattle.rp_geometry.specs.parts.Parts.{most_parts, IsPart, IsRegion, AreOf}
+use Rattle.rp_geometry.specs.sets.Sets.{Overlaps}
+use Rattle.rp_geometry.specs.sets.Contact.{IsInContact}
+use Rattle.rp_walks.specs.Walk.{Outcome, Walk, done, after_first, Work, count_tests, strict_test, weak_test, first_tester}
+use Rattle.rp_walks.specs.Form.{near_pair, touching_pair, made_part, join_each, join, subtract, subtract_from_whole}
 use Rattle.rp_walks.specs.FormLaws.{IfDone, IsMadeOf}
+use Rattle.rp_forms.proofs.Common.{common_is_right_spec}
+use Rattle.rp_forms.proofs.Touch.{touch_is_right_spec}
 use Rattle.rp_forms.proofs.Difference.{difference_is_right_spec}
 use Rattle.rp_forms.proofs.First.{first_tester_is_right_spec}
 use Rattle.rp_forms.proofs.Join.{join_is_right_spec}
+use Rattle.rp_region.specs.declared.fault.OpFault.{OpFault}
+use Rattle.rp_region.specs.Makes.{Makes}
+use Rattle.rp_region.specs.Pairs.{first_pair_by, common_by, touch_by}
 
 -- what is known of the end of a walk, of the end it has come to
 at_done : {A : Type 0} (P : A → Type 0) (o : Outcome Work A) (x : A) (w : Work) → o ≡ done x w → IfDone o P → P x
@@ -33,6 +40,35 @@ pub left_of : (ps qs made : List Part) (w v : Work) → IsRegion ps → IsRegion
 left_of ps qs made w v hp hq e =
     at_done (λ made. AreOf IsPart (Shape.difference (shape_of_parts ps) (shape_of_parts qs)) made) (subtract first_tester ps qs w) made v e (difference_is_right_spec IsPart first_tester first_tester_is_right_spec ps qs hp hq w)
 
+-- ---- what two regions share
+
+-- what was found, in the words of the walk: it is there exactly where the fact holds
+pub found_where : {A : Type 0} (P : Type 0) (view_walk : Walk Work Bool) (r : Result (Option A) OpFault) (w v : Work) → IfDone (view_walk w) (λ found. IsTrue found ↔ P) → Makes is_some r w v view_walk → IfOk r (λ o. IsSome o ↔ P)
+found_where P walk (Ok o) w v h m = subst (λ out. IfDone out (λ found. IsTrue found ↔ P)) m h
+found_where P walk (Err e) w v h m = tt
+
+-- the strict loop in other words
+pub common_made : {A : Type 0} (near : Bool) (ps qs : List Part) (r : Result (Option A) OpFault) (w v : Work) → Makes is_some r w v (first_pair_by near near_pair strict_test ps qs) → Makes is_some r w v (common_by near ps qs)
+common_made true ps qs r w v m = m
+common_made false ps qs r w v m = m
+
+-- the weak loop in other words
+pub touch_made : {A : Type 0} (near : Bool) (ps qs : List Part) (r : Result (Option A) OpFault) (w v : Work) → Makes is_some r w v (first_pair_by near touching_pair weak_test ps qs) → Makes is_some r w v (touch_by near ps qs)
+touch_made true ps qs r w v m = m
+touch_made false ps qs r w v m = m
+
+-- a common point
+pub common_where : {A : Type 0} (near : Bool) (ps qs : List Part) (r : Result (Option A) OpFault) (w v : Work) → IsRegion ps → IsRegion qs → Makes is_some r w v (common_by near ps qs)
+    → IfOk r (λ o. IsSome o ↔ Overlaps (shape_of_parts ps) (shape_of_parts qs))
+common_where true ps qs r w v hp hq m = found_where (Overlaps (shape_of_parts ps) (shape_of_parts qs)) (common_by true ps qs) r w v (common_is_right_spec IsPart first_tester first_tester_is_right_spec ps qs hp hq w).1 m
+common_where false ps qs r w v hp hq m = found_where (Overlaps (shape_of_parts ps) (shape_of_parts qs)) (common_by false ps qs) r w v (common_is_right_spec IsPart first_tester first_tester_is_right_spec ps qs hp hq w).0 m
+
+-- contact
+pub touch_where : {A : Type 0} (near : Bool) (ps qs : List Part) (r : Result (Option A) OpFault) (w v : Work) → IsRegion ps → IsRegion qs → Makes is_some r w v (touch_by near ps qs)
+    → IfOk r (λ o. IsSome o ↔ IsInContact (shape_of_parts ps) (shape_of_parts qs))
+touch_where true ps qs r w v hp hq m = found_where (IsInContact (shape_of_parts ps) (shape_of_parts qs)) (touch_by true ps qs) r w v (touch_is_right_spec IsPart first_tester first_tester_is_right_spec ps qs hp hq w).1 m
+touch_where false ps qs r w v hp hq m = found_where (IsInContact (shape_of_parts ps) (shape_of_parts qs)) (touch_by false ps qs) r w v (touch_is_right_spec IsPart first_tester first_tester_is_right_spec ps qs hp hq w).0 m
+
 -- ---- points
 
 -- a cell passes where all of its half-spaces hold
@@ -48,6 +84,10 @@ some_passes (q ∷ qs) p = λ i. cell_passes q.cell p i || some_passes qs p i
 -- two numbers as the machine compares them
 pub read_less : (a b : ℤ) → FitsSigned w32 a → FitsSigned w32 b → int_lt (to_z w32 (of_z w32 a)) (to_z w32 (of_z w32 b)) ≡ int_lt a b
 read_less a b f g = λ i. int_lt (to_z-of_z w32 a f i) (to_z-of_z w32 b g i)
+
+-- and whether the first is at most the second
+pub read_at_most : (a b : ℤ) → FitsSigned w32 a → FitsSigned w32 b → int_le (to_z w32 (of_z w32 a)) (to_z w32 (of_z w32 b)) ≡ int_le a b
+read_at_most a b f g = λ i. int_le (to_z-of_z w32 a f i) (to_z-of_z w32 b g i)
 
 -- the part that a test makes, or none, is a region
 pub region_made : (cell : List HalfSpace) (o : Option Part) → IsMadeOf IsPart cell o → IsRegion (made_part o)

@@ -10,8 +10,8 @@ use Rattle.rp_geometry.specs.parts.LeastBox.{least_box}
 use Rattle.rp_geometry.specs.parts.Parts.{most_half_spaces}
 use Rattle.rp_geometry.specs.parts.PartTest.{has_member, slimmed, part_lines, part_of, side_lines}
 use Rattle.rp_walks.specs.Walk.{Outcome, done, stopped, limit_met, Walk, pass, ◌>>=◌, Work, with_lines, part_test}
-use Rattle.rp_region.specs.Makes.{IsCutShort, telling}
-use Rattle.rp_region.proofs.Grows.{OnlyTells, pass_tells, then_tells}
+use Rattle.rp_region.specs.Makes.{IsCutShort, telling, OnlyTells}
+use Rattle.rp_region.proofs.Grows.{pass_tells, then_tells}
 use Rattle.rp_region.proofs.Left.{IsLeft, all_left, left_as, next_left, cut_left, end_left, not_begun}
 
 -- ---- lines

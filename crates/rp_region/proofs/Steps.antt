@@ -8,7 +8,8 @@ use Rattle.rp_walks.specs.Walk.{done, limit_met, Walk, pass, stop, ◌>>=◌, �
 use Rattle.rp_walks.specs.Form.{made_part, if_at_most, join_pair, carve_one, carve_or_keep, subtract_pair}
 use Rattle.rp_region.specs.declared.fault.OpFault.{OpFault}
 use Rattle.rp_region.specs.Makes.{IsFaultOf}
-use Rattle.rp_region.proofs.Grows.{then_tells, pass_tells, count_tells, strict_tells, part_tells, carve_or_keep_tells}
+use Rattle.rp_region.specs.Tells.{strict_tells}
+use Rattle.rp_region.proofs.Grows.{then_tells, pass_tells, count_tells, part_tells, carve_or_keep_tells}
 use Rattle.rp_region.proofs.Left.{IsLeft, all_left, left_as, next_left, fault_left}
 
 -- two parts were tested together: the length of the list is left

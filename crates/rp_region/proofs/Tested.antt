@@ -1,6 +1,7 @@
 -- What a test has found, of the proof line that tells it.
 use Rattle.std.proofs.Common.{◌≡◌, true, false, List, [], ◌∷◌, length, refl, sym, ap, ◌∙◌}
-use Rattle.std.specs.Prelude.{nat_le, Option, Some, None, is_some}
+use Rattle.std.specs.Prelude.{nat_le, Bool, Option, Some, None, Result, Ok, Err, is_some, IfOk, IfSome, OnOk, OnErr, ◌++◌}
+use Rattle.std.specs.declared.alloc.AllocError.{AllocError}
 use Rattle.rp_geometry.specs.Geometry.{RationalPoint, HalfSpace}
 use Rattle.rp_geometry.specs.sets.Shape.{Part}
 use Rattle.rp_geometry.specs.searches.Certificate.{Multiple}
@@ -8,6 +9,11 @@ use Rattle.rp_geometry.specs.searches.Vertex.{first_inside, first_weak_point}
 use Rattle.rp_geometry.specs.searches.ProofLine.{ProofLine, in_line, out_line, at_line, apart_line, outside_terms, strict_line, weak_line}
 use Rattle.rp_geometry.specs.parts.PartTest.{has_member, has_weak_point, slimmed, part_lines, part_of}
 use Rattle.rp_geometry.specs.parts.Parts.{most_half_spaces}
+use Rattle.rp_cell.proofs.Answered.{line_inside, line_at}
+use Rattle.rp_region.specs.Makes.{work_after, op_result, Makes}
+use Rattle.rp_region.specs.Pairs.{IsLast}
+use Rattle.rp_region.specs.Tells.{strict_tells, weak_tells}
+use Rattle.rp_region.proofs.Left.{not_begun}
 use Rattle.rp_walks.specs.Walk.{Outcome, done, stopped, limit_met, Work, with_lines, strict_test, weak_test, part_test}
 
 -- the work with one line in other words
@@ -55,3 +61,35 @@ no_part cell told w v e l m = ap by_found e ∙ ap (λ u. done None u) (one_line
         | false ↦ stopped limit_met w
       ]
     ]
+
+-- ---- tests that are known to find nothing
+
+-- a strict test
+pub strict_refuted : (cell : List HalfSpace) (terms : List Multiple) (r : Result (Unit {0}) AllocError) (w v : Work) → out_line terms ≡ strict_line cell → OnOk r (v ≡ with_lines w (out_line terms ∷ [])) → OnErr r (v ≡ w)
+    → Makes (λ _. false) (op_result r) w v (strict_test cell)
+strict_refuted cell terms (Ok x) w v e m n = strict_told cell None (out_line terms) w v (no_points cell terms e) e m
+strict_refuted cell terms (Err x) w v e m n = not_begun (strict_test cell) w v (strict_tells cell) n
+
+-- a weak test
+pub weak_refuted : (cell : List HalfSpace) (terms : List Multiple) (r : Result (Unit {0}) AllocError) (w v : Work) → apart_line terms ≡ weak_line cell → OnOk r (v ≡ with_lines w (apart_line terms ∷ [])) → OnErr r (v ≡ w)
+    → Makes (λ _. false) (op_result r) w v (weak_test cell)
+weak_refuted cell terms (Ok x) w v e m n = weak_told cell None (apart_line terms) w v (no_weak_point cell terms e) e m
+weak_refuted cell terms (Err x) w v e m n = not_begun (weak_test cell) w v (weak_tells cell) n
+
+-- ---- what is found is told last
+
+-- of a strict test
+pub strict_last : (cell : List HalfSpace) (r : Result (Option (List RationalPoint)) AllocError) (w v : Work) → Makes is_some (op_result r) w v (strict_test cell) → IfOk r (λ o. o ≡ first_inside cell)
+    → IfOk r (λ o. IfSome o (λ points. IsLast (in_line points) v.proofs))
+unfolding strict_test
+strict_last cell (Ok (Some points)) w v m e = record { before = w.proofs; is = sym (ap (λ (o : Outcome Work Bool). (work_after o).proofs) m) ∙ ap (λ l. w.proofs ++ l ∷ []) (sym (line_inside cell points (sym e))) }
+strict_last cell (Ok None) w v m e = tt
+strict_last cell (Err x) w v m e = tt
+
+-- of a weak test
+pub weak_last : (cell : List HalfSpace) (r : Result (Option RationalPoint) AllocError) (w v : Work) → Makes is_some (op_result r) w v (weak_test cell) → IfOk r (λ o. o ≡ first_weak_point cell)
+    → IfOk r (λ o. IfSome o (λ p. IsLast (at_line p) v.proofs))
+unfolding weak_test
+weak_last cell (Ok (Some p)) w v m e = record { before = w.proofs; is = sym (ap (λ (o : Outcome Work Bool). (work_after o).proofs) m) ∙ ap (λ l. w.proofs ++ l ∷ []) (sym (line_at cell p (sym e))) }
+weak_last cell (Ok None) w v m e = tt
+weak_last cell (Err x) w v m e = tt

@@ -1,1 +1,3 @@
 pub mod Makes
+pub mod Pairs
+pub mod Tells

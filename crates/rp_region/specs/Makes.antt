@@ -30,6 +30,10 @@ pub record TellsMore (v w : Work) : Type 0 where
   pub more : List ProofLine
   pub lines : w.proofs ≡ v.proofs ++ more
 
+-- the walk only appends lines, whatever the work is
+pub record OnlyTells {A : Type 0} (walk : Walk Work A) : Type 0 where
+  pub tells : (w : Work) → TellsMore w (work_after (walk w))
+
 -- a walk was given up on the way: the proof lines are those before, with a front of those that the whole walk appends
 pub record IsCutShort {A : Type 0} (old new : Work) (outcome : Outcome Work A) : Type 0 where
   pub told : TellsMore old new

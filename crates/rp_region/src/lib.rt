@@ -4,8 +4,10 @@
 mod difference;
 mod fault;
 mod join;
+mod pairs;
 mod part;
 mod region;
+mod witness;
 mod work;
 
 pub use fault::OpFault;

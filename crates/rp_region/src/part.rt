@@ -1,6 +1,9 @@
 //! Parts: cells with a member, each with the least box round its members.
-ghost use Rattle.std.specs.Prelude.{◌≡◌, ◌≤◌, IfOk, length};
-ghost use Rattle.rp_geometry.specs.Geometry.{boxes_meet};
+ghost use Rattle.std.specs.Prelude.{◌≡◌, ◌≤◌, ◌++◌, false, length, IfOk};
+ghost use Rattle.rp_geometry.specs.Geometry.{RationalPoint, boxes_meet, closed_boxes_meet};
+ghost use Rattle.rp_geometry.specs.sets.Shape.{shape_of_cell};
+ghost use Rattle.rp_geometry.specs.sets.Sets.{IsEmpty};
+ghost use Rattle.rp_geometry.specs.laws.CellLaws.{IsSolution};
 ghost use Rattle.rp_geometry.specs.parts.PartTest.{whole_part};
 ghost use Rattle.rp_geometry.specs.parts.Parts.{IsPart, most_half_spaces};
 ghost use Rattle.rp_space.specs.Boxes.{integer_box};
@@ -9,9 +12,6 @@ use rp_cell::Cell;
 use rp_space::{Half, IntBox};
 use std::alloc::{AllocError, Global};
 use std::marker::Model;
-
-/// Half the edge of the domain cube, in units.
-const HALF_EDGE: i32 = 16777216;
 
 /// A part of a region: a cell of at most 32 half-spaces with a member, and the least box with whole corners round its
 /// members.
@@ -40,10 +40,7 @@ impl Part {
     {
         Part {
             halves: Cell::new(alloc),
-            bounds: IntBox {
-                lo: [-HALF_EDGE; 3],
-                hi: [HALF_EDGE; 3],
-            },
+            bounds: IntBox::cube(),
         }
     }
 
@@ -87,11 +84,20 @@ impl Part {
         })
     }
 
-    /// Whether the boxes of two parts share more than boundary.
+    /// Whether the boxes of two parts share more than boundary. Else the parts share no point.
     pub(crate) fn is_near(&self, other: &Part) -> bool
-        ensures { result ≡ boxes_meet self.now.bounds other.now.bounds }
+        ensures value { result ≡ boxes_meet self.now.bounds other.now.bounds }
+        ensures apart { result ≡ false → IsEmpty (shape_of_cell (self.now.cell ++ other.now.cell)) }
     {
         boxes_meet(&self.bounds, &other.bounds)
+    }
+
+    /// Whether the boxes of two parts share a point, the boundary included. Else the parts are not in contact.
+    pub(crate) fn may_touch(&self, other: &Part) -> bool
+        ensures value { result ≡ closed_boxes_meet self.now.bounds other.now.bounds }
+        ensures apart { result ≡ false → (p : RationalPoint) → ¬ IsSolution false (self.now.cell ++ other.now.cell) p }
+    {
+        closed_boxes_meet(&self.bounds, &other.bounds)
     }
 }
 
@@ -104,4 +110,15 @@ fn boxes_meet(first: &IntBox, second: &IntBox) -> bool
     let [u1, v1, w1] = second.lo;
     let [u2, v2, w2] = second.hi;
     (x1 < u2) & (u1 < x2) & (y1 < v2) & (v1 < y2) & (z1 < w2) & (w1 < z2)
+}
+
+/// Whether each of two boxes begins no later than the other ends, on each axis.
+fn closed_boxes_meet(first: &IntBox, second: &IntBox) -> bool
+    ensures { result ≡ closed_boxes_meet (integer_box first.now) (integer_box second.now) }
+{
+    let [x1, y1, z1] = first.lo;
+    let [x2, y2, z2] = first.hi;
+    let [u1, v1, w1] = second.lo;
+    let [u2, v2, w2] = second.hi;
+    (x1 <= u2) & (u1 <= x2) & (y1 <= v2) & (v1 <= y2) & (z1 <= w2) & (w1 <= z2)
 }

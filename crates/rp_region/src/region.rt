@@ -1,21 +1,26 @@
 //! Regions and their algebra.
-ghost use Rattle.std.specs.Prelude.{◌≡◌, ◌≤◌, ◌∷◌, [], ◌++◌, length, IfOk};
+ghost use Rattle.std.specs.Prelude.{◌≡◌, ◌≤◌, ◌∷◌, [], ◌++◌, ◌↔◌, length, is_some, IsSome, IfOk, IfSome};
 ghost use Rattle.std.specs.List.{list_any};
-ghost use Rattle.rp_geometry.specs.Geometry.{is_cube_point, all_hold};
+ghost use Rattle.rp_geometry.specs.Geometry.{all_hold};
 ghost use Rattle.rp_geometry.specs.sets.Shape.{Shape, is_member, shape_of_cell, shape_of_parts};
-ghost use Rattle.rp_geometry.specs.sets.Sets.{SameMembers};
+ghost use Rattle.rp_geometry.specs.sets.Sets.{SameMembers, Overlaps};
+ghost use Rattle.rp_geometry.specs.sets.Contact.{IsInContact};
+ghost use Rattle.rp_geometry.specs.searches.ProofLine.{in_line, at_line};
 ghost use Rattle.rp_geometry.specs.parts.PartTest.{whole_part};
 ghost use Rattle.rp_geometry.specs.parts.Parts.{IsRegion, most_parts};
 ghost use Rattle.rp_walks.specs.Walk.{first_tester};
 ghost use Rattle.rp_walks.specs.Form.{if_at_most, join, subtract, subtract_from_whole, parts_of_cell};
 ghost use Rattle.rp_region.specs.Makes.{Makes};
+ghost use Rattle.rp_region.specs.Pairs.{common_by, touch_by, first_pair_by, IsLast};
 
 use crate::difference::subtract;
 use crate::fault::OpFault;
 use crate::join::join_each;
+use crate::pairs::first_pair;
 use crate::part::Part;
+use crate::witness::Witness;
 use crate::work::Work;
-use rp_space::{Half, Listed, Point, cube};
+use rp_space::{Half, Inside, Listed, Point};
 use std::alloc::{AllocError, Global};
 use std::marker::Model;
 
@@ -151,6 +156,62 @@ impl Region {
         whole.into_minus(alloc, self, work)
     }
 
+    /// What shows that two regions share a point: an inside certificate of the first two parts that do, and `None` exactly
+    /// where the regions share none. Each part of the first is tested with each part of the other, up to the first pair that
+    /// is found. With `near` only the pairs are tested whose boxes share more than boundary, and nothing is counted; else as
+    /// many tests are counted as there are pairs, and `Limit` comes exactly where these are too many.
+    pub fn first_common(
+        &self,
+        _alloc: Global,
+        other: &Region,
+        near: bool,
+        work: &mut Work,
+    ) -> Result<Option<Inside>, OpFault>
+        ensures makes { Makes is_some result work.old work.new (common_by near self.now other.now) }
+        ensures told { IfOk result (λ o. IfSome o (λ points. IsLast (in_line points) work.new.proofs)) }
+        ensures found { IfOk result (λ o. IsSome o ↔ Overlaps (shape_of_parts self.now) (shape_of_parts other.now)) }
+    {
+        self.first_pair(other, near, work)
+    }
+
+    /// What shows that two regions are in contact: a weak point of the first two parts that are, and `None` exactly where the
+    /// regions are not. Each part of the first is tested with each part of the other, up to the first pair that is found.
+    /// With `near` only the pairs are tested whose boxes share a point, the boundary included, and nothing is counted; else
+    /// as many tests are counted as there are pairs, and `Limit` comes exactly where these are too many.
+    pub fn first_touch(
+        &self,
+        _alloc: Global,
+        other: &Region,
+        near: bool,
+        work: &mut Work,
+    ) -> Result<Option<Point>, OpFault>
+        ensures makes { Makes is_some result work.old work.new (touch_by near self.now other.now) }
+        ensures told { IfOk result (λ o. IfSome o (λ p. IsLast (at_line p) work.new.proofs)) }
+        ensures found { IfOk result (λ o. IsSome o ↔ IsInContact (shape_of_parts self.now) (shape_of_parts other.now)) }
+    {
+        self.first_pair(other, near, work)
+    }
+
+    /// What shows that two regions meet, of the first two parts that do.
+    fn first_pair<W: Witness>(
+        &self,
+        other: &Region,
+        near: bool,
+        work: &mut Work,
+    ) -> Result<Option<W>, OpFault>
+        ensures first { IsRegion self.now }
+        ensures second { IsRegion other.now }
+        ensures makes { Makes is_some result work.old work.new (first_pair_by near W.may_meet W.test self.now other.now) }
+        ensures told { IfOk result (λ o. IfSome o (λ x. IsLast (W.line x) work.new.proofs)) }
+    {
+        let first = self.parts.items();
+        let second = other.parts.items();
+        if !near && !work.count(first.len() as u64 * second.len() as u64) {
+            return Err(OpFault::Limit);
+        }
+        first_pair(first, second, near, work)
+    }
+
     /// The same list of parts. Answers `AllocError` only for want of memory.
     pub fn copy(&self, alloc: Global) -> Result<Region, AllocError>
         ensures { IfOk result (λ region. region ≡ self.now) }
@@ -182,17 +243,8 @@ impl Region {
     pub fn holds(&self, p: &Point) -> bool
         ensures { result ≡ is_member (shape_of_parts self.now) p.now }
     {
-        is_in_cube(p) && is_in_some(self.parts.items(), p)
+        p.is_in_cube() && is_in_some(self.parts.items(), p)
     }
-}
-
-/// Whether the point lies in the domain cube, its upper sides left out.
-fn is_in_cube(p: &Point) -> bool
-    ensures { result ≡ is_cube_point p.now }
-{
-    // Only for what `numbers` ensures, that the weight is positive.
-    let _ = p.numbers();
-    all_hold(&cube(), p)
 }
 
 /// Whether the half-spaces of one of the parts all hold the point.

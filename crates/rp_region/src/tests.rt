@@ -278,6 +278,98 @@ fn boxes_apart_are_not_tested(rt: HostRuntime) -> Result<(), Fail> {
     Ok(())
 }
 
+/// The regions of two boxes.
+fn regions_of(
+    alloc: Global,
+    first: &IntBox,
+    second: &IntBox,
+    work: &mut Work,
+) -> Result<(Region, Region), OpFault>
+    requires first { is_box_in_bounds (integer_box first.now) ≡ true }
+    requires second { is_box_in_bounds (integer_box second.now) ≡ true }
+{
+    let first = box_region(alloc, first, work)?;
+    let second = box_region(alloc, second, work)?;
+    Ok((first, second))
+}
+
+#[test]
+fn boxes_that_share_a_face_touch_and_have_no_common_point(rt: HostRuntime) -> Result<(), Fail> {
+    let mut making = Work::new(rt.alloc());
+    let west = IntBox {
+        lo: [0, 0, 0],
+        hi: [10, 10, 10],
+    };
+    let east = IntBox {
+        lo: [10, 0, 0],
+        hi: [20, 10, 10],
+    };
+    let (west, east) = regions_of(rt.alloc(), &west, &east, &mut making)?;
+    let mut work = Work::new(rt.alloc());
+    for near in [false, true] {
+        let common = west.first_common(rt.alloc(), &east, near, &mut work)?;
+        assert!(rt; common.is_none());
+        let touch = west.first_touch(rt.alloc(), &east, near, &mut work)?;
+        let point = touch.ok_or("no contact")?;
+        assert_eq!(rt; point.numbers(), (10, 0, 0, 1));
+    }
+    // Near, no pair of these boxes is tested for a common point, and nothing is counted.
+    assert_eq!(rt; work.tests(), 2);
+    let lines = [
+        Line::Out(&[(1, (-1, 0, 0, 10)), (1, (1, 0, 0, -10))]),
+        Line::At((10, 0, 0, 1)),
+        Line::At((10, 0, 0, 1)),
+    ];
+    expect_lines(&rt, work.proofs(), &lines);
+    Ok(())
+}
+
+#[test]
+fn boxes_apart_neither_overlap_nor_touch(rt: HostRuntime) -> Result<(), Fail> {
+    let mut making = Work::new(rt.alloc());
+    let west = IntBox {
+        lo: [0, 0, 0],
+        hi: [10, 10, 10],
+    };
+    let east = IntBox {
+        lo: [11, 0, 0],
+        hi: [21, 10, 10],
+    };
+    let (west, east) = regions_of(rt.alloc(), &west, &east, &mut making)?;
+    let mut work = Work::new(rt.alloc());
+    for near in [false, true] {
+        let touch = west.first_touch(rt.alloc(), &east, near, &mut work)?;
+        assert!(rt; touch.is_none());
+    }
+    assert_eq!(rt; work.tests(), 1);
+    let lines = [Line::Apart(&[(1, (-1, 0, 0, 10)), (1, (1, 0, 0, -11))])];
+    expect_lines(&rt, work.proofs(), &lines);
+    Ok(())
+}
+
+#[test]
+fn the_first_pair_with_a_common_point_is_found(rt: HostRuntime) -> Result<(), Fail> {
+    let mut making = Work::new(rt.alloc());
+    let (large, small) = two_boxes(rt.alloc(), &mut making)?;
+    let far = IntBox {
+        lo: [20, 20, 20],
+        hi: [30, 30, 30],
+    };
+    let far = box_region(rt.alloc(), &far, &mut making)?;
+    let others = far.into_either(small, &mut making)?;
+    let mut work = Work::new(rt.alloc());
+    let common = large.first_common(rt.alloc(), &others, false, &mut work)?;
+    let points = common.ok_or("no common point")?;
+    assert_eq!(rt; points.items().len(), 4);
+    assert_eq!(rt; work.tests(), 2);
+    let lines = [
+        Line::Out(&[(1, (-1, 0, 0, 9)), (1, (1, 0, 0, -20))]),
+        Line::In(&[(9, 5, 5, 1), (9, 5, 8, 1), (9, 8, 5, 1), (5, 5, 5, 1)]),
+    ];
+    expect_lines(&rt, work.proofs(), &lines);
+    Ok(())
+}
+
 #[test]
 fn tests_are_counted_up_to_their_limit(rt: HostRuntime) -> Result<(), Fail> {
     let mut work = Work::new(rt.alloc());

@@ -16,7 +16,8 @@ ghost use Rattle.rp_region.specs.Makes.{counted, op_result, telling, Makes};
 use crate::fault::OpFault;
 use crate::part::Part;
 use rp_cell::{
-    Drops, SideProofs, Sides, Slimmed, Strict, Weak, decide_strict, decide_weak, sides_of, slim,
+    Drops, SideProofs, Sides, Slimmed, Strict, Weak, decide_strict, decide_weak, refute_strict,
+    refute_weak, sides_of, slim,
 };
 use rp_cert::{Proof, Proofs};
 use rp_space::{Half, Inside, Point, joined};
@@ -128,8 +129,17 @@ impl Work {
         ensures first { IfOk result (λ o. o ≡ first_inside (first.now ++ second.now)) }
         ensures none { IfOk result (λ o. IsNone o ↔ IsEmpty (shape_of_cell (first.now ++ second.now))) }
     {
-        let cell = joined(first, second);
-        match decide_strict(cell.as_slice()) {
+        self.strict_test(joined(first, second).as_slice())
+    }
+
+    /// A strict test of a cell.
+    pub(crate) fn strict_test(&mut self, cell: &[Half]) -> Result<Option<Inside>, AllocError>
+        requires { length cell.now ≤ 64 }
+        ensures makes { Makes is_some (op_result result) self.old self.new (strict_test cell.now) }
+        ensures first { IfOk result (λ o. o ≡ first_inside cell.now) }
+        ensures none { IfOk result (λ o. IsNone o ↔ IsEmpty (shape_of_cell cell.now)) }
+    {
+        match decide_strict(cell) {
             Strict::Inside(points) => {
                 let found = points.copy();
                 self.tell(Proof::In(points))?;
@@ -156,8 +166,17 @@ impl Work {
         ensures first { IfOk result (λ o. o ≡ first_weak_point (first.now ++ second.now)) }
         ensures none { IfOk result (λ o. IsNone o ↔ ((p : RationalPoint) → ¬ IsSolution false (first.now ++ second.now) p)) }
     {
-        let cell = joined(first, second);
-        match decide_weak(cell.as_slice()) {
+        self.weak_test(joined(first, second).as_slice())
+    }
+
+    /// A weak test of a cell.
+    pub(crate) fn weak_test(&mut self, cell: &[Half]) -> Result<Option<Point>, AllocError>
+        requires { length cell.now ≤ 64 }
+        ensures makes { Makes is_some (op_result result) self.old self.new (weak_test cell.now) }
+        ensures first { IfOk result (λ o. o ≡ first_weak_point cell.now) }
+        ensures none { IfOk result (λ o. IsNone o ↔ ((p : RationalPoint) → ¬ IsSolution false cell.now p)) }
+    {
+        match decide_weak(cell) {
             Weak::At(point) => {
                 self.tell(Proof::At(point))?;
                 Ok(Some(point))
@@ -167,6 +186,24 @@ impl Work {
                 Ok(None)
             }
         }
+    }
+
+    /// A strict test of a cell that is known to have no point, which is not searched for one.
+    pub(crate) fn refute_strict(&mut self, cell: &[Half]) -> Result<(), AllocError>
+        requires few { length cell.now ≤ 64 }
+        requires empty { IsEmpty (shape_of_cell cell.now) }
+        ensures { Makes (λ _. false) (op_result result) self.old self.new (strict_test cell.now) }
+    {
+        self.tell(Proof::Out(refute_strict(cell)))
+    }
+
+    /// A weak test of a cell whose weak system is known to have no point, which is not searched for one.
+    pub(crate) fn refute_weak(&mut self, cell: &[Half]) -> Result<(), AllocError>
+        requires few { length cell.now ≤ 64 }
+        requires empty { (p : RationalPoint) → ¬ IsSolution false cell.now p }
+        ensures { Makes (λ _. false) (op_result result) self.old self.new (weak_test cell.now) }
+    {
+        self.tell(Proof::Apart(refute_weak(cell)))
     }
 
     /// A part test of a cell of at most 64 half-spaces: the part of its slim cell, and `None` exactly where the cell has no

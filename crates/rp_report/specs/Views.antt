@@ -1,13 +1,14 @@
 -- Answers of the code as those of the model.
 use Rattle.std.specs.Prelude.{map}
-use Rattle.rp_model.specs.commands.Verdict.{Refusal as ModelRefusal, bad, unknown, known, limit, Verdict as ModelVerdict, says_yes, says_no, says_ok, parts, part, refused, unbuilt}
+use Rattle.rp_geometry.specs.sets.Relation.{Relation}
+use Rattle.rp_model.specs.commands.Verdict.{Refusal as ModelRefusal, bad, unknown, known, limit, empty_operand, Verdict as ModelVerdict, says_yes, says_no, says_ok, relation, pieces, piece, parts, part, refused, unbuilt}
 use Rattle.rp_reports.specs.Text.{Answer as ModelAnswer}
 use Rattle.rp_syntax.specs.Views.{fault_of}
 use Rattle.rp_cert.specs.Lines.{line_of}
 use Rattle.rp_report.specs.declared.answer.Refusal.{Refusal}
-use Rattle.rp_report.specs.declared.answer.Refusal.TheVariants.{Bad, Unknown, Known, Limit}
+use Rattle.rp_report.specs.declared.answer.Refusal.TheVariants.{Bad, Unknown, Known, Limit, EmptyRegion}
 use Rattle.rp_report.specs.declared.answer.Verdict.{Verdict}
-use Rattle.rp_report.specs.declared.answer.Verdict.TheVariants.{Yes, No, Ok, Parts, Part, Refused, Unbuilt}
+use Rattle.rp_report.specs.declared.answer.Verdict.TheVariants.{Yes, No, Ok, DC, EC, PO, EQ, TPP, NTPP, TPPi, NTPPi, Pieces, Piece, Parts, Part, Refused, Unbuilt}
 use Rattle.rp_report.specs.declared.answer.Answer.{Answer}
 
 -- the refusal of the model
@@ -16,12 +17,23 @@ refusal_of (Bad why) = bad (fault_of why)
 refusal_of (Unknown x) = unknown x
 refusal_of (Known x) = known x
 refusal_of Limit = limit
+refusal_of (EmptyRegion k) = empty_operand k
 
 -- the verdict of the model
 abbrev pub verdict_of : Verdict → ModelVerdict
 verdict_of Yes = says_yes
 verdict_of No = says_no
 verdict_of Ok = says_ok
+verdict_of DC = relation Relation.DC
+verdict_of EC = relation Relation.EC
+verdict_of PO = relation Relation.PO
+verdict_of EQ = relation Relation.EQ
+verdict_of TPP = relation Relation.TPP
+verdict_of NTPP = relation Relation.NTPP
+verdict_of TPPi = relation Relation.TPPi
+verdict_of NTPPi = relation Relation.NTPPi
+verdict_of (Pieces k) = pieces k
+verdict_of (Piece ns) = piece ns.items
 verdict_of (Parts k) = parts k
 verdict_of (Part hs) = part hs.items
 verdict_of (Refused r) = refused (refusal_of r)

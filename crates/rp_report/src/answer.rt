@@ -1,7 +1,7 @@
 //! What is told of a line.
 
 use rp_cert::Proofs;
-use rp_space::{Halves, Listed, Name};
+use rp_space::{Halves, Listed, Name, Numbers};
 use rp_syntax::Why;
 use std::alloc::{AllocError, Global};
 
@@ -16,6 +16,8 @@ pub enum Refusal {
     Known(Name),
     /// The work that the line asks for passes a limit.
     Limit,
+    /// The first (1) or the second (2) of two regions has no point.
+    EmptyRegion(u8),
 }
 
 /// A verdict line.
@@ -27,6 +29,26 @@ pub enum Verdict {
     No,
     /// It is done.
     Ok,
+    /// Two regions are not in contact.
+    DC,
+    /// They are in contact and share no point.
+    EC,
+    /// They share a point, and neither is within the other.
+    PO,
+    /// They have the same points.
+    EQ,
+    /// The first is a proper part of the second and touches its outside.
+    TPP,
+    /// The first is a proper part of the second and does not touch its outside.
+    NTPP,
+    /// The second is a proper part of the first and touches its outside.
+    TPPi,
+    /// The second is a proper part of the first and does not touch its outside.
+    NTPPi,
+    /// How many pieces there are; a line for each follows.
+    Pieces(u32),
+    /// A piece, by the numbers of its parts, from 1.
+    Piece(Numbers),
     /// How many parts there are; a line for each follows.
     Parts(u32),
     /// A part, by its half-spaces: the points that all of them hold.

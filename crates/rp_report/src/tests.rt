@@ -1,6 +1,6 @@
 use crate::{Answer, Refusal, Verdict, Verdicts, write_answer};
 use rp_cert::{Proof, Proofs};
-use rp_space::{Half, Halves, Inside, IntBox, Name, Outside, Point, Term};
+use rp_space::{Half, Halves, Inside, IntBox, Name, Numbers, Outside, Point, Term};
 use rp_syntax::Why;
 use std::alloc::{AllocError, Global};
 use std::process::Abort;
@@ -27,6 +27,15 @@ fn each_verdict_has_its_line(rt: HostRuntime) -> Result<(), Fail> {
         (Verdict::Yes, b"> 7 all\n= yes\n".as_slice()),
         (Verdict::No, b"> 7 all\n= no\n"),
         (Verdict::Ok, b"> 7 all\n= ok\n"),
+        (Verdict::DC, b"> 7 all\n= DC\n"),
+        (Verdict::EC, b"> 7 all\n= EC\n"),
+        (Verdict::PO, b"> 7 all\n= PO\n"),
+        (Verdict::EQ, b"> 7 all\n= EQ\n"),
+        (Verdict::TPP, b"> 7 all\n= TPP\n"),
+        (Verdict::NTPP, b"> 7 all\n= NTPP\n"),
+        (Verdict::TPPi, b"> 7 all\n= TPPi\n"),
+        (Verdict::NTPPi, b"> 7 all\n= NTPPi\n"),
+        (Verdict::Pieces(0), b"> 7 all\n= pieces 0\n"),
         (Verdict::Parts(0), b"> 7 all\n= parts 0\n"),
         (Verdict::Parts(1024), b"> 7 all\n= parts 1024\n"),
         (Verdict::Unbuilt, b"> 7 all\n= refused unbuilt\n"),
@@ -50,6 +59,14 @@ fn each_refusal_has_its_words(rt: HostRuntime) -> Result<(), Fail> {
         (Refusal::Unknown(name), b"> 7 all\n= refused unknown west\n"),
         (Refusal::Known(name), b"> 7 all\n= refused known west\n"),
         (Refusal::Limit, b"> 7 all\n= refused limit\n"),
+        (
+            Refusal::EmptyRegion(1),
+            b"> 7 all\n= refused emptyregion 1\n",
+        ),
+        (
+            Refusal::EmptyRegion(2),
+            b"> 7 all\n= refused emptyregion 2\n",
+        ),
     ] {
         let verdict = Verdict::Refused(refusal);
         expect_text(&rt, rt.alloc(), (7, b"all"), verdict, want)?;
@@ -76,6 +93,28 @@ fn parts_stand_below_their_number(rt: HostRuntime) -> Result<(), Fail> {
     assert_eq!(rt;
         out.as_slice(),
         b"> 7 show q\n= parts 1\n= part (-1 0 0 10) (0 1 0 0)\n".as_slice()
+    );
+    Ok(())
+}
+
+#[test]
+fn pieces_stand_below_their_number(rt: HostRuntime) -> Result<(), Fail> {
+    let mut verdicts = Verdicts::new(rt.alloc());
+    verdicts.push(Verdict::Pieces(2))?;
+    verdicts.push(Verdict::Piece(Numbers::copy_of(rt.alloc(), &[1, 3])?))?;
+    verdicts.push(Verdict::Piece(Numbers::copy_of(rt.alloc(), &[2])?))?;
+    let answer = Answer::with_verdicts(
+        rt.alloc(),
+        7,
+        b"pieces q",
+        Proofs::new(rt.alloc()),
+        verdicts,
+    )?;
+    let mut out = Vec::new(rt.alloc());
+    write_answer(&answer, false, &mut out)?;
+    assert_eq!(rt;
+        out.as_slice(),
+        b"> 7 pieces q\n= pieces 2\n= piece 1 3\n= piece 2\n".as_slice()
     );
     Ok(())
 }

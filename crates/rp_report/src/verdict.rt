@@ -32,6 +32,7 @@ impl WriteText for Refusal {
             Refusal::Unknown(name) => write_operand(b"unknown", name, out),
             Refusal::Known(name) => write_operand(b"known", name, out),
             Refusal::Limit => append(b"limit", out),
+            Refusal::EmptyRegion(k) => write_operand(b"emptyregion", &(*k as u32), out),
         }
     }
 }
@@ -44,6 +45,16 @@ impl WriteText for Verdict {
             Verdict::Yes => append(b"= yes", out),
             Verdict::No => append(b"= no", out),
             Verdict::Ok => append(b"= ok", out),
+            Verdict::DC => append(b"= DC", out),
+            Verdict::EC => append(b"= EC", out),
+            Verdict::PO => append(b"= PO", out),
+            Verdict::EQ => append(b"= EQ", out),
+            Verdict::TPP => append(b"= TPP", out),
+            Verdict::NTPP => append(b"= NTPP", out),
+            Verdict::TPPi => append(b"= TPPi", out),
+            Verdict::NTPPi => append(b"= NTPPi", out),
+            Verdict::Pieces(count) => write_operand(b"= pieces", count, out),
+            Verdict::Piece(numbers) => write_operands(b"= piece", numbers.items(), out),
             Verdict::Parts(count) => write_operand(b"= parts", count, out),
             Verdict::Part(halves) => write_operands(b"= part", halves.items(), out),
             Verdict::Refused(refusal) => write_operand(b"= refused", refusal, out),

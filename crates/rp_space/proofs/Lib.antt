@@ -1,3 +1,4 @@
+mod Between
 mod Bounded
 mod Cramer
 mod Kept

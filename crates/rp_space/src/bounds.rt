@@ -1,9 +1,10 @@
 //! Boxes with whole corners, and the domain cube.
-ghost use Rattle.std.specs.Prelude.{◌≡◌, true};
-ghost use Rattle.rp_geometry.specs.Geometry.{box_half_spaces, cube_half_spaces, is_box_in_bounds};
+ghost use Rattle.std.specs.Prelude.{◌≡◌, ◌<◌, ◌^◌, ◌*ℤ◌, true, unsigned_abs};
+ghost use Rattle.rp_geometry.specs.Geometry.{all_hold, box_half_spaces, cube_box, cube_half_spaces, is_between, is_box_in_bounds, is_in_box};
 ghost use Rattle.rp_space.specs.Boxes.{integer_box};
 
 use crate::half::Half;
+use crate::point::Point;
 
 /// Half the edge of the domain cube, 2^24 units.
 const HALF_EDGE: i32 = 16777216;
@@ -15,6 +16,51 @@ pub struct IntBox {
     pub lo: [i32; 3],
     /// The upper corner.
     pub hi: [i32; 3],
+}
+
+impl IntBox {
+    /// The box of the domain cube, which goes from -16777216 to below 16777216 on each axis.
+    pub fn cube() -> IntBox
+        ensures { integer_box result ≡ cube_box }
+    {
+        IntBox {
+            lo: [-HALF_EDGE; 3],
+            hi: [HALF_EDGE; 3],
+        }
+    }
+
+    /// Whether each coordinate of the point is from the lower side of the box to below the upper one: whether all six
+    /// half-spaces of the box hold the point.
+    pub fn holds(&self, p: &Point) -> bool
+        ensures sides { result ≡ is_in_box (integer_box self.now) p.now }
+        ensures half_spaces { result ≡ all_hold (box_half_spaces (integer_box self.now)) p.now }
+    {
+        let [x1, y1, z1] = self.lo;
+        let [x2, y2, z2] = self.hi;
+        let (x, y, z, w) = p.numbers();
+        let on_x = is_between(x1, x2, x, w);
+        let on_y = is_between(y1, y2, y, w);
+        let on_z = is_between(z1, z2, z, w);
+        on_x & on_y & on_z
+    }
+}
+
+/// Whether the coordinate v / w is from `lo` to below `hi`.
+fn is_between(lo: i32, hi: i32, v: i128, w: i128) -> bool
+    requires { unsigned_abs w < 2 ^ 75 }
+    ensures { result ≡ is_between lo hi v w }
+{
+    let least = scaled(lo, w);
+    let limit = scaled(hi, w);
+    least <= v && v < limit
+}
+
+/// A whole number of units as a coordinate over the weight w.
+fn scaled(units: i32, w: i128) -> i128
+    requires { unsigned_abs w < 2 ^ 75 }
+    ensures { result ≡ units *ℤ w }
+{
+    units as i128 * w
 }
 
 /// The six half-spaces of a box: the lower and the upper side of x, then of y, then of z.
@@ -35,12 +81,9 @@ pub fn box_halves(b: &IntBox) -> [Half; 6]
     ]
 }
 
-/// The six half-spaces of the domain cube, which goes from -16777216 to below 16777216 on each axis.
+/// The six half-spaces of the domain cube.
 pub fn cube() -> [Half; 6]
     ensures { result ≡ cube_half_spaces }
 {
-    box_halves(&IntBox {
-        lo: [-HALF_EDGE; 3],
-        hi: [HALF_EDGE; 3],
-    })
+    box_halves(&IntBox::cube())
 }

@@ -1,9 +1,10 @@
 //! Rational points in lowest terms.
 ghost use Rattle.std.specs.Prelude.{◌≡◌, ◌<◌, ◌^◌, [], ◌∷◌};
 ghost use Rattle.rp_algebra.specs.Integer.{gcd_of};
-ghost use Rattle.rp_geometry.specs.Geometry.{point_of, IsSmallPoint, coordinate_bound, is_within_bound, is_point_in_bounds, reduced_point};
+ghost use Rattle.rp_geometry.specs.Geometry.{point_of, IsSmallPoint, coordinate_bound, is_within_bound, is_cube_point, is_point_in_bounds, reduced_point};
 ghost use Rattle.rp_space.specs.MadePoint.{made_point};
 
+use crate::bounds::IntBox;
 use crate::divisor::{common_divisor, quotient};
 use std::marker::Model;
 use thiserror::Error;
@@ -79,6 +80,13 @@ impl Point {
         ensures small { IsSmallPoint (point_of result.0 result.1 result.2 result.3) }
     {
         (self.x, self.y, self.z, self.w)
+    }
+
+    /// Whether the point lies in the domain cube, its upper sides left out.
+    pub fn is_in_cube(&self) -> bool
+        ensures { result ≡ is_cube_point self.now }
+    {
+        IntBox::cube().holds(self)
     }
 }
 

@@ -18,10 +18,7 @@ pub fn with_cube(cell: &[Half]) -> System
     ensures bounds { AreHalfSpaces cell.now }
 {
     keep_bounds(cell);
-    let mut system = System::new();
-    extend(&mut system, cell);
-    extend(&mut system, &cube());
-    system
+    joined(cell, &cube())
 }
 
 /// Does nothing: every half-space keeps its bounds, and this makes it known of all half-spaces of a list.

@@ -133,6 +133,29 @@ fn boxes_have_six_sides(rt: HostRuntime) {
 }
 
 #[test]
+fn a_box_holds_its_lower_sides_alone(rt: HostRuntime) -> Result<(), Fail> {
+    let bounds = IntBox {
+        lo: [0; 3],
+        hi: [10; 3],
+    };
+    for (x, y, z, w, is_held) in [
+        (0, 0, 0, 1, true),
+        (19, 1, 19, 2, true),
+        (10, 5, 5, 1, false),
+        (5, 5, 10, 1, false),
+        (5, -1, 5, 2, false),
+    ] {
+        let point = Point::new(x, y, z, w).ok().ok_or("no point")?;
+        assert_eq!(rt; bounds.holds(&point), is_held);
+    }
+    let upper = Point::new(0, 16777216, 0, 1).ok().ok_or("no point")?;
+    assert!(rt; !upper.is_in_cube());
+    let lower = Point::new(-16777216, 0, 0, 1).ok().ok_or("no point")?;
+    assert!(rt; lower.is_in_cube());
+    Ok(())
+}
+
+#[test]
 fn half_spaces_of_two_lists_stand_in_one(rt: HostRuntime) {
     let [first, second, third, ..] = cube();
     let system = joined(&[first], &[second, third]);

@@ -10,10 +10,7 @@ use rp_report::{Answer, Verdict};
 fn is_refusal(verdict: &Verdict) -> bool
     ensures { result ≡ is_refused_line (verdict_text (verdict_of verdict.now)) }
 {
-    match verdict {
-        Verdict::Yes | Verdict::No | Verdict::Ok | Verdict::Parts(_) | Verdict::Part(_) => false,
-        Verdict::Refused(_) | Verdict::Unbuilt => true,
-    }
+    matches!(verdict, Verdict::Refused(_) | Verdict::Unbuilt)
 }
 
 /// Whether some of the verdicts refuses its line.

@@ -14,12 +14,6 @@ ghost use Rattle.rp_vertex.specs.Joined.{HasCube, joined};
 use crate::search::are_nonnegative;
 use rp_space::{Half, IntBox, Meeting, Pair, with_cube};
 
-/// The domain cube, from -2^24 to 2^24 on each axis.
-const CUBE: IntBox = IntBox {
-    lo: [-16777216; 3],
-    hi: [16777216; 3],
-};
-
 /// The least box with whole corners that holds all vertices of a cell, with the domain cube's six half-spaces: each
 /// coordinate of each vertex is rounded down and up. Where there is no vertex, which is where the weak system has no point,
 /// it is the cube's box. A cell has at most 64 half-spaces. Takes no memory.
@@ -30,7 +24,7 @@ pub fn box_of_vertices(cell: &[Half]) -> IntBox
     ensures half_spaces { AreHalfSpaces cell.now }
 {
     let system = with_cube(cell);
-    box_of_system(system.as_slice()).unwrap_or(CUBE)
+    box_of_system(system.as_slice()).unwrap_or(IntBox::cube())
 }
 
 /// The least box that holds the vertices of a list of half-spaces; none where there is no vertex.

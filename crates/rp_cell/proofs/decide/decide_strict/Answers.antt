@@ -5,8 +5,8 @@ use Rattle.rp_convex.proofs.Certified.{inside_certificate_shows_member_spec}
 use Rattle.rp_cell.proofs.Answered.{of_some, outside_is_some, line_inside, line_outside}
 use Rattle.rp_cell.proofs.decide.decide_strict.Goals as goal
 
-pub unwrap-requires : goal.unwrap-requires
-unwrap-requires c = outside_is_some c.args.cell.now c.first_outside.result c.first_outside.ensures.none (c.first_inside.ensures.none.0 (ap is_some c.in-None.is))
+pub refute_strict-requires-clause-empty : goal.refute_strict-requires-clause-empty
+refute_strict-requires-clause-empty c = c.first_inside.ensures.none.0 (ap is_some c.in-None.is)
 
 pub returns-in-Some-clause-decides : goal.returns-in-Some-clause-decides
 returns-in-Some-clause-decides c =
@@ -17,11 +17,4 @@ pub returns-in-Some-clause-line : goal.returns-in-Some-clause-line
 returns-in-Some-clause-line c = line_inside c.args.cell.now c.in-Some.points (sym c.first_inside.ensures.first ∙ c.in-Some.is)
 
 pub returns-in-None-clause-decides : goal.returns-in-None-clause-decides
-returns-in-None-clause-decides c = (
-  sym c.first_outside.ensures.first ∙ c.unwrap.ensures,
-  of_some (λ terms. IsTrue (is_outside_certificate true c.args.cell.now terms)) c.first_outside.result c.unwrap.result c.unwrap.ensures c.first_outside.ensures.passes,
-  c.first_inside.ensures.none.0 (ap is_some c.in-None.is),
-)
-
-pub returns-in-None-clause-line : goal.returns-in-None-clause-line
-returns-in-None-clause-line c = line_outside c.args.cell.now c.unwrap.result (sym c.first_inside.ensures.first ∙ c.in-None.is) (sym c.first_outside.ensures.first ∙ c.unwrap.ensures)
+returns-in-None-clause-decides c = (c.refute_strict.ensures.first, c.refute_strict.ensures.passes, c.first_inside.ensures.none.0 (ap is_some c.in-None.is))

@@ -1,5 +1,4 @@
 use Rattle.std.proofs.Common.{◌≡◌, ap, sym, ◌∙◌}
-use Rattle.rp_language.specs.Grammar.{reading, bad}
 use Rattle.rp_reports.specs.Report.{bad_answer}
 use Rattle.rp_reports.specs.Built.{answer_so_far}
 use Rattle.rp_report.specs.Views.{answer_of}

@@ -1,7 +1,5 @@
-use Rattle.std.proofs.Common.{◌≡◌, ◌++◌, ◌∷◌, [], ℕ, ◌+◌, List, length, map, sym, ap, subst}
-use Rattle.rp_geometry.specs.sets.Shape.{Part}
-use Rattle.rp_model.specs.states.State.{Kept}
-use Rattle.rp_machine.specs.Named.{kept_entry, kept_under, AreKeptWell, AreCounted, IsNewName}
+use Rattle.std.proofs.Common.{◌++◌, ◌∷◌, [], ℕ, ◌+◌, length, sym, ap, subst}
+use Rattle.rp_machine.specs.Named.{kept_under, AreKeptWell, AreCounted}
 use Rattle.rp_machine.proofs.Names.{kept_last, kept_well_with, counted_with}
 use Rattle.rp_machine.proofs.named.NamedRegions.keep.Goals as goal
 

@@ -1,0 +1,34 @@
+-- Pairs of parts of two lists: which of them are tested, and what is told of the first that is found.
+use Rattle.std.specs.Prelude.{◌≡◌, ◌*◌, Bool, true, false, List, [], ◌∷◌, ◌++◌, length}
+use Rattle.rp_geometry.specs.Geometry.{HalfSpace}
+use Rattle.rp_geometry.specs.sets.Shape.{Part}
+use Rattle.rp_geometry.specs.searches.ProofLine.{ProofLine}
+use Rattle.rp_walks.specs.Walk.{Walk, Work, count_tests, first_tester, ◌>>◌}
+use Rattle.rp_walks.specs.Form.{every_pair, first_pair, common_in_full, common_nearby, touch_in_full, touch_nearby}
+
+-- the pairs that are tested: those that may meet alone, or every pair
+abbrev pub chosen_pair : Bool → (Part → Part → Bool) → Part → Part → Bool
+chosen_pair true may_meet = may_meet
+chosen_pair false may_meet = every_pair
+
+-- the first pair that is found, among those that may meet alone, or among all; then as many tests are counted as there are pairs
+abbrev pub first_pair_by : Bool → (Part → Part → Bool) → (List HalfSpace → Walk Work Bool) → List Part → List Part → Walk Work Bool
+first_pair_by true may_meet test ps qs = first_pair may_meet test ps qs
+first_pair_by false may_meet test ps qs = do
+  count_tests (length ps * length qs)
+  first_pair every_pair test ps qs
+
+-- whether two lists share a member, by the pairs whose boxes meet alone, or by all pairs
+abbrev pub common_by : Bool → List Part → List Part → Walk Work Bool
+common_by true ps qs = common_nearby first_tester ps qs
+common_by false ps qs = common_in_full first_tester ps qs
+
+-- whether two lists are in contact, by the pairs whose closed boxes meet alone, or by all pairs
+abbrev pub touch_by : Bool → List Part → List Part → Walk Work Bool
+touch_by true ps qs = touch_nearby first_tester ps qs
+touch_by false ps qs = touch_in_full first_tester ps qs
+
+-- the line is the last one
+pub record IsLast (line : ProofLine) (lines : List ProofLine) : Type 0 where
+  pub before : List ProofLine
+  pub is : lines ≡ before ++ line ∷ []

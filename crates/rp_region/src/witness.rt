@@ -1,0 +1,96 @@
+//! What shows that two parts meet, and how it is looked for.
+ghost use Rattle.std.specs.Prelude.{◌≡◌, ◌++◌, ◌≤◌, Bool, false, List, length, is_some, IfOk, IfSome};
+ghost use Rattle.rp_geometry.specs.Geometry.{RationalPoint, HalfSpace};
+ghost use Rattle.rp_geometry.specs.sets.Shape.{Part, shape_of_cell};
+ghost use Rattle.rp_geometry.specs.sets.Sets.{IsEmpty};
+ghost use Rattle.rp_geometry.specs.laws.CellLaws.{IsSolution};
+ghost use Rattle.rp_geometry.specs.searches.ProofLine.{ProofLine, in_line, at_line};
+ghost use Rattle.rp_walks.specs.Walk.{Walk, Work, strict_test, weak_test};
+ghost use Rattle.rp_walks.specs.Form.{near_pair, touching_pair};
+ghost use Rattle.rp_region.specs.Makes.{op_result, Makes, OnlyTells};
+ghost use Rattle.rp_region.specs.Pairs.{IsLast};
+ghost use Rattle.rp_region.specs.Tells.{strict_tells, weak_tells};
+
+use crate::part::Part;
+use crate::work::Work;
+use rp_space::{Half, Inside, Point};
+use std::alloc::AllocError;
+
+/// What shows that two parts meet: an inside certificate of both together shows a common member, a weak point shows that
+/// they touch.
+pub(crate) trait Witness: Sized {
+    ghost may_meet: { Part → Part → Bool };
+
+    ghost test: { List HalfSpace → Walk Work Bool };
+
+    ghost line: { Self → ProofLine };
+
+    ghost has_none: { List HalfSpace → Type 0 };
+
+    /// Whether the boxes of two parts let them meet.
+    fn may_meet(first: &Part, second: &Part) -> bool
+        ensures value { result ≡ may_meet first.now second.now }
+        ensures apart { result ≡ false → has_none (first.now.cell ++ second.now.cell) };
+
+    /// Looks for a witness of the cell of two parts together, by one test.
+    fn find(work: &mut Work, cell: &[Half]) -> Result<Option<Self>, AllocError>
+        requires { length cell.now ≤ 64 }
+        ensures makes { Makes is_some (op_result result) work.old work.new (test cell.now) }
+        ensures told { IfOk result (λ o. IfSome o (λ x. IsLast (line x) work.new.proofs)) };
+
+    /// The same test of a cell that is known to have no witness, which is not looked for.
+    fn refute(work: &mut Work, cell: &[Half]) -> Result<(), AllocError>
+        requires few { length cell.now ≤ 64 }
+        requires none { has_none cell.now }
+        ensures { Makes (λ _. false) (op_result result) work.old work.new (test cell.now) };
+
+    ghost only_tells: { (cell : List HalfSpace) → OnlyTells (test cell) };
+}
+
+impl Witness for Inside {
+    ghost may_meet = { near_pair };
+
+    ghost test = { strict_test };
+
+    ghost line = { in_line };
+
+    ghost has_none = { λ cell. IsEmpty (shape_of_cell cell) };
+
+    ghost only_tells = { strict_tells };
+
+    fn may_meet(first: &Part, second: &Part) -> bool {
+        first.is_near(second)
+    }
+
+    fn find(work: &mut Work, cell: &[Half]) -> Result<Option<Inside>, AllocError> {
+        work.strict_test(cell)
+    }
+
+    fn refute(work: &mut Work, cell: &[Half]) -> Result<(), AllocError> {
+        work.refute_strict(cell)
+    }
+}
+
+impl Witness for Point {
+    ghost may_meet = { touching_pair };
+
+    ghost test = { weak_test };
+
+    ghost line = { at_line };
+
+    ghost has_none = { λ cell. (p : RationalPoint) → ¬ IsSolution false cell p };
+
+    ghost only_tells = { weak_tells };
+
+    fn may_meet(first: &Part, second: &Part) -> bool {
+        first.may_touch(second)
+    }
+
+    fn find(work: &mut Work, cell: &[Half]) -> Result<Option<Point>, AllocError> {
+        work.weak_test(cell)
+    }
+
+    fn refute(work: &mut Work, cell: &[Half]) -> Result<(), AllocError> {
+        work.refute_weak(cell)
+    }
+}

@@ -1,0 +1,60 @@
+-- How regions stand to each other, as the code answers it.
+use Rattle.std.specs.Prelude.{◌≡◌, ℕ, ◌==◌, true, false, Bool, List, [], ◌∷◌, Option, Some, None, Result, Ok, Err}
+use Rattle.rp_geometry.specs.sets.Shape.{Shape, Part}
+use Rattle.rp_geometry.specs.sets.Sets.{IsNonempty, IsEmpty}
+use Rattle.rp_geometry.specs.sets.Relation.{Relation}
+use Rattle.rp_walks.specs.Walk.{done, stopped, limit_met, Walk, Work, pass, ◌>>=◌, first_tester}
+use Rattle.rp_walks.specs.Compare.{is_covered}
+use Rattle.rp_region.specs.declared.fault.OpFault.{OpFault}
+use Rattle.rp_region.specs.declared.fault.OpFault.TheVariants.{Limit as OpLimit, Memory as OpMemory}
+use Rattle.rp_region.specs.Makes.{IsCutShort}
+use Rattle.rp_relate.specs.declared.relation.Rcc8.{Rcc8}
+use Rattle.rp_relate.specs.declared.relation.Rcc8.TheVariants.{DC, EC, PO, EQ, TPP, NTPP, TPPi, NTPPi}
+use Rattle.rp_relate.specs.declared.relation.RccFault.{RccFault}
+use Rattle.rp_relate.specs.declared.relation.RccFault.TheVariants.{EmptyRegion, Limit, Memory}
+
+-- the relation of the model
+abbrev pub relation_of : Rcc8 → Relation
+relation_of DC = Relation.DC
+relation_of EC = Relation.EC
+relation_of PO = Relation.PO
+relation_of EQ = Relation.EQ
+relation_of TPP = Relation.TPP
+relation_of NTPP = Relation.NTPP
+relation_of TPPi = Relation.TPPi
+relation_of NTPPi = Relation.NTPPi
+
+-- a fault of an operation, as one of a relation
+abbrev pub fault_of_relation : OpFault → RccFault
+fault_of_relation OpLimit = Limit
+fault_of_relation (OpMemory e) = Memory e
+
+-- whether each list is within the other; where the first is not, the second is not asked
+abbrev pub cover_each_other : List Part → List Part → Walk Work Bool
+cover_each_other ps qs = do
+  there ← is_covered first_tester ps qs
+  elim there [ false ↦ pass false | true ↦ is_covered first_tester qs ps ]
+
+-- which of two lists is the first without a part
+abbrev pub first_empty : List Part → List Part → Option ℕ
+first_empty [] qs = Some 1
+first_empty (p ∷ ps) [] = Some 2
+first_empty (p ∷ ps) (q ∷ qs) = None
+
+-- whether two shapes are told empty: the first has no point, or has one and the second has none
+abbrev pub AreToldEmpty : ℕ → Shape → Shape → Type 0
+AreToldEmpty k s t = elim (k == 1) [ true ↦ IsEmpty s | false ↦ elim (k == 2) [ true ↦ IsNonempty s × IsEmpty t | false ↦ ⊥ ] ]
+
+-- a result tells exactly which of two shapes is the first without a point; all other results are of shapes that have one
+abbrev pub TellsEmpty : Result Rcc8 RccFault → Shape → Shape → Type 0
+TellsEmpty (Ok r) s t = IsNonempty s × IsNonempty t
+TellsEmpty (Err (EmptyRegion k)) s t = AreToldEmpty k s t
+TellsEmpty (Err Limit) s t = IsNonempty s × IsNonempty t
+TellsEmpty (Err (Memory e)) s t = IsNonempty s × IsNonempty t
+
+-- the relation was found, from the work old to the work new: the walk comes to it, meets a limit, or was given up for want of memory; no region is empty
+abbrev pub MakesRelation : Result Rcc8 RccFault → Work → Work → Walk Work Relation → Type 0
+MakesRelation (Ok r) old new walk = walk old ≡ done (relation_of r) new
+MakesRelation (Err (EmptyRegion k)) old new walk = ⊥
+MakesRelation (Err Limit) old new walk = walk old ≡ stopped limit_met new
+MakesRelation (Err (Memory e)) old new walk = IsCutShort old new (walk old)

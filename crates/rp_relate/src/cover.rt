@@ -1,0 +1,48 @@
+//! Whether a region has no point, whether one is within another, and whether two have the same points.
+ghost use Rattle.std.specs.Prelude.{◌≡◌, ◌↔◌, IsTrue, IfOk};
+ghost use Rattle.rp_geometry.specs.sets.Shape.{shape_of_parts};
+ghost use Rattle.rp_geometry.specs.sets.Sets.{IsEmpty, IsWithin, SameMembers};
+ghost use Rattle.rp_walks.specs.Walk.{first_tester};
+ghost use Rattle.rp_walks.specs.Compare.{show_then_no, is_covered};
+ghost use Rattle.rp_region.specs.Makes.{Makes};
+ghost use Rattle.rp_relate.specs.Relations.{cover_each_other};
+
+use rp_region::{OpFault, Region, Work};
+use std::alloc::Global;
+
+/// Whether a region has no point. The first part that it has is shown to have one, by one more test, which isn't counted:
+/// `Limit` never comes.
+pub fn is_empty(alloc: Global, region: &Region, work: &mut Work) -> Result<bool, OpFault>
+    ensures makes { Makes (λ is_so. is_so) result work.old work.new (show_then_no first_tester region.now) }
+    ensures right { IfOk result (λ is_so. IsTrue is_so ↔ IsEmpty (shape_of_parts region.now)) }
+{
+    match region.parts() {
+        [] => Ok(true),
+        [first, ..] => {
+            work.strict(alloc, first.halves(), &[])?;
+            Ok(false)
+        }
+    }
+}
+
+/// Whether every point of the first region is one of the second: nothing is left of the first outside the second. `Limit`
+/// comes exactly where it comes for that difference.
+pub fn within(alloc: Global, a: &Region, b: &Region, work: &mut Work) -> Result<bool, OpFault>
+    ensures makes { Makes (λ is_so. is_so) result work.old work.new (is_covered first_tester a.now b.now) }
+    ensures right { IfOk result (λ is_so. IsTrue is_so ↔ IsWithin (shape_of_parts a.now) (shape_of_parts b.now)) }
+{
+    let left = a.minus(alloc, b, work)?;
+    is_empty(alloc, &left, work)
+}
+
+/// Whether two regions have the same points: each is within the other. `Limit` comes exactly where it comes for the first
+/// inclusion or, where that holds, for the second.
+pub fn equal(alloc: Global, a: &Region, b: &Region, work: &mut Work) -> Result<bool, OpFault>
+    ensures makes { Makes (λ is_so. is_so) result work.old work.new (cover_each_other a.now b.now) }
+    ensures right { IfOk result (λ is_so. IsTrue is_so ↔ SameMembers (shape_of_parts a.now) (shape_of_parts b.now)) }
+{
+    if !within(alloc, a, b, work)? {
+        return Ok(false);
+    }
+    within(alloc, b, a, work)
+}

@@ -1,0 +1,14 @@
+//! How two regions of space stand to each other: overlap, inclusion, equality, contact, and the eight relations of the
+//! region connection calculus (Randell, Cui and Cohn, 1992).
+#![tactic(auto)]
+
+mod cover;
+mod meeting;
+mod relation;
+
+pub use cover::{equal, is_empty, within};
+pub use meeting::{contact, overlap};
+pub use relation::{Rcc8, RccFault, rcc};
+
+#[cfg(test)]
+mod tests;

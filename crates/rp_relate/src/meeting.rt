@@ -1,0 +1,30 @@
+//! Whether two regions share a point, and whether they are in contact.
+ghost use Rattle.std.specs.Prelude.{◌≡◌, ◌↔◌, IsTrue, IfOk};
+ghost use Rattle.rp_geometry.specs.sets.Shape.{shape_of_parts};
+ghost use Rattle.rp_geometry.specs.sets.Sets.{Overlaps};
+ghost use Rattle.rp_geometry.specs.sets.Contact.{IsInContact};
+ghost use Rattle.rp_walks.specs.Walk.{first_tester};
+ghost use Rattle.rp_walks.specs.Form.{common_in_full, touch_in_full};
+ghost use Rattle.rp_region.specs.Makes.{Makes};
+
+use rp_region::{OpFault, Region, Work};
+use std::alloc::Global;
+
+/// Whether two regions share a point. Each part of the first is tested with each part of the second, up to the first pair
+/// that shares one. As many tests are counted as there are pairs; `Limit` comes exactly where these are too many.
+pub fn overlap(alloc: Global, a: &Region, b: &Region, work: &mut Work) -> Result<bool, OpFault>
+    ensures makes { Makes (λ is_so. is_so) result work.old work.new (common_in_full first_tester a.now b.now) }
+    ensures right { IfOk result (λ is_so. IsTrue is_so ↔ Overlaps (shape_of_parts a.now) (shape_of_parts b.now)) }
+{
+    Ok(a.first_common(alloc, b, false, work)?.is_some())
+}
+
+/// Whether two regions are in contact: their closures share a point of the closed cube, at a face, an edge or a corner, or
+/// inside both. Each part of the first is tested with each part of the second, up to the first pair that is in contact. As
+/// many tests are counted as there are pairs; `Limit` comes exactly where these are too many.
+pub fn contact(alloc: Global, a: &Region, b: &Region, work: &mut Work) -> Result<bool, OpFault>
+    ensures makes { Makes (λ is_so. is_so) result work.old work.new (touch_in_full first_tester a.now b.now) }
+    ensures right { IfOk result (λ is_so. IsTrue is_so ↔ IsInContact (shape_of_parts a.now) (shape_of_parts b.now)) }
+{
+    Ok(a.first_touch(alloc, b, false, work)?.is_some())
+}
