@@ -44,6 +44,11 @@ def rows_apart(word, count):
     return ask(word, regions.row(count), regions.row(count, 2000))
 
 
+def at_corners(count):
+    """Boxes in a row, each of which touches the next one at a corner alone."""
+    return [regions.box([number] * 3, [number + 1] * 3) for number in range(count)]
+
+
 def small_box(source):
     """The six sides of a box."""
     low = [source.randint(-SMALL, SMALL - 1) for _ in range(3)]

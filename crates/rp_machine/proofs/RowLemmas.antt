@@ -1,5 +1,5 @@
 -- What the rows of commands come to.
-use Rattle.std.proofs.Common.{◌≡◌, ℕ, ◌+◌, ◌≤◌, Bool, true, false, ◌&&◌, List, length, Option, Some, None, Result, Ok, Err, refl, sym, ap, ◌∙◌, subst, arith}
+use Rattle.std.proofs.Common.{◌≡◌, ℕ, ◌+◌, ◌≤◌, Bool, true, false, ◌&&◌, List, [], ◌∷◌, suc, length, map, Option, Some, None, Result, Ok, Err, refl, sym, ap, ◌∙◌, subst, arith}
 use Rattle.std.specs.Prelude.{nat_le, IfSome, IsNone, option_map}
 use Rattle.rp_algebra.proofs.Tests.{and_first, and_second}
 use Rattle.rp_geometry.specs.sets.Shape.{Part}
@@ -7,12 +7,14 @@ use Rattle.rp_language.specs.Name.{Label, is_among}
 use Rattle.rp_language.specs.Expression.{first_of_two}
 use Rattle.rp_walks.specs.Walk.{Walk, Work, done, stopped, limit_met, pass, stop, after_first, ◌>>=◌, ◌>>◌}
 use Rattle.rp_model.specs.states.State.{PlainState, name_added, names_of, parts_under_names, most_names, most_kept_parts}
-use Rattle.rp_model.specs.commands.Verdict.{known, unknown}
+use Rattle.rp_model.specs.commands.Verdict.{Verdict, known, unknown, piece_lines}
 use Rattle.rp_model.specs.commands.Checks.{refuse_if}
 use Rattle.rp_model.specs.commands.Row.{Reply, refusal, accepted, check, row_define}
 use Rattle.rp_machine.specs.declared.fault.FormFault.{FormFault}
 use Rattle.rp_machine.specs.declared.fault.FormFault.TheVariants.{Unknown}
 use Rattle.rp_machine.specs.declared.reply.Reply.{Reply as CodeReply}
+use Rattle.rp_space.specs.Listed.{Listed}
+use Rattle.rp_pieces.specs.Lists.{lists_of}
 use Rattle.rp_machine.specs.Named.{kept_under, IsNewName}
 use Rattle.rp_machine.specs.Replies.{ComesTo, Walks}
 
@@ -70,3 +72,17 @@ fits_new s x ps e room = record { fresh = e; few_names = few (length s.names + 1
   where
     few : (m n : ℕ) → nat_le m n ≡ true → m ≤ n
     few m n h = grind arith
+
+-- ---- pieces
+
+-- the verdict lines of pieces, whose numbers are kept as lists of the code
+pub lines_of_pieces : (lists : List (Listed ℕ)) → (Verdict.pieces (length lists) ∷ map (λ (ns : Listed ℕ). Verdict.piece ns.items) lists) ≡ piece_lines (lists_of lists)
+lines_of_pieces lists = λ i. Verdict.pieces (same_length lists i) ∷ same_lines lists i
+  where
+    same_length : (lists : List (Listed ℕ)) → length lists ≡ length (lists_of lists)
+    same_length [] = refl
+    same_length (ns ∷ lists) = ap suc (same_length lists)
+
+    same_lines : (lists : List (Listed ℕ)) → map (λ (ns : Listed ℕ). Verdict.piece ns.items) lists ≡ map Verdict.piece (lists_of lists)
+    same_lines [] = refl
+    same_lines (ns ∷ lists) = ap (λ vs. Verdict.piece ns.items ∷ vs) (same_lines lists)

@@ -1,10 +1,12 @@
 //! The row of each command: its checks and tests in order.
-ghost use Rattle.std.specs.Prelude.{◌≡◌, IfOk, map};
+ghost use Rattle.std.specs.Prelude.{◌≡◌, ◌≤◌, IfOk, length, map};
+ghost use Rattle.rp_geometry.specs.parts.Parts.{most_parts};
 ghost use Rattle.std.specs.List.{AllByRecursion};
-ghost use Rattle.rp_language.specs.Expression.{IsKeptExpression, expressions_of, define, ask_member, ask_empty, ask_show};
+ghost use Rattle.rp_language.specs.Expression.{IsKeptExpression, expressions_of, define, ask_member, ask_empty, ask_pieces, ask_show};
 ghost use Rattle.rp_walks.specs.Walk.{Work, first_tester};
-ghost use Rattle.rp_model.specs.commands.Verdict.{part_lines_of};
+ghost use Rattle.rp_model.specs.commands.Verdict.{part_lines_of, piece_lines};
 ghost use Rattle.rp_model.specs.commands.Row.{row, row_define};
+ghost use Rattle.rp_pieces.specs.Lists.{numbers_of};
 ghost use Rattle.rp_region.specs.Makes.{Makes};
 ghost use Rattle.rp_report.specs.Views.{verdict_of};
 ghost use Rattle.rp_syntax.specs.Views.{expression_of, command_of};
@@ -14,6 +16,7 @@ use crate::compare::Question;
 use crate::fault::FormFault;
 use crate::machine::Machine;
 use crate::reply::{Change, Reply};
+use rp_pieces::{PieceList, pieces};
 use rp_region::{Region, Work};
 use rp_relate::is_empty;
 use rp_report::{Refusal, Verdict, Verdicts};
@@ -29,6 +32,19 @@ fn part_lines(alloc: Global, form: Region) -> Result<Verdicts, AllocError>
     lines.push(Verdict::Parts(form.parts().len() as u32))?;
     for part in form.into_parts() {
         lines.push(Verdict::Part(part.into_halves()))?;
+    }
+    Ok(lines)
+}
+
+/// The verdict lines of pieces; their numbers are moved. Answers `AllocError` only for want of memory.
+fn piece_lines(alloc: Global, pieces: PieceList) -> Result<Verdicts, AllocError>
+    requires { length pieces.items ≤ most_parts }
+    ensures { IfOk result (λ lines. map verdict_of lines.items ≡ piece_lines (numbers_of pieces)) }
+{
+    let mut lines = Verdicts::new(alloc);
+    lines.push(Verdict::Pieces(pieces.items().len() as u32))?;
+    for numbers in pieces.into_items() {
+        lines.push(Verdict::Piece(numbers))?;
     }
     Ok(lines)
 }
@@ -49,6 +65,7 @@ impl Machine {
             Command::Let(name, region) => self.define(alloc, *name, region, work),
             Command::Member(region, point) => self.membership(alloc, region, point),
             Command::Empty(region) => self.emptiness(alloc, region, work),
+            Command::Pieces(region) => self.pieces(alloc, region, work),
             Command::Show(region) => self.show(alloc, region, work),
             Command::Equal(a, b) => self.comparison(alloc, Question::Equal, a, b, work),
             Command::Within(a, b) => self.comparison(alloc, Question::Within, a, b, work),
@@ -114,6 +131,20 @@ impl Machine {
         let form = self.form(alloc, region, work)?;
         let is_so = is_empty(alloc, &form, work)?;
         Ok(Reply::yes_or_no(alloc, is_so)?)
+    }
+
+    /// `pieces`: what of the region hangs together, by the numbers of the parts of its form.
+    fn pieces(&self, alloc: Global, region: &Expr, work: &mut Work) -> Result<Reply, FormFault>
+        requires { IsKeptExpression (expression_of region.now) }
+        ensures walks { Walks result work.old work.new (row first_tester self.now (ask_pieces (expression_of region.now))) }
+        ensures fits { IfOk result (λ r. Fits self.now r.change) }
+    {
+        let form = self.form(alloc, region, work)?;
+        let pieces = pieces(alloc, &form, work)?;
+        Ok(Reply {
+            verdicts: piece_lines(alloc, pieces)?,
+            change: Change::Nothing,
+        })
     }
 
     /// `show`: the parts of the form of the expression.

@@ -163,6 +163,30 @@ fn two_regions_are_compared(rt: HostRuntime) -> Result<(), Fail> {
 }
 
 #[test]
+fn pieces_are_told_by_the_numbers_of_parts(rt: HostRuntime) -> Result<(), Fail> {
+    for (line, verdicts) in [
+        ("pieces none", "= pieces 0"),
+        ("pieces all", "= pieces 1\n= piece 1"),
+        (
+            "pieces or box 0 0 0 10 10 10 box 10 10 10 20 20 20",
+            "= pieces 1\n= piece 1 2",
+        ),
+        (
+            "pieces or box 0 0 0 10 10 10 box 11 11 11 21 21 21",
+            "= pieces 2\n= piece 1\n= piece 2",
+        ),
+        (
+            "pieces or or box 0 0 0 1 1 1 box 5 0 0 6 1 1 box 1 0 0 2 1 1",
+            "= pieces 2\n= piece 1 3\n= piece 2",
+        ),
+        ("pieces name a", "= refused unknown a"),
+    ] {
+        expect_alone(&rt, rt.alloc(), line, verdicts)?;
+    }
+    Ok(())
+}
+
+#[test]
 fn comparisons_are_refused_in_order(rt: HostRuntime) -> Result<(), Fail> {
     for (line, verdict) in [
         ("rcc none all", "= refused emptyregion 1"),
@@ -187,7 +211,6 @@ fn lines_that_are_no_command_or_not_built_are_refused(rt: HostRuntime) -> Result
         ("member half 1 0 0 0 0 5 5 0", "= refused range"),
         ("member half 16777217 0 0 0 0 5 5 1", "= refused range"),
         ("audit", "= refused unbuilt"),
-        ("pieces all", "= refused unbuilt"),
     ] {
         expect_alone(&rt, rt.alloc(), line, verdict)?;
     }

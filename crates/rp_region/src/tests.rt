@@ -468,3 +468,33 @@ fn tests_tell_their_certificates(rt: HostRuntime) -> Result<(), Fail> {
     );
     Ok(())
 }
+
+#[test]
+fn parts_touch_at_a_corner(rt: HostRuntime) -> Result<(), Fail> {
+    let mut work = Work::new(rt.alloc());
+    let first = IntBox {
+        lo: [0, 0, 0],
+        hi: [10, 10, 10],
+    };
+    let corner = IntBox {
+        lo: [10, 10, 10],
+        hi: [20, 20, 20],
+    };
+    let apart = IntBox {
+        lo: [11, 11, 11],
+        hi: [21, 21, 21],
+    };
+    let first = box_region(rt.alloc(), &first, &mut work)?;
+    let corner = box_region(rt.alloc(), &corner, &mut work)?;
+    let apart = box_region(rt.alloc(), &apart, &mut work)?;
+    let ([first], [corner], [apart]) = (first.parts(), corner.parts(), apart.parts()) else {
+        return Err("not one part each".into());
+    };
+    let mut work = Work::new(rt.alloc());
+    let point = work.touch(first, corner)?;
+    assert!(rt; point.is_some_and(|p| p.numbers() == (10, 10, 10, 1)));
+    assert!(rt; work.touch(first, apart)?.is_none());
+    assert!(rt; matches!(work.proofs(), [Proof::At(_), Proof::Apart(_)]));
+    assert_eq!(rt; work.tests(), 0);
+    Ok(())
+}

@@ -188,6 +188,20 @@ impl Work {
         }
     }
 
+    /// A weak test of two parts together: a point of both with their boundaries, and `None` exactly where they are not in
+    /// contact. None is searched for where their boxes share no point. Its line is appended; it isn't counted.
+    /// Answers `AllocError` only for want of memory.
+    pub fn touch(&mut self, first: &Part, second: &Part) -> Result<Option<Point>, AllocError>
+        ensures makes { Makes is_some (op_result result) self.old self.new (weak_test (first.now.cell ++ second.now.cell)) }
+    {
+        let cell = joined(first.halves(), second.halves());
+        if first.may_touch(second) {
+            return self.weak_test(cell.as_slice());
+        }
+        self.refute_weak(cell.as_slice())?;
+        Ok(None)
+    }
+
     /// A strict test of a cell that is known to have no point, which is not searched for one.
     pub(crate) fn refute_strict(&mut self, cell: &[Half]) -> Result<(), AllocError>
         requires few { length cell.now ≤ 64 }

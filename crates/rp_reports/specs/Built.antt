@@ -14,7 +14,7 @@ abbrev pub is_built : Command → Bool
 is_built (define x e) = true
 is_built (ask_member e p) = true
 is_built (ask_empty e) = true
-is_built (ask_pieces e) = false
+is_built (ask_pieces e) = true
 is_built (ask_show e) = true
 is_built (ask_equal e f) = true
 is_built (ask_within e f) = true
