@@ -6,10 +6,11 @@ use Rattle.rp_geometry.specs.Geometry.{HalfSpace}
 use Rattle.rp_geometry.specs.searches.Vertex.{first_inside}
 use Rattle.rp_geometry.specs.searches.Elimination.{first_outside}
 use Rattle.rp_bench.specs.declared.search.Search.{Search}
-use Rattle.rp_bench.specs.declared.search.Search.TheVariants.{Inside, Outside, Apart}
+use Rattle.rp_bench.specs.declared.search.Search.TheVariants.{Decide, Inside, Outside, Apart}
 
 -- the word that asks for a search, and that tells that it found something
 abbrev pub word_of : Search → List ℕ
+word_of Decide = codes "decide"
 word_of Inside = codes "inside"
 word_of Outside = codes "outside"
 word_of Apart = codes "apart"
@@ -17,16 +18,20 @@ word_of Apart = codes "apart"
 -- the search of a word, if it asks for one
 abbrev pub search_of : List ℕ → Option Search
 search_of word =
-    elim (bytes_eq word (codes "inside")) [
-      | true ↦ Some Inside
-      | false ↦ elim (bytes_eq word (codes "outside")) [
-        | true ↦ Some Outside
-        | false ↦ elim (bytes_eq word (codes "apart")) [ true ↦ Some Apart | false ↦ None ]
+    elim (bytes_eq word (codes "decide")) [
+      | true ↦ Some Decide
+      | false ↦ elim (bytes_eq word (codes "inside")) [
+        | true ↦ Some Inside
+        | false ↦ elim (bytes_eq word (codes "outside")) [
+          | true ↦ Some Outside
+          | false ↦ elim (bytes_eq word (codes "apart")) [ true ↦ Some Apart | false ↦ None ]
+        ]
       ]
     ]
 
--- the number of points of the first inside certificate, or of terms of the first outside certificate that is strict or is not
+-- the number of points of the first inside certificate, or of terms of the first outside certificate that is strict or is not; a decision finds the one or the other
 abbrev pub size_found : Search → List HalfSpace → Option ℕ
+size_found Decide cell = elim (first_inside cell) [ Some points ↦ Some (length points) | None ↦ option_map length (first_outside true cell) ]
 size_found Inside cell = option_map length (first_inside cell)
 size_found Outside cell = option_map length (first_outside true cell)
 size_found Apart cell = option_map length (first_outside false cell)

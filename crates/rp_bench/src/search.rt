@@ -1,7 +1,9 @@
 //! The searches that can be asked.
-ghost use Rattle.std.specs.Prelude.{◌≡◌, ◌≤◌, length, IfSome};
+ghost use Rattle.std.specs.Prelude.{◌≡◌, ◌≤◌, length, IfSome, Some};
+ghost use Rattle.rp_bench.specs.declared.search.Search.TheVariants.{Decide};
 ghost use Rattle.rp_bench.specs.Found.{search_of, size_found, word_of};
 
+use rp_cell::{Strict, decide_strict};
 use rp_elim::first_outside;
 use rp_space::Half;
 use rp_vertex::first_inside;
@@ -9,6 +11,8 @@ use rp_vertex::first_inside;
 /// A search for a certificate of a cell.
 #[derive(Clone, Copy, Debug, PartialEq, Eq)]
 pub enum Search {
+    /// For the one or the other, over kept vertices.
+    Decide,
     /// For points that show that the cell has a point.
     Inside,
     /// For multiples of half-spaces that show that it has none.
@@ -23,6 +27,7 @@ impl Search {
         ensures { result ≡ search_of word.now }
     {
         match word {
+            "decide" => Some(Search::Decide),
             "inside" => Some(Search::Inside),
             "outside" => Some(Search::Outside),
             "apart" => Some(Search::Apart),
@@ -35,6 +40,7 @@ impl Search {
         ensures { result.now ≡ word_of self }
     {
         match self {
+            Search::Decide => "decide",
             Search::Inside => "inside",
             Search::Outside => "outside",
             Search::Apart => "apart",
@@ -49,9 +55,22 @@ impl Search {
         ensures few { IfSome result (λ size. size ≤ 4) }
     {
         match self {
+            Search::Decide => Some(size_decided(cell)),
             Search::Inside => first_inside(cell).map(|points| points.items().len()),
             Search::Outside => first_outside(cell, true).map(|terms| terms.items().len()),
             Search::Apart => first_outside(cell, false).map(|terms| terms.items().len()),
         }
+    }
+}
+
+/// The number of points or terms of what decides whether a cell has a point.
+fn size_decided(cell: &[Half]) -> usize
+    requires { length cell.now ≤ 64 }
+    ensures size { Some result ≡ size_found Decide cell.now }
+    ensures few { result ≤ 4 }
+{
+    match decide_strict(cell) {
+        Strict::Inside(points) => points.items().len(),
+        Strict::Outside(terms) => terms.items().len(),
     }
 }

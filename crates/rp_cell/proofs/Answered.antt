@@ -1,15 +1,15 @@
 -- What the searches that a decision calls have found, and that one of them always finds something.
 use Rattle.std.proofs.Common.{◌≡◌, true, false, List, Option, Some, None, refl, sym, ap, ◌∙◌, subst}
-use Rattle.std.specs.Prelude.{◌↔◌, IsSome, IsNone, IfSome, unwrap_or, []}
+use Rattle.std.specs.Prelude.{◌↔◌, IsSome, IsNone, IfSome, IsTrue, unwrap_or, []}
 use Rattle.rp_geometry.specs.Geometry.{RationalPoint, HalfSpace}
 use Rattle.rp_geometry.specs.sets.Shape.{shape_of_cell}
-use Rattle.rp_geometry.specs.sets.Sets.{IsEmpty}
-use Rattle.rp_geometry.specs.searches.Certificate.{Multiple}
+use Rattle.rp_geometry.specs.sets.Sets.{IsEmpty, IsNonempty}
+use Rattle.rp_geometry.specs.searches.Certificate.{Multiple, is_inside_certificate}
 use Rattle.rp_geometry.specs.searches.Vertex.{first_inside, first_weak_point}
 use Rattle.rp_geometry.specs.searches.Elimination.{first_outside}
 use Rattle.rp_geometry.specs.searches.ProofLine.{strict_line, weak_line, in_line, out_line, at_line, apart_line}
 use Rattle.rp_geometry.specs.laws.CellLaws.{IsSolution}
-use Rattle.rp_convex.proofs.Certified.{strict_solution_is_member_spec}
+use Rattle.rp_convex.proofs.Certified.{strict_solution_is_member_spec, inside_certificate_shows_member_spec}
 
 -- the fact of an answer that is some
 pub of_some : {A : Type 0} (P : A → Type 0) (o : Option A) (x : A) → o ≡ Some x → IfSome o P → P x
@@ -58,3 +58,10 @@ line_apart cell terms e f =
     sym
     (ap (λ (o : Option RationalPoint). elim o [ Some q ↦ at_line q | None ↦ apart_line (unwrap_or (first_outside false cell) []) ]) e
     ∙ ap (λ (o : Option (List Multiple)). apart_line (unwrap_or o [])) f)
+
+-- a strict decision by points
+pub decided_inside : (cell same : List HalfSpace) (o : Option (List RationalPoint)) (points : List RationalPoint) → same ≡ cell → o ≡ first_inside same → IfSome o (λ ps. IsTrue (is_inside_certificate same ps)) → o ≡ Some points
+    → (first_inside cell ≡ Some points) × IsTrue (is_inside_certificate cell points) × IsNonempty (shape_of_cell cell)
+decided_inside cell same o points e f k s =
+    let passes = subst (λ (hs : List HalfSpace). IsTrue (is_inside_certificate hs points)) e (of_some (λ ps. IsTrue (is_inside_certificate same ps)) o points s k) in
+    (sym (f ∙ ap first_inside e) ∙ s, passes, inside_certificate_shows_member_spec cell points passes)

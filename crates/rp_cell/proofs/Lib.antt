@@ -1,3 +1,6 @@
-pub mod Answered
+mod Answered
+mod Across
 mod Beyond
+mod Dropped
 mod SlimSoFar
+mod Refuted

@@ -1,2 +1,4 @@
 pub mod Decisions
+pub mod Held
 pub mod Lines
+pub mod Slimming

@@ -9,10 +9,9 @@ ghost use Rattle.rp_geometry.specs.searches.ProofLine.{outside_terms};
 ghost use Rattle.rp_space.specs.Boxes.{integer_box};
 ghost use Rattle.rp_cell.specs.Lines.{side_line_of};
 
-use crate::others::outside_of;
 use crate::side_proofs::SideProofs;
-use rp_elim::first_outside;
-use rp_space::{Half, IntBox, Outside, box_halves, cube};
+use rp_elim::first_outside_through;
+use rp_space::{Half, IntBox, Outside, box_halves, cube, keep_bounds};
 use rp_vertex::box_of_vertices;
 
 /// The least box of a cell, and what shows of its sides that no member lies beyond them.
@@ -72,12 +71,15 @@ fn is_listed(half: &Half, halves: &[Half]) -> bool
     halves.iter().any(|other| half == other)
 }
 
-/// The multiples that show that no member of a cell lies outside a half-space.
+/// The multiples that show that no member of a cell lies outside a half-space. Since the cell has members, the search is
+/// through the complement of the half-space.
 fn side_proof(cell: &[Half], side: &Half) -> Outside
     requires few { length cell.now ≤ 63 }
+    requires member { IsNonempty (shape_of_cell cell.now) }
     requires none { IsEmpty (shape_of_cell (cell.now ++ complement side.now ∷ [])) }
     ensures { result ≡ outside_terms true (cell.now ++ complement side.now ∷ []) }
 {
-    let outside = outside_of(side, cell, &[]);
-    first_outside(outside.as_slice(), true).unwrap()
+    // Only so that it is known of all half-spaces that they keep their bounds.
+    keep_bounds(cell);
+    first_outside_through(cell, &side.not(), &[], true).unwrap()
 }

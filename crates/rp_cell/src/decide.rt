@@ -9,6 +9,7 @@ ghost use Rattle.rp_geometry.specs.searches.Elimination.{first_outside};
 ghost use Rattle.rp_geometry.specs.searches.ProofLine.{strict_line, weak_line, out_line, apart_line};
 ghost use Rattle.rp_cell.specs.Decisions.{line_of_strict, line_of_weak, DecidesStrict, DecidesWeak};
 
+use crate::held::Held;
 use rp_elim::first_outside;
 use rp_space::{Half, Inside, Outside, Point, keep_bounds};
 use rp_vertex::{first_inside, first_weak};
@@ -32,10 +33,25 @@ pub enum Weak {
     Outside(Outside),
 }
 
+/// The fewest half-spaces of a cell that is held with its vertices to be decided: with fewer the searches are as fast.
+pub(crate) const FEW: usize = 12;
+
 /// Whether a cell has a point: the first inside certificate exactly where it has one, else the first outside certificate.
 /// There always is one of the two (Motzkin's theorem of the alternative). A cell has at most 64 half-spaces.
 /// Takes no memory.
 pub fn decide_strict(cell: &[Half]) -> Strict
+    requires { length cell.now ≤ 64 }
+    ensures decides { DecidesStrict cell.now result }
+    ensures line { line_of_strict result ≡ strict_line cell.now }
+{
+    if cell.len() < FEW {
+        return search_strict(cell);
+    }
+    Held::new(cell).strict()
+}
+
+/// The same, by a search over triples of planes.
+pub(crate) fn search_strict(cell: &[Half]) -> Strict
     requires { length cell.now ≤ 64 }
     ensures decides { DecidesStrict cell.now result }
     ensures line { line_of_strict result ≡ strict_line cell.now }
@@ -50,6 +66,18 @@ pub fn decide_strict(cell: &[Half]) -> Strict
 /// certificate that is not strict. There always is one of the two (Farkas' lemma). A cell has at most 64 half-spaces.
 /// Takes no memory.
 pub fn decide_weak(cell: &[Half]) -> Weak
+    requires { length cell.now ≤ 64 }
+    ensures decides { DecidesWeak cell.now result }
+    ensures line { line_of_weak result ≡ weak_line cell.now }
+{
+    if cell.len() < FEW {
+        return search_weak(cell);
+    }
+    Held::new(cell).weak()
+}
+
+/// The same, by a search over triples of planes.
+pub(crate) fn search_weak(cell: &[Half]) -> Weak
     requires { length cell.now ≤ 64 }
     ensures decides { DecidesWeak cell.now result }
     ensures line { line_of_weak result ≡ weak_line cell.now }

@@ -1,14 +1,18 @@
 //! Slim cells: half-spaces that add nothing are dropped.
 ghost use Rattle.std.specs.Prelude.{◌≡◌, ◌≤◌, IfOk, length, map};
+ghost use Rattle.rp_geometry.specs.Geometry.{IsKeptHalfSpace};
 ghost use Rattle.rp_geometry.specs.sets.Shape.{shape_of_cell};
 ghost use Rattle.rp_geometry.specs.sets.Sets.{IsNonempty, SameMembers};
 ghost use Rattle.rp_geometry.specs.parts.Parts.{IsPart, most_half_spaces};
 ghost use Rattle.rp_geometry.specs.parts.PartTest.{part_of, slimmed};
 ghost use Rattle.rp_cell.specs.Lines.{drop_line_of};
+ghost use Rattle.rp_cell.specs.Slimming.{tested, IsTested, IsDropProof};
 
 use crate::decide::{Strict, decide_strict};
+use crate::held::Held;
 use crate::others::outside_of;
-use rp_space::{Half, Listed, Outside};
+use rp_elim::first_outside_through;
+use rp_space::{Half, Listed, Outside, joined, keep_bounds};
 use std::alloc::{AllocError, Global};
 
 /// A cell, as a list of half-spaces.
@@ -37,15 +41,50 @@ pub fn slim(alloc: Global, cell: &[Half]) -> Result<Slimmed, AllocError>
     ensures members { IfOk result (λ slim. SameMembers (shape_of_cell slim.kept.items) (shape_of_cell cell.now)) }
     ensures part { IfOk result (λ slim. IsNonempty (shape_of_cell cell.now) → length slim.kept.items ≤ most_half_spaces → IsPart (part_of (slimmed cell.now))) }
 {
-    let mut kept = Cell::new(alloc);
-    let mut dropped = Drops::new(alloc);
-    for i in 0..cell.len() {
-        let half = cell[i];
-        let outside = outside_of(&half, kept.items(), &cell[i + 1..]);
-        match decide_strict(outside.as_slice()) {
-            Strict::Inside(_) => kept.push(half)?,
-            Strict::Outside(terms) => dropped.push((half, terms))?,
+    Held::new(cell).slim(alloc)
+}
+
+impl Held {
+    /// The slim cell of the cell, as `slim` answers.
+    pub fn slim(&self, alloc: Global) -> Result<Slimmed, AllocError>
+        ensures kept { IfOk result (λ slim. slim.kept.items ≡ (slimmed self.now).kept) }
+        ensures lines { IfOk result (λ slim. map drop_line_of slim.dropped.items ≡ (slimmed self.now).lines) }
+        ensures members { IfOk result (λ slim. SameMembers (shape_of_cell slim.kept.items) (shape_of_cell self.now)) }
+        ensures part { IfOk result (λ slim. IsNonempty (shape_of_cell self.now) → length slim.kept.items ≤ most_half_spaces → IsPart (part_of (slimmed self.now))) }
+    {
+        let cell = self.halves();
+        let mut kept = Cell::new(alloc);
+        let mut dropped = Drops::new(alloc);
+        for i in 0..cell.len() {
+            let half = cell[i];
+            match self.drop_proof(i, &half, kept.items(), &cell[i + 1..]) {
+                None => kept.push(half)?,
+                Some(terms) => dropped.push((half, terms))?,
+            }
+        }
+        Ok(Slimmed { kept, dropped })
+    }
+
+    /// What shows that no member of the others lies outside the half-space at a place, and `None` exactly where one does. The
+    /// others are those that are still kept of the half-spaces before it, and all behind it.
+    fn drop_proof(&self, place: usize, half: &Half, kept: &[Half], rest: &[Half]) -> Option<Outside>
+        requires { IsTested self.now place kept.now half.now rest.now }
+        ensures proof { IsDropProof (tested kept.now half.now rest.now) result }
+        ensures lowest { IsKeptHalfSpace half.now }
+    {
+        // Only for what these ensure: that half-spaces keep their bounds and are in lowest terms.
+        keep_bounds(self.halves());
+        let _ = half.numbers();
+        if self.has_side(place) {
+            return None;
+        }
+        if self.has_point() {
+            let others = joined(kept, rest);
+            return first_outside_through(others.as_slice(), &half.not(), &[], true);
+        }
+        match decide_strict(outside_of(half, kept, rest).as_slice()) {
+            Strict::Inside(_) => None,
+            Strict::Outside(terms) => Some(terms),
         }
     }
-    Ok(Slimmed { kept, dropped })
 }

@@ -1,6 +1,6 @@
 use crate::{
-    Cell, Drops, SideProofs, Sides, Slimmed, Strict, Weak, box_of, decide_strict, decide_weak,
-    sides_of, slim,
+    Cell, Drops, Held, SideProofs, Sides, Slimmed, Strict, Weak, box_of, decide_strict,
+    decide_weak, sides_of, slim,
 };
 use rp_space::{Half, HalfFault, IntBox, Outside, Term, box_halves};
 use std::test::Fail;
@@ -36,6 +36,7 @@ fn types_cross_threads() {
     needs_send_sync::<Slimmed>();
     needs_send_sync::<SideProofs>();
     needs_send_sync::<Sides>();
+    needs_send_sync::<Held>();
 }
 
 #[test]
@@ -174,5 +175,66 @@ fn a_half_space_of_all_points_is_dropped(rt: HostRuntime) -> Result<(), Fail> {
     };
     assert_eq!(rt; box_of(&cell), cube);
     assert_eq!(rt; sides_of(&cell).proofs.items().len(), 0);
+    Ok(())
+}
+
+#[test]
+fn a_held_box_is_asked_with_further_half_spaces(rt: HostRuntime) -> Result<(), Fail> {
+    let held = Held::new(&box_halves(&IntBox {
+        lo: [0, 0, 0],
+        hi: [10, 10, 10],
+    }));
+    assert_eq!(rt; held.halves().len(), 6);
+    // The corner at the origin is cut off, touched, and left.
+    let [within, touching, beyond] = [
+        Half::new(-1, -1, -1, 1)?,
+        Half::new(-1, -1, -1, 0)?,
+        Half::new(-1, -1, -1, -1)?,
+    ];
+    let Strict::Inside(points) = held.strict_with(&[within]) else {
+        return Err("the corner that is cut off is empty".into());
+    };
+    let numbers = [(0, 0, 0, 1), (0, 0, 1, 1), (0, 1, 0, 1), (1, 0, 0, 1)];
+    assert_eq!(rt; points.items().len(), 4);
+    for (point, wanted) in points.items().iter().zip(numbers) {
+        assert_eq!(rt; point.numbers(), wanted);
+    }
+    let Weak::At(point) = held.weak_with(&[touching]) else {
+        return Err("the corner is not touched".into());
+    };
+    assert_eq!(rt; point.numbers(), (0, 0, 0, 1));
+    let [x, y, z] = [(1, 0, 0, 0), (0, 1, 0, 0), (0, 0, 1, 0)];
+    let apart = held.with(&[beyond]);
+    let Weak::Outside(terms) = apart.weak() else {
+        return Err("the corner is touched from beyond".into());
+    };
+    let wanted = [
+        term(1, x)?,
+        term(1, y)?,
+        term(1, z)?,
+        term(1, (-1, -1, -1, -1))?,
+    ];
+    assert_eq!(rt; terms.items(), wanted.as_slice());
+    let Strict::Outside(terms) = apart.strict() else {
+        return Err("there are points beyond the corner".into());
+    };
+    assert_eq!(rt; terms.items(), wanted.as_slice());
+    Ok(())
+}
+
+#[test]
+fn a_held_cell_grows_and_is_slimmed(rt: HostRuntime) -> Result<(), Fail> {
+    let cell = tetrahedron()?;
+    let mut held = Held::new(&cell[..3]);
+    held.push(cell[3]);
+    held.extend(&[cell[0]]);
+    let copy = held.copy();
+    assert_eq!(rt; copy.halves().len(), 5);
+    let slimmed = copy.slim(rt.alloc())?;
+    assert_eq!(rt;
+        slimmed.kept.items(),
+        [cell[1], cell[2], cell[3], cell[0]].as_slice()
+    );
+    assert_eq!(rt; slimmed.dropped.items().len(), 1);
     Ok(())
 }

@@ -4,3 +4,6 @@ pub mod Divisor
 pub mod Found
 pub mod Mixed
 pub mod Three
+pub mod Dependent
+pub mod Unfit
+pub mod InPlace

@@ -1,5 +1,5 @@
 -- Positive terms refute exactly where they do in lowest terms.
-use Rattle.std.proofs.Common.{◌≡◌, ℕ, ◌<◌, ℤ, pos, ◌*ℤ◌, ◌<ℤ◌, Bool, true, false, ◌&&◌, List, [], ◌∷◌, length, Some, None, sym, ap, ◌∙◌, arith}
+use Rattle.std.proofs.Common.{◌≡◌, ℕ, ◌<◌, ℤ, pos, ◌*ℤ◌, ◌<ℤ◌, Bool, true, false, ◌&&◌, List, [], ◌∷◌, length, Some, None, refl, sym, ap, ◌∙◌, arith}
 use Rattle.std.specs.Prelude.{int_le}
 use Rattle.std.specs.List.{list_all}
 use Rattle.std.proofs.lemmas.Int.{ints}
@@ -76,10 +76,17 @@ reduced_refutation strict (t ∷ ts) n e =
     let q = positive_multipliers (t ∷ ts) e in
     same_refutation (gcd_of (factors_of (t ∷ ts))) (t ∷ ts) (gcd_of-positive_head t.factor (factors_of ts) (above_not_zero t.factor q.0)) (gcd_of-divides (factors_of (t ∷ ts))) q strict
 
+-- two tests in either order
+exchanged : (a b : Bool) → (a && b) ≡ (b && a)
+exchanged true true = refl
+exchanged true false = refl
+exchanged false true = refl
+exchanged false false = refl
+
 -- terms in lowest terms are given where they are balanced and contradict
-pub reduced_given : (strict : Bool) (ts : List Multiple) → 0 < length ts → list_all (λ t. is_multiplier t.factor) ts ≡ true → (is_balanced ts && is_contradiction strict ts) ≡ true → terms_if strict (reduced_terms ts) ≡ Some (reduced_terms ts)
-reduced_given strict ts n m e = λ i. elim ((reduced_refutation strict ts n m ∙ e) i) [ true ↦ Some (reduced_terms ts) | false ↦ None ]
+pub reduced_given : (strict : Bool) (ts : List Multiple) → 0 < length ts → list_all (λ t. is_multiplier t.factor) ts ≡ true → (is_contradiction strict ts && is_balanced ts) ≡ true → terms_if strict (reduced_terms ts) ≡ Some (reduced_terms ts)
+reduced_given strict ts n m e = λ i. elim ((reduced_refutation strict ts n m ∙ exchanged (is_balanced ts) (is_contradiction strict ts) ∙ e) i) [ true ↦ Some (reduced_terms ts) | false ↦ None ]
 
 -- else there are none
-pub reduced_none : (strict : Bool) (ts : List Multiple) → 0 < length ts → list_all (λ t. is_multiplier t.factor) ts ≡ true → (is_balanced ts && is_contradiction strict ts) ≡ false → terms_if strict (reduced_terms ts) ≡ None
-reduced_none strict ts n m e = λ i. elim ((reduced_refutation strict ts n m ∙ e) i) [ true ↦ Some (reduced_terms ts) | false ↦ None ]
+pub reduced_none : (strict : Bool) (ts : List Multiple) → 0 < length ts → list_all (λ t. is_multiplier t.factor) ts ≡ true → (is_contradiction strict ts && is_balanced ts) ≡ false → terms_if strict (reduced_terms ts) ≡ None
+reduced_none strict ts n m e = λ i. elim ((reduced_refutation strict ts n m ∙ exchanged (is_balanced ts) (is_contradiction strict ts) ∙ e) i) [ true ↦ Some (reduced_terms ts) | false ↦ None ]

@@ -1,5 +1,5 @@
 -- The coefficients of a half-space by axis.
-use Rattle.std.specs.Prelude.{true, false, ℤ, neg_ℤ, List, [], ◌∷◌}
+use Rattle.std.specs.Prelude.{Bool, true, false, ◌&&◌, ℤ, neg_ℤ, List, [], ◌∷◌}
 use Rattle.rp_algebra.specs.Integer.{is_zero}
 use Rattle.rp_geometry.specs.Geometry.{HalfSpace}
 use Rattle.rp_geometry.specs.searches.Certificate.{Multiple}
@@ -29,3 +29,11 @@ axes_of f g =
       | false ↦ (X, Y)
       | true ↦ elim (is_zero (det2 f.a f.c g.a g.c)) [ false ↦ (X, Z) | true ↦ (Y, Z) ]
     ]
+
+-- all three coefficients are 0
+abbrev pub is_without_normal : HalfSpace → Bool
+is_without_normal h = is_zero h.a && is_zero h.b && is_zero h.c
+
+-- two half-spaces have dependent normals: the 2 by 2 determinants on each two axes are 0
+abbrev pub are_parallel : HalfSpace → HalfSpace → Bool
+are_parallel f g = is_zero (det2 f.a f.b g.a g.b) && is_zero (det2 f.a f.c g.a g.c) && is_zero (det2 f.b f.c g.b g.c)

@@ -4,3 +4,4 @@ pub mod Sides
 pub mod CrossMinors
 pub mod TripleSigns
 pub mod CoupleSign
+pub mod HeldFast

@@ -5,9 +5,8 @@ use Rattle.rp_space.specs.TwoHalfSpaces.{two_of}
 use Rattle.rp_elim.specs.Sides.{has_sign}
 use Rattle.rp_elim.specs.declared.triple.Triple.TheInside.{Inside}
 
--- the kept cross products are those of the three half-spaces, and the kept sign is that of the last minor
+-- the kept cross products are of the same three half-spaces, and the kept sign is that of the last minor
 pub record IsPrepared (t : Inside) : Type 0 where
-  pub ef : t.ef ≡ two_of t.e t.f
-  pub eg : t.eg ≡ two_of t.e t.g
-  pub fg : t.fg ≡ two_of t.f t.g
-  pub last : has_sign t.positive (neg_ℤ (meeting_weight t.e t.f t.g)) ≡ true
+  pub eg : t.eg ≡ two_of t.ef.first t.eg.second
+  pub fg : t.fg ≡ two_of t.ef.second t.eg.second
+  pub last : has_sign t.positive (neg_ℤ (meeting_weight t.ef.first t.ef.second t.eg.second)) ≡ true

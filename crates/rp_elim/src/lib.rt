@@ -5,11 +5,14 @@
 mod couple;
 mod lowest;
 mod minors;
+mod placed;
 mod refutation;
 mod search;
+mod through;
 mod triple;
 
 pub use search::first_outside;
+pub use through::first_outside_through;
 
 #[cfg(test)]
 mod tests;

@@ -4,7 +4,7 @@ ghost use Rattle.rp_algebra.specs.Integer.{is_zero};
 ghost use Rattle.rp_algebra.specs.Within.{IsWithin};
 ghost use Rattle.rp_geometry.specs.searches.Vertex.{det2, meeting_weight};
 ghost use Rattle.rp_geometry.specs.searches.Elimination.{minors_of_two, minors_on_axes, minors_of_four};
-ghost use Rattle.rp_elim.specs.Axes.{along, axes_of, minors_on_axis};
+ghost use Rattle.rp_elim.specs.Axes.{along, axes_of, minors_on_axis, is_without_normal, are_parallel};
 ghost use Rattle.rp_elim.specs.Factors.{AreFactorsSmall};
 
 use rp_space::{Half, Term};
@@ -84,6 +84,22 @@ fn are_dependent(f: &Half, g: &Half, u: Axis, v: Axis) -> bool
     ensures { result ≡ is_zero (det2 (along u f.now) (along v f.now) (along u g.now) (along v g.now)) }
 {
     minor(f, g, u, v) == 0
+}
+
+/// Whether all three coefficients are 0: then a half-space holds every point or none.
+pub fn is_without_normal(half: &Half) -> bool
+    ensures { result ≡ is_without_normal half.now }
+{
+    is_without(half, Axis::X) && is_without(half, Axis::Y) && is_without(half, Axis::Z)
+}
+
+/// Whether the normals of two half-spaces are dependent.
+pub fn are_parallel(f: &Half, g: &Half) -> bool
+    ensures { result ≡ are_parallel f.now g.now }
+{
+    are_dependent(f, g, Axis::X, Axis::Y)
+        && are_dependent(f, g, Axis::X, Axis::Z)
+        && are_dependent(f, g, Axis::Y, Axis::Z)
 }
 
 /// The multiples of two half-spaces that cancel on the first axis on which the first one's coefficient is not 0.

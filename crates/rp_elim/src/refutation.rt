@@ -39,13 +39,13 @@ pub fn positive_refutation(strict: bool, terms: &[Term]) -> Option<Outside>
     Some(lowest(terms))
 }
 
-/// Whether positive multiples cancel and contradict.
+/// Whether positive multiples contradict and cancel. Most that are tried cancel, so the contradiction comes first.
 fn cancel(strict: bool, terms: &[Term]) -> bool
     requires few { length terms.now ≤ 4 }
     requires multipliers { list_all (λ t. is_multiplier t.factor) terms.now ≡ true }
-    ensures { result ≡ (is_balanced terms.now && is_contradiction strict terms.now) }
+    ensures { result ≡ (is_contradiction strict terms.now && is_balanced terms.now) }
 {
-    is_balanced(terms) && is_contradiction(terms, strict)
+    is_contradiction(terms, strict) && is_balanced(terms)
 }
 
 /// Whether each multiplier is from 1 to 2^75 - 1.

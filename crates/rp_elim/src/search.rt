@@ -7,7 +7,7 @@ ghost use Rattle.rp_geometry.specs.searches.Search.{first_of, first_of_pairs, fi
 ghost use Rattle.rp_geometry.specs.searches.Elimination.{refutation_of_one, refutation_of_two, refutation_of_three, refutation_of_four, first_refutation, first_outside};
 
 use crate::couple::Couple;
-use crate::minors::minors_of_two;
+use crate::minors::{are_parallel, is_without_normal, minors_of_two};
 use crate::refutation::{positive_refutation, refutation};
 use crate::triple::{Cross, Triple};
 use rp_space::{Half, Outside, Term, with_cube};
@@ -43,17 +43,23 @@ fn first_refutation(strict: bool, halves: &[Half]) -> Option<Outside>
     first_four(strict, halves)
 }
 
-/// The refutation by one half-space, if it refutes.
-fn refutation_of_one(strict: bool, h: &Half) -> Option<Outside>
+/// The refutation by one half-space, if it refutes. Only one without a normal can cancel.
+pub fn refutation_of_one(strict: bool, h: &Half) -> Option<Outside>
     ensures { result ≡ refutation_of_one strict h.now }
 {
+    if !is_without_normal(h) {
+        return None;
+    }
     positive_refutation(strict, &[Term { by: 1, half: *h }])
 }
 
-/// The refutation by two half-spaces, if they refute.
-fn refutation_of_two(strict: bool, g: &Half, h: &Half) -> Option<Outside>
+/// The refutation by two half-spaces, if they refute. Only two with dependent normals can cancel.
+pub fn refutation_of_two(strict: bool, g: &Half, h: &Half) -> Option<Outside>
     ensures { result ≡ refutation_of_two strict g.now h.now }
 {
+    if !are_parallel(g, h) {
+        return None;
+    }
     refutation(strict, &minors_of_two(g, h))
 }
 

@@ -1,4 +1,4 @@
-use crate::first_outside;
+use crate::{first_outside, first_outside_through};
 use rp_space::{Half, HalfFault, Term};
 use std::test::Fail;
 
@@ -98,4 +98,42 @@ fn four_half_spaces_refute(rt: HostRuntime) -> Result<(), Fail> {
 #[test]
 fn the_cube_is_not_empty(rt: HostRuntime) {
     assert!(rt; first_outside(&[], true).is_none());
+}
+
+#[test]
+fn a_half_space_refutes_with_those_on_both_sides(rt: HostRuntime) -> Result<(), Fail> {
+    let x = half([1, 0, 0, 0])?;
+    let y = half([0, 1, 0, 0])?;
+    let z = half([0, 0, 1, 0])?;
+    let far = half([1, 0, 0, -4])?;
+    let wanted = [
+        term(3, [0, 1, 0, 0])?,
+        term(5, [0, 0, 1, 0])?,
+        term(1, [-2, -3, -5, 7])?,
+        term(2, [1, 0, 0, -4])?,
+    ];
+    let slanted = half([-2, -3, -5, 7])?;
+    assert!(rt; first_outside(&[x, y, z, far], true).is_none());
+    let found = first_outside_through(&[x, y, z], &slanted, &[far], true).ok_or(
+        "nothing is found",
+    )?;
+    assert_eq!(rt; found.items(), wanted.as_slice());
+    Ok(())
+}
+
+#[test]
+fn a_half_space_refutes_with_the_cube(rt: HostRuntime) -> Result<(), Fail> {
+    let x = half([1, 0, 0, 0])?;
+    let y = half([0, 1, 0, 0])?;
+    let outer = half([1, 0, 0, -16777216])?;
+    let wanted = [
+        term(1, [1, 0, 0, -16777216])?,
+        term(1, [-1, 0, 0, 16777216])?,
+    ];
+    assert!(rt; first_outside(&[x, y], true).is_none());
+    let found = first_outside_through(&[x], &outer, &[y], true).ok_or("nothing is found")?;
+    assert_eq!(rt; found.items(), wanted.as_slice());
+    assert!(rt; first_outside(&[x, y], false).is_none());
+    assert!(rt; first_outside_through(&[x], &outer, &[y], false).is_none());
+    Ok(())
 }

@@ -1,14 +1,15 @@
 //! Three half-spaces, with what the refutations by them and a further one share.
-ghost use Rattle.std.specs.Prelude.{◌≡◌, ◌*◌, ◌^◌, ◌&&◌, true, not, pos, neg_ℤ, MatchOption};
+ghost use Rattle.std.specs.Prelude.{◌≡◌, ◌*◌, ◌^◌, ◌&&◌, true, false, not, pos, neg_ℤ, MatchOption};
 ghost use Rattle.rp_algebra.specs.Within.{IsWithin};
 ghost use Rattle.rp_geometry.specs.searches.Vertex.{meeting_weight};
-ghost use Rattle.rp_geometry.specs.searches.Elimination.{refutation_of_four};
+ghost use Rattle.rp_geometry.specs.searches.Elimination.{minors_of_four, refutation_of_four};
 ghost use Rattle.rp_space.specs.TwoHalfSpaces.{two_of};
-ghost use Rattle.rp_elim.specs.Sides.{has_sign, three_of};
+ghost use Rattle.rp_elim.specs.Factors.{AreFactorsSmall};
+ghost use Rattle.rp_elim.specs.Sides.{has_sign, three_of, HaveMixedMinors};
 
 use crate::minors::minors_of_four;
 use crate::refutation::refutation;
-use rp_space::{Half, Outside};
+use rp_space::{Half, Outside, Term};
 use std::marker::Model;
 
 /// The cross product of the normals of two half-spaces, as 2 by 2 minors. A contract sees the two half-spaces.
@@ -63,7 +64,7 @@ impl Cross {
     }
 
     /// The determinant of the coefficients of the two half-spaces and a third one.
-    fn weight(&self, h: &Half) -> i128
+    pub fn weight(&self, h: &Half) -> i128
         ensures value { result ≡ meeting_weight self.now.first self.now.second h.now }
         ensures small { IsWithin (6 * 2 ^ 72) result }
     {
@@ -80,7 +81,7 @@ impl Cross {
     }
 
     /// Whether the negative of the determinant with a third half-space is above 0. `None` where it is 0.
-    fn opposite_sign(&self, h: &Half) -> Option<bool>
+    pub fn opposite_sign(&self, h: &Half) -> Option<bool>
         ensures { MatchOption result (meeting_weight self.now.first self.now.second h.now ≡ pos 0) (λ s. has_sign s (neg_ℤ (meeting_weight self.now.first self.now.second h.now)) ≡ true) }
     {
         if self.has_sign(false, h) {
@@ -96,9 +97,6 @@ impl Cross {
 /// Three half-spaces with independent normals. A contract sees the three.
 #[derive(Drop)]
 pub struct Triple {
-    e: Half,
-    f: Half,
-    g: Half,
     ef: Cross,
     eg: Cross,
     fg: Cross,
@@ -112,7 +110,7 @@ impl Model for Triple {
 
     ghost use Rattle.rp_elim.specs.TripleSigns.{IsPrepared};
 
-    ghost view = { λ t. three_of t.e t.f t.g };
+    ghost view = { λ t. three_of t.ef.first t.ef.second t.eg.second };
 
     ghost invariant = { IsPrepared };
 }
@@ -125,9 +123,6 @@ impl Triple {
         match ef.opposite_sign(g) {
             None => None,
             Some(positive) => Some(Triple {
-                e: ef.first,
-                f: ef.second,
-                g: *g,
                 ef: ef.copy(),
                 eg: Cross::new(&ef.first, g),
                 fg: Cross::new(&ef.second, g),
@@ -136,21 +131,38 @@ impl Triple {
         }
     }
 
+    /// Whether the four minors of the three half-spaces and a fourth one have one sign but for their places. Where two
+    /// differ the four do not refute, in whatever order.
+    pub fn has_one_sign(&self, h: &Half) -> bool
+        ensures { result ≡ false → HaveMixedMinors self.now.first self.now.second self.now.third h.now }
+    {
+        have_one_sign(self.positive, &self.ef, &self.eg, &self.fg, h)
+    }
+
     /// The refutation by the three half-spaces and a fourth one, if they refute.
     /// The signs are tried first: where two differ the minors need not be taken.
     pub fn refutation(&self, strict: bool, h: &Half) -> Option<Outside>
         ensures { result ≡ refutation_of_four strict self.now.first self.now.second self.now.third h.now }
     {
-        if !have_one_sign(self.positive, &self.ef, &self.eg, &self.fg, h) {
+        if !self.has_one_sign(h) {
             return None;
         }
-        refutation(strict, &minors_of_four(&self.e, &self.f, &self.g, h))
+        refutation(strict, &minors_of_crosses(&self.ef, &self.eg, h))
     }
 }
 
-/// Whether the first three of the four minors have the sign of the last one.
+/// The multiples that cancel of the two half-spaces of a cross product, the second one of another and a fourth one.
+fn minors_of_crosses(ef: &Cross, eg: &Cross, h: &Half) -> [Term; 4]
+    ensures value { result ≡ minors_of_four ef.now.first ef.now.second eg.now.second h.now }
+    ensures small { AreFactorsSmall result }
+{
+    minors_of_four(&ef.first, &ef.second, &eg.second, h)
+}
+
+/// Whether the first three of the four minors have the sign of the last one. Two are taken at once, since which of them
+/// has another sign cannot be foreseen.
 fn have_one_sign(positive: bool, ef: &Cross, eg: &Cross, fg: &Cross, h: &Half) -> bool
     ensures { result ≡ (has_sign positive (meeting_weight ef.now.first ef.now.second h.now) && has_sign (not positive) (meeting_weight eg.now.first eg.now.second h.now) && has_sign positive (meeting_weight fg.now.first fg.now.second h.now)) }
 {
-    ef.has_sign(positive, h) && eg.has_sign(!positive, h) && fg.has_sign(positive, h)
+    ef.has_sign(positive, h) & eg.has_sign(!positive, h) && fg.has_sign(positive, h)
 }

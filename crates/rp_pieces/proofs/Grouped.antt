@@ -165,10 +165,6 @@ module _ (links : List (ℕ × ℕ)) (n : ℕ) (ps : List ℕ) where
 
   -- ---- one number after the other
 
-  -- no number
-  pub grouped_none : IsGrouped 0 [] (0 ∷ [])
-  grouped_none = record { size = refl; placed = λ k a b. absurd (omega (arith, a, b)); each = tt; in_order = tt }
-
   -- where each number stands once one more is put at a place
   placed_more : (m : ℕ) (gs : List (List ℕ)) (places : List ℕ) (place : ℕ) → IsGrouped m gs places → place ≤ length gs
       → (k : ℕ) → 1 ≤ k → k ≤ m + 1 → Listed k (at (with_number place (m + 1) gs) (get_or (places ++ place ∷ []) k 0))

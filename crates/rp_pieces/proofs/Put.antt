@@ -1,18 +1,7 @@
 -- A number put into a list of a list of lists, as the code does it.
-use Rattle.std.proofs.Common.{◌≡◌, ℕ, zero, suc, ◌<◌, List, [], ◌∷◌, ◌++◌, length, get_or, set, Result, Ok, Err, ap, ◌∙◌, arith}
-use Rattle.std.specs.Prelude.{OnOk, IfOk}
+use Rattle.std.proofs.Common.{◌≡◌, ℕ, zero, suc, ◌<◌, List, [], ◌∷◌, ◌++◌, length, get_or, set, ap, ◌∙◌, arith}
 use Rattle.rp_space.specs.Listed.{Listed}
 use Rattle.rp_pieces.specs.Lists.{lists_of, with_number}
-
--- what follows from a fact of a success
-pub on_ok_map : {A E : Type 0} {P Q : Type 0} (r : Result A E) → (P → Q) → OnOk r P → OnOk r Q
-on_ok_map (Ok x) f h = f h
-on_ok_map (Err e) f h = tt
-
--- what follows from a fact of the value of a success
-pub if_ok_map : {A E : Type 0} (P Q : A → Type 0) (r : Result A E) → ((x : A) → P x → Q x) → IfOk r P → IfOk r Q
-if_ok_map P Q (Ok x) f h = f x h
-if_ok_map P Q (Err e) f h = tt
 
 -- a number behind those of a list at a place
 pub put_known : (lists : List (Listed ℕ)) (place k : ℕ) (old new : Listed ℕ) → place < length lists → old ≡ get_or lists place old → new.items ≡ old.items ++ k ∷ [] → lists_of (set lists place new) ≡ with_number place k (lists_of lists)

@@ -65,7 +65,7 @@ fn link_pair(
     ensures makes { Makes (λ _. links.new.items) result work.old work.new (link_pair first_tester links.old.items (number, part.now) (other_number, other.now)) }
     ensures within { (n : ℕ) → IsWithin n (number, other_number) → AllByRecursion (IsWithin n) links.old.items → OnOk result (AllByRecursion (IsWithin n) links.new.items) }
 {
-    if work.touch(part, other)?.is_some() {
+    if work.are_in_contact(part, other)? {
         links.push((number, other_number))?;
     }
     Ok(())

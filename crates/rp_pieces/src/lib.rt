@@ -4,10 +4,10 @@
 mod contacts;
 mod forest;
 mod groups;
-mod whole;
+mod region;
 
 pub use groups::PieceList;
-pub use whole::pieces;
+pub use region::pieces;
 
 #[cfg(test)]
 mod tests;

@@ -1,5 +1,5 @@
 -- The members of the regions that walks come to, and points in them.
-use Rattle.std.proofs.Common.{◌≡◌, ◌≤◌, ◌*◌, ℤ, to_z, of_z, ◌&&◌, ◌||◌, List, [], ◌∷◌, ◌++◌, length, refl, ap, ◌∙◌, subst, arith}
+use Rattle.std.proofs.Common.{◌≡◌, ◌*◌, ℤ, to_z, of_z, ◌&&◌, ◌||◌, List, [], ◌∷◌, length, refl, ap, ◌∙◌, subst, arith}
 use Rattle.std.specs.Prelude.{int_le, int_lt, Bool, true, false, Option, Some, None, Result, Ok, Err, is_some, IsSome, IsTrue, IfOk, ◌↔◌}
 use Rattle.std.specs.Int.RustNames.{FitsSigned}
 use Rattle.std.specs.List.{list_any}
@@ -7,11 +7,11 @@ use Rattle.std.proofs.lemmas.Int.{to_z-of_z}
 use mir.Syntax.{w32}
 use Rattle.rp_geometry.specs.Geometry.{RationalPoint, HalfSpace, holds, all_hold}
 use Rattle.rp_geometry.specs.sets.Shape.{Shape, Part, passes, shape_of_cell, shape_of_parts}
-use Rattle.rp_geometry.specs.parts.Parts.{most_parts, IsPart, IsRegion, AreOf}
+use Rattle.rp_geometry.specs.parts.Parts.{IsPart, IsRegion, AreOf}
 use Rattle.rp_geometry.specs.sets.Sets.{Overlaps}
 use Rattle.rp_geometry.specs.sets.Contact.{IsInContact}
 use Rattle.rp_walks.specs.Walk.{Outcome, Walk, done, after_first, Work, count_tests, strict_test, weak_test, first_tester}
-use Rattle.rp_walks.specs.Form.{near_pair, touching_pair, made_part, join_each, join, subtract, subtract_from_whole}
+use Rattle.rp_walks.specs.Form.{near_pair, touching_pair, made_part, join_each, join, subtract}
 use Rattle.rp_walks.specs.FormLaws.{IfDone, IsMadeOf}
 use Rattle.rp_forms.proofs.Common.{common_is_right_spec}
 use Rattle.rp_forms.proofs.Touch.{touch_is_right_spec}

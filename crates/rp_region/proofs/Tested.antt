@@ -1,6 +1,6 @@
 -- What a test has found, of the proof line that tells it.
 use Rattle.std.proofs.Common.{◌≡◌, true, false, List, [], ◌∷◌, length, refl, sym, ap, ◌∙◌}
-use Rattle.std.specs.Prelude.{nat_le, Bool, Option, Some, None, Result, Ok, Err, is_some, IfOk, IfSome, OnOk, OnErr, ◌++◌}
+use Rattle.std.specs.Prelude.{nat_le, Option, Some, None, Result, Ok, Err, is_some, OnOk, OnErr}
 use Rattle.std.specs.declared.alloc.AllocError.{AllocError}
 use Rattle.rp_geometry.specs.Geometry.{RationalPoint, HalfSpace}
 use Rattle.rp_geometry.specs.sets.Shape.{Part}
@@ -9,9 +9,7 @@ use Rattle.rp_geometry.specs.searches.Vertex.{first_inside, first_weak_point}
 use Rattle.rp_geometry.specs.searches.ProofLine.{ProofLine, in_line, out_line, at_line, apart_line, outside_terms, strict_line, weak_line}
 use Rattle.rp_geometry.specs.parts.PartTest.{has_member, has_weak_point, slimmed, part_lines, part_of}
 use Rattle.rp_geometry.specs.parts.Parts.{most_half_spaces}
-use Rattle.rp_cell.proofs.Answered.{line_inside, line_at}
-use Rattle.rp_region.specs.Makes.{work_after, op_result, Makes}
-use Rattle.rp_region.specs.Pairs.{IsLast}
+use Rattle.rp_region.specs.Makes.{op_result, Makes}
 use Rattle.rp_region.specs.Tells.{strict_tells, weak_tells}
 use Rattle.rp_region.proofs.Left.{not_begun}
 use Rattle.rp_walks.specs.Walk.{Outcome, done, stopped, limit_met, Work, with_lines, strict_test, weak_test, part_test}
@@ -75,21 +73,3 @@ pub weak_refuted : (cell : List HalfSpace) (terms : List Multiple) (r : Result (
     → Makes (λ _. false) (op_result r) w v (weak_test cell)
 weak_refuted cell terms (Ok x) w v e m n = weak_told cell None (apart_line terms) w v (no_weak_point cell terms e) e m
 weak_refuted cell terms (Err x) w v e m n = not_begun (weak_test cell) w v (weak_tells cell) n
-
--- ---- what is found is told last
-
--- of a strict test
-pub strict_last : (cell : List HalfSpace) (r : Result (Option (List RationalPoint)) AllocError) (w v : Work) → Makes is_some (op_result r) w v (strict_test cell) → IfOk r (λ o. o ≡ first_inside cell)
-    → IfOk r (λ o. IfSome o (λ points. IsLast (in_line points) v.proofs))
-unfolding strict_test
-strict_last cell (Ok (Some points)) w v m e = record { before = w.proofs; is = sym (ap (λ (o : Outcome Work Bool). (work_after o).proofs) m) ∙ ap (λ l. w.proofs ++ l ∷ []) (sym (line_inside cell points (sym e))) }
-strict_last cell (Ok None) w v m e = tt
-strict_last cell (Err x) w v m e = tt
-
--- of a weak test
-pub weak_last : (cell : List HalfSpace) (r : Result (Option RationalPoint) AllocError) (w v : Work) → Makes is_some (op_result r) w v (weak_test cell) → IfOk r (λ o. o ≡ first_weak_point cell)
-    → IfOk r (λ o. IfSome o (λ p. IsLast (at_line p) v.proofs))
-unfolding weak_test
-weak_last cell (Ok (Some p)) w v m e = record { before = w.proofs; is = sym (ap (λ (o : Outcome Work Bool). (work_after o).proofs) m) ∙ ap (λ l. w.proofs ++ l ∷ []) (sym (line_at cell p (sym e))) }
-weak_last cell (Ok None) w v m e = tt
-weak_last cell (Err x) w v m e = tt

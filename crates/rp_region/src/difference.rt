@@ -9,10 +9,11 @@ use crate::fault::OpFault;
 use crate::part::Part;
 use crate::region::MAX_PARTS;
 use crate::work::Work;
+use rp_cell::Held;
 use rp_space::{Half, Listed, joined};
 use std::alloc::Global;
 
-/// The parts of a list without those of a second list, one after the other.
+/// The parts of a list without those of a second list, one after the other. Each cell is held in turn.
 pub(crate) fn subtract(
     alloc: Global,
     parts: Listed<Part>,
@@ -22,8 +23,9 @@ pub(crate) fn subtract(
     ensures { Makes (λ left. left.items) result work.old work.new (subtract first_tester parts.items others.now) }
 {
     let mut current = parts;
+    let mut held = Held::new(&[]);
     for other in others {
-        current = subtract_part(alloc, current, other, work)?;
+        current = subtract_part(alloc, current, other, &mut held, work)?;
         if current.items().len() > MAX_PARTS {
             return Err(OpFault::Limit);
         }
@@ -36,13 +38,14 @@ fn subtract_part(
     alloc: Global,
     parts: Listed<Part>,
     other: &Part,
+    held: &mut Held,
     work: &mut Work,
 ) -> Result<Listed<Part>, OpFault>
     ensures { Makes (λ left. left.items) result work.old work.new (subtract_part first_tester [] parts.items other.now) }
 {
     let mut left = Listed::new(alloc);
     for part in parts.into_items() {
-        subtract_pair(alloc, &mut left, part, other, work)?;
+        subtract_pair(alloc, &mut left, part, other, held, work)?;
     }
     Ok(left)
 }
@@ -54,17 +57,18 @@ fn subtract_pair(
     left: &mut Listed<Part>,
     part: Part,
     other: &Part,
+    held: &mut Held,
     work: &mut Work,
 ) -> Result<(), OpFault>
     ensures { Makes (λ _. left.new.items) result work.old work.new (subtract_pair first_tester left.old.items part other.now) }
 {
-    if !part.is_near(other) {
+    if !part.may_overlap(other) {
         left.push(part)?;
         return Ok(());
     }
     count_test(work)?;
     match work.strict(alloc, part.halves(), other.halves())? {
-        Some(_) => carve(alloc, left, part.halves(), other.halves(), work),
+        Some(_) => carve(alloc, left, part.halves(), other.halves(), held, work),
         None => {
             left.push(part)?;
             Ok(())
@@ -78,6 +82,7 @@ fn carve(
     left: &mut Listed<Part>,
     cell: &[Half],
     halves: &[Half],
+    held: &mut Held,
     work: &mut Work,
 ) -> Result<(), OpFault>
     requires cell { length cell.now ≤ most_half_spaces }
@@ -85,7 +90,7 @@ fn carve(
     ensures { Makes (λ _. left.new.items) result work.old work.new (carve first_tester left.old.items cell.now [] halves.now) }
 {
     for (i, half) in halves.iter().enumerate() {
-        carve_one(alloc, left, cell, &halves[..i], half, work)?;
+        carve_one(alloc, left, cell, &halves[..i], half, held, work)?;
     }
     Ok(())
 }
@@ -97,6 +102,7 @@ fn carve_one(
     cell: &[Half],
     before: &[Half],
     half: &Half,
+    held: &mut Held,
     work: &mut Work,
 ) -> Result<(), OpFault>
     requires { length cell.now + length before.now < 64 }
@@ -105,7 +111,7 @@ fn carve_one(
     count_test(work)?;
     let mut piece = joined(cell, before);
     piece.push(half.not());
-    if let Some(part) = work.part(alloc, piece.as_slice())? {
+    if let Some(part) = work.part(alloc, held, piece.as_slice())? {
         left.push(part)?;
     }
     Ok(())

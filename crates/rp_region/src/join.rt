@@ -8,21 +8,24 @@ use crate::fault::OpFault;
 use crate::part::Part;
 use crate::region::MAX_PARTS;
 use crate::work::Work;
+use rp_cell::Held;
 use rp_space::{Listed, joined};
 use std::alloc::Global;
 
-/// Each part of a list with each part of a second list: what they have in common comes behind the parts made already.
+/// Each part of a list with each part of a second list: what they have in common comes behind the parts made already. Each
+/// cell is held in turn, whatever was held before.
 pub(crate) fn join_each(
     alloc: Global,
     made: &mut Listed<Part>,
     parts: &[Part],
     others: &[Part],
+    held: &mut Held,
     work: &mut Work,
 ) -> Result<(), OpFault>
     ensures { Makes (λ _. made.new.items) result work.old work.new (join_each first_tester made.old.items parts.now others.now) }
 {
     for part in parts {
-        join_with_part(alloc, made, part, others, work)?;
+        join_with_part(alloc, made, part, others, held, work)?;
     }
     Ok(())
 }
@@ -33,12 +36,13 @@ fn join_with_part(
     made: &mut Listed<Part>,
     part: &Part,
     others: &[Part],
+    held: &mut Held,
     work: &mut Work,
 ) -> Result<(), OpFault>
     ensures { Makes (λ _. made.new.items) result work.old work.new (join_with_part first_tester made.old.items part.now others.now) }
 {
     for other in others {
-        join_pair(alloc, made, part, other, work)?;
+        join_pair(alloc, made, part, other, held, work)?;
     }
     Ok(())
 }
@@ -49,12 +53,13 @@ fn join_pair(
     made: &mut Listed<Part>,
     part: &Part,
     other: &Part,
+    held: &mut Held,
     work: &mut Work,
 ) -> Result<(), OpFault>
     ensures { Makes (λ _. made.new.items) result work.old work.new (join_pair first_tester made.old.items part.now other.now) }
 {
     let cell = joined(part.halves(), other.halves());
-    if let Some(common) = work.part(alloc, cell.as_slice())? {
+    if let Some(common) = work.part(alloc, held, cell.as_slice())? {
         made.push(common)?;
     }
     if made.items().len() > MAX_PARTS {

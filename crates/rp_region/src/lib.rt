@@ -1,6 +1,7 @@
 //! Regions of space as lists of parts, and their algebra: intersection, union, difference and complement, test by test.
 #![tactic(auto)]
 
+mod count;
 mod difference;
 mod fault;
 mod join;

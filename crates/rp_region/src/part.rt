@@ -85,7 +85,7 @@ impl Part {
     }
 
     /// Whether the boxes of two parts share more than boundary. Else the parts share no point.
-    pub(crate) fn is_near(&self, other: &Part) -> bool
+    pub(crate) fn may_overlap(&self, other: &Part) -> bool
         ensures value { result ≡ boxes_meet self.now.bounds other.now.bounds }
         ensures apart { result ≡ false → IsEmpty (shape_of_cell (self.now.cell ++ other.now.cell)) }
     {

@@ -20,6 +20,7 @@ use crate::pairs::first_pair;
 use crate::part::Part;
 use crate::witness::Witness;
 use crate::work::Work;
+use rp_cell::Held;
 use rp_space::{Half, Inside, Listed, Point};
 use std::alloc::{AllocError, Global};
 use std::marker::Model;
@@ -73,7 +74,7 @@ impl Region {
         ensures members { IfOk result (λ region. SameMembers (shape_of_parts region) (shape_of_cell cell.now)) }
     {
         let mut parts = Listed::new(alloc);
-        if let Some(part) = work.part(alloc, cell)? {
+        if let Some(part) = work.held_part(alloc, &Held::new(cell))? {
             parts.push(part)?;
         }
         Ok(Region { parts })
@@ -92,7 +93,7 @@ impl Region {
             return Err(OpFault::Limit);
         }
         let mut parts = Listed::new(alloc);
-        join_each(alloc, &mut parts, first, second, work)?;
+        join_each(alloc, &mut parts, first, second, &mut Held::new(&[]), work)?;
         Ok(Region { parts })
     }
 

@@ -491,10 +491,13 @@ fn parts_touch_at_a_corner(rt: HostRuntime) -> Result<(), Fail> {
         return Err("not one part each".into());
     };
     let mut work = Work::new(rt.alloc());
-    let point = work.touch(first, corner)?;
-    assert!(rt; point.is_some_and(|p| p.numbers() == (10, 10, 10, 1)));
-    assert!(rt; work.touch(first, apart)?.is_none());
-    assert!(rt; matches!(work.proofs(), [Proof::At(_), Proof::Apart(_)]));
+    assert!(rt; work.are_in_contact(first, corner)?);
+    assert!(rt; !work.are_in_contact(first, apart)?);
+    let wanted = [
+        Line::At((10, 10, 10, 1)),
+        Line::Apart(&[(1, (-1, 0, 0, 10)), (1, (1, 0, 0, -11))]),
+    ];
+    expect_lines(&rt, work.proofs(), &wanted);
     assert_eq!(rt; work.tests(), 0);
     Ok(())
 }

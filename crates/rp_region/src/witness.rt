@@ -59,7 +59,7 @@ impl Witness for Inside {
     ghost only_tells = { strict_tells };
 
     fn may_meet(first: &Part, second: &Part) -> bool {
-        first.is_near(second)
+        first.may_overlap(second)
     }
 
     fn find(work: &mut Work, cell: &[Half]) -> Result<Option<Inside>, AllocError> {

@@ -1,9 +1,9 @@
 //! What a command has done so far: the number of tests counted, and the proof lines of its tests.
-ghost use Rattle.std.specs.Prelude.{◌≡◌, ◌+◌, ◌≤◌, ◌↔◌, ◌++◌, ◌∷◌, [], false, length, map, is_some, Some, IfOk, OnOk, OnErr, IsNone};
+ghost use Rattle.std.specs.Prelude.{◌≡◌, ◌+◌, ◌≤◌, ◌↔◌, ◌++◌, ◌∷◌, [], false, length, map, is_some, Some, IfOk, IfSome, OnOk, OnErr, IsNone};
 ghost use Rattle.rp_geometry.specs.Geometry.{RationalPoint};
 ghost use Rattle.rp_geometry.specs.sets.Shape.{shape_of_cell};
 ghost use Rattle.rp_geometry.specs.sets.Sets.{IsNonempty, IsEmpty};
-ghost use Rattle.rp_geometry.specs.searches.ProofLine.{in_line, strict_line};
+ghost use Rattle.rp_geometry.specs.searches.ProofLine.{in_line, at_line, strict_line};
 ghost use Rattle.rp_geometry.specs.searches.Vertex.{first_inside, first_weak_point};
 ghost use Rattle.rp_geometry.specs.laws.CellLaws.{IsSolution};
 ghost use Rattle.rp_geometry.specs.parts.Parts.{IsPart};
@@ -12,12 +12,13 @@ ghost use Rattle.rp_walks.specs.Walk.{most_tests, no_work, with_lines, count_tes
 ghost use Rattle.rp_cert.specs.Lines.{line_of};
 ghost use Rattle.rp_cell.specs.Lines.{drop_line_of, side_line_of};
 ghost use Rattle.rp_region.specs.Makes.{counted, op_result, telling, Makes};
+ghost use Rattle.rp_region.specs.Pairs.{IsLast};
 
 use crate::fault::OpFault;
 use crate::part::Part;
 use rp_cell::{
-    Drops, SideProofs, Sides, Slimmed, Strict, Weak, decide_strict, decide_weak, refute_strict,
-    refute_weak, sides_of, slim,
+    Drops, Held, SideProofs, Sides, Slimmed, Strict, Weak, decide_strict, decide_weak,
+    refute_strict, refute_weak, sides_of,
 };
 use rp_cert::{Proof, Proofs};
 use rp_space::{Half, Inside, Point, joined};
@@ -138,6 +139,7 @@ impl Work {
         ensures makes { Makes is_some (op_result result) self.old self.new (strict_test cell.now) }
         ensures first { IfOk result (λ o. o ≡ first_inside cell.now) }
         ensures none { IfOk result (λ o. IsNone o ↔ IsEmpty (shape_of_cell cell.now)) }
+        ensures told { IfOk result (λ o. IfSome o (λ points. IsLast (in_line points) self.new.proofs)) }
     {
         match decide_strict(cell) {
             Strict::Inside(points) => {
@@ -175,6 +177,7 @@ impl Work {
         ensures makes { Makes is_some (op_result result) self.old self.new (weak_test cell.now) }
         ensures first { IfOk result (λ o. o ≡ first_weak_point cell.now) }
         ensures none { IfOk result (λ o. IsNone o ↔ ((p : RationalPoint) → ¬ IsSolution false cell.now p)) }
+        ensures told { IfOk result (λ o. IfSome o (λ p. IsLast (at_line p) self.new.proofs)) }
     {
         match decide_weak(cell) {
             Weak::At(point) => {
@@ -188,18 +191,17 @@ impl Work {
         }
     }
 
-    /// A weak test of two parts together: a point of both with their boundaries, and `None` exactly where they are not in
-    /// contact. None is searched for where their boxes share no point. Its line is appended; it isn't counted.
-    /// Answers `AllocError` only for want of memory.
-    pub fn touch(&mut self, first: &Part, second: &Part) -> Result<Option<Point>, AllocError>
-        ensures makes { Makes is_some (op_result result) self.old self.new (weak_test (first.now.cell ++ second.now.cell)) }
+    /// Whether two parts are in contact, by a weak test of them together. No point is searched for where their boxes share
+    /// none. The line is appended; the test isn't counted. Answers `AllocError` only for want of memory.
+    pub fn are_in_contact(&mut self, first: &Part, second: &Part) -> Result<bool, AllocError>
+        ensures { Makes (λ is_so. is_so) (op_result result) self.old self.new (weak_test (first.now.cell ++ second.now.cell)) }
     {
         let cell = joined(first.halves(), second.halves());
-        if first.may_touch(second) {
-            return self.weak_test(cell.as_slice());
+        if !first.may_touch(second) {
+            self.refute_weak(cell.as_slice())?;
+            return Ok(false);
         }
-        self.refute_weak(cell.as_slice())?;
-        Ok(None)
+        Ok(self.weak_test(cell.as_slice())?.is_some())
     }
 
     /// A strict test of a cell that is known to have no point, which is not searched for one.
@@ -221,13 +223,28 @@ impl Work {
     }
 
     /// A part test of a cell of at most 64 half-spaces: the part of its slim cell, and `None` exactly where the cell has no
-    /// point. Its lines are appended; it isn't counted. `Limit` exactly where the slim cell has more than 32 half-spaces.
-    pub(crate) fn part(&mut self, alloc: Global, cell: &[Half]) -> Result<Option<Part>, OpFault>
+    /// point. Its lines are appended; it isn't counted. `Limit` exactly where the slim cell has more than 32 half-spaces. The
+    /// cell is held for it, whatever was held before.
+    pub(crate) fn part(
+        &mut self,
+        alloc: Global,
+        held: &mut Held,
+        cell: &[Half],
+    ) -> Result<Option<Part>, OpFault>
         requires { length cell.now ≤ 64 }
         ensures makes { Makes (λ o. o) result self.old self.new (part_test cell.now) }
         ensures made { IfOk result (λ o. IsMadeOf IsPart cell.now o) }
     {
-        match decide_strict(cell) {
+        held.hold(cell);
+        self.held_part(alloc, held)
+    }
+
+    /// A part test of a cell that is held.
+    pub(crate) fn held_part(&mut self, alloc: Global, cell: &Held) -> Result<Option<Part>, OpFault>
+        ensures makes { Makes (λ o. o) result self.old self.new (part_test cell.now) }
+        ensures made { IfOk result (λ o. IsMadeOf IsPart cell.now o) }
+    {
+        match cell.strict() {
             Strict::Inside(points) => {
                 let part = self.slim_part(alloc, cell, points)?;
                 Ok(Some(part))
@@ -241,15 +258,14 @@ impl Work {
 
     /// The part of the slim cell of a cell in which a strict test has found these points. The lines of the test and of the
     /// part are appended.
-    fn slim_part(&mut self, alloc: Global, cell: &[Half], points: Inside) -> Result<Part, OpFault>
-        requires few { length cell.now ≤ 64 }
+    fn slim_part(&mut self, alloc: Global, cell: &Held, points: Inside) -> Result<Part, OpFault>
         requires found { first_inside cell.now ≡ Some points }
         requires line { in_line points ≡ strict_line cell.now }
         requires member { IsNonempty (shape_of_cell cell.now) }
         ensures makes { Makes Some result self.old self.new (part_test cell.now) }
         ensures made { IfOk result (λ part. IsMadeOf IsPart cell.now (Some part)) }
     {
-        let Slimmed { kept, dropped } = slim(alloc, cell)?;
+        let Slimmed { kept, dropped } = cell.slim(alloc)?;
         if kept.items().len() > MAX_HALVES {
             return Err(OpFault::Limit);
         }

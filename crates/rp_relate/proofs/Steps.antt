@@ -10,7 +10,7 @@ use Rattle.rp_walks.specs.Compare.{relation_apart, relation_part, relation_whole
 use Rattle.rp_region.specs.declared.fault.OpFault.{OpFault}
 use Rattle.rp_region.specs.Makes.{OnlyTells, IsFaultOf, Makes}
 use Rattle.rp_region.specs.Tells.{strict_tells, weak_tells}
-use Rattle.rp_region.proofs.Grows.{then_tells, pass_tells, count_tells, subtract_tells}
+use Rattle.rp_region.proofs.Grows.{then_tells, pass_tells, count_tells, subtract_tells, outside_tells}
 use Rattle.rp_region.proofs.Left.{all_left, next_left, fault_left, makes_left}
 use Rattle.rp_region.proofs.Searched.{pairs_tell}
 
@@ -56,10 +56,6 @@ second_cover ps qs there = elim there [ false ↦ pass false | true ↦ is_cover
 pub second_cover_tells : (ps qs : List Part) (there : Bool) → OnlyTells (second_cover ps qs there)
 second_cover_tells ps qs false = pass_tells false
 second_cover_tells ps qs true = cover_tells qs ps
-
--- the outside of a region
-pub outside_tells : (ps : List Part) → OnlyTells (subtract_from_whole first_tester ps)
-outside_tells ps = subtract_tells (whole_part ∷ []) ps
 
 -- contact with an outside
 pub touches_outside_tells : (ps qs : List Part) → OnlyTells (touches_outside first_tester ps qs)

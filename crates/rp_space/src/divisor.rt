@@ -2,9 +2,28 @@
 ghost use Rattle.std.specs.Prelude.{◌≡◌, ◌<◌, ◌^◌, [], ◌∷◌};
 ghost use Rattle.rp_algebra.specs.Integer.{gcd, gcd_of, reduced_by};
 
-/// The greatest common divisor of two numbers, by Euclid's rule.
+/// The greatest common divisor of two numbers, by Euclid's rule: in 64 bits as soon as the numbers fit, where a division
+/// takes a tenth of the time.
 #[tactic(auto, using(rp_algebra::proofs::Divisors::euclid))]
 pub fn greatest_common_divisor(a: u128, b: u128) -> u128
+    ensures { result ≡ gcd a b }
+{
+    let mut high = a;
+    let mut low = b;
+    while low > u64::MAX as u128 {
+        let rest = high % low;
+        high = low;
+        low = rest;
+    }
+    if low == 0 {
+        return high;
+    }
+    short_divisor(low as u64, (high % low) as u64) as u128
+}
+
+/// The greatest common divisor of two numbers of 64 bits.
+#[tactic(auto, using(rp_algebra::proofs::Divisors::euclid))]
+fn short_divisor(a: u64, b: u64) -> u64
     ensures { result ≡ gcd a b }
 {
     let mut high = a;

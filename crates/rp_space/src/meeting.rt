@@ -19,9 +19,9 @@ pub fn meet(f: &Half, g: &Half, h: &Half) -> Option<Point>
     Pair::new(f, g).meet(h)
 }
 
-/// The common point of three planes, with a positive weight and not yet in lowest terms, so that a side value can be
-/// asked before the divisor is.
-#[derive(Debug, Drop)]
+/// A point such as the common point of three planes, with a positive weight and not yet in lowest terms, so that a side
+/// value can be asked before the divisor is.
+#[derive(Clone, Copy, Debug)]
 pub struct Meeting {
     x: i128,
     y: i128,
@@ -37,9 +37,31 @@ impl Model for Meeting {
     ghost view = { λ s. point_of s.x s.y s.z s.w };
 
     ghost invariant = { λ s. IsSmallPoint (point_of s.x s.y s.z s.w) };
+
+    ghost inverse = { λ p. record { x = p.x; y = p.y; z = p.z; w = p.w } };
+}
+
+impl Default for Meeting {
+    /// Some point.
+    fn default() -> Meeting {
+        Meeting {
+            x: 0,
+            y: 0,
+            z: 0,
+            w: 1,
+        }
+    }
 }
 
 impl Meeting {
+    /// A point that is given in lowest terms.
+    pub fn of_point(p: &Point) -> Meeting
+        ensures { result ≡ p.now }
+    {
+        let (x, y, z, w) = p.numbers();
+        Meeting { x, y, z, w }
+    }
+
     /// The four numbers of the point, not yet in lowest terms.
     pub fn numbers(&self) -> (i128, i128, i128, i128)
         ensures numbers { point_of result.0 result.1 result.2 result.3 ≡ self.now }

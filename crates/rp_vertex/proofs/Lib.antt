@@ -1,6 +1,4 @@
-mod Found
 mod InBounds
 mod Joined
 mod Rounded
-mod Rounds
 mod Tested

@@ -5,33 +5,17 @@ use Rattle.std.proofs.lemmas.Int.{ints}
 use Rattle.rp_algebra.specs.Integer.{is_positive, is_nonnegative}
 use Rattle.rp_algebra.proofs.IntLaws.{le_or_lt_ℤ}
 use Rattle.rp_algebra.proofs.Numbers.{nonneg_over, negative_over}
-use Rattle.rp_algebra.proofs.Reify.{by_ring_at, reify}
 use Rattle.rp_algebra.proofs.Tests.{is_nonnegative_true}
-use Rattle.rp_geometry.specs.Geometry.{RationalPoint, HalfSpace, IsPoint, SamePlace, side_value, all_nonnegative, reduced_point}
+use Rattle.rp_geometry.specs.Geometry.{RationalPoint, HalfSpace, IsPoint, side_value, all_nonnegative, reduced_point}
 use Rattle.rp_geometry.specs.searches.Vertex.{any_point, lifts, vertex_if}
 use Rattle.rp_convex.proofs.Lowest.{reduced_is}
 use Rattle.rp_convex.proofs.Places.{same_side}
-use Rattle.rp_convex.proofs.Signs.{same_sign}
+use Rattle.rp_convex.proofs.Reduced.{same_reduced, same_sign_reduced}
 use Rattle.rp_vertex.specs.Wanted.{is_wanted}
 use Rattle.rp_vertex.specs.declared.search.Wanted.{Wanted}
 use Rattle.rp_vertex.specs.declared.search.Wanted.TheVariants.{Any, Lifting}
 
 -- ---- the signs
--- a factor on the other side
-turned : (u v k : ℤ) → (u *ℤ k) *ℤ v ≡ u *ℤ (v *ℤ k)
-turned u v k = by_ring_at (u ∷ v ∷ k ∷ []) (search reify depth 40 fits 100000) tt
-
--- a point in lowest terms is the same place
-same_reduced : (p : RationalPoint) → IsPoint p → SamePlace p (reduced_point p)
-same_reduced p k =
-    let r = reduced_point p in
-    let m = (reduced_is p k).multiple in
-    record {
-      x = (λ i. sym m.x i *ℤ r.w) ∙ turned r.x r.w m.factor ∙ (λ i. r.x *ℤ m.w i);
-      y = (λ i. sym m.y i *ℤ r.w) ∙ turned r.y r.w m.factor ∙ (λ i. r.y *ℤ m.w i);
-      z = (λ i. sym m.z i *ℤ r.w) ∙ turned r.z r.w m.factor ∙ (λ i. r.z *ℤ m.w i);
-    }
-
 -- a number below 0 fails the test
 is_nonnegative_false : (v : ℤ) → v <ℤ pos 0 → is_nonnegative v ≡ false
 is_nonnegative_false v h = grind (arith, ints)
@@ -52,9 +36,7 @@ nonnegative_reduced h p k =
 
 -- it is positive at both, or at neither
 positive_reduced : (h : HalfSpace) (p : RationalPoint) → IsPoint p → is_positive (side_value h p) ≡ is_positive (side_value h (reduced_point p))
-positive_reduced h p k =
-    let r = reduced_point p in
-    (same_sign (side_value h p) (side_value h r) p.w r.w k (reduced_is p k).point (same_side h p r (same_reduced p k))).positive
+positive_reduced h p k = (same_sign_reduced h p k).positive
 
 -- ---- the tests
 -- no half-space of a list is negative at the point, before and after

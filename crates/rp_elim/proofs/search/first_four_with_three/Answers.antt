@@ -1,5 +1,5 @@
 use Rattle.std.proofs.Common.{sym}
-use Rattle.rp_elim.proofs.Mixed.{none_with_dependent}
+use Rattle.rp_elim.proofs.Unfit.{none_with_dependent}
 use Rattle.rp_elim.proofs.search.first_four_with_three.Goals as goal
 
 pub returns-in-None : goal.returns-in-None

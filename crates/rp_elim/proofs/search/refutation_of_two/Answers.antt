@@ -1,7 +1,12 @@
-use Rattle.std.proofs.Common.{ap, ◌∙◌, List}
+use Rattle.std.proofs.Common.{sym, ap, ◌∙◌, List}
 use Rattle.rp_geometry.specs.searches.Certificate.{Multiple}
 use Rattle.rp_geometry.specs.searches.Elimination.{normal_terms, terms_if, refutation_of_two}
+use Rattle.rp_elim.proofs.Dependent.{two_not_parallel}
 use Rattle.rp_elim.proofs.search.refutation_of_two.Goals as goal
+
+pub returns-then-not-are_parallel : goal.returns-then-not-are_parallel
+returns-then-not-are_parallel c =
+    sym (two_not_parallel c.args.strict c.args.g.now c.args.h.now (sym c.are_parallel.ensures ∙ c.if-not-are_parallel.true))
 
 pub returns : goal.returns
 unfolding refutation_of_two

@@ -4,7 +4,7 @@ use Rattle.rp_space.specs.Listed.{Listed}
 use Rattle.rp_geometry.specs.parts.Groups.{groups_of}
 use Rattle.rp_pieces.specs.Lists.{lists_of, numbers_of}
 use Rattle.rp_pieces.proofs.Grouped.{IsGrouped, next_grouped, groups_made}
-use Rattle.rp_pieces.proofs.Put.{if_ok_map}
+use Rattle.std.proofs.lemmas.Result.{IfOk-weaker}
 use Rattle.rp_pieces.proofs.groups.groups_of_links.Goals as goal
 use Rattle.rp_pieces.proofs.groups.groups_of_links.Goals.{then-parent-number, else-parent-number}
 
@@ -49,4 +49,4 @@ returns c =
     let all : c.loop-before.before ≡ c.args.count = omega arith in
     let made = groups_made c.args.links.now c.args.count c.in_ok-parents.parents.items c.in_ok-parents.ensures (lists_of c.loop-before.groups.items) c.loop-before.places.items
     (subst (λ m. IsGrouped c.args.links.now c.args.count c.in_ok-parents.parents.items m (lists_of c.loop-before.groups.items) c.loop-before.places.items) all c.loop-before.invariant) in
-    if_ok_map (λ (list : Listed (Listed ℕ)). list.items ≡ c.loop-before.groups.items) (λ list. numbers_of list ≡ groups_of c.args.links.now c.args.count) c.listed.result (λ list e. ap lists_of e ∙ made) c.listed.ensures
+    IfOk-weaker c.listed.result (λ (list : Listed (Listed ℕ)). list.items ≡ c.loop-before.groups.items) (λ list. numbers_of list ≡ groups_of c.args.links.now c.args.count) (λ list e. ap lists_of e ∙ made) c.listed.ensures

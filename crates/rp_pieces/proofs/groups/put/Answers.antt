@@ -1,7 +1,8 @@
 use Rattle.std.proofs.Common.{◌≡◌, ◌∷◌, [], ◌++◌, ℕ, ◌≤◌, List, length, get_or, set, sym, ap, ◌∙◌, arith}
 use Rattle.rp_space.specs.Listed.{Listed}
 use Rattle.rp_pieces.specs.Lists.{lists_of, with_number}
-use Rattle.rp_pieces.proofs.Put.{on_ok_map, put_known, put_new}
+use Rattle.std.proofs.lemmas.Result.{on_ok_weaker}
+use Rattle.rp_pieces.proofs.Put.{put_known, put_new}
 use Rattle.rp_pieces.proofs.groups.put.Goals as goal
 use Rattle.rp_pieces.proofs.groups.put.Goals.{then-place-len+in_ok-push, else-place-len}
 
@@ -24,12 +25,12 @@ returns c =
     elim c.if-place-len.branch [
       | then-place-len+in_ok-push w ↦
           let len = c.args.groups.now.ok.0 in
-          on_ok_map c.push-2.result
+          on_ok_weaker c.push-2.result
           (λ m. new_list c.args.groups.now.items c.if-place-len.groups.items c.args.place c.args.number w.new.result c.index_mut.result.now c.push-2.new.self (w.if-place-len.true ∙ c.len.ensures ∙ len)
           (ap (λ v. v.items) w.groups-is ∙ w.in_ok-push.ensures.items) w.new.ensures c.index_mut.ensures.value m)
           c.push-2.ensures.ok
       | else-place-len w ↦
-          on_ok_map c.push-2.result
+          on_ok_weaker c.push-2.result
           (λ m. known_list c.args.groups.now.items c.if-place-len.groups.items c.args.place c.args.number c.index_mut.result.now c.push-2.new.self c.requires (λ e. w.if-place-len.false (e ∙ sym (c.len.ensures ∙ c.args.groups.now.ok.0)))
           (ap (λ v. v.items) w.groups-is) c.index_mut.ensures.value m)
           c.push-2.ensures.ok

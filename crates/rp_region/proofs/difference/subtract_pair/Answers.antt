@@ -14,7 +14,7 @@ use Rattle.rp_region.proofs.difference.subtract_pair.Goals as goal
 pub returns-in_err-count_test : goal.returns-in_err-count_test
 returns-in_err-count_test c =
     let p = err_from_is_err_and c.from_residual-in_err-count_test.result c.from_residual-in_err-count_test.ensures.1 in
-    rw (p.1, p.2) (pair_uncounted c.args.left.now.items c.args.part c.args.other.now c.args.work.now c.count_test.new.work (sym c.if-not-is_near.ensures.value) c.in_err-count_test.field-0.0 c.in_err-count_test.ensures)
+    rw (p.1, p.2) (pair_uncounted c.args.left.now.items c.args.part c.args.other.now c.args.work.now c.count_test.new.work (sym c.if-not-may_overlap.ensures.value) c.in_err-count_test.field-0.0 c.in_err-count_test.ensures)
 
 pub returns-in_err-strict : goal.returns-in_err-strict
 returns-in_err-strict c =
@@ -25,7 +25,7 @@ returns-in_err-strict c =
     let v = c.strict.new.self in
     rw (p.1, p.2)
     (fault_left (strict_test (part.cell ++ other.cell)) (λ found. carve_or_keep first_tester found made part other)
-    (λ found. carve_or_keep_tells found made part other) (pair_counted made part other (sym c.if-not-is_near.ensures.value) c.in_ok-count_test.ensures) (Memory c.in_err-strict.field-0.0) v
+    (λ found. carve_or_keep_tells found made part other) (pair_counted made part other (sym c.if-not-may_overlap.ensures.value) c.in_ok-count_test.ensures) (Memory c.in_err-strict.field-0.0) v
     (subst (λ (cell : List HalfSpace). IsCutShort c.count_test.new.work v (strict_test cell c.count_test.new.work))
     (λ i. c.halves.ensures.value i ++ c.halves-2.ensures.value i) c.in_err-strict.ensures.makes))
 
@@ -37,7 +37,7 @@ returns-in_err-push-in-None c =
     let other = c.args.other.now in
     rw (p.1, p.2)
     (given_up (pass (made ++ part ∷ [])) (pass_tells (made ++ part ∷ []))
-    (pair_tested made part other (c.halves.result.now ++ c.halves-2.result.now) {found = false} (λ i. c.halves.ensures.value i ++ c.halves-2.ensures.value i) (sym c.if-not-is_near.ensures.value) c.in_ok-count_test.ensures
+    (pair_tested made part other (c.halves.result.now ++ c.halves-2.result.now) {found = false} (λ i. c.halves.ensures.value i ++ c.halves-2.ensures.value i) (sym c.if-not-may_overlap.ensures.value) c.in_ok-count_test.ensures
     (c.in_ok-strict.ensures.makes ∙ ap (λ (o : Option (List RationalPoint)). done (is_some o) c.strict.new.self) c.in-None.is)))
 
 pub returns-in-Some : goal.returns-in-Some
@@ -47,6 +47,6 @@ returns-in-Some c =
     let other = c.args.other.now in
     makes_left _ c.carve.result c.carve.new.work
     (left_as (λ i. carve first_tester made (sym c.halves-in-Some.ensures.value i) [] (sym c.halves-in-Some-2.ensures.value i))
-    (pair_tested made part other (c.halves.result.now ++ c.halves-2.result.now) {found = true} (λ i. c.halves.ensures.value i ++ c.halves-2.ensures.value i) (sym c.if-not-is_near.ensures.value) c.in_ok-count_test.ensures
+    (pair_tested made part other (c.halves.result.now ++ c.halves-2.result.now) {found = true} (λ i. c.halves.ensures.value i ++ c.halves-2.ensures.value i) (sym c.if-not-may_overlap.ensures.value) c.in_ok-count_test.ensures
     (c.in_ok-strict.ensures.makes ∙ ap (λ (o : Option (List RationalPoint)). done (is_some o) c.strict.new.self) c.in-Some.is)))
     c.carve.ensures

@@ -1,7 +1,8 @@
 use Rattle.std.proofs.lemmas.Result.{err_from_is_err_and}
 use Rattle.rp_walks.specs.Walk.{first_tester}
 use Rattle.rp_walks.specs.Form.{subtract_from_whole, touch_in_full}
-use Rattle.rp_relate.proofs.Steps.{then_fails, then_made, outside_tells, touch_tells}
+use Rattle.rp_region.proofs.Grows.{outside_tells}
+use Rattle.rp_relate.proofs.Steps.{then_fails, then_made, touch_tells}
 use Rattle.rp_relate.proofs.relation.touches_outside.Goals as goal
 
 pub returns-in_err-outside : goal.returns-in_err-outside

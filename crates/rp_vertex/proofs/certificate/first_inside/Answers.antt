@@ -1,7 +1,7 @@
 use Rattle.std.proofs.Common.{◌≡◌, List, ap, ◌∙◌}
 use Rattle.rp_geometry.specs.Geometry.{HalfSpace}
 use Rattle.rp_geometry.specs.searches.Vertex.{first_inside, first_vertex, any_point, points_from}
-use Rattle.rp_vertex.proofs.Found.{inside_passes, inside_none}
+use Rattle.rp_convex.proofs.Found.{inside_passes, inside_none}
 use Rattle.rp_vertex.proofs.certificate.first_inside.Goals as goal
 
 -- the points of the list are those of the cell

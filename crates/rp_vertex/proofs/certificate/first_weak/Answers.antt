@@ -1,7 +1,7 @@
 use Rattle.std.proofs.Common.{◌≡◌, List, ap, ◌∙◌}
 use Rattle.rp_geometry.specs.Geometry.{HalfSpace}
 use Rattle.rp_geometry.specs.searches.Vertex.{first_weak_point, first_vertex, any_point}
-use Rattle.rp_vertex.proofs.Found.{weak_passes, weak_none}
+use Rattle.rp_convex.proofs.Found.{weak_passes, weak_none}
 use Rattle.rp_vertex.proofs.certificate.first_weak.Goals as goal
 
 -- the first vertex of the list is that of the cell

@@ -1,7 +1,7 @@
 use Rattle.std.proofs.Common.{List, [], ◌∷◌, ◌++◌, length, ap, ◌∙◌}
 use Rattle.rp_geometry.specs.Geometry.{RationalPoint}
 use Rattle.rp_convex.proofs.Progress.{room_for_next}
-use Rattle.rp_vertex.proofs.Rounds.{far_first, far_next, some_flat, found_next, flat_later, fewer_later}
+use Rattle.rp_convex.proofs.Rounds.{far_first, far_next, some_flat, found_next, flat_later, fewer_later}
 use Rattle.rp_vertex.proofs.certificate.points_from.Goals as goal
 
 pub loop-flat-init : goal.loop-flat-init

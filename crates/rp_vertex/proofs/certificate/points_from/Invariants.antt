@@ -1,5 +1,5 @@
 use Rattle.std.proofs.Common.{length}
-use Rattle.rp_vertex.proofs.Rounds.{IsFar}
+use Rattle.rp_convex.proofs.Rounds.{IsFar}
 use Rattle.rp_vertex.proofs.certificate.points_from.Given as goal
 
 -- the points taken are as the search has them

@@ -1,0 +1,246 @@
+//! Cells held with their vertices.
+ghost use Rattle.std.specs.Prelude.{◌≡◌, ◌+◌, ◌<◌, ◌≤◌, [], ◌∷◌, ◌++◌, true, false, length, Some, IsTrue, IfOk, IfSome, map};
+ghost use Rattle.rp_geometry.specs.Geometry.{RationalPoint};
+ghost use Rattle.rp_geometry.specs.sets.Shape.{shape_of_cell};
+ghost use Rattle.rp_geometry.specs.sets.Sets.{IsEmpty, IsNonempty};
+ghost use Rattle.rp_geometry.specs.searches.Certificate.{is_outside_certificate};
+ghost use Rattle.rp_geometry.specs.searches.Elimination.{first_outside};
+ghost use Rattle.rp_geometry.specs.searches.ProofLine.{strict_line, weak_line, out_line};
+ghost use Rattle.rp_geometry.specs.laws.CellLaws.{IsSolution};
+ghost use Rattle.rp_clip.specs.Faces.{HasSide};
+ghost use Rattle.rp_cell.specs.Decisions.{line_of_strict, line_of_weak, DecidesStrict, DecidesWeak};
+
+use crate::decide::{Strict, Weak, search_strict, search_weak};
+use crate::refute::{refute_last, refute_strict_at, refute_weak_at};
+use rp_clip::Clip;
+use rp_space::{Half, Outside, System, joined};
+use std::marker::Model;
+
+/// A cell of at most 64 half-spaces, held with its vertices, so that what is asked of it, and of it with further
+/// half-spaces, need not search for them. A contract sees the list of its half-spaces. Takes no memory. It is large: `hold`
+/// serves better than a new one.
+#[derive(Drop)]
+pub struct Held {
+    cell: System,
+    clip: Clip,
+    /// Whether the clip has the whole cell: else one of the half-spaces would have made too many vertices for it.
+    whole: bool,
+    /// So many half-spaces from the front have a common point, if this is not 0. Where the cell has none, the next one is
+    /// likely to be in all refutations, and is where it is the last one.
+    inner: usize,
+    /// So many half-spaces from the front have a common point of their weak systems. Only a hint of the same kind.
+    closed: usize,
+}
+
+impl Model for Held {
+    ghost use Rattle.std.specs.Prelude.{List};
+    ghost use Rattle.rp_geometry.specs.Geometry.{HalfSpace};
+    ghost use Rattle.rp_cell.specs.Held.{IsHeld};
+
+    ghost Value = { List HalfSpace };
+
+    ghost view = { λ s. s.cell.items };
+
+    ghost invariant = { λ s. IsHeld s.cell.items s.clip s.whole s.inner };
+}
+
+impl Held {
+    /// The cell, which has at most 64 half-spaces.
+    pub fn new(cell: &[Half]) -> Held
+        requires { length cell.now ≤ 64 }
+        ensures { result ≡ cell.now }
+    {
+        let mut held = Held {
+            cell: System::new(),
+            clip: Clip::cube(),
+            whole: true,
+            inner: 0,
+            closed: 0,
+        };
+        held.extend(cell);
+        held
+    }
+
+    /// Holds another cell, which has at most 64 half-spaces.
+    pub fn hold(&mut self, cell: &[Half])
+        requires { length cell.now ≤ 64 }
+        ensures { self.new ≡ cell.now }
+    {
+        self.cell.clear();
+        self.clip.clear();
+        self.whole = true;
+        self.inner = 0;
+        self.closed = 0;
+        self.extend(cell);
+    }
+
+    /// The cell with further half-spaces behind its own: at most 64 together.
+    pub fn with(&self, more: &[Half]) -> Held
+        requires { length self.now + length more.now ≤ 64 }
+        ensures { result ≡ self.now ++ more.now }
+    {
+        let mut held = self.copy();
+        held.extend(more);
+        held
+    }
+
+    /// The same cell.
+    pub fn copy(&self) -> Held
+        ensures { result ≡ self.now }
+    {
+        Held {
+            cell: joined(self.halves(), &[]),
+            clip: self.clip.copy(),
+            whole: self.whole,
+            inner: self.inner,
+            closed: self.closed,
+        }
+    }
+
+    /// Puts further half-spaces behind those of the cell: at most 64 together.
+    pub fn extend(&mut self, more: &[Half])
+        requires { length self.old + length more.now ≤ 64 }
+        ensures { self.new ≡ self.old ++ more.now }
+    {
+        for half in more {
+            self.push(*half);
+        }
+    }
+
+    /// Puts a half-space behind those of the cell, of which there are fewer than 64.
+    pub fn push(&mut self, half: Half)
+        requires { length self.old < 64 }
+        ensures { self.new ≡ self.old ++ half ∷ [] }
+    {
+        self.add(half);
+        self.note_weak_point();
+        self.note_point();
+    }
+
+    /// Puts a half-space behind those of the cell.
+    fn add(&mut self, half: Half)
+        requires { length self.old < 64 }
+        ensures { self.new ≡ self.old ++ half ∷ [] }
+    {
+        self.cell.push(half);
+        self.whole = add_if(self.whole, &mut self.clip, half);
+    }
+
+    /// Notes whether the weak system of the cell has a point still.
+    fn note_weak_point(&mut self)
+        ensures { self.new ≡ self.old }
+    {
+        if self.whole && !self.clip.corners().is_empty() {
+            self.closed = self.cell.len();
+        }
+    }
+
+    /// Notes whether the cell has a point still.
+    fn note_point(&mut self)
+        ensures { self.new ≡ self.old }
+    {
+        if self.has_point() {
+            self.inner = self.cell.len();
+        }
+    }
+
+    /// The half-spaces in order.
+    pub fn halves(&self) -> &[Half]
+        ensures value { result.now ≡ self.now }
+        ensures few { length result.now ≤ 64 }
+    {
+        self.cell.as_slice()
+    }
+
+    /// Whether the vertices show that the cell has a point.
+    pub(crate) fn has_point(&self) -> bool
+        ensures { result ≡ true → IsNonempty (shape_of_cell self.now) }
+    {
+        self.whole && self.clip.has_inside()
+    }
+
+    /// Whether the vertices show that the weak system of the cell has a point.
+    pub(crate) fn has_weak_point(&self) -> bool
+        ensures { result ≡ true → (p : RationalPoint) × IsSolution false self.now p }
+    {
+        self.whole && self.clip.first_weak().is_some()
+    }
+
+    /// Whether the vertices show that a point of a half-space's plane lies strictly inside all others of the cell.
+    pub(crate) fn has_side(&self, place: usize) -> bool
+        requires { place < length self.now }
+        ensures { result ≡ true → HasSide self.now place }
+    {
+        self.whole && self.clip.has_side(place)
+    }
+
+    /// Whether the cell has a point, as `decide_strict` answers.
+    pub fn strict(&self) -> Strict
+        ensures decides { DecidesStrict self.now result }
+        ensures line { line_of_strict result ≡ strict_line self.now }
+    {
+        if !self.whole {
+            return search_strict(self.halves());
+        }
+        match self.clip.first_inside() {
+            Some(points) => Strict::Inside(points),
+            None => Strict::Outside(self.refute()),
+        }
+    }
+
+    /// The first outside certificate of the cell, which is known to have no point.
+    fn refute(&self) -> Outside
+        requires { IsEmpty (shape_of_cell self.now) }
+        ensures first { first_outside true self.now ≡ Some result }
+        ensures passes { IsTrue (is_outside_certificate true self.now result) }
+        ensures line { out_line result ≡ strict_line self.now }
+    {
+        let cell = self.halves();
+        if self.inner == 0 || self.inner + 1 != cell.len() {
+            return refute_strict_at(cell, self.inner);
+        }
+        refute_last(cell)
+    }
+
+    /// Whether the weak system of the cell has a point, as `decide_weak` answers.
+    pub fn weak(&self) -> Weak
+        ensures decides { DecidesWeak self.now result }
+        ensures line { line_of_weak result ≡ weak_line self.now }
+    {
+        if !self.whole {
+            return search_weak(self.halves());
+        }
+        match self.clip.first_weak() {
+            Some(p) => Weak::At(p),
+            None => Weak::Outside(refute_weak_at(self.halves(), self.closed)),
+        }
+    }
+
+    /// Whether the cell with further half-spaces behind its own has a point, as `decide_strict` answers: at most 64 together.
+    pub fn strict_with(&self, more: &[Half]) -> Strict
+        requires { length self.now + length more.now ≤ 64 }
+        ensures decides { DecidesStrict (self.now ++ more.now) result }
+        ensures line { line_of_strict result ≡ strict_line (self.now ++ more.now) }
+    {
+        self.with(more).strict()
+    }
+
+    /// Whether the weak system of the cell with further half-spaces behind its own has a point, as `decide_weak` answers: at
+    /// most 64 together.
+    pub fn weak_with(&self, more: &[Half]) -> Weak
+        requires { length self.now + length more.now ≤ 64 }
+        ensures decides { DecidesWeak (self.now ++ more.now) result }
+        ensures line { line_of_weak result ≡ weak_line (self.now ++ more.now) }
+    {
+        self.with(more).weak()
+    }
+}
+
+/// Adds a half-space to a clip, if it has the whole cell. Whether it has the whole cell then.
+fn add_if(whole: bool, clip: &mut Clip, half: Half) -> bool
+    requires { whole ≡ true → length clip.old.halves < 64 }
+    ensures was { result ≡ true → whole ≡ true }
+    ensures added { result ≡ true → clip.new.halves ≡ clip.old.halves ++ half ∷ [] }
+{
+    whole && clip.add(half)
+}

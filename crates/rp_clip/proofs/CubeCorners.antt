@@ -1,0 +1,102 @@
+-- The corners of the cube are the vertices of a cell with no half-spaces.
+use Rattle.std.proofs.Common.{◌≡◌, ℤ, Bool, true, false, List, [], ◌∷◌, ◌++◌, ◌≤◌, length, map, refl, sym, ap, ◌∙◌, subst, arith}
+use Rattle.std.specs.Prelude.{Option, Some, None, option_map, not, ◌&&◌}
+use Rattle.std.specs.Option.{UnwrapsOrElse}
+use Rattle.std.specs.List.{Contains, list_any}
+use Rattle.std.proofs.lemmas.Bool.Decides.{Decides-int_eq}
+use Rattle.rp_algebra.specs.Integer.{int_eq}
+use Rattle.rp_algebra.proofs.Options.{none_not_some, same_some}
+use Rattle.rp_algebra.proofs.Tests.{false_not_true, and_true, and_first, and_second}
+use Rattle.rp_convex.proofs.Filter.{passes_some}
+use Rattle.rp_corners.proofs.Standing.{contains_listed}
+use Rattle.rp_clip.specs.Clipped.{IsClip}
+use Rattle.rp_clip.specs.Masks.{mask_of}
+use Rattle.rp_clip.specs.Tables.{Rows, AreDistinct, AreDifferentVertices}
+use Rattle.rp_algebra.specs.Integer.{gcd_of, gcd}
+use Rattle.rp_geometry.specs.Geometry.{RationalPoint, HalfSpace, reduced_point}
+use Rattle.rp_geometry.specs.searches.Vertex.{vertices, meeting_point}
+use Rattle.rp_clip.specs.CubeCorners.{cube_side, cube_corner, cube_corners}
+
+-- they are, by computing all meeting points
+cube_vertices : vertices [] ≡ cube_corners
+unfolding vertices meeting_point reduced_point gcd_of gcd
+cube_vertices = refl
+
+-- the meeting point of three sides, where they are there
+abbrev meeting_of : Option HalfSpace → Option HalfSpace → Option HalfSpace → Option RationalPoint
+meeting_of (Some f) (Some g) (Some h) = meeting_point f g h
+meeting_of (Some f) (Some g) None = None
+meeting_of (Some f) None o = None
+meeting_of None p o = None
+
+-- it is the corner
+sides_meet : (x y z : Bool) → meeting_of (cube_side 0 x) (cube_side 1 y) (cube_side 2 z) ≡ Some (cube_corner x y z)
+unfolding meeting_point reduced_point gcd_of gcd
+sides_meet false false false = refl
+sides_meet false false true = refl
+sides_meet false true false = refl
+sides_meet false true true = refl
+sides_meet true false false = refl
+sides_meet true false true = refl
+sides_meet true true false = refl
+sides_meet true true true = refl
+
+-- what the code makes of the answer
+pub corner_is : (P : RationalPoint → Type 0) (x y z : Bool) (f g h : HalfSpace) (o : Option RationalPoint) (p : RationalPoint) → Some f ≡ cube_side 0 x → Some g ≡ cube_side 1 y → Some h ≡ cube_side 2 z
+    → option_map reduced_point o ≡ meeting_point f g h → UnwrapsOrElse o P p → reduced_point p ≡ cube_corner x y z
+corner_is P x y z f g h None p ef eg eh e u = absurd (none_not_some (cube_corner x y z) (e ∙ (λ i. meeting_of (ef i) (eg i) (eh i)) ∙ sides_meet x y z))
+corner_is P x y z f g h (Some q) p ef eg eh e u =
+    same_some (reduced_point p) (cube_corner x y z) (ap (λ (r : RationalPoint). Some (reduced_point r)) u ∙ e ∙ (λ i. meeting_of (ef i) (eg i) (eh i)) ∙ sides_meet x y z)
+
+-- a list with one item more, where both are known
+pub pushed : {A : Type 0} {old new xs : List A} {x y : A} → old ≡ xs → new ≡ old ++ x ∷ [] → x ≡ y → new ≡ xs ++ y ∷ []
+pushed e f g = f ∙ (λ i. e i ++ g i ∷ [])
+
+-- the first item is not one of the others, by a test of both
+not_among : {A : Type 0} (test : A → A → Bool) → ((x : A) → test x x ≡ true) → (x : A) (xs : List A) → list_any (test x) xs ≡ false → Contains xs x → ⊥
+not_among test same x xs e c = false_not_true (list_any (test x) xs) (passes_some (test x) xs x (contains_listed x xs c) (same x)) e
+
+-- two points have the same numbers
+abbrev same_numbers : RationalPoint → RationalPoint → Bool
+same_numbers p q = int_eq p.x q.x && (int_eq p.y q.y && int_eq p.z q.z)
+
+-- a point has its own
+same_as_itself : (p : RationalPoint) → same_numbers p p ≡ true
+same_as_itself p = and_true (int_eq p.x p.x) (int_eq p.y p.y && int_eq p.z p.z) (int_same p.x) (and_true (int_eq p.y p.y) (int_eq p.z p.z) (int_same p.y) (int_same p.z))
+  where
+    int_same : (v : ℤ) → int_eq v v ≡ true
+    int_same v = (Decides-int_eq v v).1 refl
+
+-- no point of the list has the numbers of a later one
+abbrev all_apart : List RationalPoint → Bool
+all_apart [] = true
+all_apart (p ∷ ps) = not (list_any (same_numbers p) ps) && all_apart ps
+
+-- such points are different
+apart_distinct : (ps : List RationalPoint) → all_apart ps ≡ true → AreDistinct ps
+apart_distinct [] e = tt
+apart_distinct (p ∷ ps) e = (
+  not_among same_numbers same_as_itself p ps (not_true (list_any (same_numbers p) ps) (and_first (not (list_any (same_numbers p) ps)) (all_apart ps) e)),
+  apart_distinct ps (and_second (not (list_any (same_numbers p) ps)) (all_apart ps) e),
+)
+  where
+    not_true : (b : Bool) → not b ≡ true → b ≡ false
+    not_true true f = absurd (cc)
+    not_true false f = refl
+
+-- the corners are different
+corners_distinct : AreDistinct cube_corners
+corners_distinct = apart_distinct cube_corners refl
+
+-- the table of the corners is that of a cell with no half-spaces
+pub cube_clip : (t : Rows) → t.points ≡ cube_corners → t.planes ≡ map (mask_of []) cube_corners → IsClip [] t
+cube_clip t ep el = record {
+  few = omega arith;
+  bounds = tt;
+  table = record {
+    different = subst (λ (xs : List RationalPoint). AreDifferentVertices [] xs) (sym ep) (record { distinct = corners_distinct; vertices = λ v c. subst (λ (xs : List RationalPoint). Contains xs v) (sym cube_vertices) c });
+    planes = el ∙ ap (map (mask_of [])) (sym ep);
+    fits = subst (λ (xs : List RationalPoint). length xs ≤ 256) (sym ep) (omega arith);
+  };
+  complete = λ v c. subst (λ (xs : List RationalPoint). Contains xs v) (cube_vertices ∙ sym ep) c;
+}

@@ -1,0 +1,90 @@
+-- The points at which a further half-space's plane crosses the edges of a cell, as a table of them is filled.
+use Rattle.std.specs.Prelude.{◌≡◌, ℕ, ◌<◌, Bool, true, false, pos, ◌≤ℤ◌, ◌<ℤ◌, List, [], ◌∷◌, ◌++◌, length, map, bit_and, Some}
+use Rattle.std.specs.List.{Contains}
+use Rattle.rp_geometry.specs.Geometry.{RationalPoint, HalfSpace, side_value}
+use Rattle.rp_geometry.specs.searches.Vertex.{vertices, meeting_point}
+use Rattle.rp_clip.specs.Masks.{mask_of}
+use Rattle.rp_clip.specs.Meetings.{ArePlaces}
+use Rattle.rp_clip.specs.Tables.{Rows, IsTable, HasAllOf, HasMoreVertices}
+use Rattle.rp_clip.specs.Sides.{side_of}
+use Rattle.rp_clip.specs.declared.cross.Side.{Side}
+use Rattle.rp_clip.specs.declared.cross.Side.TheVariants.{Above}
+
+-- the table of a cell's vertices, and on which side of the plane of a further half-space each lies
+pub record HasSides (cell : List HalfSpace) (h : HalfSpace) (t : Rows) (sides : List Side) : Type 0 where
+  pub table : IsTable cell t
+  pub each : sides ≡ map (side_of h) t.points
+  pub room : length cell < 64
+
+-- the set is that of a vertex at which the half-space is positive
+abbrev pub IsAbove : List HalfSpace → HalfSpace → ℕ → Type 0
+IsAbove cell h set = (u : RationalPoint) × Contains (vertices cell) u × (pos 0 <ℤ side_value h u) × (set ≡ mask_of cell u)
+
+-- the set is that of a vertex at which the half-space is negative
+abbrev pub IsBelow : List HalfSpace → HalfSpace → ℕ → Type 0
+IsBelow cell h set = (w : RationalPoint) × Contains (vertices cell) w × (side_value h w <ℤ pos 0) × (set ≡ mask_of cell w)
+
+-- the sets are those of the vertices of a table at which the half-space is negative
+pub record AreAllBelow (cell : List HalfSpace) (h : HalfSpace) (t : Rows) (sets : List ℕ) : Type 0 where
+  pub each : (set : ℕ) → Contains sets set → IsBelow cell h set
+  pub all : (w : RationalPoint) → Contains t.points w → side_value h w <ℤ pos 0 → Contains sets (mask_of cell w)
+
+-- the set is that of the planes through two vertices, where the half-space is positive at the one and negative at the other
+pub record IsBetween (cell : List HalfSpace) (h : HalfSpace) (set : ℕ) : Type 0 where
+  pub room : length cell < 64
+  pub above : RationalPoint
+  pub below : RationalPoint
+  pub above_vertex : Contains (vertices cell) above
+  pub below_vertex : Contains (vertices cell) below
+  pub positive : pos 0 <ℤ side_value h above
+  pub negative : side_value h below <ℤ pos 0
+  pub common : set ≡ bit_and (mask_of cell above) (mask_of cell below)
+
+-- each point in which two planes of the set meet that of h stands in the table
+abbrev pub HasMeetings : List HalfSpace → HalfSpace → ℕ → Rows → Type 0
+HasMeetings cell h set t = (i j : ℕ) (f g : HalfSpace) (v : RationalPoint) → ArePlaces cell set 0 i j f g → meeting_point f g h ≡ Some v → Contains t.points v
+
+-- the same of the planes that a vertex at which h is positive has in common with each of the list at which it is negative
+abbrev pub HasMeetingsOf : List HalfSpace → HalfSpace → RationalPoint → List RationalPoint → Rows → Type 0
+HasMeetingsOf cell h u points t =
+    pos 0 <ℤ side_value h u → (w : RationalPoint) → Contains points w → side_value h w <ℤ pos 0 → HasMeetings cell h (bit_and (mask_of cell u) (mask_of cell w)) t
+
+-- the list of a cell with one more half-space
+abbrev pub with_one : List HalfSpace → HalfSpace → List HalfSpace
+with_one cell h = cell ++ h ∷ []
+
+-- a table of the cell with one more half-space, with all points of before
+pub record IsGrown (cell : List HalfSpace) (h : HalfSpace) (old new : Rows) : Type 0 where
+  pub table : IsTable (with_one cell h) new
+  pub all : HasAllOf old new
+
+-- what it means that the crossings of one set were put into a table
+abbrev pub IsCrossed : List HalfSpace → HalfSpace → ℕ → Rows → Rows → Bool → Type 0
+IsCrossed cell h set old new true = IsGrown cell h old new × HasMeetings cell h set new
+IsCrossed cell h set old new false = HasMoreVertices 256 (with_one cell h)
+
+-- what it means that the crossings from one vertex to those of the sets below were
+abbrev pub IsCrossedFrom : List HalfSpace → HalfSpace → List ℕ → ℕ → Rows → Rows → Bool → Type 0
+IsCrossedFrom cell h below set old new true = IsGrown cell h old new × ((low : ℕ) → Contains below low → HasMeetings cell h (bit_and set low) new)
+IsCrossedFrom cell h below set old new false = HasMoreVertices 256 (with_one cell h)
+
+-- the same of a vertex, if it is above
+abbrev pub IsCrossedAbove : List HalfSpace → HalfSpace → List ℕ → Side → ℕ → Rows → Rows → Bool → Type 0
+IsCrossedAbove cell h below side set old new true = IsGrown cell h old new × (side ≡ Above → (low : ℕ) → Contains below low → HasMeetings cell h (bit_and set low) new)
+IsCrossedAbove cell h below side set old new false = HasMoreVertices 256 (with_one cell h)
+
+-- what it means that all crossings were
+abbrev pub IsCrossedAll : List HalfSpace → HalfSpace → List RationalPoint → Rows → Rows → Bool → Type 0
+IsCrossedAll cell h points old new true = IsGrown cell h old new × ((u : RationalPoint) → Contains points u → HasMeetingsOf cell h u points new)
+IsCrossedAll cell h points old new false = HasMoreVertices 256 (with_one cell h)
+
+-- a table of the vertices at which the further half-space is not negative
+pub record IsKeptTable (cell : List HalfSpace) (h : HalfSpace) (old new : Rows) : Type 0 where
+  pub table : IsTable (with_one cell h) new
+  pub kept : (v : RationalPoint) → Contains old.points v → pos 0 ≤ℤ side_value h v → Contains new.points v
+
+-- what it means that a table was filled with the vertices of the cell with one more half-space: those that are kept, and then the crossings
+pub record IsRefilled (cell : List HalfSpace) (h : HalfSpace) (old new : Rows) (result : Bool) : Type 0 where
+  pub kept : Rows
+  pub keeps : IsKeptTable cell h old kept
+  pub crossed : IsCrossedAll cell h old.points kept new result

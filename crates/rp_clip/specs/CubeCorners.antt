@@ -1,0 +1,22 @@
+-- The eight corners of the closed cube, in the order of the cube's half-spaces, with the places of the planes through each.
+use Rattle.std.specs.Prelude.{ℕ, ◌+◌, ◌*◌, Option, Bool, true, false, ℤ, pos, neg_ℤ, cond, List, [], ◌∷◌}
+use Rattle.rp_geometry.specs.Geometry.{RationalPoint, HalfSpace, point_of, cube_bound, cube_half_spaces}
+use Rattle.std.specs.List.{slice_get}
+
+-- the lower or the upper side along x, y or z
+abbrev pub cube_side : ℕ → Bool → Option HalfSpace
+cube_side axis is_upper = slice_get cube_half_spaces (2 * axis + cond is_upper 1 0)
+
+-- the lower or the upper edge
+abbrev pub edge_of : Bool → ℤ
+edge_of is_upper = cond is_upper cube_bound (neg_ℤ cube_bound)
+
+-- the corner at the lower or the upper edge of x, of y and of z
+abbrev pub cube_corner : Bool → Bool → Bool → RationalPoint
+cube_corner x y z = point_of (edge_of x) (edge_of y) (edge_of z) (pos 1)
+
+-- the eight corners
+abbrev pub cube_corners : List RationalPoint
+cube_corners =
+    cube_corner false false false ∷ cube_corner false false true ∷ cube_corner false true false ∷ cube_corner false true true
+    ∷ cube_corner true false false ∷ cube_corner true false true ∷ cube_corner true true false ∷ cube_corner true true true ∷ []

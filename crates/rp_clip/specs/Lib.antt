@@ -1,0 +1,9 @@
+pub mod Clipped
+pub mod Crossings
+pub mod CubeCorners
+pub mod Faces
+pub mod Firsts
+pub mod Masks
+pub mod Meetings
+pub mod Sides
+pub mod Tables

@@ -1,0 +1,225 @@
+//! Cells with their vertices.
+ghost use Rattle.std.specs.Prelude.{◌≡◌, ◌<◌, ◌≤◌, ◌↔◌, [], ◌∷◌, ◌++◌, length, map, not, true, false, IfSome, IsNone, IsTrue};
+ghost use Rattle.rp_geometry.specs.Geometry.{RationalPoint, reduced_point};
+ghost use Rattle.rp_geometry.specs.sets.Shape.{shape_of_cell};
+ghost use Rattle.rp_geometry.specs.sets.Sets.{IsEmpty, IsNonempty};
+ghost use Rattle.rp_geometry.specs.searches.Certificate.{is_inside_certificate};
+ghost use Rattle.rp_geometry.specs.searches.Vertex.{first_inside, first_weak_point};
+ghost use Rattle.rp_geometry.specs.laws.CellLaws.{IsSolution};
+ghost use Rattle.rp_clip.specs.CubeCorners.{cube_corners};
+ghost use Rattle.rp_clip.specs.Clipped.{clipped, IsClip};
+ghost use Rattle.rp_clip.specs.Crossings.{IsRefilled};
+ghost use Rattle.rp_clip.specs.Faces.{HasSide};
+ghost use Rattle.rp_clip.specs.Tables.{counting, IsTable, AreVertices, HasMoreVertices};
+
+use crate::corners::fill_cube;
+use crate::cross::cross_over;
+use crate::faces::common_places;
+use crate::inside::{first_point, first_points};
+use crate::planes::Planes;
+use crate::table::Table;
+use arrayvec::ArrayVec;
+use rp_space::{Half, Inside, Meeting, Point};
+use std::marker::Model;
+
+/// A cell of at most 64 half-spaces with the vertices of its weak system, each once, in no stated order.
+/// A contract sees the half-spaces in order and the vertices in lowest terms. No call takes memory.
+///
+/// There are two tables, of which one counts: `add` fills the other, which counts then, so that no table is moved. A clip
+/// is large, so `clear` and `copy_from` serve better than a new one.
+#[derive(Drop)]
+pub struct Clip {
+    planes: Planes,
+    first: Table,
+    second: Table,
+    is_second: bool,
+}
+
+impl Model for Clip {
+    ghost use Rattle.rp_clip.specs.Clipped.{Clipped, clipped, IsClip};
+    ghost use Rattle.rp_clip.specs.Tables.{counting};
+
+    ghost Value = { Clipped };
+
+    ghost view = { λ s. clipped s.planes (counting s.is_second s.first s.second).points };
+
+    ghost invariant = { λ s. IsClip s.planes (counting s.is_second s.first s.second) };
+}
+
+impl Clip {
+    /// No half-spaces, and the eight corners of the closed cube.
+    pub fn cube() -> Clip
+        ensures value { result ≡ clipped [] cube_corners }
+        ensures vertices { AreVertices [] result.points }
+    {
+        let mut first = Table::new();
+        fill_cube(&mut first);
+        Clip {
+            planes: Planes::new(),
+            first,
+            second: Table::new(),
+            is_second: false,
+        }
+    }
+
+    /// Takes all half-spaces out, so that the eight corners of the closed cube are left.
+    pub fn clear(&mut self)
+        ensures value { self.new ≡ clipped [] cube_corners }
+        ensures vertices { AreVertices [] self.new.points }
+    {
+        self.planes.clear();
+        fill_cube(&mut self.first);
+        self.is_second = false;
+    }
+
+    /// Adds a half-space at the end, where there are fewer than 64; the points become the vertices with it. False exactly
+    /// where there would be more than 256 vertices, and then all is as before.
+    pub fn add(&mut self, h: Half) -> bool
+        requires { length self.old.halves < 64 }
+        ensures added { result ≡ true → self.new.halves ≡ self.old.halves ++ h ∷ [] }
+        ensures refused { result ≡ false → self.new ≡ self.old }
+        ensures full { (result ≡ false) ↔ HasMoreVertices 256 (self.old.halves ++ h ∷ []) }
+        ensures vertices { AreVertices self.new.halves self.new.points }
+    {
+        // Only for what `numbers` ensures, that they keep their bounds.
+        let _ = h.numbers();
+        if !refill(
+            &self.planes,
+            &h,
+            self.is_second,
+            &mut self.first,
+            &mut self.second,
+        ) {
+            return false;
+        }
+        self.planes.push(h);
+        self.is_second = !self.is_second;
+        true
+    }
+
+    /// The half-spaces, in the order in which they were added.
+    pub fn halves(&self) -> &[Half]
+        ensures value { result.now ≡ self.now.halves }
+        ensures fits { length result.now ≤ 64 }
+    {
+        self.planes.halves()
+    }
+
+    /// The vertices, each once, not in lowest terms.
+    pub fn corners(&self) -> &[Meeting]
+        ensures value { map reduced_point result.now ≡ self.now.points }
+        ensures vertices { AreVertices self.now.halves (map reduced_point result.now) }
+        ensures fits { length result.now ≤ 256 }
+    {
+        self.table().corners()
+    }
+
+    /// The vertices, each once. They are put into lowest terms here.
+    pub fn vertices(&self) -> ArrayVec<Point, 256>
+        ensures value { result.items ≡ self.now.points }
+        ensures vertices { AreVertices self.now.halves result.items }
+    {
+        points_of(self.corners())
+    }
+
+    /// The first inside certificate of the half-spaces: the first vertex, and then, as long as a half-space of the list is
+    /// zero at all points taken, the first vertex that is positive on one of these. `None` exactly where the cell has no point.
+    pub fn first_inside(&self) -> Option<Inside>
+        ensures first { result ≡ first_inside self.now.halves }
+        ensures passes { IfSome result (λ points. IsTrue (is_inside_certificate self.now.halves points)) }
+        ensures none { IsNone result ↔ IsEmpty (shape_of_cell self.now.halves) }
+    {
+        first_points(&self.planes, self.table())
+    }
+
+    /// The first weak point of the half-spaces: the first vertex. `None` exactly where the weak system has no point.
+    pub fn first_weak(&self) -> Option<Point>
+        ensures first { result ≡ first_weak_point self.now.halves }
+        ensures passes { IfSome result (λ p. IsSolution false self.now.halves p) }
+        ensures none { IsNone result ↔ ((p : RationalPoint) → ¬ IsSolution false self.now.halves p) }
+    {
+        first_point(&self.planes, self.table())
+    }
+
+    /// Whether the cell has a point: whether there are vertices, and no plane passes through all of them.
+    pub fn has_inside(&self) -> bool
+        ensures { (result ≡ true) ↔ IsNonempty (shape_of_cell self.now.halves) }
+    {
+        common_places(self.table().planes(), 0) == 0
+    }
+
+    /// Whether the vertices on the plane of the half-space at a place show that a point of this plane lies strictly inside
+    /// all the others: whether no other plane passes through all of them. `false` says nothing.
+    pub fn has_side(&self, place: usize) -> bool
+        requires { place < length self.now.halves }
+        ensures { result ≡ true → HasSide self.now.halves place }
+    {
+        let masks = self.table().planes();
+        let set = 1 << place;
+        common_places(masks, set) == set
+    }
+
+    /// The same value.
+    pub fn copy(&self) -> Clip
+        ensures { result ≡ self.now }
+    {
+        let mut planes = Planes::new();
+        planes.copy_from(&self.planes);
+        let mut first = Table::new();
+        first.copy_from(self.table());
+        Clip {
+            planes,
+            first,
+            second: Table::new(),
+            is_second: false,
+        }
+    }
+
+    /// Becomes the same as another clip. Copies what is there, and not all the room.
+    pub fn copy_from(&mut self, other: &Clip)
+        ensures { self.new ≡ other.now }
+    {
+        self.planes.copy_from(&other.planes);
+        self.first.copy_from(other.table());
+        self.is_second = false;
+    }
+
+    /// The table of the vertices.
+    fn table(&self) -> &Table
+        ensures clip { IsClip self.now.halves result.now }
+        ensures points { result.now.points ≡ self.now.points }
+    {
+        if self.is_second {
+            &self.second
+        } else {
+            &self.first
+        }
+    }
+}
+
+/// Fills the table that does not count with the vertices of the cell of the other with one more half-space.
+/// False where there are too many.
+fn refill(planes: &Planes, h: &Half, is_second: bool, first: &mut Table, second: &mut Table) -> bool
+    requires table { IsTable planes.now (counting is_second first.old second.old) }
+    requires room { length planes.now < 64 }
+    ensures same { counting is_second first.new second.new ≡ counting is_second first.old second.old }
+    ensures refilled { IsRefilled planes.now h.now (counting is_second first.old second.old) (counting (not is_second) first.new second.new) result }
+{
+    if is_second {
+        cross_over(planes, h, second, first)
+    } else {
+        cross_over(planes, h, first, second)
+    }
+}
+
+/// Points put into lowest terms.
+fn points_of(corners: &[Meeting]) -> ArrayVec<Point, 256>
+    requires { length corners.now ≤ 256 }
+    ensures { result.items ≡ map reduced_point corners.now }
+{
+    let mut points = ArrayVec::new();
+    for corner in corners {
+        points.push(corner.point());
+    }
+    points
+}

@@ -1,0 +1,198 @@
+//! The points at which a further half-space's plane crosses the edges of a cell.
+ghost use Rattle.std.specs.Prelude.{◌≡◌, ◌≤◌, ◌<◌, ℕ, [], length, map};
+ghost use Rattle.rp_geometry.specs.Geometry.{reduced_point};
+ghost use Rattle.rp_clip.specs.Crossings.{HasSides, IsAbove, AreAllBelow, IsBelow, IsBetween, IsCrossed, IsCrossedFrom, IsCrossedAbove, IsCrossedAll, IsKeptTable, IsRefilled, with_one};
+ghost use Rattle.rp_clip.specs.Sides.{side_of, is_not_below, is_below, with_kept, kept_planes};
+ghost use Rattle.rp_clip.specs.Tables.{IsTable};
+ghost use Rattle.rp_clip.specs.declared.cross.Side.TheVariants.{Above};
+ghost use Rattle.std.specs.List.{Contains};
+
+use crate::meet::first_meeting;
+use crate::places::has_two;
+use crate::planes::Planes;
+use crate::table::Table;
+use arrayvec::ArrayVec;
+use rp_space::{Half, Meeting};
+
+/// On which side of a plane a point lies.
+#[derive(Clone, Copy, PartialEq, Eq)]
+pub(crate) enum Side {
+    /// The half-space is positive there.
+    Above,
+    /// It is 0.
+    On,
+    /// It is negative.
+    Below,
+}
+
+impl Default for Side {
+    /// Some side.
+    fn default() -> Side {
+        Side::On
+    }
+}
+
+/// Fills a further table with the vertices that a cell of fewer than 64 half-spaces has with one more: those of the cell that
+/// are not below its plane, and then the points at which edges cross it. False where there are more than 256.
+pub(crate) fn cross_over(planes: &Planes, h: &Half, table: &Table, more: &mut Table) -> bool
+    requires table { IsTable planes.now table.now }
+    requires room { length planes.now < 64 }
+    ensures { IsRefilled planes.now h.now table.now more.new result }
+{
+    let sides = sides_of(h, table.corners());
+    let sides = sides.as_slice();
+    let mut below = ArrayVec::new();
+    split(planes, h, table, sides, more, &mut below);
+    cross_all(planes, h, table, sides, below.as_slice(), more)
+}
+
+/// On which side of the plane of a half-space the point lies.
+fn side_of(h: &Half, p: &Meeting) -> Side
+    ensures { result ≡ side_of h.now (reduced_point p.now) }
+{
+    // Only for what `numbers` ensures, that the weight is positive.
+    let _ = p.numbers();
+    let value = p.side(h);
+    if value > 0 {
+        return Side::Above;
+    }
+    if value == 0 {
+        return Side::On;
+    }
+    Side::Below
+}
+
+/// On which side of the plane of a half-space each of the points lies.
+fn sides_of(h: &Half, corners: &[Meeting]) -> ArrayVec<Side, 256>
+    requires { length corners.now ≤ 256 }
+    ensures { result.items ≡ map (side_of h.now) (map reduced_point corners.now) }
+{
+    let mut sides = ArrayVec::new();
+    for corner in corners {
+        sides.push(side_of(h, corner));
+    }
+    sides
+}
+
+/// Fills a table with the points of another that are not below the plane, those on it with the new place, and an empty list
+/// with the places of those that are.
+fn split(
+    planes: &Planes,
+    h: &Half,
+    table: &Table,
+    sides: &[Side],
+    kept: &mut Table,
+    below: &mut ArrayVec<u128, 256>,
+)
+    requires sides { HasSides planes.now h.now table.now sides.now }
+    requires empty { below.old.items ≡ [] }
+    ensures kept { IsKeptTable planes.now h.now table.now kept.new }
+    ensures below { AreAllBelow planes.now h.now table.now below.new.items }
+{
+    let place = 1 << planes.len();
+    let corners = table.corners();
+    let sets = table.planes();
+    kept.clear();
+    for i in 0..sides.len() {
+        split_one(sides[i], corners[i], sets[i], place, kept, below);
+    }
+}
+
+/// Appends a point that is not below the plane to the one, with the new place if it is on it. Of a point that is below it
+/// appends the places to the other.
+fn split_one(
+    side: Side,
+    corner: Meeting,
+    planes: u128,
+    place: u128,
+    kept: &mut Table,
+    below: &mut ArrayVec<u128, 256>,
+)
+    requires room { length kept.old.points < 256 }
+    requires room_below { length below.old.items < 256 }
+    ensures points { kept.new.points ≡ with_kept (is_not_below side) kept.old.points (reduced_point corner) }
+    ensures planes { kept.new.planes ≡ with_kept (is_not_below side) kept.old.planes (kept_planes side planes place) }
+    ensures below { below.new.items ≡ with_kept (is_below side) below.old.items planes }
+{
+    match side {
+        Side::Above => kept.push(corner, planes),
+        Side::On => kept.push(corner, planes | place),
+        Side::Below => below.push(planes),
+    }
+}
+
+/// Puts the points at which edges cross the plane of `h` into a further table. False where there are too many.
+fn cross_all(
+    planes: &Planes,
+    h: &Half,
+    table: &Table,
+    sides: &[Side],
+    below: &[u128],
+    more: &mut Table,
+) -> bool
+    requires sides { HasSides planes.now h.now table.now sides.now }
+    requires below { AreAllBelow planes.now h.now table.now below.now }
+    requires more { IsTable (with_one planes.now h.now) more.old }
+    ensures { IsCrossedAll planes.now h.now table.now.points more.old more.new result }
+{
+    let sets = table.planes();
+    for i in 0..sides.len() {
+        if !cross_above(planes, h, sides[i], sets[i], below, more) {
+            return false;
+        }
+    }
+    true
+}
+
+/// Puts the points at which the edges from one vertex cross the plane of `h` into a further table, if it is above.
+fn cross_above(
+    planes: &Planes,
+    h: &Half,
+    side: Side,
+    set: u128,
+    below: &[u128],
+    more: &mut Table,
+) -> bool
+    requires room { length planes.now < 64 }
+    requires above { side ≡ Above → IsAbove planes.now h.now set }
+    requires below { (low : ℕ) → Contains below.now low → IsBelow planes.now h.now low }
+    requires more { IsTable (with_one planes.now h.now) more.old }
+    ensures { IsCrossedAbove planes.now h.now below.now side set more.old more.new result }
+{
+    if side != Side::Above {
+        return true;
+    }
+    cross_from(planes, h, set, below, more)
+}
+
+/// Puts the points at which the edges from one vertex above the plane of `h` cross it into a further table.
+fn cross_from(planes: &Planes, h: &Half, set: u128, below: &[u128], more: &mut Table) -> bool
+    requires room { length planes.now < 64 }
+    requires above { IsAbove planes.now h.now set }
+    requires below { (low : ℕ) → Contains below.now low → IsBelow planes.now h.now low }
+    requires more { IsTable (with_one planes.now h.now) more.old }
+    ensures { IsCrossedFrom planes.now h.now below.now set more.old more.new result }
+{
+    for low in below {
+        if !cross(planes, h, set & *low, more) {
+            return false;
+        }
+    }
+    true
+}
+
+/// Puts the point at which the line of common planes crosses the plane of `h` into a further table, if they have a line.
+fn cross(planes: &Planes, h: &Half, common: u128, more: &mut Table) -> bool
+    requires between { IsBetween planes.now h.now common }
+    requires more { IsTable (with_one planes.now h.now) more.old }
+    ensures { IsCrossed planes.now h.now common more.old more.new result }
+{
+    // Most pairs of vertices have no edge: a line takes two planes.
+    if !has_two(common) {
+        return true;
+    }
+    match first_meeting(planes, common, 0, h) {
+        None => true,
+        Some(met) => more.put(met.at, common | 1 << planes.len()),
+    }
+}

@@ -1,0 +1,19 @@
+//! The vertices of a weak system, kept while half-spaces are added one after the other, each with the planes that pass
+//! through it: a new half-space drops the vertices on its negative side, and adds the points where edges cross its plane.
+#![tactic(auto)]
+
+mod clip;
+mod corners;
+mod cross;
+mod faces;
+mod first;
+mod inside;
+mod meet;
+mod places;
+mod planes;
+mod table;
+
+pub use clip::Clip;
+
+#[cfg(test)]
+mod tests;

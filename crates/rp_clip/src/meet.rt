@@ -1,0 +1,111 @@
+//! The first two planes of a set that meet a third one in one point, and the first three of a set.
+ghost use Rattle.std.specs.Prelude.{◌≡◌, ◌<◌, ◌↔◌, true, IfSome, IfNone};
+ghost use Rattle.rp_clip.specs.Firsts.{IsBasisBefore};
+ghost use Rattle.rp_clip.specs.Masks.{HasHalfSpaces, HasLowPlaces, IsIn};
+ghost use Rattle.rp_clip.specs.Meetings.{IsFirstMet, MeetNowhere, IsFirstMetWith, MeetNowhereWith, IsFirstOfSet, HasNoBasis, IsVertexSet, IsThree};
+
+use crate::places::lowest_from;
+use crate::planes::Planes;
+use rp_space::{Half, Meeting, Pair};
+
+/// Two places whose planes meet a third one in one point, and this point.
+#[derive(Drop)]
+pub(crate) struct Met {
+    pub(crate) first: u32,
+    pub(crate) second: u32,
+    pub(crate) at: Meeting,
+}
+
+/// The first two places of a set, from a place on, whose planes meet that of `h` in one point.
+pub(crate) fn first_meeting(planes: &Planes, set: u128, from: u32, h: &Half) -> Option<Met>
+    requires places { HasHalfSpaces planes.now set }
+    requires from { from < 128 }
+    ensures some { IfSome result (λ m. IsFirstMet planes.now set from h.now m) }
+    ensures none { IfNone result (MeetNowhere planes.now set from h.now) }
+{
+    let mut next = lowest_from(set, from);
+    while let Some(first) = next {
+        let found = meeting_with(planes, set, first, h);
+        if found.is_some() {
+            return found;
+        }
+        next = lowest_from(set, first + 1);
+    }
+    None
+}
+
+/// The first place of a set behind a first one, whose plane meets that one's and that of `h` in one point.
+fn meeting_with(planes: &Planes, set: u128, first: u32, h: &Half) -> Option<Met>
+    requires places { HasHalfSpaces planes.now set }
+    requires first { IsIn set first }
+    ensures some { IfSome result (λ m. IsFirstMetWith planes.now set first h.now m) }
+    ensures none { IfNone result (MeetNowhereWith planes.now set first h.now) }
+{
+    let f = planes.at(first);
+    let mut next = lowest_from(set, first + 1);
+    while let Some(second) = next {
+        let found = Pair::new(&f, &planes.at(second)).meeting(h);
+        if let Some(at) = found {
+            return Some(Met { first, second, at });
+        }
+        next = lowest_from(set, second + 1);
+    }
+    None
+}
+
+/// Three rising places whose planes meet in one point.
+#[derive(Clone, Copy)]
+pub(crate) struct Basis {
+    pub(crate) first: u32,
+    pub(crate) second: u32,
+    pub(crate) third: u32,
+}
+
+impl Basis {
+    /// Whether this one has the smaller place at the first at which they differ.
+    pub(crate) fn is_before(&self, other: &Basis) -> bool
+        ensures { (result ≡ true) ↔ IsBasisBefore self.now other.now }
+    {
+        self.first < other.first
+            || (self.first == other.first
+                && (self.second < other.second
+                    || (self.second == other.second && self.third < other.third)))
+    }
+}
+
+/// The first three places of the planes through a vertex whose planes meet in one point.
+pub(crate) fn first_basis(planes: &Planes, set: u128) -> Option<Basis>
+    requires { IsVertexSet planes.now set }
+    ensures some { IfSome result (λ b. IsFirstOfSet planes.now set b) }
+    ensures none { IfNone result (HasNoBasis planes.now set) }
+{
+    let only = three_places(set);
+    if only.is_some() {
+        return only;
+    }
+    let first = lowest_from(set, 0)?;
+    let met = first_meeting(planes, set, first + 1, &planes.at(first))?;
+    Some(Basis {
+        first,
+        second: met.first,
+        third: met.second,
+    })
+}
+
+/// The places of a set that has exactly three, as most vertices have.
+fn three_places(set: u128) -> Option<Basis>
+    requires { HasLowPlaces set }
+    ensures { IfSome result (IsThree set) }
+{
+    let first = lowest_from(set, 0)?;
+    let second = lowest_from(set, first + 1)?;
+    let third = lowest_from(set, second + 1)?;
+    if lowest_from(set, third + 1).is_some() {
+        return None;
+    }
+    Some(Basis {
+        first,
+        second,
+        third,
+    })
+}

@@ -1,0 +1,94 @@
+//! The half-spaces of a cell and the cube's six, by their places.
+ghost use Rattle.std.specs.Prelude.{◌≡◌, ◌<◌, [], ◌∷◌, ◌++◌, length, ◌≤◌, IsSome, Some};
+ghost use Rattle.rp_clip.specs.Masks.{half_at};
+
+use arrayvec::ArrayVec;
+use rp_space::{Half, cube};
+use std::marker::Model;
+
+/// The place of the cube's first half-space.
+const CUBE_PLACE: u32 = 64;
+
+/// The half-spaces of a cell, at the places from 0 on, and the cube's six, at the places from 64 on.
+#[derive(Drop)]
+pub(crate) struct Planes {
+    cell: ArrayVec<Half, 64>,
+    cube: [Half; 6],
+}
+
+impl Model for Planes {
+    ghost use Rattle.std.specs.Prelude.{◌≡◌, List};
+    ghost use Rattle.rp_geometry.specs.Geometry.{HalfSpace, cube_half_spaces};
+
+    ghost Value = { List HalfSpace };
+
+    ghost view = { λ s. s.cell.items };
+
+    ghost invariant = { λ s. s.cube ≡ cube_half_spaces };
+}
+
+impl Planes {
+    /// No half-spaces but the cube's.
+    pub(crate) fn new() -> Planes
+        ensures { result ≡ [] }
+    {
+        Planes {
+            cell: ArrayVec::new(),
+            cube: cube(),
+        }
+    }
+
+    /// The cell's half-spaces, in order.
+    pub(crate) fn halves(&self) -> &[Half]
+        ensures value { result.now ≡ self.now }
+        ensures fits { length result.now ≤ 64 }
+    {
+        self.cell.as_slice()
+    }
+
+    /// The number of the cell's half-spaces.
+    pub(crate) fn len(&self) -> u32
+        ensures value { result ≡ length self.now }
+        ensures fits { result ≤ 64 }
+    {
+        self.cell.len() as u32
+    }
+
+    /// Adds a half-space to the cell, for which there is room.
+    pub(crate) fn push(&mut self, h: Half)
+        requires { length self.old < 64 }
+        ensures { self.new ≡ self.old ++ h ∷ [] }
+    {
+        self.cell.push(h);
+    }
+
+    /// The half-space at a place where there is one.
+    pub(crate) fn at(&self, place: u32) -> Half
+        requires { IsSome (half_at self.now place) }
+        ensures { Some result ≡ half_at self.now place }
+    {
+        if place < CUBE_PLACE {
+            self.cell[place as usize]
+        } else {
+            self.cube[(place - CUBE_PLACE) as usize]
+        }
+    }
+
+    /// Takes the cell's half-spaces out.
+    pub(crate) fn clear(&mut self)
+        ensures { self.new ≡ [] }
+    {
+        self.cell.clear();
+    }
+
+    /// Becomes the same as others.
+    pub(crate) fn copy_from(&mut self, other: &Planes)
+        ensures { self.new ≡ other.now }
+    {
+        let halves = other.halves();
+        self.clear();
+        for half in halves {
+            self.push(*half);
+        }
+    }
+}

@@ -1,0 +1,135 @@
+//! A table of points, each with the places of the planes through it.
+ghost use Rattle.std.specs.Prelude.{◌≡◌, ◌<◌, ◌≤◌, ◌↔◌, [], ◌∷◌, ◌++◌, length, map, true, false, Some};
+ghost use Rattle.std.specs.List.{Contains, slice_get};
+ghost use Rattle.rp_geometry.specs.Geometry.{reduced_point};
+ghost use Rattle.rp_clip.specs.Tables.{rows_of, IsPut};
+
+use arrayvec::ArrayVec;
+use rp_space::{Meeting, Point};
+use std::marker::Model;
+
+/// The most rows of a table.
+const MOST_ROWS: usize = 256;
+
+/// Points, which are not put into lowest terms, and beside each the places of the planes through it.
+/// A contract sees the points in lowest terms, and the places.
+#[derive(Drop)]
+pub(crate) struct Table {
+    corners: ArrayVec<Meeting, 256>,
+    planes: ArrayVec<u128, 256>,
+}
+
+impl Model for Table {
+    ghost use Rattle.std.specs.Prelude.{◌≡◌, length, map};
+    ghost use Rattle.rp_geometry.specs.Geometry.{reduced_point};
+    ghost use Rattle.rp_clip.specs.Tables.{Rows, rows_of};
+
+    ghost Value = { Rows };
+
+    ghost view = { λ t. rows_of (map reduced_point t.corners.items) t.planes.items };
+
+    ghost invariant = { λ t. length t.planes.items ≡ length t.corners.items };
+}
+
+impl Table {
+    /// The empty table.
+    pub(crate) fn new() -> Table
+        ensures { result ≡ rows_of [] [] }
+    {
+        Table {
+            corners: ArrayVec::new(),
+            planes: ArrayVec::new(),
+        }
+    }
+
+    /// Takes all rows out.
+    pub(crate) fn clear(&mut self)
+        ensures { self.new ≡ rows_of [] [] }
+    {
+        self.corners.clear();
+        self.planes.clear();
+    }
+
+    /// Appends a row, for which there is room.
+    pub(crate) fn push(&mut self, corner: Meeting, planes: u128)
+        requires { length self.old.points < 256 }
+        ensures points { self.new.points ≡ self.old.points ++ reduced_point corner ∷ [] }
+        ensures planes { self.new.planes ≡ self.old.planes ++ planes ∷ [] }
+    {
+        self.corners.push(corner);
+        self.planes.push(planes);
+    }
+
+    /// Whether there is no room for a further row.
+    fn is_full(&self) -> bool
+        ensures full { result ≡ true → length self.now.points ≡ 256 }
+        ensures room { result ≡ false → length self.now.points < 256 }
+    {
+        self.corners.len() == MOST_ROWS
+    }
+
+    /// Whether a row has exactly these places.
+    fn has(&self, planes: u128) -> bool
+        ensures { (result ≡ true) ↔ Contains self.now.planes planes }
+    {
+        self.planes.contains(&planes)
+    }
+
+    /// Adds a row where none has these places. False where none has and the table is full.
+    pub(crate) fn put(&mut self, corner: Meeting, planes: u128) -> bool
+        ensures { IsPut self.old (reduced_point corner) planes self.new result }
+    {
+        if self.has(planes) {
+            return true;
+        }
+        if self.is_full() {
+            return false;
+        }
+        self.push(corner, planes);
+        true
+    }
+
+    /// The points, not in lowest terms.
+    pub(crate) fn corners(&self) -> &[Meeting]
+        ensures points { map reduced_point result.now ≡ self.now.points }
+        ensures fits { length result.now ≤ 256 }
+    {
+        self.corners.as_slice()
+    }
+
+    /// The places of the planes through each point.
+    pub(crate) fn planes(&self) -> &[u128]
+        ensures value { result.now ≡ self.now.planes }
+        ensures as_many { length result.now ≡ length self.now.points }
+    {
+        self.planes.as_slice()
+    }
+
+    /// The point of a row, in lowest terms.
+    pub(crate) fn point(&self, i: usize) -> Point
+        requires { i < length self.now.points }
+        ensures { Some result ≡ slice_get self.now.points i }
+    {
+        self.corners[i].point()
+    }
+
+    /// The places of the planes through the point of a row.
+    pub(crate) fn places(&self, i: usize) -> u128
+        requires { i < length self.now.planes }
+        ensures { Some result ≡ slice_get self.now.planes i }
+    {
+        self.planes[i]
+    }
+
+    /// Becomes the same as another table.
+    pub(crate) fn copy_from(&mut self, other: &Table)
+        ensures { self.new ≡ other.now }
+    {
+        let corners = other.corners();
+        let planes = other.planes();
+        self.clear();
+        for i in 0..corners.len() {
+            self.push(corners[i], planes[i]);
+        }
+    }
+}

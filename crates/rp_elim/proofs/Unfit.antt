@@ -1,0 +1,143 @@
+-- Four half-spaces, one of them held fast: where the minors are of no one sign they do not refute in any order.
+use Rattle.std.proofs.Common.{◌≡◌, ℤ, pos, neg_ℤ, ◌<ℤ◌, Bool, true, false, ◌&&◌, not, List, [], ◌∷◌, None, refl, ◌∙◌, arith}
+use Rattle.std.proofs.lemmas.Int.{ints}
+use Rattle.rp_algebra.specs.Integer.{is_positive, is_negative}
+use Rattle.rp_algebra.proofs.Options.{or_else}
+use Rattle.rp_algebra.proofs.Tests.{and_first, and_second, and_true, false_not_true, positive_is, is_positive_true, negative_is, is_negative_true}
+use Rattle.rp_geometry.specs.Geometry.{HalfSpace}
+use Rattle.rp_geometry.specs.searches.Search.{first_of}
+use Rattle.rp_geometry.specs.searches.Vertex.{meeting_weight}
+use Rattle.rp_geometry.specs.searches.Elimination.{multiple_of, refutation_of_four}
+use Rattle.rp_elim.specs.declared.placed.Placed.{Placed}
+use Rattle.rp_elim.specs.Sides.{has_sign, AreUnfit, HaveMixedMinors}
+use Rattle.rp_elim.specs.HeldFast.{two_in_order, three_in_order, four_in_order}
+use Rattle.rp_elim.proofs.Signs.{mixed_refutation}
+use Rattle.rp_elim.proofs.Dependent.{weight_exchanged, weight_turned}
+
+-- ---- two causes
+-- the last one is 0
+pub unfit_zero : (x y z w : ℤ) → w ≡ pos 0 → AreUnfit x y z w
+unfit_zero x y z w e = record { up = λ a b c d. omega (arith, ints, d, e); down = λ a b c d. omega (arith, ints, d, e) }
+
+-- a number that has a sign
+above_is : (v : ℤ) → has_sign true v ≡ true → pos 0 <ℤ v
+above_is v e = positive_is v e
+
+-- or the other
+below_is : (v : ℤ) → has_sign false v ≡ true → v <ℤ pos 0
+below_is v e = negative_is v e
+
+-- one of the others has not the sign of the last one
+pub unfit_signs : (s : Bool) (x y z w : ℤ) → has_sign s (neg_ℤ w) ≡ true → (has_sign s z && has_sign (not s) y && has_sign s x) ≡ false → AreUnfit x y z w
+unfit_signs true x y z w last n = record {
+  up = λ a b c d. false_not_true (is_positive z && is_negative y && is_positive x) (and_true (is_positive z && is_negative y) (is_positive x) (and_true (is_positive z) (is_negative y) (is_positive_true z c) (is_negative_true y b)) (is_positive_true x a)) n;
+  down = λ a b c d. (let h = above_is (neg_ℤ w) last in omega (arith, ints, h, d));
+}
+unfit_signs false x y z w last n = record {
+  up = λ a b c d. (let h = below_is (neg_ℤ w) last in omega (arith, ints, h, d));
+  down = λ a b c d. false_not_true (is_negative z && is_positive y && is_negative x) (and_true (is_negative z && is_positive y) (is_negative x) (and_true (is_negative z) (is_positive y) (is_negative_true z c) (is_positive_true y b)) (is_negative_true x a)) n;
+}
+
+-- ---- the refutation
+-- four numbers above 0
+record AreAbove (x y z w : ℤ) : Type 0 where
+  first : pos 0 <ℤ x
+  second : pos 0 <ℤ y
+  third : pos 0 <ℤ z
+  fourth : pos 0 <ℤ w
+
+-- numbers that pass the test of a refutation's factors
+are_above : (x y z w : ℤ) → (is_positive x && (is_positive y && (is_positive z && (is_positive w && true)))) ≡ true → AreAbove x y z w
+are_above x y z w e =
+    let yzw = is_positive y && (is_positive z && (is_positive w && true)) in
+    let zw = is_positive z && (is_positive w && true) in
+    let f = and_second (is_positive x) yzw e in
+    let g = and_second (is_positive y) zw f in
+    let h = and_second (is_positive z) (is_positive w && true) g in
+    record {
+      first = positive_is x (and_first (is_positive x) yzw e);
+      second = positive_is y (and_first (is_positive y) zw f);
+      third = positive_is z (and_first (is_positive z) (is_positive w && true) g);
+      fourth = positive_is w (and_first (is_positive w) true h);
+    }
+
+-- four half-spaces do not refute where the minors are neither all above 0 nor all below 0
+four_unfit : (strict : Bool) (e f g h : HalfSpace)
+    → (AreAbove (meeting_weight f g h) (neg_ℤ (meeting_weight e g h)) (meeting_weight e f h) (neg_ℤ (meeting_weight e f g)) → ⊥)
+    → (AreAbove (neg_ℤ (meeting_weight f g h)) (neg_ℤ (neg_ℤ (meeting_weight e g h))) (neg_ℤ (meeting_weight e f h)) (neg_ℤ (neg_ℤ (meeting_weight e f g))) → ⊥)
+    → refutation_of_four strict e f g h ≡ None
+unfolding refutation_of_four
+four_unfit strict e f g h up down =
+    let x = meeting_weight f g h in
+    let y = meeting_weight e g h in
+    let z = meeting_weight e f h in
+    let w = meeting_weight e f g in
+    mixed_refutation strict (multiple_of x e) (multiple_of (neg_ℤ y) f ∷ multiple_of z g ∷ multiple_of (neg_ℤ w) h ∷ [])
+    (λ p. up (are_above x (neg_ℤ y) z (neg_ℤ w) p))
+    (λ p. down (are_above (neg_ℤ x) (neg_ℤ (neg_ℤ y)) (neg_ℤ z) (neg_ℤ (neg_ℤ w)) p))
+
+module _ (strict : Bool) (k p q r : HalfSpace) (u : HaveMixedMinors k p q r) where
+  -- with k first
+  pub k_first : refutation_of_four strict k p q r ≡ None
+  k_first =
+      four_unfit strict k p q r
+      (λ a. u.up a.first (omega (arith, ints, a.second)) a.third (omega (arith, ints, a.fourth)))
+      (λ a. u.down (omega (arith, ints, a.first)) (omega (arith, ints, a.second)) (omega (arith, ints, a.third)) (omega (arith, ints, a.fourth)))
+
+  -- with k second
+  k_second : refutation_of_four strict p k q r ≡ None
+  k_second =
+      let z = weight_exchanged k p r in
+      let w = weight_exchanged k p q in
+      four_unfit strict p k q r
+      (λ a. u.down (omega (arith, ints, a.second)) a.first (omega (arith, ints, a.third, z)) (omega (arith, ints, a.fourth, w)))
+      (λ a. u.up (omega (arith, ints, a.second)) (omega (arith, ints, a.first)) (omega (arith, ints, a.third, z)) (omega (arith, ints, a.fourth, w)))
+
+  -- with k third
+  k_third : refutation_of_four strict p q k r ≡ None
+  k_third =
+      let y = weight_exchanged k q r in
+      let z = weight_exchanged k p r in
+      let w = weight_turned k p q in
+      four_unfit strict p q k r
+      (λ a. u.up a.third (omega (arith, ints, a.first, y)) (omega (arith, ints, a.second, z)) (omega (arith, ints, a.fourth, w)))
+      (λ a. u.down (omega (arith, ints, a.third)) (omega (arith, ints, a.first, y)) (omega (arith, ints, a.second, z)) (omega (arith, ints, a.fourth, w)))
+
+  -- with k last
+  k_last : refutation_of_four strict p q r k ≡ None
+  k_last =
+      let y = weight_turned k q r in
+      let z = weight_turned k p r in
+      let w = weight_turned k p q in
+      four_unfit strict p q r k
+      (λ a. u.down (omega (arith, ints, a.fourth)) (omega (arith, ints, a.first, y)) (omega (arith, ints, a.second, z)) (omega (arith, ints, a.third, w)))
+      (λ a. u.up (omega (arith, ints, a.fourth)) (omega (arith, ints, a.first, y)) (omega (arith, ints, a.second, z)) (omega (arith, ints, a.third, w)))
+
+-- they do not refute in any order
+pub none_of_four : (strict : Bool) (k : HalfSpace) (p q r : Placed) → HaveMixedMinors k p.half q.half r.half
+    → four_in_order (refutation_of_four strict) k p q r ≡ None
+none_of_four strict k p q r u =
+    elim (p.before) as (λ b. elim b [ true ↦ three_in_order (refutation_of_four strict p.half) k q r | false ↦ refutation_of_four strict k p.half q.half r.half ] ≡ None) [
+      | true ↦ elim (q.before) as (λ b. elim b [ true ↦ two_in_order (refutation_of_four strict p.half q.half) k r | false ↦ refutation_of_four strict p.half k q.half r.half ] ≡ None) [
+        | true ↦ elim (r.before) as (λ b. elim b [ true ↦ refutation_of_four strict p.half q.half r.half k | false ↦ refutation_of_four strict p.half q.half k r.half ] ≡ None) [
+          | true ↦ k_last strict k p.half q.half r.half u
+          | false ↦ k_third strict k p.half q.half r.half u
+        ]
+        | false ↦ k_second strict k p.half q.half r.half u
+      ]
+      | false ↦ k_first strict k p.half q.half r.half u
+    ]
+
+-- where the determinant of three is 0, no further half-space helps
+pub none_with_plane : (strict : Bool) (k : HalfSpace) (p q : Placed) → meeting_weight k p.half q.half ≡ pos 0 → (rs : List Placed) → first_of (four_in_order (refutation_of_four strict) k p q) rs ≡ None
+none_with_plane strict k p q d [] = refl
+none_with_plane strict k p q d (r ∷ rs) =
+    (λ i. or_else (none_of_four strict k p q r (unfit_zero (meeting_weight p.half q.half r.half) (meeting_weight k q.half r.half) (meeting_weight k p.half r.half) (meeting_weight k p.half q.half) d) i) (first_of (four_in_order (refutation_of_four strict) k p q) rs))
+    ∙ none_with_plane strict k p q d rs
+
+-- the same of half-spaces in their order
+pub none_with_dependent : (strict : Bool) (e f g : HalfSpace) → meeting_weight e f g ≡ pos 0 → (hs : List HalfSpace) → first_of (refutation_of_four strict e f g) hs ≡ None
+none_with_dependent strict e f g d [] = refl
+none_with_dependent strict e f g d (h ∷ hs) =
+    (λ i. or_else (k_first strict e f g h (unfit_zero (meeting_weight f g h) (meeting_weight e g h) (meeting_weight e f h) (meeting_weight e f g) d) i) (first_of (refutation_of_four strict e f g) hs))
+    ∙ none_with_dependent strict e f g d hs

@@ -1,0 +1,247 @@
+//! The search for the first refutation where one half-space is known to be in each.
+ghost use Rattle.std.specs.Prelude.{◌≡◌, ◌↔◌, ◌+◌, ◌<◌, ◌∷◌, ◌++◌, true, pos, neg_ℤ, length, IsNone, IfSome, IsTrue};
+ghost use Rattle.rp_geometry.specs.Geometry.{RationalPoint};
+ghost use Rattle.rp_geometry.specs.laws.CellLaws.{IsSolution};
+ghost use Rattle.rp_geometry.specs.searches.Certificate.{is_outside_certificate};
+ghost use Rattle.rp_geometry.specs.searches.Search.{first_of, first_of_pairs, first_of_triples};
+ghost use Rattle.rp_geometry.specs.searches.Vertex.{meeting_weight};
+ghost use Rattle.rp_geometry.specs.searches.Elimination.{refutation_of_two, refutation_of_three, refutation_of_four, first_outside};
+ghost use Rattle.rp_space.specs.TwoHalfSpaces.{two_of};
+ghost use Rattle.rp_elim.specs.Sides.{three_of};
+ghost use Rattle.rp_elim.specs.HeldFast.{two_in_order, three_in_order, four_in_order, first_through};
+
+use crate::couple::Couple;
+use crate::minors::minors_of_four;
+use crate::placed::{Placed, others_of};
+use crate::refutation::refutation;
+use crate::search::{refutation_of_one, refutation_of_two};
+use crate::triple::{Cross, Triple};
+use rp_space::{Half, Outside, keep_bounds};
+
+/// The first outside certificate of a cell in which the half-spaces before one and those behind it have a solution
+/// without it. At that point no multiples of these and of the cube's six add up to a contradiction, so each certificate
+/// has a term of the one (Farkas, Motzkin), and only the sets that contain it are tried: with at most three others
+/// (Carathéodory), in the order of their places.
+/// `None` exactly where the whole cell has a solution. It has at most 64 half-spaces.
+pub fn first_outside_through(
+    before: &[Half],
+    half: &Half,
+    after: &[Half],
+    strict: bool,
+) -> Option<Outside>
+    requires few { length before.now + length after.now < 64 }
+    requires others { (p : RationalPoint) × IsSolution strict (before.now ++ after.now) p }
+    ensures first { result ≡ first_outside strict (before.now ++ half.now ∷ after.now) }
+    ensures passes { IfSome result (λ terms. IsTrue (is_outside_certificate strict (before.now ++ half.now ∷ after.now) terms)) }
+    ensures none { IsNone result ↔ ((p : RationalPoint) × IsSolution strict (before.now ++ half.now ∷ after.now) p) }
+{
+    keep_bounds(before);
+    let _ = half.numbers();
+    keep_bounds(after);
+    let others = others_of(before, after);
+    first_through(strict, half, others.as_slice())
+}
+
+/// The first refutation by a half-space and others, by number of terms and then by places.
+fn first_through(strict: bool, k: &Half, others: &[Placed]) -> Option<Outside>
+    ensures { result ≡ first_through strict k.now others.now }
+{
+    if let Some(terms) = refutation_of_one(strict, k) {
+        return Some(terms);
+    }
+    if let Some(terms) = first_two(strict, k, others) {
+        return Some(terms);
+    }
+    if let Some(terms) = first_three(strict, k, others) {
+        return Some(terms);
+    }
+    first_four(strict, k, others)
+}
+
+/// The first refutation by a half-space and one of several.
+fn first_two(strict: bool, k: &Half, ps: &[Placed]) -> Option<Outside>
+    ensures { result ≡ first_of (two_in_order (refutation_of_two strict) k.now) ps.now }
+{
+    for i in 0..ps.len() {
+        if let Some(terms) = two_in_order(strict, k, &ps[i]) {
+            return Some(terms);
+        }
+    }
+    None
+}
+
+/// The refutation by a half-space and another one, in the order of their places, if they refute.
+fn two_in_order(strict: bool, k: &Half, p: &Placed) -> Option<Outside>
+    ensures { result ≡ two_in_order (refutation_of_two strict) k.now p.now }
+{
+    if p.before {
+        return refutation_of_two(strict, &p.half, k);
+    }
+    refutation_of_two(strict, k, &p.half)
+}
+
+/// The first refutation by a half-space and two of several.
+fn first_three(strict: bool, k: &Half, ps: &[Placed]) -> Option<Outside>
+    ensures { result ≡ first_of_pairs (three_in_order (refutation_of_three strict) k.now) ps.now }
+{
+    for i in 0..ps.len() {
+        if let Some(terms) = first_three_with(strict, k, &ps[i], &ps[i + 1..]) {
+            return Some(terms);
+        }
+    }
+    None
+}
+
+/// The first refutation by a half-space, a second one and one of several.
+fn first_three_with(strict: bool, k: &Half, p: &Placed, qs: &[Placed]) -> Option<Outside>
+    ensures { result ≡ first_of (three_in_order (refutation_of_three strict) k.now p.now) qs.now }
+{
+    let kp = Cross::new(k, &p.half);
+    for i in 0..qs.len() {
+        if let Some(terms) = three_if_dependent(strict, &kp, k, p, &qs[i]) {
+            return Some(terms);
+        }
+    }
+    None
+}
+
+/// The refutation by a half-space and two others, in the order of their places, if they refute.
+/// Only three with dependent normals have multiples that cancel, so the determinant is tried first.
+fn three_if_dependent(strict: bool, kp: &Cross, k: &Half, p: &Placed, q: &Placed) -> Option<Outside>
+    requires { kp.now ≡ two_of k.now p.now.half }
+    ensures { result ≡ three_in_order (refutation_of_three strict) k.now p.now q.now }
+{
+    if kp.weight(&q.half) != 0 {
+        return None;
+    }
+    three_in_order(strict, k, p, q)
+}
+
+/// The refutation by a half-space and two others, in the order of their places, if they refute.
+fn three_in_order(strict: bool, k: &Half, p: &Placed, q: &Placed) -> Option<Outside>
+    ensures { result ≡ three_in_order (refutation_of_three strict) k.now p.now q.now }
+{
+    if !p.before {
+        return refutation_of_three(strict, k, &p.half, &q.half);
+    }
+    if !q.before {
+        return refutation_of_three(strict, &p.half, k, &q.half);
+    }
+    refutation_of_three(strict, &p.half, &q.half, k)
+}
+
+/// The refutation by three half-spaces, if they refute. Where the normals of the first two are dependent they do not.
+fn refutation_of_three(strict: bool, f: &Half, g: &Half, h: &Half) -> Option<Outside>
+    ensures { result ≡ refutation_of_three strict f.now g.now h.now }
+{
+    match Couple::new(f, g) {
+        None => None,
+        Some(couple) => couple.refutation(strict, h),
+    }
+}
+
+/// The first refutation by a half-space and three of several.
+fn first_four(strict: bool, k: &Half, ps: &[Placed]) -> Option<Outside>
+    ensures { result ≡ first_of_triples (four_in_order (refutation_of_four strict) k.now) ps.now }
+{
+    for i in 0..ps.len() {
+        if let Some(terms) = first_four_with(strict, k, &ps[i], &ps[i + 1..]) {
+            return Some(terms);
+        }
+    }
+    None
+}
+
+/// The first refutation by a half-space, a second one and two of several.
+fn first_four_with(strict: bool, k: &Half, p: &Placed, qs: &[Placed]) -> Option<Outside>
+    ensures { result ≡ first_of_pairs (four_in_order (refutation_of_four strict) k.now p.now) qs.now }
+{
+    let kp = Cross::new(k, &p.half);
+    for i in 0..qs.len() {
+        if let Some(terms) = first_four_with_two(strict, &kp, k, p, &qs[i], &qs[i + 1..]) {
+            return Some(terms);
+        }
+    }
+    None
+}
+
+/// The first refutation by a half-space, two more and one of several. The determinant of the three is the multiplier of
+/// the fourth but for its sign: where it is 0 they do not refute.
+fn first_four_with_two(
+    strict: bool,
+    kp: &Cross,
+    k: &Half,
+    p: &Placed,
+    q: &Placed,
+    rs: &[Placed],
+) -> Option<Outside>
+    requires { kp.now ≡ two_of k.now p.now.half }
+    ensures { result ≡ first_of (four_in_order (refutation_of_four strict) k.now p.now q.now) rs.now }
+{
+    match Triple::new(kp, &q.half) {
+        None => None,
+        Some(triple) => first_four_with_triple(strict, &triple, k, p, q, rs),
+    }
+}
+
+/// The same, where it is not 0.
+fn first_four_with_triple(
+    strict: bool,
+    triple: &Triple,
+    k: &Half,
+    p: &Placed,
+    q: &Placed,
+    rs: &[Placed],
+) -> Option<Outside>
+    requires { triple.now ≡ three_of k.now p.now.half q.now.half }
+    ensures { result ≡ first_of (four_in_order (refutation_of_four strict) k.now p.now q.now) rs.now }
+{
+    for i in 0..rs.len() {
+        if let Some(terms) = four_if_one_sign(strict, triple, k, p, q, &rs[i]) {
+            return Some(terms);
+        }
+    }
+    None
+}
+
+/// The refutation by a half-space and three others, in the order of their places, if they refute.
+/// The signs are tried first: where two differ the minors need not be taken.
+fn four_if_one_sign(
+    strict: bool,
+    triple: &Triple,
+    k: &Half,
+    p: &Placed,
+    q: &Placed,
+    r: &Placed,
+) -> Option<Outside>
+    requires { triple.now ≡ three_of k.now p.now.half q.now.half }
+    ensures { result ≡ four_in_order (refutation_of_four strict) k.now p.now q.now r.now }
+{
+    if !triple.has_one_sign(&r.half) {
+        return None;
+    }
+    four_in_order(strict, k, p, q, r)
+}
+
+/// The refutation by a half-space and three others, in the order of their places, if they refute.
+fn four_in_order(strict: bool, k: &Half, p: &Placed, q: &Placed, r: &Placed) -> Option<Outside>
+    ensures { result ≡ four_in_order (refutation_of_four strict) k.now p.now q.now r.now }
+{
+    if !p.before {
+        return refutation_of_four(strict, k, &p.half, &q.half, &r.half);
+    }
+    if !q.before {
+        return refutation_of_four(strict, &p.half, k, &q.half, &r.half);
+    }
+    if !r.before {
+        return refutation_of_four(strict, &p.half, &q.half, k, &r.half);
+    }
+    refutation_of_four(strict, &p.half, &q.half, &r.half, k)
+}
+
+/// The refutation by four half-spaces, if they refute.
+fn refutation_of_four(strict: bool, e: &Half, f: &Half, g: &Half, h: &Half) -> Option<Outside>
+    ensures { result ≡ refutation_of_four strict e.now f.now g.now h.now }
+{
+    refutation(strict, &minors_of_four(e, f, g, h))
+}
