@@ -8,8 +8,11 @@ use Rattle.rp_geometry.specs.searches.Certificate.{Multiple, is_inside_certifica
 use Rattle.rp_geometry.specs.searches.Vertex.{first_inside, first_weak_point}
 use Rattle.rp_geometry.specs.searches.Elimination.{first_outside}
 use Rattle.rp_geometry.specs.searches.ProofLine.{strict_line, weak_line, in_line, out_line, at_line, apart_line}
-use Rattle.rp_geometry.specs.laws.CellLaws.{IsSolution}
+use Rattle.rp_geometry.specs.laws.CellLaws.{AreHalfSpaces, IsSolution}
 use Rattle.rp_convex.proofs.Certified.{strict_solution_is_member_spec, inside_certificate_shows_member_spec}
+use Rattle.rp_convex.proofs.Inside.{member_moves_inside_spec}
+use Rattle.rp_convex.proofs.InsideFound.{inside_is_found_spec}
+use Rattle.rp_convex.proofs.WeakPoint.{weak_point_is_found_spec}
 
 -- the fact of an answer that is some
 pub of_some : {A : Type 0} (P : A → Type 0) (o : Option A) (x : A) → o ≡ Some x → IfSome o P → P x
@@ -65,3 +68,18 @@ pub decided_inside : (cell same : List HalfSpace) (o : Option (List RationalPoin
 decided_inside cell same o points e f k s =
     let passes = subst (λ (hs : List HalfSpace). IsTrue (is_inside_certificate hs points)) e (of_some (λ ps. IsTrue (is_inside_certificate same ps)) o points s k) in
     (sym (f ∙ ap first_inside e) ∙ s, passes, inside_certificate_shows_member_spec cell points passes)
+
+-- a cell without a strict solution has no member
+pub empty_without_solution : (cell : List HalfSpace) → AreHalfSpaces cell → ((p : RationalPoint) → ¬ IsSolution true cell p) → IsEmpty (shape_of_cell cell)
+empty_without_solution cell bounds none q m = let s = member_moves_inside_spec cell bounds (q, m) in none s.0 s.1
+
+-- the line of a strict test of a cell that is known to have no member
+pub line_of_empty : (cell : List HalfSpace) (terms : List Multiple) → AreHalfSpaces cell → IsEmpty (shape_of_cell cell) → first_outside true cell ≡ Some terms → out_line terms ≡ strict_line cell
+line_of_empty cell terms bounds empty first =
+    line_outside cell terms (none_unless (first_inside cell) (λ s. let m = (inside_is_found_spec cell bounds).some.0 s in empty m.0 m.1)) first
+
+-- the line of a weak test of a cell whose weak system is known to have no point
+pub line_of_apart : (cell : List HalfSpace) (terms : List Multiple) → AreHalfSpaces cell → ((p : RationalPoint) → ¬ IsSolution false cell p) → first_outside false cell ≡ Some terms
+    → apart_line terms ≡ weak_line cell
+line_of_apart cell terms bounds none first =
+    line_apart cell terms (none_unless (first_weak_point cell) (λ s. let m = (weak_point_is_found_spec cell bounds).some.0 s in none m.0 m.1)) first

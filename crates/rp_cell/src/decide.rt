@@ -10,7 +10,7 @@ ghost use Rattle.rp_geometry.specs.searches.ProofLine.{strict_line, weak_line, o
 ghost use Rattle.rp_cell.specs.Decisions.{line_of_strict, line_of_weak, DecidesStrict, DecidesWeak};
 
 use crate::held::Held;
-use rp_elim::first_outside;
+use rp_elim::{first_outside, first_outside_of_two};
 use rp_space::{Half, Inside, Outside, Point, keep_bounds};
 use rp_vertex::{first_inside, first_weak};
 
@@ -34,7 +34,7 @@ pub enum Weak {
 }
 
 /// The fewest half-spaces of a cell that is held with its vertices to be decided: with fewer the searches are as fast.
-pub(crate) const FEW: usize = 12;
+const FEW: usize = 12;
 
 /// Whether a cell has a point: the first inside certificate exactly where it has one, else the first outside certificate.
 /// There always is one of the two (Motzkin's theorem of the alternative). A cell has at most 64 half-spaces.
@@ -44,9 +44,23 @@ pub fn decide_strict(cell: &[Half]) -> Strict
     ensures decides { DecidesStrict cell.now result }
     ensures line { line_of_strict result ≡ strict_line cell.now }
 {
+    // Only so that it is known of all half-spaces that they keep their bounds.
+    keep_bounds(cell);
+    if let Some(terms) = first_outside_of_two(cell, true) {
+        return Strict::Outside(terms);
+    }
     if cell.len() < FEW {
         return search_strict(cell);
     }
+    hold_strict(cell)
+}
+
+/// The same, over vertices. It is apart so that nobody else makes room for them.
+fn hold_strict(cell: &[Half]) -> Strict
+    requires { length cell.now ≤ 64 }
+    ensures decides { DecidesStrict cell.now result }
+    ensures line { line_of_strict result ≡ strict_line cell.now }
+{
     Held::new(cell).strict()
 }
 
@@ -70,9 +84,23 @@ pub fn decide_weak(cell: &[Half]) -> Weak
     ensures decides { DecidesWeak cell.now result }
     ensures line { line_of_weak result ≡ weak_line cell.now }
 {
+    // Only so that it is known of all half-spaces that they keep their bounds.
+    keep_bounds(cell);
+    if let Some(terms) = first_outside_of_two(cell, false) {
+        return Weak::Outside(terms);
+    }
     if cell.len() < FEW {
         return search_weak(cell);
     }
+    hold_weak(cell)
+}
+
+/// The same, over vertices. It is apart so that nobody else makes room for them.
+fn hold_weak(cell: &[Half]) -> Weak
+    requires { length cell.now ≤ 64 }
+    ensures decides { DecidesWeak cell.now result }
+    ensures line { line_of_weak result ≡ weak_line cell.now }
+{
     Held::new(cell).weak()
 }
 

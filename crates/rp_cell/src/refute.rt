@@ -8,10 +8,14 @@ ghost use Rattle.rp_geometry.specs.searches.Certificate.{is_outside_certificate}
 ghost use Rattle.rp_geometry.specs.searches.Elimination.{first_outside};
 ghost use Rattle.rp_geometry.specs.searches.ProofLine.{strict_line, weak_line, out_line, apart_line};
 
-use crate::decide::{FEW, refute_strict, refute_weak};
+use crate::decide::{refute_strict, refute_weak};
 use crate::held::Held;
 use rp_elim::first_outside_through;
 use rp_space::{Half, Outside, keep_bounds};
+
+/// The fewest half-spaces of a cell whose others are held with their vertices to see that they have a point: with fewer the
+/// search among all of them is as fast.
+const FEW: usize = 12;
 
 /// The first outside certificate of a cell that is known to have no point, as `refute_strict` answers. Where the others have
 /// a point without the half-space at a place, that one is in every refutation, and the search is through it.
@@ -53,9 +57,16 @@ fn have_point_without(cell: &[Half], place: usize) -> bool
     ensures place { result ≡ true → place < length cell.now }
     ensures point { result ≡ true → IsNonempty (shape_of_cell (take place cell.now ++ drop (place + 1) cell.now)) }
 {
-    if cell.len() < FEW || place >= cell.len() {
-        return false;
-    }
+    cell.len() >= FEW && place < cell.len() && is_held_without(cell, place)
+}
+
+/// Whether the others of the cell are seen to have a point without the half-space at a place. It is apart so that nobody
+/// else makes room for their vertices.
+fn is_held_without(cell: &[Half], place: usize) -> bool
+    requires few { length cell.now ≤ 64 }
+    requires place { place < length cell.now }
+    ensures { result ≡ true → IsNonempty (shape_of_cell (take place cell.now ++ drop (place + 1) cell.now)) }
+{
     let mut others = Held::new(&cell[..place]);
     others.extend(&cell[place + 1..]);
     others.has_point()
@@ -84,9 +95,16 @@ fn have_weak_point_without(cell: &[Half], place: usize) -> bool
     ensures place { result ≡ true → place < length cell.now }
     ensures point { result ≡ true → (p : RationalPoint) × IsSolution false (take place cell.now ++ drop (place + 1) cell.now) p }
 {
-    if cell.len() < FEW || place >= cell.len() {
-        return false;
-    }
+    cell.len() >= FEW && place < cell.len() && is_held_weakly_without(cell, place)
+}
+
+/// Whether the weak system of the others is seen to have a point without the half-space at a place. It is apart so that
+/// nobody else makes room for their vertices.
+fn is_held_weakly_without(cell: &[Half], place: usize) -> bool
+    requires few { length cell.now ≤ 64 }
+    requires place { place < length cell.now }
+    ensures { result ≡ true → (p : RationalPoint) × IsSolution false (take place cell.now ++ drop (place + 1) cell.now) p }
+{
     let mut others = Held::new(&cell[..place]);
     others.extend(&cell[place + 1..]);
     others.has_weak_point()

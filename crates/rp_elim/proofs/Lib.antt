@@ -2,6 +2,7 @@ pub mod Scaled
 pub mod Signs
 pub mod Divisor
 pub mod Found
+pub mod FewTerms
 pub mod Mixed
 pub mod Three
 pub mod Dependent

@@ -5,3 +5,4 @@ pub mod CrossMinors
 pub mod TripleSigns
 pub mod CoupleSign
 pub mod HeldFast
+pub mod FewTerms

@@ -11,7 +11,7 @@ mod search;
 mod through;
 mod triple;
 
-pub use search::first_outside;
+pub use search::{first_outside, first_outside_of_two};
 pub use through::first_outside_through;
 
 #[cfg(test)]

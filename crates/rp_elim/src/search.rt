@@ -1,10 +1,11 @@
 //! Searches over one, two, three and four half-spaces, in the order of their places.
-ghost use Rattle.std.specs.Prelude.{◌≡◌, ◌↔◌, ◌≤◌, length, IsNone, IfSome, IsTrue};
-ghost use Rattle.rp_geometry.specs.Geometry.{RationalPoint};
+ghost use Rattle.std.specs.Prelude.{◌≡◌, ◌↔◌, ◌≤◌, length, Some, IsNone, IfSome, IsTrue};
+ghost use Rattle.rp_geometry.specs.Geometry.{RationalPoint, with_cube};
 ghost use Rattle.rp_geometry.specs.laws.CellLaws.{IsSolution};
 ghost use Rattle.rp_geometry.specs.searches.Certificate.{is_outside_certificate};
 ghost use Rattle.rp_geometry.specs.searches.Search.{first_of, first_of_pairs, first_of_triples, first_of_quadruples};
 ghost use Rattle.rp_geometry.specs.searches.Elimination.{refutation_of_one, refutation_of_two, refutation_of_three, refutation_of_four, first_refutation, first_outside};
+ghost use Rattle.rp_elim.specs.FewTerms.{first_of_two};
 
 use crate::couple::Couple;
 use crate::minors::{are_parallel, is_without_normal, minors_of_two};
@@ -27,20 +28,41 @@ pub fn first_outside(cell: &[Half], strict: bool) -> Option<Outside>
     first_refutation(strict, system.as_slice())
 }
 
+/// The first outside certificate of a cell, as `first_outside` finds it, if it has at most two terms: then one half-space
+/// holds no point, or two look away from one another. So few sets are tried that this may come before a search for points.
+/// With `None` it isn't known whether there is a point. The cell has at most 64 half-spaces.
+pub fn first_outside_of_two(cell: &[Half], strict: bool) -> Option<Outside>
+    requires { length cell.now ≤ 64 }
+    ensures found { result ≡ first_of_two strict (with_cube cell.now) }
+    ensures first { IfSome result (λ terms. first_outside strict cell.now ≡ Some terms) }
+    ensures passes { IfSome result (λ terms. IsTrue (is_outside_certificate strict cell.now terms)) }
+    ensures none { IfSome result (λ terms. (p : RationalPoint) → ¬ IsSolution strict cell.now p) }
+{
+    let system = with_cube(cell);
+    first_of_two(strict, system.as_slice())
+}
+
 /// The first refutation among the half-spaces of a list, by number of terms and then by places.
 fn first_refutation(strict: bool, halves: &[Half]) -> Option<Outside>
     ensures { result ≡ first_refutation strict halves.now }
 {
-    if let Some(terms) = first_one(strict, halves) {
-        return Some(terms);
-    }
-    if let Some(terms) = first_two(strict, halves) {
+    if let Some(terms) = first_of_two(strict, halves) {
         return Some(terms);
     }
     if let Some(terms) = first_three(strict, halves) {
         return Some(terms);
     }
     first_four(strict, halves)
+}
+
+/// The first refutation by one half-space of a list, or else by two.
+fn first_of_two(strict: bool, halves: &[Half]) -> Option<Outside>
+    ensures { result ≡ first_of_two strict halves.now }
+{
+    if let Some(terms) = first_one(strict, halves) {
+        return Some(terms);
+    }
+    first_two(strict, halves)
 }
 
 /// The refutation by one half-space, if it refutes. Only one without a normal can cancel.
