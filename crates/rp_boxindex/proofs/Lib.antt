@@ -1,0 +1,16 @@
+pub mod Bounds
+pub mod Changes
+pub mod Counts
+pub mod Exact
+pub mod Few
+pub mod Ints
+pub mod Known
+pub mod Maps
+pub mod Nodes
+pub mod Order
+pub mod Places
+pub mod Pruned
+pub mod Rising
+pub mod Same
+pub mod Slender
+pub mod Visits

@@ -1,0 +1,80 @@
+use Rattle.std.proofs.Common.{◌≡◌, Bool, true, false, rules, ℤ}
+use Rattle.rp_geometry.specs.Geometry.{IntegerBox}
+use Rattle.rp_space.specs.Boxes.{integer_box}
+use Rattle.rp_boxindex.specs.Meeting.{is_below}
+use Rattle.rp_boxindex.specs.tree.Order.{low}
+use Rattle.rp_boxindex.proofs.Visits.{only_left, only_left_low, both_sides, both_sides_low, found_none, found_left, found_all}
+use Rattle.std.proofs.lemmas.Result.{on_ok_weaker}
+use Rattle.rp_boxindex.proofs.search.+collect.Goals as goal
+
+pub returns-then-not-is_reached_from-clause-found : goal.returns-then-not-is_reached_from-clause-found
+returns-then-not-is_reached_from-clause-found g t c =
+    let closed : Bool = c.args.query.now.closed in
+    let b : IntegerBox = integer_box c.args.query.now.bounds in
+    let top : ℤ = c.visit-node.result.top in
+    let short : is_below closed b.x1 top ≡ false = search rules in
+    found_none closed b top c.args.tree.now.entries c.args.out.now.items c.visit-node.ensures.top short
+
+pub returns-in_err-collect-clause-most : goal.returns-in_err-collect-clause-most
+returns-in_err-collect-clause-most g t c =
+    only_left c.args.query.now.closed (integer_box c.args.query.now.bounds) c.visit-node.ensures.parts c.args.steps.now c.visit-node.new.steps c.collect.new.steps c.visit-node.ensures.step c.collect.ensures.most
+
+pub returns-in_err-collect-clause-most_low : goal.returns-in_err-collect-clause-most_low
+returns-in_err-collect-clause-most_low g t c =
+    let closed : Bool = c.args.query.now.closed in
+    let b : IntegerBox = integer_box c.args.query.now.bounds in
+    let top : ℤ = c.visit-node.result.top in
+    let reach : is_below closed b.x1 top ≡ true = search rules in
+    only_left_low closed b top c.visit-node.ensures.parts c.visit-node.ensures.top reach c.args.steps.now c.visit-node.new.steps c.collect.new.steps c.visit-node.ensures.step c.collect.ensures.most_low
+
+pub returns-then-not-reaches-clause-found : goal.returns-then-not-reaches-clause-found
+returns-then-not-reaches-clause-found g t c =
+    let closed : Bool = c.args.query.now.closed in
+    let b : IntegerBox = integer_box c.args.query.now.bounds in
+    let late : is_below closed (low c.visit-node.result.entry) b.x2 ≡ false = search rules in
+    found_left closed b c.args.out.now.items c.collect.new.out.items c.visit-node.ensures.parts late c.in_ok-collect.ensures.found
+
+pub returns-then-not-reaches-clause-most : goal.returns-then-not-reaches-clause-most
+returns-then-not-reaches-clause-most g t c =
+    only_left c.args.query.now.closed (integer_box c.args.query.now.bounds) c.visit-node.ensures.parts c.args.steps.now c.visit-node.new.steps c.collect.new.steps c.visit-node.ensures.step c.collect.ensures.most
+
+pub returns-then-not-reaches-clause-most_low : goal.returns-then-not-reaches-clause-most_low
+returns-then-not-reaches-clause-most_low g t c =
+    let closed : Bool = c.args.query.now.closed in
+    let b : IntegerBox = integer_box c.args.query.now.bounds in
+    let top : ℤ = c.visit-node.result.top in
+    let reach : is_below closed b.x1 top ≡ true = search rules in
+    only_left_low closed b top c.visit-node.ensures.parts c.visit-node.ensures.top reach c.args.steps.now c.visit-node.new.steps c.collect.new.steps c.visit-node.ensures.step c.collect.ensures.most_low
+
+pub returns-in_err-collect_one-clause-most : goal.returns-in_err-collect_one-clause-most
+returns-in_err-collect_one-clause-most g t c =
+    only_left c.args.query.now.closed (integer_box c.args.query.now.bounds) c.visit-node.ensures.parts c.args.steps.now c.visit-node.new.steps c.collect.new.steps c.visit-node.ensures.step c.collect.ensures.most
+
+pub returns-in_err-collect_one-clause-most_low : goal.returns-in_err-collect_one-clause-most_low
+returns-in_err-collect_one-clause-most_low g t c =
+    let closed : Bool = c.args.query.now.closed in
+    let b : IntegerBox = integer_box c.args.query.now.bounds in
+    let top : ℤ = c.visit-node.result.top in
+    let reach : is_below closed b.x1 top ≡ true = search rules in
+    only_left_low closed b top c.visit-node.ensures.parts c.visit-node.ensures.top reach c.args.steps.now c.visit-node.new.steps c.collect.new.steps c.visit-node.ensures.step c.collect.ensures.most_low
+
+pub returns-clause-found : goal.returns-clause-found
+returns-clause-found g t c =
+    let closed : Bool = c.args.query.now.closed in
+    let b : IntegerBox = integer_box c.args.query.now.bounds in
+    on_ok_weaker c.collect-2.result (found_all closed b c.args.out.now.items c.collect.new.out.items c.collect_one.new.out.items c.collect-2.new.out.items c.visit-node.ensures.parts c.in_ok-collect.ensures.found c.in_ok-collect_one.ensures) c.collect-2.ensures.found
+
+pub returns-clause-most : goal.returns-clause-most
+returns-clause-most g t c =
+    let closed : Bool = c.args.query.now.closed in
+    let b : IntegerBox = integer_box c.args.query.now.bounds in
+    let early : is_below closed (low c.visit-node.result.entry) b.x2 ≡ true = search rules in
+    both_sides closed b c.visit-node.ensures.parts early c.args.steps.now c.visit-node.new.steps c.collect.new.steps c.collect-2.new.steps c.visit-node.ensures.step c.collect.ensures.most_low c.collect-2.ensures.most
+
+pub returns-clause-most_low : goal.returns-clause-most_low
+returns-clause-most_low g t c =
+    let closed : Bool = c.args.query.now.closed in
+    let b : IntegerBox = integer_box c.args.query.now.bounds in
+    let top : ℤ = c.visit-node.result.top in
+    let reach : is_below closed b.x1 top ≡ true = search rules in
+    both_sides_low closed b top c.visit-node.ensures.parts c.visit-node.ensures.top reach c.args.steps.now c.visit-node.new.steps c.collect.new.steps c.collect-2.new.steps c.visit-node.ensures.step c.collect.ensures.most_low c.collect-2.ensures.most_low

@@ -1,0 +1,31 @@
+use Rattle.rp_boxindex.specs.tree.Nodes.{AreParts}
+use Rattle.rp_boxindex.proofs.Order.{low_side, high_side, turned_right, turned_twice}
+use Rattle.rp_boxindex.proofs.tree.balance.rotate_right.Goals as goal
+
+pub join-requires-clause-between : goal.join-requires-clause-between
+join-requires-clause-between c =
+    let parts : AreParts c.args.left c.in-Some.a c.in-Some.j.value.entry c.in-Some.b = c.in-Some.ensures in
+    low_side parts c.args.node.value.entry c.args.right.entries c.requires.between
+
+pub join-requires-then-height-clause-between : goal.join-requires-then-height-clause-between
+join-requires-then-height-clause-between c =
+    let parts : AreParts c.args.left c.in-Some.a c.in-Some.j.value.entry c.in-Some.b = c.in-Some.ensures in
+    turned_right parts c.args.node.value.entry c.args.right.entries c.join.result.entries c.requires.between c.join.ensures.entries
+
+pub join-requires-2-clause-between : goal.join-requires-2-clause-between
+join-requires-2-clause-between c =
+    let parts : AreParts c.args.left c.in-Some.a c.in-Some.j.value.entry c.in-Some.b = c.in-Some.ensures in
+    let inner : AreParts c.in-Some.b c.in-Some-into_parts.u c.in-Some-into_parts.i.value.entry c.in-Some-into_parts.v = c.in-Some-into_parts.ensures in
+    high_side inner c.in-Some.j.value.entry c.in-Some.a.entries parts.between
+
+pub join-requires-3-clause-between : goal.join-requires-3-clause-between
+join-requires-3-clause-between c =
+    let parts : AreParts c.args.left c.in-Some.a c.in-Some.j.value.entry c.in-Some.b = c.in-Some.ensures in
+    let inner : AreParts c.in-Some.b c.in-Some-into_parts.u c.in-Some-into_parts.i.value.entry c.in-Some-into_parts.v = c.in-Some-into_parts.ensures in
+    low_side inner c.args.node.value.entry c.args.right.entries (low_side parts c.args.node.value.entry c.args.right.entries c.requires.between)
+
+pub join-requires-4-clause-between : goal.join-requires-4-clause-between
+join-requires-4-clause-between c =
+    let parts : AreParts c.args.left c.in-Some.a c.in-Some.j.value.entry c.in-Some.b = c.in-Some.ensures in
+    let inner : AreParts c.in-Some.b c.in-Some-into_parts.u c.in-Some-into_parts.i.value.entry c.in-Some-into_parts.v = c.in-Some-into_parts.ensures in
+    turned_twice inner c.in-Some.a.entries c.in-Some.j.value.entry c.args.node.value.entry c.args.right.entries c.join-2.result.entries c.join-3.result.entries parts.between (low_side parts c.args.node.value.entry c.args.right.entries c.requires.between) c.join-2.ensures.entries c.join-3.ensures.entries

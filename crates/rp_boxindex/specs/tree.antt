@@ -1,0 +1,5 @@
+-- Words of the search tree, which no caller needs.
+pub mod Cost
+pub mod Nodes
+pub mod Order
+pub mod Views

@@ -1,0 +1,19 @@
+-- How many nodes of a tree a search visits.
+use Rattle.std.specs.Prelude.{◌≡◌, ℕ, ◌+◌, ◌*◌, Bool, not, List}
+use Rattle.rp_geometry.specs.Geometry.{IntegerBox}
+use Rattle.rp_boxindex.specs.Boxes.{Entry}
+use Rattle.rp_boxindex.specs.Counts.{count}
+use Rattle.rp_boxindex.specs.Meeting.{is_below}
+use Rattle.rp_boxindex.specs.tree.Order.{low}
+
+-- all boxes of a list begin before a box ends on the x axis
+abbrev pub AllLow : Bool → IntegerBox → List Entry → Type 0
+AllLow closed b es = count (λ e. not (is_below closed (low e) b.x2)) es ≡ 0
+
+-- the most nodes of a tree of height h that are visited, where k of its boxes meet on the x axis
+abbrev pub most_steps : ℕ → ℕ → ℕ
+most_steps k h = 2 * (k * h) + 2 * h + 1
+
+-- the same where all boxes are low
+abbrev pub most_steps_low : ℕ → ℕ → ℕ
+most_steps_low k h = 2 * (k * h) + 1

@@ -1,0 +1,61 @@
+-- What a tree is seen as, and what holds at each of its nodes.
+use Rattle.std.specs.Prelude.{◌≡◌, ℕ, ◌+◌, ◌*◌, ◌^◌, ◌<◌, ◌≤◌, max, ℤ, int_lt, int_le, List, ◌∷◌, ◌++◌, length, Option, Some, None, Box}
+use Rattle.std.specs.declared.alloc.Global.{Global}
+use Rattle.rp_space.specs.Boxes.{integer_box}
+use Rattle.rp_boxindex.specs.Boxes.{Entry}
+use Rattle.rp_boxindex.specs.Counts.{count}
+use Rattle.rp_boxindex.specs.declared.tree.Node.{Node}
+use Rattle.rp_boxindex.specs.tree.Order.{AllAfter, IsBetween}
+use Rattle.rp_boxindex.specs.tree.Views.{TreeView, empty_tree}
+
+-- the entries of a node and below it, in order
+abbrev pub entries_of : Node → List Entry
+entries_of n = n.left.entries ++ n.entry ∷ n.right.entries
+
+-- what a tree with this root is seen as
+abbrev pub view_of : Option (Box Node Global) → TreeView
+view_of None = empty_tree
+view_of (Some n) = record { entries = entries_of n.value; height = n.value.height }
+
+-- the greatest x of an entry's box
+abbrev pub high : Entry → ℤ
+high e = (integer_box e.1).x2
+
+-- the greatest x of all boxes: none has a greater one, and one has it
+abbrev pub IsTop : ℤ → List Entry → Type 0
+IsTop top es = (count (λ x. int_lt top (high x)) es ≡ 0) × (0 < count (λ x. int_le top (high x)) es)
+
+-- a tree of n entries is not too high
+abbrev pub IsSlender : ℕ → ℕ → Type 0
+IsSlender n height = 2 ^ height ≤ (n + 1) * (n + 1)
+
+-- two heights differ by at most so much
+abbrev pub DifferByAtMost : ℕ → ℕ → ℕ → Type 0
+DifferByAtMost by l r = (l ≤ r + by) × (r ≤ l + by)
+
+-- a tree is made of two sides and an entry between them
+pub record AreParts (tree left : TreeView) (e : Entry) (right : TreeView) : Type 0 where
+  pub entries : tree.entries ≡ left.entries ++ e ∷ right.entries
+  pub between : IsBetween left.entries e right.entries
+  pub level : DifferByAtMost 1 left.height right.height
+  pub height : tree.height ≡ max left.height right.height + 1
+
+-- the first entry of a tree, and the tree of the others
+pub record IsSplit (tree : TreeView) (first : Entry) (rest : TreeView) : Type 0 where
+  pub entries : tree.entries ≡ first ∷ rest.entries
+  pub after : AllAfter first rest.entries
+  pub not_higher : rest.height ≤ tree.height
+  pub at_most_one_lower : tree.height ≤ rest.height + 1
+
+-- what holds at each node of a tree
+pub record IsSettled (n : Node) : Type 0 where
+  pub between : IsBetween n.left.entries n.entry n.right.entries
+  pub level : DifferByAtMost 1 n.left.height n.right.height
+  pub height : n.height ≡ max n.left.height n.right.height + 1
+  pub top : IsTop n.top (entries_of n)
+  pub slender : IsSlender (length (entries_of n)) n.height
+
+-- what holds at the root of a tree, where it has a node
+abbrev pub IsTree : Option (Box Node Global) → Type 0
+IsTree None = Unit {0}
+IsTree (Some n) = IsSettled n.value

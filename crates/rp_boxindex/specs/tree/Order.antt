@@ -1,0 +1,44 @@
+-- The order of the entries of a tree.
+use Rattle.std.specs.Prelude.{◌≡◌, ℕ, Bool, not, ◌&&◌, ◌||◌, nat_lt, ℤ, int_lt, List, map}
+use Rattle.std.specs.Ordering.{int_eq}
+use Rattle.rp_space.specs.Boxes.{integer_box}
+use Rattle.rp_boxindex.specs.Boxes.{Entry}
+use Rattle.rp_boxindex.specs.Counts.{count}
+use Rattle.rp_boxindex.specs.declared.place.Place.{Place}
+
+-- the least x of an entry's box
+abbrev pub low : Entry → ℤ
+low e = (integer_box e.1).x1
+
+-- the id of each entry, with the least x of its box
+abbrev pub lows_of : List Entry → List (ℕ × ℤ)
+lows_of es = map (λ e. (e.0, low e)) es
+
+-- the place of an entry in the order
+abbrev pub place_of : Entry → Place
+place_of e = record { x = low e; id = e.0 }
+
+-- a place comes before another: by the least x, and by the id where two have the same
+abbrev pub precedes : Place → Place → Bool
+precedes p q = int_lt p.x q.x || (int_eq p.x q.x && nat_lt p.id q.id)
+
+-- an entry comes before another
+abbrev pub is_before : Entry → Entry → Bool
+is_before a b = precedes (place_of a) (place_of b)
+
+-- an entry stands at a place: neither comes before the other
+abbrev pub is_at_place : Place → Entry → Bool
+is_at_place p e = not (precedes p (place_of e)) && not (precedes (place_of e) p)
+
+-- all entries of a list come before one
+abbrev pub AllBefore : List Entry → Entry → Type 0
+AllBefore es e = count (λ x. not (is_before x e)) es ≡ 0
+
+-- all entries of a list come after one
+abbrev pub AllAfter : Entry → List Entry → Type 0
+AllAfter e es = count (λ x. not (is_before e x)) es ≡ 0
+
+-- an entry stands in order between two lists
+pub record IsBetween (left : List Entry) (e : Entry) (right : List Entry) : Type 0 where
+  pub before : AllBefore left e
+  pub after : AllAfter e right

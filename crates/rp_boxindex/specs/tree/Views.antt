@@ -1,0 +1,12 @@
+-- What a tree is seen as.
+use Rattle.std.specs.Prelude.{ℕ, List, []}
+use Rattle.rp_boxindex.specs.Boxes.{Entry}
+
+-- the entries in order, and the height
+pub record TreeView : Type 0 where
+  pub entries : List Entry
+  pub height : ℕ
+
+-- no entries
+abbrev pub empty_tree : TreeView
+empty_tree = record { entries = []; height = 0 }

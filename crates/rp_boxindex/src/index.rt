@@ -1,0 +1,123 @@
+//! An index over boxes.
+ghost use Rattle.std.specs.Prelude.{◌≡◌, ℕ, ◌+◌, ◌*◌, ◌≤◌, false, IfOk, IfErr, OnOk, OnErr};
+ghost use Rattle.std.specs.FinMap as map;
+ghost use Rattle.rp_space.specs.Boxes.{integer_box};
+ghost use Rattle.rp_boxindex.specs.Bound.{count_on_x, IsGreatestExponent};
+ghost use Rattle.rp_boxindex.specs.Fault.{is_known};
+ghost use Rattle.rp_boxindex.specs.Meeting.{meeting_ids};
+
+use crate::fault::IndexFault;
+use crate::place::Place;
+use crate::query::Query;
+use crate::search::collect;
+use crate::steps::Steps;
+use crate::tree::{Node, Tree};
+use crate::watch::Watch;
+use rp_space::IntBox;
+use std::alloc::{AllocError, Global};
+use std::collections::BTreeMap;
+use std::marker::Model;
+use std::sync::ledger::Ledger;
+
+/// Boxes under their ids. A contract sees the finite map from the ids to the boxes.
+///
+/// The boxes stand in the tree alone. Beside it stands the least x of each, by which the tree finds an id.
+#[derive(Drop)]
+pub struct Index {
+    lows: BTreeMap<u32, i32>,
+    tree: Tree,
+}
+
+impl Model for Index {
+    ghost use Rattle.std.specs.FinMap as map;
+    ghost use Rattle.std.specs.Coded.{coded_ℕ};
+    ghost use Rattle.rp_boxindex.specs.Boxes.{Boxes, coded_box};
+    ghost use Rattle.rp_boxindex.specs.Counts.{SameCounts};
+    ghost use Rattle.rp_boxindex.specs.tree.Order.{lows_of};
+
+    ghost Value = { Boxes };
+
+    ghost coded = { map.code coded_ℕ coded_box };
+
+    ghost view = { λ a. map.from_entries a.tree.entries };
+
+    ghost invariant = { λ a. SameCounts (lows_of a.tree.entries) a.lows.entries };
+}
+
+impl Index {
+    /// The index with no box. Takes no memory.
+    pub fn new(alloc: Global) -> Index
+        ensures { result ≡ map.empty }
+    {
+        Index {
+            lows: BTreeMap::new(alloc),
+            tree: Tree::new(),
+        }
+    }
+
+    /// Takes a box in under an id that has none.
+    ///
+    /// Answers `Known` exactly where the id has a box, and `Memory` only for want of memory; then the index is as it was.
+    pub fn insert(&mut self, alloc: Global, id: u32, bounds: IntBox) -> Result<(), IndexFault>
+        ensures new { OnOk result (map.contains_key self.old id ≡ false) }
+        ensures ok { OnOk result (self.new ≡ map.insert self.old id bounds) }
+        ensures known { IfErr result (λ fault. is_known fault ≡ map.contains_key self.old id) }
+        ensures err { OnErr result (self.new ≡ self.old) }
+    {
+        // Only for what `len` ensures: fewer than 2^63 ids, so the tree is not too high, and none twice.
+        let _ = self.lows.len();
+        if self.lows.contains_key(&id) {
+            return Err(IndexFault::Known);
+        }
+        let node = Node::alone(alloc, (id, bounds))?;
+        self.lows.insert(id, bounds.lo[0])?;
+        let tree = self.tree.take();
+        self.tree = tree.with(node);
+        Ok(())
+    }
+
+    /// Takes the box of an id out, and answers whether the id had one. Takes no memory.
+    pub fn remove(&mut self, id: u32) -> bool
+        ensures there { result ≡ map.contains_key self.old id }
+        ensures gone { self.new ≡ map.remove self.old id }
+    {
+        // Only for what `len` ensures: fewer than 2^63 ids, so the tree is not too high, and none twice.
+        let _ = self.lows.len();
+        let Some(x) = self.lows.remove(&id) else {
+            return false;
+        };
+        let tree = self.tree.take();
+        let (rest, _) = tree.without(&Place { x, id });
+        self.tree = rest;
+        true
+    }
+
+    /// The ids of the boxes that meet a box, in rising order. Half-open boxes meet where each begins before the other ends,
+    /// on each axis; closed boxes also where one begins as the other ends.
+    ///
+    /// One step is one node that is visited. Where h is the greatest number with 2^h <= (n + 1)^2 for n boxes, and k of them
+    /// meet on the x axis, there are at most (k + 1) * (2h + 2). Answers `AllocError` only for want of memory.
+    pub fn meeting<W: Watch, L: Ledger>(
+        &self,
+        alloc: Global,
+        bounds: &IntBox,
+        closed: bool,
+        watch: &W,
+        steps: &mut Steps<L>,
+    ) -> Result<Vec<u32>, AllocError>
+        ensures exact { IfOk result (λ ids. ids.items ≡ meeting_ids closed (integer_box bounds.now) self.now) }
+        ensures rises { steps.old ≤ steps.new }
+        ensures few { (h : ℕ) → IsGreatestExponent (map.len self.now) h → steps.new ≤ steps.old + (count_on_x closed (integer_box bounds.now) self.now + 1) * (2 * h + 2) }
+    {
+        // Only for what `len` ensures: no id twice.
+        let _ = self.lows.len();
+        let query = Query {
+            bounds: *bounds,
+            closed,
+        };
+        let mut ids = Vec::new(alloc);
+        collect(&self.tree, &query, watch, steps, &mut ids)?;
+        ids.sort_unstable();
+        Ok(ids)
+    }
+}

@@ -1,0 +1,57 @@
+//! The search of a tree for the boxes that meet a box, which leaves out the subtrees in which none can: those that end before
+//! the box begins on the x axis, and what stands behind a box that begins after its end.
+ghost use Rattle.std.specs.Prelude.{◌≡◌, ◌+◌, ◌≤◌, ◌++◌, ◌∷◌, [], length, OnOk};
+ghost use Rattle.rp_space.specs.Boxes.{integer_box};
+ghost use Rattle.rp_boxindex.specs.Bound.{meets_on_x};
+ghost use Rattle.rp_boxindex.specs.Counts.{count};
+ghost use Rattle.rp_boxindex.specs.Meeting.{ids_that_meet};
+ghost use Rattle.rp_boxindex.specs.tree.Cost.{AllLow, most_steps, most_steps_low};
+ghost use Rattle.rp_boxindex.specs.tree.Nodes.{IsSlender};
+
+use crate::place::Entry;
+use crate::query::Query;
+use crate::steps::Steps;
+use crate::tree::Tree;
+use crate::watch::Watch;
+use std::alloc::AllocError;
+use std::sync::ledger::Ledger;
+
+/// Appends the ids of the boxes of a tree that are looked for, in the order of the tree. Answers `AllocError` only for want
+/// of memory. In any case the steps keep within the bound.
+pub(crate) fn collect<W: Watch, L: Ledger>(
+    tree: &Tree,
+    query: &Query,
+    watch: &W,
+    steps: &mut Steps<L>,
+    out: &mut Vec<u32>,
+) -> Result<(), AllocError>
+    ensures found { OnOk result (out.new.items ≡ out.old.items ++ ids_that_meet query.now.closed (integer_box query.now.bounds) tree.now.entries) }
+    ensures slender { IsSlender (length tree.now.entries) tree.now.height }
+    ensures rises { steps.old ≤ steps.new }
+    ensures most { steps.new ≤ steps.old + most_steps (count (meets_on_x query.now.closed (integer_box query.now.bounds)) tree.now.entries) tree.now.height }
+    ensures most_low { AllLow query.now.closed (integer_box query.now.bounds) tree.now.entries → steps.new ≤ steps.old + most_steps_low (count (meets_on_x query.now.closed (integer_box query.now.bounds)) tree.now.entries) tree.now.height }
+{
+    if tree.is_empty() {
+        return Ok(());
+    }
+    let node = tree.visit(watch, steps);
+    if !query.is_reached_from(node.top) {
+        return Ok(());
+    }
+    collect(node.left, query, watch, steps, out)?;
+    if !query.reaches(node.entry.1.lo[0]) {
+        return Ok(());
+    }
+    collect_one(&node.entry, query, out)?;
+    collect(node.right, query, watch, steps, out)
+}
+
+/// Appends the id of an entry whose box is looked for. Answers `AllocError` only for want of memory.
+fn collect_one(entry: &Entry, query: &Query, out: &mut Vec<u32>) -> Result<(), AllocError>
+    ensures { OnOk result (out.new.items ≡ out.old.items ++ ids_that_meet query.now.closed (integer_box query.now.bounds) (entry.now ∷ [])) }
+{
+    if query.is_met_by(&entry.1) {
+        out.push(entry.0)?;
+    }
+    Ok(())
+}

@@ -1,0 +1,106 @@
+//! An entry more, or an entry less.
+ghost use Rattle.std.specs.Prelude.{◌≡◌, ◌+◌, ◌≤◌, max, ◌∷◌, ◌++◌, MatchOption, true, IfOk};
+ghost use Rattle.std.specs.Option.{option_to_list};
+ghost use Rattle.rp_boxindex.specs.Boxes.{Entry};
+ghost use Rattle.rp_boxindex.specs.Counts.{count, SameCounts};
+ghost use Rattle.rp_boxindex.specs.tree.Nodes.{DifferByAtMost, IsSplit};
+ghost use Rattle.rp_boxindex.specs.tree.Order.{place_of, is_at_place, IsBetween};
+ghost use Rattle.rp_boxindex.specs.tree.Views.{empty_tree};
+
+use super::balance::balance;
+use super::{Node, Tree};
+use crate::place::{Entry, Place};
+use std::alloc::{AllocError, Global};
+
+impl Node {
+    /// A node for an entry, with nothing below it; its height and top are set where it is put into a tree. Answers
+    /// `AllocError` only for want of memory.
+    pub(crate) fn alone(alloc: Global, entry: Entry) -> Result<Box<Node>, AllocError>
+        ensures { IfOk result (λ node. node.value.entry ≡ entry) }
+    {
+        let top = entry.1.hi[0];
+        let node = Box::new(
+            alloc,
+            Node {
+                left: Tree::new(),
+                entry,
+                height: 1,
+                top,
+                right: Tree::new(),
+            },
+        )?;
+        Ok(node)
+    }
+}
+
+impl Tree {
+    /// The tree with the entry of a node put in its place, which is free. Takes no memory.
+    pub(crate) fn with(self, new: Box<Node>) -> Tree
+        requires fits { self.height ≤ 198 }
+        requires free { count (is_at_place (place_of new.value.entry)) self.entries ≡ 0 }
+        ensures entries { SameCounts result.entries (new.value.entry ∷ self.entries) }
+        ensures not_lower { self.height ≤ result.height }
+        ensures at_most_one_higher { result.height ≤ self.height + 1 }
+    {
+        match self.into_parts() {
+            None => balance(Tree::new(), new, Tree::new()),
+            Some((left, node, right)) => {
+                if Place::of(&new.entry).precedes(&Place::of(&node.entry)) {
+                    balance(left.with(new), node, right)
+                } else {
+                    balance(left, node, right.with(new))
+                }
+            }
+        }
+    }
+
+    /// The tree without the entry at a place, and that entry, if there is one. Takes no memory.
+    pub(crate) fn without(self, place: &Place) -> (Tree, Option<Entry>)
+        requires fits { self.height ≤ 198 }
+        ensures entries { SameCounts self.entries (option_to_list result.1 ++ result.0.entries) }
+        ensures gone { MatchOption result.1 (count (is_at_place place.now) self.entries ≡ 0) (λ e. is_at_place place.now e ≡ true) }
+        ensures not_higher { result.0.height ≤ self.height }
+        ensures at_most_one_lower { self.height ≤ result.0.height + 1 }
+    {
+        let Some((left, node, right)) = self.into_parts() else {
+            return (Tree::new(), None);
+        };
+        let own = Place::of(&node.entry);
+        if place.precedes(&own) {
+            let (left, gone) = left.without(place);
+            (balance(left, node, right), gone)
+        } else if own.precedes(place) {
+            let (right, gone) = right.without(place);
+            (balance(left, node, right), gone)
+        } else {
+            (concat(left, right), Some(node.entry))
+        }
+    }
+
+    /// The node of the first entry, and the tree of the others.
+    fn split_first(self) -> Option<(Box<Node>, Tree)>
+        requires fits { self.height ≤ 198 }
+        ensures { MatchOption result (self ≡ empty_tree) (λ p. IsSplit self p.0.value.entry p.1) }
+    {
+        let (left, node, right) = self.into_parts()?;
+        match left.split_first() {
+            None => Some((node, right)),
+            Some((first, rest)) => Some((first, balance(rest, node, right))),
+        }
+    }
+}
+
+/// The tree of the two sides of a node that is gone.
+fn concat(left: Tree, right: Tree) -> Tree
+    requires between { (e : Entry) × IsBetween left.entries e right.entries }
+    requires level { DifferByAtMost 1 left.height right.height }
+    requires fits { max left.height right.height ≤ 198 }
+    ensures entries { result.entries ≡ left.entries ++ right.entries }
+    ensures not_lower { max left.height right.height ≤ result.height }
+    ensures at_most_one_higher { result.height ≤ max left.height right.height + 1 }
+{
+    match right.split_first() {
+        None => left,
+        Some((first, rest)) => balance(left, first, rest),
+    }
+}
