@@ -1,5 +1,10 @@
+mod Changes
+mod ChildLemmas
 mod Compared
 mod Formed
+mod LaterLemmas
+mod LotLemmas
 mod Names
+mod ReadChildren
 mod RowLemmas
 mod Told

@@ -1,5 +1,5 @@
--- What names stand for: it is found by name, and what is kept under a new name stands last.
-use Rattle.std.proofs.Common.{◌≡◌, ℕ, ◌+◌, ◌≤◌, Bool, true, false, ◌||◌, cond, if◌then◌else◌, List, [], ◌∷◌, ◌++◌, map, length, Option, Some, None, is_some, refl, sym, ap, ◌∙◌, subst, lit≤}
+-- What names and lots stand for: it is found by name, and what is kept under a new name stands last.
+use Rattle.std.proofs.Common.{◌≡◌, ℕ, ◌+◌, ◌≤◌, Bool, true, false, ◌||◌, cond, if◌then◌else◌, List, [], ◌∷◌, ◌++◌, map, length, Option, Some, None, is_some, refl, sym, ap, ◌∙◌, subst}
 use Rattle.std.specs.Prelude.{IsTrue, IfSome, option_map, option_copied}
 use denote.Ref.{Bor}
 use Rattle.std.specs.List.{AllByRecursion}
@@ -12,13 +12,14 @@ use Rattle.rp_geometry.specs.sets.Shape.{Shape, Part, shape_of_parts}
 use Rattle.rp_geometry.specs.parts.Parts.{IsPart, IsRegion, AreOf}
 use Rattle.rp_language.specs.Name.{Label, label_eq, is_among}
 use Rattle.rp_walks.specs.FormLaws.{Agree, MeaningsAgree}
-use Rattle.rp_model.specs.states.State.{Kept, kept_of_parts, state_of_parts, parts_in, kept_named, parts_of_kept, names_of, most_names, most_kept_parts}
+use Rattle.rp_model.specs.states.State.{Kept, Lot, PlainState, kept_of_parts, lot_of_parts, state_of_parts, parts_in, is_live, live_lots, live_lot, lot_with_id, kept_named, parts_of_kept, parts_of_lot, names_of, most_names, most_kept_parts}
 use Rattle.rp_model.specs.states.Sound.{are_distinct, IsSound}
 use Rattle.rp_model.specs.commands.Row.{shapes_of_parts}
 use Rattle.rp_states.proofs.Labels.{distinct_together}
-use Rattle.rp_states.proofs.Listing.{all_mapped, all_unmapped}
+use Rattle.rp_states.proofs.Listing.{all_kept, all_mapped, all_unmapped}
 use Rattle.rp_states.proofs.Plain.{images_twice, image_sums}
-use Rattle.rp_machine.specs.Named.{kept_under, kept_entry, state_of_names, AreKeptWell, AreCounted, IsNewName}
+use Rattle.rp_parcels.specs.Kept.{AreSound}
+use Rattle.rp_machine.specs.Named.{kept_under, kept_entry, state_with, AreKeptWell, AreCounted, IsNewName}
 
 -- ---- looking up
 
@@ -86,21 +87,38 @@ counted_with n ks x ps counted new region = record {
 own_members : (k : Kept (Unit {0})) → IsRegion k.parts → AreOf IsPart (kept_of_parts k).set (kept_of_parts k).parts
 own_members k region = record { all = region; members = ((λ p m. m), λ p m. m) }
 
--- regions that are kept well make a sound state
-pub names_are_sound : (ks : List (Kept (Unit {0}))) → AreKeptWell ks → IsSound (state_of_parts (state_of_names ks))
-names_are_sound ks well = record {
+-- names that are kept well, beside the lots of a sound state, make a sound state
+pub names_are_sound : (y : Label) (old ks : List (Kept (Unit {0}))) (lots : List (Lot (Unit {0}))) → IsSound (state_of_parts (state_with y old lots)) → AreKeptWell ks → IsSound (state_of_parts (state_with y ks lots))
+names_are_sound y old ks lots sound well = record {
   names_keep_parts = all_mapped (λ (k : Kept Shape). AreOf IsPart k.set k.parts) kept_of_parts ks (all_map (λ (k : Kept (Unit {0})). IsRegion k.parts) (λ (k : Kept (Unit {0})). AreOf IsPart (shape_of_parts k.parts) k.parts) own_members ks well.regions);
-  lots_keep_parts = tt;
+  lots_keep_parts = sound.lots_keep_parts;
   names_distinct = subst (λ (xs : List Label). IsTrue (are_distinct xs)) (sym (images_twice kept_of_parts (λ (k : Kept Shape). k.name) ks)) well.distinct;
-  ids_distinct = refl;
-  live_lots_apart = tt;
-  lots_nonempty = tt;
+  ids_distinct = sound.ids_distinct;
+  live_lots_apart = sound.live_lots_apart;
+  lots_nonempty = sound.lots_nonempty;
   few_names = subst (λ (n : ℕ). n ≤ most_names) (sym (length-map ks kept_of_parts)) well.few_names;
   few_parts_under_names = subst (λ (n : ℕ). n ≤ most_kept_parts) (sym (image_sums kept_of_parts (λ (k : Kept Shape). length k.parts) ks)) well.few_parts;
-  few_parts_under_lots = lit≤ tt;
-  ends_after_birth = tt;
-  origins_before = tt;
-  origins_of_layer = tt;
+  few_parts_under_lots = sound.few_parts_under_lots;
+  ends_after_birth = sound.ends_after_birth;
+  origins_before = sound.origins_before;
+  origins_of_layer = sound.origins_of_layer;
+}
+
+-- sound lots, beside the names of a sound state, make a sound state
+pub lots_are_sound : (y : Label) (ks : List (Kept (Unit {0}))) (old lots : List (Lot (Unit {0}))) → IsSound (state_of_parts (state_with y ks old)) → AreSound lots → IsSound (state_of_parts (state_with y ks lots))
+lots_are_sound y ks old lots sound well = record {
+  names_keep_parts = sound.names_keep_parts;
+  lots_keep_parts = well.lots_keep_parts;
+  names_distinct = sound.names_distinct;
+  ids_distinct = well.ids_distinct;
+  live_lots_apart = well.live_lots_apart;
+  lots_nonempty = well.lots_nonempty;
+  few_names = sound.few_names;
+  few_parts_under_names = sound.few_parts_under_names;
+  few_parts_under_lots = well.few_parts_under_lots;
+  ends_after_birth = well.ends_after_birth;
+  origins_before = well.origins_before;
+  origins_of_layer = well.origins_of_layer;
 }
 
 -- a region agrees with the shape of its parts
@@ -117,8 +135,21 @@ region_found x (k ∷ ks) h = by (label_eq x k.name) (region_found x ks h.1)
     by true later = h.0
     by false later = later
 
--- in a sound state names stand for regions, and these have the members of their shapes
-pub names_agree : (ks : List (Kept (Unit {0}))) → IsSound (state_of_parts (state_of_names ks)) → MeaningsAgree IsPart (parts_in (state_of_names ks)) (shapes_of_parts (parts_in (state_of_names ks)))
-names_agree ks sound =
-    let regions = all_map (λ (k : Kept (Unit {0})). AreOf IsPart (shape_of_parts k.parts) k.parts) (λ (k : Kept (Unit {0})). IsRegion k.parts) (λ k of. of.all) ks (all_unmapped (λ (k : Kept Shape). AreOf IsPart k.set k.parts) kept_of_parts ks sound.names_keep_parts) in
-    record { names = λ x. region_agrees (parts_of_kept (kept_named x ks)) (region_found x ks regions); lots = λ x. tt }
+-- so is what a lot has
+lot_found : (x : Label) (ls : List (Lot (Unit {0}))) → AllByRecursion (λ l. IsRegion l.parts) ls → IfSome (parts_of_lot (lot_with_id x ls)) IsRegion
+lot_found x [] h = tt
+lot_found x (l ∷ ls) h = by (label_eq x l.id) (lot_found x ls h.1)
+  where
+    by : (b : Bool) → IfSome (parts_of_lot (lot_with_id x ls)) IsRegion → IfSome (parts_of_lot (elim b as (λ _. Option (Lot (Unit {0}))) [ true ↦ Some l | false ↦ lot_with_id x ls ])) IsRegion
+    by true later = h.0
+    by false later = later
+
+-- in a sound state names and lots stand for regions, and these have the members of their shapes
+pub regions_agree : (s : PlainState) → IsSound (state_of_parts s) → MeaningsAgree IsPart (parts_in s) (shapes_of_parts (parts_in s))
+regions_agree s sound =
+    let named = all_map (λ (k : Kept (Unit {0})). AreOf IsPart (shape_of_parts k.parts) k.parts) (λ (k : Kept (Unit {0})). IsRegion k.parts) (λ k of. of.all) s.names (all_unmapped (λ (k : Kept Shape). AreOf IsPart k.set k.parts) kept_of_parts s.names sound.names_keep_parts) in
+    let lots = all_map (λ (l : Lot (Unit {0})). AreOf IsPart (shape_of_parts l.parts) l.parts) (λ (l : Lot (Unit {0})). IsRegion l.parts) (λ l of. of.all) s.lots (all_unmapped (λ (l : Lot Shape). AreOf IsPart l.set l.parts) lot_of_parts s.lots sound.lots_keep_parts) in
+    record {
+      names = λ x. region_agrees (parts_of_kept (kept_named x s.names)) (region_found x s.names named);
+      lots = λ x. region_agrees (parts_of_lot (live_lot x s.lots)) (lot_found x (live_lots s.lots) (all_kept (λ (l : Lot (Unit {0})). IsRegion l.parts) is_live s.lots lots));
+    }

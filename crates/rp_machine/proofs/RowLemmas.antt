@@ -1,31 +1,17 @@
 -- What the rows of commands come to.
-use Rattle.std.proofs.Common.{◌≡◌, ℕ, ◌+◌, ◌≤◌, Bool, true, false, ◌&&◌, List, [], ◌∷◌, suc, length, map, Option, Some, None, Result, Ok, Err, refl, sym, ap, ◌∙◌, subst, arith}
-use Rattle.std.specs.Prelude.{nat_le, IfSome, IsNone, option_map}
+use Rattle.std.proofs.Common.{◌≡◌, ℕ, ◌+◌, ◌≤◌, Bool, true, false, ◌&&◌, List, [], ◌∷◌, suc, length, map, refl, ap, ◌∙◌, arith}
+use Rattle.std.specs.Prelude.{nat_le}
 use Rattle.rp_algebra.proofs.Tests.{and_first, and_second}
 use Rattle.rp_geometry.specs.sets.Shape.{Part}
 use Rattle.rp_language.specs.Name.{Label, is_among}
-use Rattle.rp_language.specs.Expression.{first_of_two}
-use Rattle.rp_walks.specs.Walk.{Walk, Work, done, stopped, limit_met, pass, stop, after_first, ◌>>=◌, ◌>>◌}
+use Rattle.rp_walks.specs.Walk.{Walk, Work, done, stopped, limit_met, pass, stop, ◌>>◌}
 use Rattle.rp_model.specs.states.State.{PlainState, name_added, names_of, parts_under_names, most_names, most_kept_parts}
-use Rattle.rp_model.specs.commands.Verdict.{Verdict, known, unknown, piece_lines}
+use Rattle.rp_model.specs.commands.Verdict.{Verdict, known, piece_lines}
 use Rattle.rp_model.specs.commands.Checks.{refuse_if}
 use Rattle.rp_model.specs.commands.Row.{Reply, refusal, accepted, check, row_define}
-use Rattle.rp_machine.specs.declared.fault.FormFault.{FormFault}
-use Rattle.rp_machine.specs.declared.fault.FormFault.TheVariants.{Unknown}
-use Rattle.rp_machine.specs.declared.reply.Reply.{Reply as CodeReply}
 use Rattle.rp_space.specs.Listed.{Listed}
 use Rattle.rp_pieces.specs.Lists.{lists_of}
 use Rattle.rp_machine.specs.Named.{kept_under, IsNewName}
-use Rattle.rp_machine.specs.Replies.{ComesTo, Walks}
-
--- ---- one form, and then a row
-
--- a row that goes on behind a form: no name is unknown, the form was made, and the rest was walked
-pub goes_on : (o : Option Label) (walk : Walk Work (List Part)) (next : List Part → Walk Work Reply) (ps : List Part) (old mid new : Work) (r : Result CodeReply FormFault)
-    → IfSome o (λ x. (Ok ps ≡ Err (Unknown x)) × (mid ≡ old)) → (IsNone o → walk old ≡ done ps mid) → Walks r mid new (next ps) → Walks r old new (check (option_map unknown (first_of_two o None)) (walk >>= next))
-goes_on (Some x) walk next ps old mid new r absent made rest = let e : Ok ps ≡ Err (Unknown x) = absent.0 in absurd (cc)
-goes_on None walk next ps old mid new (Ok reply) absent made rest = ap (after_first next) (made refl) ∙ rest
-goes_on None walk next ps old mid new (Err e) absent made rest = subst (ComesTo e new) (sym (ap (after_first next) (made refl))) rest
 
 -- ---- `let`
 

@@ -1,10 +1,10 @@
 -- What names stand for, as it is kept.
-use Rattle.std.specs.Prelude.{◌≡◌, ℕ, ◌+◌, ◌≤◌, false, IsTrue, List, [], length}
+use Rattle.std.specs.Prelude.{◌≡◌, ℕ, ◌+◌, ◌≤◌, false, IsTrue, List, length}
 use Rattle.std.specs.List.{AllByRecursion}
 use Rattle.rp_geometry.specs.sets.Shape.{Part}
 use Rattle.rp_geometry.specs.parts.Parts.{IsRegion}
 use Rattle.rp_language.specs.Name.{Label, is_among}
-use Rattle.rp_model.specs.states.State.{Kept, PlainState, base_layer, names_of, parts_under_names, most_names, most_kept_parts}
+use Rattle.rp_model.specs.states.State.{Kept, Lot, PlainState, names_of, parts_under_names, most_names, most_kept_parts}
 use Rattle.rp_model.specs.states.Sound.{are_distinct}
 
 -- a region under a name
@@ -15,9 +15,9 @@ kept_under x ps = record { name = x; set = tt; parts = ps }
 abbrev pub kept_entry : Label × List Part → Kept (Unit {0})
 kept_entry e = kept_under e.0 e.1
 
--- a state of names alone, in the layer that a script begins with
-abbrev pub state_of_names : List (Kept (Unit {0})) → PlainState
-state_of_names ks = record { layer = base_layer; names = ks; lots = [] }
+-- a state with this layer, these names and these lots
+abbrev pub state_with : Label → List (Kept (Unit {0})) → List (Lot (Unit {0})) → PlainState
+state_with y ks lots = record { layer = y; names = ks; lots = lots }
 
 -- regions under distinct names, within the limits of names and parts
 pub record AreKeptWell (ks : List (Kept (Unit {0}))) : Type 0 where

@@ -1,58 +1,87 @@
--- What a reply says of a command, and what it changes.
-use Rattle.std.specs.Prelude.{◌≡◌, ℕ, true, false, List, map, Result, Ok, Err}
-use Rattle.rp_language.specs.Expression.{Command}
-use Rattle.rp_walks.specs.Walk.{Outcome, done, stopped, limit_met, Walk, Work, pass, first_tester}
-use Rattle.rp_model.specs.states.State.{PlainState, Change, nothing_changes, name_added}
-use Rattle.rp_model.specs.commands.Verdict.{unknown, unbuilt}
-use Rattle.rp_model.specs.commands.Row.{Reply, reply, refusal, row}
-use Rattle.rp_model.specs.commands.Rule.{proofs_walked}
-use Rattle.rp_reports.specs.Text.{Answer}
-use Rattle.rp_reports.specs.Machine.{verdicts_walked}
-use Rattle.rp_reports.specs.Built.{is_built}
-use Rattle.rp_report.specs.Views.{verdict_of, answer_of}
-use Rattle.rp_report.specs.declared.answer.Answer.{Answer as CodeAnswer}
-use Rattle.rp_machine.specs.declared.fault.FormFault.{FormFault}
-use Rattle.rp_machine.specs.declared.fault.FormFault.TheVariants.{Unknown, Limit, Memory}
-use Rattle.rp_machine.specs.declared.reply.Change.{Change as CodeChange}
-use Rattle.rp_machine.specs.declared.reply.Change.TheVariants.{Nothing, Named}
+-- What a command has come to, said by what its row comes to.
+use Rattle.std.specs.Prelude.{◌≡◌, ℕ, List, [], ◌∷◌, map, Result, Ok, Err, IsErrAnd, option_map}
+use Rattle.rp_geometry.specs.sets.Shape.{Part}
+use Rattle.rp_geometry.specs.searches.ProofLine.{ProofLine}
+use Rattle.rp_language.specs.Expression.{Expression, first_unknown_among}
+use Rattle.rp_walks.specs.Walk.{Outcome, done, Walk, Work, first_tester, ◌>>=◌}
+use Rattle.rp_walks.specs.Form.{form}
+use Rattle.rp_model.specs.states.State.{PlainState, Change, changed, parts_in}
+use Rattle.rp_model.specs.commands.Verdict.{Verdict, says_ok, refused, limit, unknown}
+use Rattle.rp_model.specs.commands.Row.{Reply, reply_lines, check, with_forms}
+use Rattle.rp_space.specs.Listed.{Listed}
+use Rattle.rp_parcels.specs.declared.fault.ParcelFault.{ParcelFault}
+use Rattle.rp_parcels.specs.Rows.{cause_of, EndsBy}
+use Rattle.rp_report.specs.declared.answer.Verdict.{Verdict as CodeVerdict}
+use Rattle.rp_report.specs.Views.{refusal_of, verdict_of}
+use Rattle.rp_machine.specs.declared.fault.RowFault.{RowFault}
+use Rattle.rp_machine.specs.declared.fault.RowFault.TheVariants.{Refused, Limit, Memory}
 use Rattle.rp_machine.specs.declared.reply.Reply.{Reply as CodeReply}
-use Rattle.rp_machine.specs.Named.{kept_under, IsNewName}
+use Rattle.rp_machine.specs.declared.reply.Reply.TheVariants.{Told, Done}
+use Rattle.rp_machine.specs.Faults.{cause_of_row}
 
--- the change of the model
-abbrev pub change_of : CodeChange → Change (Unit {0})
-change_of Nothing = nothing_changes
-change_of (Named x ps) = name_added (kept_under x ps)
+-- ---- what the row of a command comes to
 
--- the reply of the model
-abbrev pub reply_of : CodeReply → Reply
-reply_of r = record { verdicts = map verdict_of r.verdicts.items; change = change_of r.change }
+-- a question was answered, and the work is this: the row comes to the lines, or has the fault
+abbrev pub Walks : Result (Listed CodeVerdict) RowFault → Work → Outcome Work Reply → Type 0
+Walks (Ok lines) w o = o ≡ done (reply_lines (map verdict_of lines.items)) w
+Walks (Err e) w o = EndsBy (cause_of_row e) w o
 
--- the change may be made in the state
-abbrev pub Fits : PlainState → CodeChange → Type 0
-Fits s Nothing = Unit {0}
-Fits s (Named x ps) = IsNewName s.names x ps
+-- the verdict lines of a reply
+abbrev pub lines_of : CodeReply → List Verdict
+lines_of (Told lines) = map verdict_of lines.items
+lines_of Done = says_ok ∷ []
 
--- the row of a command, or the line that says that it is not built
-abbrev pub row_so_far : PlainState → Command → Walk Work Reply
-row_so_far s c = elim (is_built c) [ true ↦ row first_tester s c | false ↦ pass (reply unbuilt) ]
+-- a row comes to a reply, and the state after the line with the number is changed as it says
+pub record HasCome (n : ℕ) (before after : PlainState) (r : CodeReply) (w : Work) (o : Outcome Work Reply) : Type 0 where
+  pub change : Change (Unit {0})
+  pub says : o ≡ done (record { verdicts = lines_of r; change = change }) w
+  pub state : after ≡ changed n before change
 
--- where a row has this fault, its walk has come to the refusal of an unknown name or to a limit; nothing is said where memory ran out
-abbrev pub ComesTo : FormFault → Work → Outcome Work Reply → Type 0
-ComesTo (Unknown x) w o = o ≡ done (refusal (unknown x)) w
-ComesTo Limit w o = o ≡ stopped limit_met w
-ComesTo (Memory e) w o = Unit {0}
+-- the line with the number was carried out, and the work is this: the row comes to the reply and its change was made, or it has the fault and the state is as before
+abbrev pub Runs : Result CodeReply RowFault → ℕ → Work → PlainState → PlainState → Outcome Work Reply → Type 0
+Runs (Ok r) n w before after o = HasCome n before after r w o
+Runs (Err e) n w before after o = EndsBy (cause_of_row e) w o × (after ≡ before)
 
--- the row was walked, from the work old to the work new: it has come to the reply, or has the fault
-abbrev pub Walks : Result CodeReply FormFault → Work → Work → Walk Work Reply → Type 0
-Walks (Ok r) old new walk = walk old ≡ done (reply_of r) new
-Walks (Err e) old new walk = ComesTo e new (walk old)
+-- the reply to a question
+abbrev pub reply_told : Result (Listed CodeVerdict) RowFault → Result CodeReply RowFault
+reply_told (Ok lines) = Ok (Told lines)
+reply_told (Err e) = Err e
 
--- the answer to a line with the number, whose row has come to this
-abbrev pub told : ℕ → List ℕ → Outcome Work Reply → Answer
-told n line o = record { number = n; echo = line; proofs = proofs_walked o; verdicts = verdicts_walked o }
+-- the reply to a change of the register: it is done, or the row has the fault of the same cause
+abbrev pub IsAnswered : {A : Type 0} → Result A ParcelFault → Result CodeReply RowFault → Type 0
+IsAnswered (Ok x) r = r ≡ Ok Done
+IsAnswered (Err e) r = IsErrAnd r (λ f. cause_of_row f ≡ cause_of e)
 
--- the answer to a line with the number, whose row has the fault; there is none where memory ran out
-abbrev pub IsAnswerToFault : ℕ → List ℕ → Work → FormFault → CodeAnswer → Type 0
-IsAnswerToFault n line w (Unknown x) a = answer_of a ≡ told n line (done (refusal (unknown x)) w)
-IsAnswerToFault n line w Limit a = answer_of a ≡ told n line (stopped limit_met w)
-IsAnswerToFault n line w (Memory e) a = ⊥
+-- ---- rows of expressions
+
+-- the first walk of a row was made, and the work is this: the row goes on from its result, or has the fault
+abbrev pub GoesOn : {A B : Type 0} → (A → B) → Result A RowFault → Work → (B → Walk Work Reply) → Outcome Work Reply → Type 0
+GoesOn view (Ok x) w next o = o ≡ next (view x) w
+GoesOn view (Err e) w next o = EndsBy (cause_of_row e) w o
+
+-- the row of one expression, by what comes behind its form
+abbrev pub row_of_form : PlainState → Expression → (List Part → Walk Work Reply) → Walk Work Reply
+row_of_form s e next = check (option_map unknown (first_unknown_among (parts_in s) (e ∷ []))) (form first_tester (parts_in s) e >>= next)
+
+-- the row of two expressions, by what comes behind their forms
+abbrev pub row_of_forms : PlainState → Expression → Expression → (List Part → List Part → Walk Work Reply) → Walk Work Reply
+row_of_forms s e f next = check (option_map unknown (first_unknown_among (parts_in s) (e ∷ f ∷ []))) (with_forms first_tester (parts_in s) e f next)
+
+-- ---- answers
+
+-- the verdict lines of a row that has come to this; none where memory ran out
+abbrev pub verdicts_of_row : Result CodeReply RowFault → List Verdict
+verdicts_of_row (Ok r) = lines_of r
+verdicts_of_row (Err (Refused r)) = refused (refusal_of r) ∷ []
+verdicts_of_row (Err Limit) = refused limit ∷ []
+verdicts_of_row (Err (Memory e)) = []
+
+-- its proof lines; a limit leaves none
+abbrev pub proofs_of_row : Result CodeReply RowFault → List ProofLine → List ProofLine
+proofs_of_row (Err Limit) lines = []
+proofs_of_row _ lines = lines
+
+-- memory ran out in a row
+abbrev pub IsWant : Result CodeReply RowFault → Type 0
+IsWant (Err (Memory e)) = Unit {0}
+IsWant _ = ⊥

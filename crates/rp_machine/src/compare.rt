@@ -1,26 +1,26 @@
 //! Commands that compare two regions.
-ghost use Rattle.std.specs.Prelude.{◌≡◌, ◌∷◌, [], Err, IfSome, IfOk, IsNone, option_copied};
+ghost use Rattle.std.specs.Prelude.{◌≡◌, ◌∷◌, [], Err, List, IfSome, IsNone, option_copied};
 ghost use Rattle.rp_language.specs.Expression.{IsKeptExpression, first_unknown_among, ask_relation};
-ghost use Rattle.rp_walks.specs.Walk.{Work, first_tester, pass};
+ghost use Rattle.rp_walks.specs.Walk.{Work, Walk, first_tester, pass};
+ghost use Rattle.rp_geometry.specs.sets.Shape.{Part};
 ghost use Rattle.rp_walks.specs.Form.{form};
 ghost use Rattle.rp_model.specs.states.State.{parts_in};
-ghost use Rattle.rp_model.specs.commands.Row.{row, row_relation};
+ghost use Rattle.rp_model.specs.commands.Row.{Reply as ModelReply, row, row_relation};
 ghost use Rattle.rp_model.specs.commands.Verdict.{Verdict as ModelVerdict};
 ghost use Rattle.rp_relate.specs.Relations.{relation_of as model_relation};
 ghost use Rattle.rp_region.specs.Makes.{Makes};
 ghost use Rattle.rp_report.specs.Views.{verdict_of};
 ghost use Rattle.rp_syntax.specs.Views.{expression_of};
 ghost use Rattle.rp_machine.specs.Compared.{answer_to, asking, both_forms, parts_of, parts_of_both};
-ghost use Rattle.rp_machine.specs.declared.reply.Change.TheVariants.{Nothing};
 ghost use Rattle.rp_machine.specs.Forms.{MakesForm};
-ghost use Rattle.rp_machine.specs.Replies.{Fits, Walks};
+ghost use Rattle.rp_machine.specs.Replies.{Walks, GoesOn, row_of_forms};
 
-use crate::fault::FormFault;
+use crate::fault::{FormFault, RowFault};
 use crate::machine::Machine;
-use crate::reply::Reply;
+use crate::reply::{one_line, yes_or_no};
 use rp_region::{OpFault, Region, Work};
-use rp_relate::{Rcc8, RccFault, contact, equal, overlap, rcc, within};
-use rp_report::{Refusal, Verdict};
+use rp_relate::{Rcc8, contact, equal, overlap, rcc, within};
+use rp_report::{Verdict, Verdicts};
 use rp_syntax::Expr;
 use std::alloc::Global;
 
@@ -94,25 +94,17 @@ fn relation_verdict(relation: Rcc8) -> Verdict
     }
 }
 
-/// The relation of two regions, or the refusal of one that has no point.
+/// The relation of two regions, of which each must have a point.
 fn relation_of(
     alloc: Global,
     first: &Region,
     second: &Region,
     work: &mut Work,
-) -> Result<Reply, FormFault>
-    ensures walks { Walks result work.old work.new (row_relation first_tester first.now second.now) }
-    ensures fits { IfOk result (λ r. r.change ≡ Nothing) }
+) -> Result<Verdicts, RowFault>
+    ensures { Walks result work.new (row_relation first_tester first.now second.now work.old) }
 {
-    match rcc(alloc, first, second, work) {
-        Ok(relation) => Ok(Reply::of_verdict(alloc, relation_verdict(relation))?),
-        Err(RccFault::EmptyRegion(k)) => {
-            let refusal = Refusal::EmptyRegion(k);
-            Ok(Reply::of_verdict(alloc, Verdict::Refused(refusal))?)
-        }
-        Err(RccFault::Limit) => Err(FormFault::Limit),
-        Err(RccFault::Memory(fault)) => Err(FormFault::Memory(fault)),
-    }
+    let relation = rcc(alloc, first, second, work)?;
+    Ok(one_line(alloc, relation_verdict(relation))?)
 }
 
 impl Machine {
@@ -162,6 +154,21 @@ impl Machine {
         Ok((first, second))
     }
 
+    /// The regions of the two expressions of a command, behind which its row goes on.
+    fn row_operands(
+        &self,
+        alloc: Global,
+        first: &Expr,
+        second: &Expr,
+        work: &mut Work,
+    ) -> Result<(Operand<'_>, Operand<'_>), RowFault>
+        requires first { IsKeptExpression (expression_of first.now) }
+        requires second { IsKeptExpression (expression_of second.now) }
+        ensures { (next : List Part → List Part → Walk Work ModelReply) → GoesOn parts_of_both result work.new (λ both. next both.0 both.1) (row_of_forms self.now (expression_of first.now) (expression_of second.now) next work.old) }
+    {
+        Ok(self.operands(alloc, first, second, work)?)
+    }
+
     /// `equal`, `within`, `overlap` and `contact`.
     pub(crate) fn comparison(
         &self,
@@ -170,15 +177,14 @@ impl Machine {
         first: &Expr,
         second: &Expr,
         work: &mut Work,
-    ) -> Result<Reply, FormFault>
+    ) -> Result<Verdicts, RowFault>
         requires first { IsKeptExpression (expression_of first.now) }
         requires second { IsKeptExpression (expression_of second.now) }
-        ensures walks { Walks result work.old work.new (row first_tester self.now (asking question (expression_of first.now) (expression_of second.now))) }
-        ensures fits { IfOk result (λ r. Fits self.now r.change) }
+        ensures { Walks result work.new (row first_tester self.now (asking question (expression_of first.now) (expression_of second.now)) work.old) }
     {
-        let (first, second) = self.operands(alloc, first, second, work)?;
+        let (first, second) = self.row_operands(alloc, first, second, work)?;
         let is_so = question.answer(alloc, first.region(), second.region(), work)?;
-        Ok(Reply::yes_or_no(alloc, is_so)?)
+        Ok(yes_or_no(alloc, is_so)?)
     }
 
     /// `rcc`: the relation of two regions, of which each must have a point.
@@ -188,13 +194,12 @@ impl Machine {
         first: &Expr,
         second: &Expr,
         work: &mut Work,
-    ) -> Result<Reply, FormFault>
+    ) -> Result<Verdicts, RowFault>
         requires first { IsKeptExpression (expression_of first.now) }
         requires second { IsKeptExpression (expression_of second.now) }
-        ensures walks { Walks result work.old work.new (row first_tester self.now (ask_relation (expression_of first.now) (expression_of second.now))) }
-        ensures fits { IfOk result (λ r. Fits self.now r.change) }
+        ensures { Walks result work.new (row first_tester self.now (ask_relation (expression_of first.now) (expression_of second.now)) work.old) }
     {
-        let (first, second) = self.operands(alloc, first, second, work)?;
+        let (first, second) = self.row_operands(alloc, first, second, work)?;
         relation_of(alloc, first.region(), second.region(), work)
     }
 }

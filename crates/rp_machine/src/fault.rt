@@ -1,6 +1,9 @@
-//! Why an expression has no form.
+//! Why an expression has no form, and why a command has no reply.
 
+use rp_parcels::ParcelFault;
 use rp_region::OpFault;
+use rp_relate::RccFault;
+use rp_report::Refusal;
 use rp_space::Name;
 use std::alloc::AllocError;
 use thiserror::Error;
@@ -40,6 +43,102 @@ impl From<OpFault> for FormFault {
         match fault {
             OpFault::Limit => FormFault::Limit,
             OpFault::Memory(fault) => FormFault::Memory(fault),
+        }
+    }
+}
+
+/// Why a command has no reply.
+#[derive(Clone, Copy, Debug, PartialEq, Eq)]
+pub(crate) enum RowFault {
+    /// Its row refuses it.
+    Refused(Refusal),
+    /// It passes a limit.
+    Limit,
+    /// There was no memory.
+    Memory(AllocError),
+}
+
+impl From<AllocError> for RowFault {
+    ghost use Rattle.std.specs.Prelude.{◌≡◌};
+    ghost use Rattle.rp_machine.specs.declared.fault.RowFault.TheVariants.{Memory};
+
+    ghost from_gives = { λ x e. e ≡ Memory x };
+
+    fn from(fault: AllocError) -> RowFault {
+        RowFault::Memory(fault)
+    }
+}
+
+impl From<OpFault> for RowFault {
+    ghost use Rattle.std.specs.Prelude.{◌≡◌};
+    ghost use Rattle.rp_machine.specs.Faults.{fault_of_op};
+
+    ghost from_gives = { λ x e. e ≡ fault_of_op x };
+
+    fn from(fault: OpFault) -> RowFault {
+        match fault {
+            OpFault::Limit => RowFault::Limit,
+            OpFault::Memory(fault) => RowFault::Memory(fault),
+        }
+    }
+}
+
+impl From<FormFault> for RowFault {
+    ghost use Rattle.std.specs.Prelude.{◌≡◌};
+    ghost use Rattle.rp_machine.specs.Faults.{fault_of_row};
+
+    ghost from_gives = { λ x e. e ≡ fault_of_row x };
+
+    fn from(fault: FormFault) -> RowFault {
+        match fault {
+            FormFault::Unknown(name) => RowFault::Refused(Refusal::Unknown(name)),
+            FormFault::Limit => RowFault::Limit,
+            FormFault::Memory(fault) => RowFault::Memory(fault),
+        }
+    }
+}
+
+impl From<RccFault> for RowFault {
+    ghost use Rattle.std.specs.Prelude.{◌≡◌};
+    ghost use Rattle.rp_machine.specs.Faults.{fault_of_relation};
+
+    ghost from_gives = { λ x e. e ≡ fault_of_relation x };
+
+    fn from(fault: RccFault) -> RowFault {
+        match fault {
+            RccFault::EmptyRegion(k) => RowFault::Refused(Refusal::EmptyRegion(k)),
+            RccFault::Limit => RowFault::Limit,
+            RccFault::Memory(fault) => RowFault::Memory(fault),
+        }
+    }
+}
+
+impl From<ParcelFault> for RowFault {
+    ghost use Rattle.std.specs.Prelude.{◌≡◌};
+    ghost use Rattle.rp_parcels.specs.Rows.{cause_of};
+    ghost use Rattle.rp_machine.specs.Faults.{cause_of_row};
+
+    ghost from_gives = { λ x e. cause_of_row e ≡ cause_of x };
+
+    fn from(fault: ParcelFault) -> RowFault {
+        match fault {
+            ParcelFault::Known(id) => RowFault::Refused(Refusal::Known(id)),
+            ParcelFault::Unknown(id) => RowFault::Refused(Refusal::Unknown(id)),
+            ParcelFault::Repeated(id) => RowFault::Refused(Refusal::Repeated(id)),
+            ParcelFault::Layers(id) => RowFault::Refused(Refusal::Layers(id)),
+            ParcelFault::Same => RowFault::Refused(Refusal::Same),
+            ParcelFault::Few => RowFault::Refused(Refusal::Few),
+            ParcelFault::Empty => RowFault::Refused(Refusal::Empty),
+            ParcelFault::Limit => RowFault::Limit,
+            ParcelFault::Overlaps(id, _) => RowFault::Refused(Refusal::Overlaps(id)),
+            ParcelFault::EmptySide(k) => RowFault::Refused(Refusal::EmptySide(k)),
+            ParcelFault::EmptyChild(k) => RowFault::Refused(Refusal::EmptyChild(k)),
+            ParcelFault::Outside(k, _) => RowFault::Refused(Refusal::Outside(k)),
+            ParcelFault::ChildrenOverlap(first, second, _) => {
+                RowFault::Refused(Refusal::ChildrenOverlap(first, second))
+            }
+            ParcelFault::Gap(_) => RowFault::Refused(Refusal::Gap),
+            ParcelFault::Memory(fault) => RowFault::Memory(fault),
         }
     }
 }

@@ -4,11 +4,14 @@
 mod compare;
 mod fault;
 mod form;
+mod lots;
 mod machine;
 mod member;
 mod named;
+mod orders;
 mod reply;
 mod rows;
+mod step;
 
 pub use fault::FormFault;
 pub use machine::Machine;

@@ -1,89 +1,61 @@
-//! One line of a script after the other.
-ghost use Rattle.std.specs.Prelude.{◌≡◌, ◌+◌, ◌&&◌, ℕ, length, map, nat_le, option_copied, IfOk, OnOk, OnErr};
+//! What a machine keeps between the lines of a script, and how each command changes it.
+ghost use Rattle.std.specs.Prelude.{◌≡◌, ◌+◌, ◌≤◌, ◌&&◌, ℕ, length, map, nat_le, option_copied, IfOk};
 ghost use Rattle.rp_geometry.specs.parts.Parts.{IsPart};
-ghost use Rattle.rp_language.specs.Grammar.{reading, command};
 ghost use Rattle.rp_walks.specs.FormLaws.{MeaningsAgree};
-ghost use Rattle.rp_model.specs.states.State.{opening, parts_in, state_of_parts, changed, parts_under_names, most_names, most_kept_parts};
-ghost use Rattle.rp_model.specs.states.Sound.{IsSound};
-ghost use Rattle.rp_model.specs.commands.Row.{shapes_of_parts};
-ghost use Rattle.rp_reports.specs.Report.{echoed, bad_answer};
-ghost use Rattle.rp_reports.specs.Built.{answer_so_far, state_so_far};
-ghost use Rattle.rp_cert.specs.Lines.{line_of};
-ghost use Rattle.rp_report.specs.Views.{answer_of, verdict_of};
-ghost use Rattle.rp_syntax.specs.Views.{command_of, fault_of};
-ghost use Rattle.rp_machine.specs.Replies.{change_of, Fits, IsAnswerToFault};
+ghost use Rattle.rp_walks.specs.Walk.{Work, first_tester};
+ghost use Rattle.rp_model.specs.states.State.{opening, base_layer, parts_in, state_of_parts, parts_under_names, most_names, most_kept_parts};
+ghost use Rattle.rp_model.specs.states.Sound.{IsSound, IsLaterThan};
+ghost use Rattle.rp_model.specs.commands.Row.{shapes_of_parts, row_define, row_register, row_cut, row_subdivide, row_consolidate, row_retire, row};
+ghost use Rattle.rp_language.specs.Expression.{set_layer};
+ghost use Rattle.rp_parcels.specs.Register.{child_of};
+ghost use Rattle.rp_machine.specs.Replies.{Runs, IsAnswered};
 
-use crate::fault::FormFault;
+use crate::fault::RowFault;
 use crate::named::NamedRegions;
-use crate::reply::{Change, Reply};
-use rp_cert::Proofs;
+use crate::reply::Reply;
+use rp_parcels::{Child, ParcelFault, Parcels};
 use rp_region::{Region, Work};
-use rp_report::{Answer, Refusal, Verdict};
+use rp_report::Refusal;
 use rp_space::Name;
-use rp_syntax::{Command, Line, Why, read_line};
 use std::alloc::{AllocError, Global};
 use std::marker::Model;
-use std::thread::Threads;
 
-/// The machine that answers the lines of a script. A contract sees what it keeps between them: what names stand for, and
-/// no lots yet. That is a sound state: the names are distinct, each stands for a region, and the limits of their number
-/// and of their parts are kept.
+/// The machine that answers the lines of a script. A contract sees what it keeps between them: the present layer, what
+/// names stand for, and all lots that were ever registered. That is a sound state: names and ids are distinct, each stands
+/// for a region, live lots of one layer share no point, and the limits of numbers and of parts are kept.
 #[derive(Debug, Drop)]
 pub struct Machine {
+    layer: Name,
     names: NamedRegions,
+    parcels: Parcels,
 }
 
 impl Model for Machine {
     ghost use Rattle.rp_model.specs.states.State.{PlainState, state_of_parts};
     ghost use Rattle.rp_model.specs.states.Sound.{IsSound};
-    ghost use Rattle.rp_machine.specs.Named.{state_of_names};
+    ghost use Rattle.rp_machine.specs.Named.{state_with};
 
     ghost Value = { PlainState };
 
-    ghost view = { λ a. state_of_names a.names };
+    ghost view = { λ a. state_with a.layer a.names a.parcels };
 
-    ghost invariant = { λ a. IsSound (state_of_parts (state_of_names a.names)) };
+    ghost invariant = { λ a. IsSound (state_of_parts (state_with a.layer a.names a.parcels)) };
 }
 
-/// The bytes of a line that is no command, as they are echoed: none of a line that is too long.
-fn echoed(line: &[u8], why: Why) -> &[u8]
-    ensures { result.now ≡ echoed (fault_of why) line.now }
+/// The layer that a script begins with.
+fn base_layer() -> Name
+    ensures { result ≡ base_layer }
 {
-    match why {
-        Why::Long => &[],
-        _ => line,
-    }
+    Name::new(b"base").unwrap()
 }
 
-/// The answer to a line that is no command. Answers `AllocError` only for want of memory.
-fn bad_line(alloc: Global, n: u32, line: &[u8], why: Why) -> Result<Answer, AllocError>
-    ensures { IfOk result (λ a. answer_of a ≡ bad_answer n line.now (fault_of why)) }
+/// The reply to a change of the register.
+fn answered(change: Result<(), ParcelFault>) -> Result<Reply, RowFault>
+    ensures { IsAnswered change result }
 {
-    let verdict = Verdict::Refused(Refusal::Bad(why));
-    Answer::with_verdict(alloc, n, echoed(line, why), Proofs::new(alloc), verdict)
-}
-
-/// The answer to a command that has no reply. What was proved until a limit is given back before anything is told.
-/// Answers `AllocError` only for want of memory.
-fn refused(
-    alloc: Global,
-    n: u32,
-    line: &[u8],
-    work: Work,
-    fault: FormFault,
-) -> Result<Answer, AllocError>
-    ensures { IfOk result (IsAnswerToFault n line.now work fault) }
-{
-    match fault {
-        FormFault::Unknown(name) => {
-            let verdict = Verdict::Refused(Refusal::Unknown(name));
-            Answer::with_verdict(alloc, n, line, work.into_proofs(), verdict)
-        }
-        FormFault::Limit => {
-            drop(work);
-            Answer::past_limit(alloc, n, line)
-        }
-        FormFault::Memory(fault) => Err(fault),
+    match change {
+        Ok(()) => Ok(Reply::Done),
+        Err(fault) => Err(RowFault::from(fault)),
     }
 }
 
@@ -93,16 +65,32 @@ impl Machine {
         ensures { IfOk result (λ m. m ≡ opening) }
     {
         Ok(Machine {
+            layer: base_layer(),
             names: NamedRegions::new(alloc),
+            parcels: Parcels::new(alloc)?,
         })
     }
 
-    /// Does nothing: a machine is a sound state, whose names stand for regions, and this makes it known.
+    /// Does nothing: a machine is a sound state, whose names and lots stand for regions, and this makes it known.
     pub(crate) fn keep_sound(&self)
         ensures sound { IsSound (state_of_parts self.now) }
         ensures regions { MeaningsAgree IsPart (parts_in self.now) (shapes_of_parts (parts_in self.now)) }
     {
         let _ = &self.names;
+    }
+
+    /// The present layer.
+    pub(crate) fn layer(&self) -> Name
+        ensures { result ≡ self.now.layer }
+    {
+        self.layer
+    }
+
+    /// All lots.
+    pub(crate) fn parcels(&self) -> &Parcels
+        ensures { result.now ≡ self.now.lots }
+    {
+        &self.parcels
     }
 
     /// The region that a name stands for.
@@ -112,12 +100,11 @@ impl Machine {
         self.names.find(name)
     }
 
-    /// The region of a live lot. There are no lots yet.
-    pub(crate) fn region_of_lot(&self, _lot: &Name) -> Option<&Region>
-        ensures { option_copied result ≡ (parts_in self.now).of_lot _lot.now }
+    /// The region of a live lot.
+    pub(crate) fn region_of_lot(&self, lot: &Name) -> Option<&Region>
+        ensures { option_copied result ≡ (parts_in self.now).of_lot lot.now }
     {
-        let _ = &self.names;
-        None
+        self.parcels.region(*lot)
     }
 
     /// Whether one more name may stand for the region.
@@ -127,75 +114,96 @@ impl Machine {
         self.names.have_room_for(region)
     }
 
-    /// The answer to the line with the number `n`, and what it changes. A blank line has an answer without echo and verdicts.
-    /// A line that is refused changes nothing. Answers `AllocError` only for want of memory; then the machine is as it was.
-    pub fn step<R: Threads + Sync>(
-        &mut self,
-        _rt: &R,
-        alloc: Global,
-        n: u32,
-        line: &[u8],
-    ) -> Result<Answer, AllocError>
-        ensures answer { IfOk result (λ a. answer_of a ≡ answer_so_far self.old n line.now) }
-        ensures state { OnOk result (self.new ≡ state_so_far self.old n line.now) }
-        ensures unchanged { OnErr result (self.new ≡ self.old) }
+    /// Keeps a form under a name: it must be new, and there must be room for both.
+    pub(crate) fn keep(&mut self, name: Name, form: Region) -> Result<Reply, RowFault>
+        ensures { (n : ℕ) (w : Work) → Runs result n w self.old self.new (row_define self.old name form w) }
     {
-        match read_line(alloc, line)? {
-            Line::Blank => Ok(Answer::blank(alloc, n)),
-            Line::Cmd(command) => self.answer(alloc, n, line, &command),
-            Line::Bad(why) => bad_line(alloc, n, line, why),
+        if self.region_named(&name).is_some() {
+            return Err(RowFault::Refused(Refusal::Known(name)));
         }
+        if !self.has_room_for(&form) {
+            return Err(RowFault::Limit);
+        }
+        self.names.keep(name, form)?;
+        Ok(Reply::Done)
     }
 
-    /// The answer to a line that reads as the command, and what it changes.
-    fn answer(
+    /// A form becomes a lot of the present layer.
+    pub(crate) fn register_form(
         &mut self,
         alloc: Global,
         n: u32,
-        line: &[u8],
-        asked: &Command,
-    ) -> Result<Answer, AllocError>
-        requires { reading line.now ≡ command (command_of asked.now) }
-        ensures answer { IfOk result (λ a. answer_of a ≡ answer_so_far self.old n line.now) }
-        ensures state { OnOk result (self.new ≡ state_so_far self.old n line.now) }
-        ensures unchanged { OnErr result (self.new ≡ self.old) }
+        id: Name,
+        form: Region,
+        work: &mut Work,
+    ) -> Result<Reply, RowFault>
+        requires { IsLaterThan n (state_of_parts self.old) }
+        ensures { Runs result n work.new self.old self.new (row_register first_tester self.old id form work.old) }
     {
-        let mut work = Work::new(alloc);
-        match self.row(alloc, asked, &mut work) {
-            Ok(reply) => self.complete(alloc, n, line, work.into_proofs(), reply),
-            Err(fault) => refused(alloc, n, line, work, fault),
-        }
+        answered(self.parcels.register(alloc, n, self.layer, id, form, work))
     }
 
-    /// The answer to a command with a reply, whose change is made last: nothing can want memory behind it.
-    /// Answers `AllocError` only for want of memory; then the machine is as it was.
-    fn complete(
+    /// A lot is cut in two by a form: the first gets its points in the form, the second the others.
+    pub(crate) fn cut_by(
         &mut self,
         alloc: Global,
         n: u32,
-        line: &[u8],
-        proofs: Proofs,
-        reply: Reply,
-    ) -> Result<Answer, AllocError>
-        requires { Fits self.old reply.change }
-        ensures answer { IfOk result (λ a. answer_of a ≡ record { number = n; echo = line.now; proofs = map line_of proofs.items; verdicts = map verdict_of reply.verdicts.items }) }
-        ensures state { OnOk result ((m : ℕ) → self.new ≡ changed m self.old (change_of reply.change)) }
-        ensures unchanged { OnErr result (self.new ≡ self.old) }
+        id: Name,
+        form: &Region,
+        first: Name,
+        second: Name,
+        work: &mut Work,
+    ) -> Result<Reply, RowFault>
+        requires { IsLaterThan n (state_of_parts self.old) }
+        ensures { Runs result n work.new self.old self.new (row_cut first_tester self.old id form.now first second work.old) }
     {
-        let answer = Answer::with_verdicts(alloc, n, line, proofs, reply.verdicts)?;
-        self.accept(reply.change)?;
-        Ok(answer)
+        answered(self.parcels.cut(alloc, n, id, form, first, second, work))
     }
 
-    /// Makes a change that fits. Answers `AllocError` only for want of memory; then the machine is as it was.
-    fn accept(&mut self, change: Change) -> Result<(), AllocError>
-        requires { Fits self.old change }
-        ensures ok { OnOk result ((n : ℕ) → self.new ≡ changed n self.old (change_of change)) }
-        ensures unchanged { OnErr result (self.new ≡ self.old) }
+    /// A lot is divided into children.
+    pub(crate) fn subdivide_into(
+        &mut self,
+        alloc: Global,
+        n: u32,
+        id: Name,
+        children: &[Child],
+        work: &mut Work,
+    ) -> Result<Reply, RowFault>
+        requires later { IsLaterThan n (state_of_parts self.old) }
+        requires few { length children.now ≤ 1024 }
+        ensures { Runs result n work.new self.old self.new (row_subdivide first_tester self.old id (map child_of children.now) work.old) }
     {
-        match change {
-            Change::Nothing => Ok(()),
-            Change::Named(name, region) => self.names.keep(name, region),
-        }
+        answered(self.parcels.subdivide(alloc, n, id, children, work))
+    }
+
+    /// `consolidate`: lots of one layer become one.
+    pub(crate) fn consolidate(
+        &mut self,
+        alloc: Global,
+        n: u32,
+        new: Name,
+        ids: &[Name],
+        work: &mut Work,
+    ) -> Result<Reply, RowFault>
+        requires { IsLaterThan n (state_of_parts self.old) }
+        ensures { Runs result n work.new self.old self.new (row_consolidate self.old new ids.now work.old) }
+    {
+        answered(self.parcels.consolidate(alloc, n, new, ids, work))
+    }
+
+    /// `retire`: a lot ends. It takes no memory.
+    pub(crate) fn retire(&mut self, n: u32, id: Name) -> Result<Reply, RowFault>
+        requires { IsLaterThan n (state_of_parts self.old) }
+        ensures { (w : Work) → Runs result n w self.old self.new (row_retire self.old id w) }
+    {
+        answered(self.parcels.retire(n, id))
+    }
+
+    /// `layer`: the layer is the present one from now on.
+    pub(crate) fn set_layer(&mut self, layer: Name) -> Result<Reply, RowFault>
+        ensures { (n : ℕ) (w : Work) → Runs result n w self.old self.new (row first_tester self.old (set_layer layer) w) }
+    {
+        self.layer = layer;
+        Ok(Reply::Done)
     }
 }

@@ -1,52 +1,36 @@
-//! What is told of a command, and what it changes.
+//! What is told of a command.
+ghost use Rattle.std.specs.Prelude.{◌≡◌, ◌∷◌, [], map, IfOk};
+ghost use Rattle.rp_model.specs.commands.Row.{reply_lines, yes_or_no};
+ghost use Rattle.rp_report.specs.Views.{verdict_of};
 
-use rp_region::Region;
 use rp_report::{Verdict, Verdicts};
-use rp_space::Name;
 use std::alloc::{AllocError, Global};
 
-/// What a command changes.
+/// What a command comes to.
 #[derive(Debug, Drop)]
-pub enum Change {
-    /// Nothing.
-    Nothing,
-    /// A new name stands for a region.
-    Named(Name, Region),
+pub(crate) enum Reply {
+    /// It has asked something: the verdict lines.
+    Told(Verdicts),
+    /// It was to change something, and did.
+    Done,
 }
 
-/// The verdict lines of a command, and what it changes.
-#[derive(Debug, Drop)]
-pub struct Reply {
-    pub verdicts: Verdicts,
-    pub change: Change,
+/// One verdict line. Answers `AllocError` only for want of memory.
+pub(crate) fn one_line(alloc: Global, verdict: Verdict) -> Result<Verdicts, AllocError>
+    ensures { IfOk result (λ lines. map verdict_of lines.items ≡ verdict_of verdict ∷ []) }
+{
+    let mut lines = Verdicts::new(alloc);
+    lines.push(verdict)?;
+    Ok(lines)
 }
 
-impl Reply {
-    ghost use Rattle.std.specs.Prelude.{◌≡◌, IfOk};
-    ghost use Rattle.rp_model.specs.commands.Row.{reply, yes_or_no};
-    ghost use Rattle.rp_report.specs.Views.{verdict_of};
-    ghost use Rattle.rp_machine.specs.Replies.{reply_of};
-
-    /// One line that changes nothing. Answers `AllocError` only for want of memory.
-    pub fn of_verdict(alloc: Global, verdict: Verdict) -> Result<Reply, AllocError>
-        ensures { IfOk result (λ r. reply_of r ≡ reply (verdict_of verdict)) }
-    {
-        let mut verdicts = Verdicts::new(alloc);
-        verdicts.push(verdict)?;
-        Ok(Reply {
-            verdicts,
-            change: Change::Nothing,
-        })
-    }
-
-    /// Yes or no. Answers `AllocError` only for want of memory.
-    pub fn yes_or_no(alloc: Global, is_so: bool) -> Result<Reply, AllocError>
-        ensures { IfOk result (λ r. reply_of r ≡ yes_or_no is_so) }
-    {
-        if is_so {
-            Reply::of_verdict(alloc, Verdict::Yes)
-        } else {
-            Reply::of_verdict(alloc, Verdict::No)
-        }
+/// Yes or no. Answers `AllocError` only for want of memory.
+pub(crate) fn yes_or_no(alloc: Global, is_so: bool) -> Result<Verdicts, AllocError>
+    ensures { IfOk result (λ lines. reply_lines (map verdict_of lines.items) ≡ yes_or_no is_so) }
+{
+    if is_so {
+        one_line(alloc, Verdict::Yes)
+    } else {
+        one_line(alloc, Verdict::No)
     }
 }

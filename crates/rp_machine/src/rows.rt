@@ -1,26 +1,29 @@
 //! The row of each command: its checks and tests in order.
-ghost use Rattle.std.specs.Prelude.{◌≡◌, ◌≤◌, IfOk, length, map};
+ghost use Rattle.std.specs.Prelude.{◌≡◌, ◌≤◌, List, IfOk, length, map};
 ghost use Rattle.rp_geometry.specs.parts.Parts.{most_parts};
+ghost use Rattle.rp_geometry.specs.sets.Shape.{Part};
 ghost use Rattle.std.specs.List.{AllByRecursion};
-ghost use Rattle.rp_language.specs.Expression.{IsKeptExpression, expressions_of, define, ask_member, ask_empty, ask_pieces, ask_show};
-ghost use Rattle.rp_walks.specs.Walk.{Work, first_tester};
+ghost use Rattle.rp_language.specs.Expression.{IsKeptExpression, expressions_of, ask_member, ask_empty, ask_pieces, ask_show};
+ghost use Rattle.rp_walks.specs.Walk.{Work, Walk, first_tester};
+ghost use Rattle.rp_model.specs.states.State.{state_of_parts};
+ghost use Rattle.rp_model.specs.states.Sound.{IsLaterThan};
 ghost use Rattle.rp_model.specs.commands.Verdict.{part_lines_of, piece_lines};
-ghost use Rattle.rp_model.specs.commands.Row.{row, row_define};
+ghost use Rattle.rp_model.specs.commands.Row.{Reply as ModelReply, row};
 ghost use Rattle.rp_pieces.specs.Lists.{numbers_of};
-ghost use Rattle.rp_region.specs.Makes.{Makes};
 ghost use Rattle.rp_report.specs.Views.{verdict_of};
 ghost use Rattle.rp_syntax.specs.Views.{expression_of, command_of};
-ghost use Rattle.rp_machine.specs.Replies.{Fits, row_so_far, Walks};
+ghost use Rattle.rp_machine.specs.Children.{HasFewChildren};
+ghost use Rattle.rp_machine.specs.Replies.{Walks, Runs, GoesOn, row_of_form, reply_told};
 
 use crate::compare::Question;
-use crate::fault::FormFault;
+use crate::fault::RowFault;
 use crate::machine::Machine;
-use crate::reply::{Change, Reply};
+use crate::reply::{Reply, one_line, yes_or_no};
 use rp_pieces::{PieceList, pieces};
 use rp_region::{Region, Work};
 use rp_relate::is_empty;
 use rp_report::{Refusal, Verdict, Verdicts};
-use rp_space::{Name, Point};
+use rp_space::Point;
 use rp_syntax::{Command, Expr};
 use std::alloc::{AllocError, Global};
 
@@ -49,114 +52,116 @@ fn piece_lines(alloc: Global, pieces: PieceList) -> Result<Verdicts, AllocError>
     Ok(lines)
 }
 
+/// The reply to a question.
+fn told(asked: Result<Verdicts, RowFault>) -> Result<Reply, RowFault>
+    ensures { result ≡ reply_told asked }
+{
+    match asked {
+        Ok(lines) => Ok(Reply::Told(lines)),
+        Err(fault) => Err(fault),
+    }
+}
+
 impl Machine {
-    /// The row of a command: its reply, or why there is none. What it changes is not made yet.
-    pub(crate) fn row(
-        &self,
+    /// Carries out the command of the line with the number `n`: its reply, or why there is none. Where there is none the
+    /// machine is as it was.
+    pub(crate) fn carry_out(
+        &mut self,
         alloc: Global,
+        n: u32,
         command: &Command,
         work: &mut Work,
-    ) -> Result<Reply, FormFault>
-        requires { AllByRecursion IsKeptExpression (expressions_of (command_of command.now)) }
-        ensures walks { Walks result work.old work.new (row_so_far self.now (command_of command.now)) }
-        ensures fits { IfOk result (λ r. Fits self.now r.change) }
+    ) -> Result<Reply, RowFault>
+        requires later { IsLaterThan n (state_of_parts self.old) }
+        requires kept { AllByRecursion IsKeptExpression (expressions_of (command_of command.now)) }
+        requires few { HasFewChildren (command_of command.now) }
+        ensures { Runs result n work.new self.old self.new (row first_tester self.old (command_of command.now) work.old) }
     {
         match command {
             Command::Let(name, region) => self.define(alloc, *name, region, work),
-            Command::Member(region, point) => self.membership(alloc, region, point),
-            Command::Empty(region) => self.emptiness(alloc, region, work),
-            Command::Pieces(region) => self.pieces(alloc, region, work),
-            Command::Show(region) => self.show(alloc, region, work),
-            Command::Equal(a, b) => self.comparison(alloc, Question::Equal, a, b, work),
-            Command::Within(a, b) => self.comparison(alloc, Question::Within, a, b, work),
-            Command::Overlap(a, b) => self.comparison(alloc, Question::Overlap, a, b, work),
-            Command::Contact(a, b) => self.comparison(alloc, Question::Contact, a, b, work),
-            Command::Rcc(a, b) => self.relation(alloc, a, b, work),
-            _ => Ok(Reply::of_verdict(alloc, Verdict::Unbuilt)?),
+            Command::Member(region, point) => told(self.membership(alloc, region, point)),
+            Command::Empty(region) => told(self.emptiness(alloc, region, work)),
+            Command::Pieces(region) => told(self.pieces(alloc, region, work)),
+            Command::Show(region) => told(self.show(alloc, region, work)),
+            Command::Equal(a, b) => { told(self.comparison(alloc, Question::Equal, a, b, work)) }
+            Command::Within(a, b) => { told(self.comparison(alloc, Question::Within, a, b, work)) }
+            Command::Overlap(a, b) => {
+                told(self.comparison(alloc, Question::Overlap, a, b, work))
+            }
+            Command::Contact(a, b) => {
+                told(self.comparison(alloc, Question::Contact, a, b, work))
+            }
+            Command::Rcc(a, b) => told(self.relation(alloc, a, b, work)),
+            Command::Register(id, region) => self.register(alloc, n, *id, region, work),
+            Command::Cut(id, by, first, second) => {
+                self.cut(alloc, n, *id, by, *first, *second, work)
+            }
+            Command::Subdivide(id, entries) => {
+                self.subdivide(alloc, n, *id, entries.items(), work)
+            },
+            Command::Consolidate(new, ids) => {
+                self.consolidate(alloc, n, *new, ids.items(), work)
+            },
+            Command::Retire(id) => self.retire(n, *id),
+            Command::Neighbours(id) => told(self.neighbours(alloc, *id, work)),
+            Command::History(id) => told(self.lineage(alloc, *id)),
+            Command::At(point) => told(self.owner(alloc, point)),
+            Command::Asof(line, point) => told(self.owner_then(alloc, *line, point)),
+            Command::Audit => told(self.audit(alloc, work)),
+            Command::List => told(self.list(alloc)),
+            Command::Layer(layer) => self.set_layer(*layer),
         }
-    }
-
-    /// `let`: the form of the expression under a new name.
-    fn define(
-        &self,
-        alloc: Global,
-        name: Name,
-        region: &Expr,
-        work: &mut Work,
-    ) -> Result<Reply, FormFault>
-        requires { IsKeptExpression (expression_of region.now) }
-        ensures walks { Walks result work.old work.new (row first_tester self.now (define name (expression_of region.now))) }
-        ensures fits { IfOk result (λ r. Fits self.now r.change) }
-    {
-        let form = self.form(alloc, region, work)?;
-        self.definition(alloc, name, form)
-    }
-
-    /// The reply to the definition of a name for a form: the name must be new, and there must be room for both.
-    fn definition(&self, alloc: Global, name: Name, form: Region) -> Result<Reply, FormFault>
-        ensures walks { (w : Work) → Walks result w w (row_define self.now name form) }
-        ensures fits { IfOk result (λ r. Fits self.now r.change) }
-    {
-        if self.region_named(&name).is_some() {
-            return Ok(Reply::of_verdict(alloc, Verdict::Refused(Refusal::Known(name)))?);
-        }
-        if !self.has_room_for(&form) {
-            return Err(FormFault::Limit);
-        }
-        let mut verdicts = Verdicts::new(alloc);
-        verdicts.push(Verdict::Ok)?;
-        Ok(Reply {
-            verdicts,
-            change: Change::Named(name, form),
-        })
     }
 
     /// `member`: whether the point is a member, by signs. It rests on no test and has no limit.
-    fn membership(&self, alloc: Global, region: &Expr, point: &Point) -> Result<Reply, FormFault>
-        ensures walks { (w : Work) → Walks result w w (row first_tester self.now (ask_member (expression_of region.now) point.now)) }
-        ensures fits { IfOk result (λ r. Fits self.now r.change) }
+    fn membership(&self, alloc: Global, region: &Expr, point: &Point) -> Result<Verdicts, RowFault>
+        ensures { (w : Work) → Walks result w (row first_tester self.now (ask_member (expression_of region.now) point.now) w) }
     {
         if let Some(name) = self.first_unknown(region) {
-            return Err(FormFault::Unknown(name));
+            return Err(RowFault::Refused(Refusal::Unknown(name)));
         }
-        Ok(Reply::yes_or_no(alloc, self.is_member(region, point))?)
+        Ok(yes_or_no(alloc, self.is_member(region, point))?)
+    }
+
+    /// The form of the one expression of a command, behind which its row goes on.
+    pub(crate) fn row_form(
+        &self,
+        alloc: Global,
+        region: &Expr,
+        work: &mut Work,
+    ) -> Result<Region, RowFault>
+        requires { IsKeptExpression (expression_of region.now) }
+        ensures { (next : List Part → Walk Work ModelReply) → GoesOn (λ form. form) result work.new next (row_of_form self.now (expression_of region.now) next work.old) }
+    {
+        Ok(self.form(alloc, region, work)?)
     }
 
     /// `empty`: whether the form of the expression has no part.
-    fn emptiness(&self, alloc: Global, region: &Expr, work: &mut Work) -> Result<Reply, FormFault>
+    fn emptiness(&self, alloc: Global, region: &Expr, work: &mut Work) -> Result<Verdicts, RowFault>
         requires { IsKeptExpression (expression_of region.now) }
-        ensures walks { Walks result work.old work.new (row first_tester self.now (ask_empty (expression_of region.now))) }
-        ensures fits { IfOk result (λ r. Fits self.now r.change) }
+        ensures { Walks result work.new (row first_tester self.now (ask_empty (expression_of region.now)) work.old) }
     {
-        let form = self.form(alloc, region, work)?;
+        let form = self.row_form(alloc, region, work)?;
         let is_so = is_empty(alloc, &form, work)?;
-        Ok(Reply::yes_or_no(alloc, is_so)?)
+        Ok(yes_or_no(alloc, is_so)?)
     }
 
     /// `pieces`: what of the region hangs together, by the numbers of the parts of its form.
-    fn pieces(&self, alloc: Global, region: &Expr, work: &mut Work) -> Result<Reply, FormFault>
+    fn pieces(&self, alloc: Global, region: &Expr, work: &mut Work) -> Result<Verdicts, RowFault>
         requires { IsKeptExpression (expression_of region.now) }
-        ensures walks { Walks result work.old work.new (row first_tester self.now (ask_pieces (expression_of region.now))) }
-        ensures fits { IfOk result (λ r. Fits self.now r.change) }
+        ensures { Walks result work.new (row first_tester self.now (ask_pieces (expression_of region.now)) work.old) }
     {
-        let form = self.form(alloc, region, work)?;
+        let form = self.row_form(alloc, region, work)?;
         let pieces = pieces(alloc, &form, work)?;
-        Ok(Reply {
-            verdicts: piece_lines(alloc, pieces)?,
-            change: Change::Nothing,
-        })
+        Ok(piece_lines(alloc, pieces)?)
     }
 
     /// `show`: the parts of the form of the expression.
-    fn show(&self, alloc: Global, region: &Expr, work: &mut Work) -> Result<Reply, FormFault>
+    fn show(&self, alloc: Global, region: &Expr, work: &mut Work) -> Result<Verdicts, RowFault>
         requires { IsKeptExpression (expression_of region.now) }
-        ensures walks { Walks result work.old work.new (row first_tester self.now (ask_show (expression_of region.now))) }
-        ensures fits { IfOk result (λ r. Fits self.now r.change) }
+        ensures { Walks result work.new (row first_tester self.now (ask_show (expression_of region.now)) work.old) }
     {
-        let form = self.form(alloc, region, work)?;
-        Ok(Reply {
-            verdicts: part_lines(alloc, form)?,
-            change: Change::Nothing,
-        })
+        let form = self.row_form(alloc, region, work)?;
+        Ok(part_lines(alloc, form)?)
     }
 }

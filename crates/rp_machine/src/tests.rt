@@ -1,3 +1,7 @@
+ghost use Rattle.std.specs.Prelude.{◌+◌, ◌<◌, length, IfOk, OnOk};
+ghost use Rattle.rp_model.specs.states.State.{state_of_parts};
+ghost use Rattle.rp_model.specs.states.Sound.{IsLaterThan};
+
 use crate::{FormFault, Machine};
 use rp_region::Work;
 use rp_report::write_answer;
@@ -8,18 +12,29 @@ use std::process::Abort;
 use std::test::Fail;
 use std::thread::Threads;
 
+/// A machine that has answered no line yet.
+fn opened(alloc: Global) -> Result<Machine, AllocError>
+    ensures { IfOk result (λ m. IsLaterThan 1 (state_of_parts m)) }
+{
+    Machine::new(alloc)
+}
+
 /// Takes one line, and compares the verdict lines of its answer.
 fn expect_told<R: Abort + Threads + Sync>(
     rt: &R,
     alloc: Global,
     machine: &mut Machine,
+    n: u32,
     line: &str,
     verdicts: &str,
-) -> Result<(), AllocError> {
-    let answer = machine.step(rt, alloc, 9, line.as_bytes())?;
+) -> Result<(), AllocError>
+    requires { IsLaterThan n (state_of_parts machine.old) }
+    ensures { OnOk result (IsLaterThan (n + 1) (state_of_parts machine.new)) }
+{
+    let answer = machine.step(rt, alloc, n, line.as_bytes())?;
     let mut text = Vec::new(alloc);
     write_answer(&answer, true, &mut text)?;
-    let want = format!(in alloc; "> 9 {line}\n{verdicts}\n")?;
+    let want = format!(in alloc; "> {n} {line}\n{verdicts}\n")?;
     assert_eq!(rt; text.as_slice(), want.as_bytes(), "on {line:?}");
     Ok(())
 }
@@ -31,21 +46,39 @@ fn expect_alone<R: Abort + Threads + Sync>(
     line: &str,
     verdicts: &str,
 ) -> Result<(), AllocError> {
-    let mut machine = Machine::new(alloc)?;
-    expect_told(rt, alloc, &mut machine, line, verdicts)
+    let mut machine = opened(alloc)?;
+    expect_told(rt, alloc, &mut machine, 1, line, verdicts)
 }
 
-/// Takes lines in turn, and compares the verdict lines of each answer.
+/// Takes lines in turn, of which the first has the number, and compares the verdict lines of each answer.
+fn expect_from<R: Abort + Threads + Sync>(
+    rt: &R,
+    alloc: Global,
+    machine: &mut Machine,
+    first: u32,
+    rows: &[(&str, &str)],
+) -> Result<(), AllocError>
+    requires later { IsLaterThan first (state_of_parts machine.old) }
+    requires few { first + length rows.now < 100000 }
+{
+    let mut n = first;
+    for (line, verdicts) in rows {
+        expect_told(rt, alloc, machine, n, line, verdicts)?;
+        n += 1;
+    }
+    Ok(())
+}
+
+/// Takes lines in turn in the opening state, and compares the verdict lines of each answer.
 fn expect_in_turn<R: Abort + Threads + Sync>(
     rt: &R,
     alloc: Global,
     rows: &[(&str, &str)],
-) -> Result<(), AllocError> {
-    let mut machine = Machine::new(alloc)?;
-    for (line, verdicts) in rows {
-        expect_told(rt, alloc, &mut machine, line, verdicts)?;
-    }
-    Ok(())
+) -> Result<(), AllocError>
+    requires { length rows.now < 1000 }
+{
+    let mut machine = opened(alloc)?;
+    expect_from(rt, alloc, &mut machine, 1, rows)
 }
 
 #[test]
@@ -204,13 +237,12 @@ fn comparisons_are_refused_in_order(rt: HostRuntime) -> Result<(), Fail> {
 }
 
 #[test]
-fn lines_that_are_no_command_or_not_built_are_refused(rt: HostRuntime) -> Result<(), Fail> {
+fn lines_that_are_no_command_are_refused(rt: HostRuntime) -> Result<(), Fail> {
     for (line, verdict) in [
         ("member half 1 0 0 0 0 5 5", "= refused syntax"),
         ("member half 0 0 0 0 0 5 5 1", "= refused zero"),
         ("member half 1 0 0 0 0 5 5 0", "= refused range"),
         ("member half 16777217 0 0 0 0 5 5 1", "= refused range"),
-        ("audit", "= refused unbuilt"),
     ] {
         expect_alone(&rt, rt.alloc(), line, verdict)?;
     }
@@ -228,67 +260,188 @@ fn boxes_apart(alloc: Global) -> Result<String, AllocError> {
     Ok(text)
 }
 
-/// Keeps the union of the 512 boxes under the name `a`.
+/// Keeps the union of the 512 boxes under the name `a`, by line 1.
 fn keep_boxes<R: Abort + Threads + Sync>(
     rt: &R,
     alloc: Global,
     machine: &mut Machine,
-) -> Result<(), AllocError> {
+) -> Result<(), AllocError>
+    requires { IsLaterThan 1 (state_of_parts machine.old) }
+    ensures { OnOk result (IsLaterThan 2 (state_of_parts machine.new)) }
+{
     let boxes = boxes_apart(alloc)?;
     let line = format!(in alloc; "let a = {}", boxes.as_str().trim_end())?;
-    expect_told(rt, alloc, machine, line.as_str(), "= ok")
+    expect_told(rt, alloc, machine, 1, line.as_str(), "= ok")
+}
+
+/// Keeps a region under the name `n` with the number of the line, by that line.
+fn keep_numbered<R: Abort + Threads + Sync>(
+    rt: &R,
+    alloc: Global,
+    machine: &mut Machine,
+    n: u32,
+    region: &str,
+) -> Result<(), AllocError>
+    requires { IsLaterThan n (state_of_parts machine.old) }
+    ensures { OnOk result (IsLaterThan (n + 1) (state_of_parts machine.new)) }
+{
+    let line = format!(in alloc; "let n{n} = {region}")?;
+    expect_told(rt, alloc, machine, n, line.as_str(), "= ok")
 }
 
 #[test]
 fn regions_have_at_most_1024_parts(rt: HostRuntime) -> Result<(), Fail> {
-    let mut machine = Machine::new(rt.alloc())?;
+    let mut machine = opened(rt.alloc())?;
     keep_boxes(&rt, rt.alloc(), &mut machine)?;
-    for (line, verdict) in [
+    let rows = [
         ("let b = or name a name a", "= ok"),
         ("let c = or name b all", "= refused limit"),
         ("empty name c", "= refused unknown c"),
         ("let c = and name b name a", "= refused limit"),
         ("empty name b", "= no"),
-    ] {
-        expect_told(&rt, rt.alloc(), &mut machine, line, verdict)?;
-    }
+    ];
+    expect_from(&rt, rt.alloc(), &mut machine, 2, &rows)?;
     Ok(())
 }
 
 #[test]
 fn names_keep_at_most_65536_parts(rt: HostRuntime) -> Result<(), Fail> {
-    let mut machine = Machine::new(rt.alloc())?;
+    let mut machine = opened(rt.alloc())?;
     keep_boxes(&rt, rt.alloc(), &mut machine)?;
-    for i in 0..63u32 {
-        let line = format!(in rt.alloc(); "let b{i} = or name a name a")?;
-        expect_told(&rt, rt.alloc(), &mut machine, line.as_str(), "= ok")?;
+    let mut n = 2;
+    for _ in 0..63u32 {
+        keep_numbered(&rt, rt.alloc(), &mut machine, n, "or name a name a")?;
+        n += 1;
     }
-    for (line, verdict) in [
+    let rows = [
         ("let c = or name a all", "= refused limit"),
         ("let c = name a", "= ok"),
         ("let d = all", "= refused limit"),
         ("let d = none", "= ok"),
-    ] {
-        expect_told(&rt, rt.alloc(), &mut machine, line, verdict)?;
-    }
+    ];
+    expect_from(&rt, rt.alloc(), &mut machine, n, &rows)?;
     Ok(())
 }
 
 #[test]
 fn there_are_at_most_65536_names(rt: HostRuntime) -> Result<(), Fail> {
-    let mut machine = Machine::new(rt.alloc())?;
-    for i in 0..65536u32 {
-        let line = format!(in rt.alloc(); "let n{i} = none")?;
-        machine.step(&rt, rt.alloc(), 1, line.as_str().as_bytes())?;
+    let mut machine = opened(rt.alloc())?;
+    let mut n = 1;
+    for _ in 0..65536u32 {
+        keep_numbered(&rt, rt.alloc(), &mut machine, n, "none")?;
+        n += 1;
     }
-    for (line, verdict) in [
-        ("let n65535 = none", "= refused known n65535"),
-        ("let n65536 = none", "= refused limit"),
-        ("empty name n65535", "= yes"),
-        ("empty name n65536", "= refused unknown n65536"),
-    ] {
-        expect_told(&rt, rt.alloc(), &mut machine, line, verdict)?;
-    }
+    let rows = [
+        ("let n65536 = none", "= refused known n65536"),
+        ("let n65537 = none", "= refused limit"),
+        ("empty name n65536", "= yes"),
+        ("empty name n65537", "= refused unknown n65537"),
+    ];
+    expect_from(&rt, rt.alloc(), &mut machine, n, &rows)?;
+    Ok(())
+}
+
+#[test]
+fn live_lots_of_one_layer_are_apart(rt: HostRuntime) -> Result<(), Fail> {
+    let rows = [
+        ("register a box 0 0 0 10 10 10", "= ok"),
+        ("layer rights", "= ok"),
+        ("register r box 5 0 0 15 10 10", "= ok"),
+        ("at 7 5 5 1", "= parcel r"),
+        ("asof 1 7 5 5 1", "= nobody"),
+        ("layer base", "= ok"),
+        ("at 7 5 5 1", "= parcel a"),
+        ("consolidate c 2 a r", "= refused layers r"),
+        (
+            "list",
+            "= parcels 2\n= lot a born 1 live\n= lot r born 3 live layer rights",
+        ),
+        ("audit", "= clear 2"),
+    ];
+    expect_in_turn(&rt, rt.alloc(), &rows)?;
+    Ok(())
+}
+
+#[test]
+fn the_register_refuses_in_order(rt: HostRuntime) -> Result<(), Fail> {
+    let rows = [
+        ("register a box 0 0 0 10 10 10", "= ok"),
+        ("register b box 10 0 0 20 10 10", "= ok"),
+        ("register a none", "= refused known a"),
+        ("register c none", "= refused empty"),
+        ("register c box 5 0 0 15 10 10", "= refused overlaps a"),
+        ("register a lot x", "= refused unknown x"),
+        ("cut x all a a", "= refused unknown x"),
+        ("cut a all b b", "= refused known b"),
+        ("cut a all c b", "= refused known b"),
+        ("cut a all c c", "= refused same"),
+        ("cut a lot b c d", "= refused emptyside 1"),
+        ("cut a all c d", "= refused emptyside 2"),
+        ("subdivide x 1 a all", "= refused few"),
+        ("subdivide x 2 a all b all", "= refused unknown x"),
+        ("subdivide a 2 c none b none", "= refused known b"),
+        ("subdivide a 2 c none c none", "= refused repeated c"),
+        ("subdivide a 2 c none d none", "= refused emptychild 1"),
+        (
+            "subdivide a 2 c box 0 0 0 5 10 10 d box 5 0 0 11 10 10",
+            "= refused outside 2",
+        ),
+        (
+            "subdivide a 2 c box 0 0 0 6 10 10 d box 5 0 0 10 10 10",
+            "= refused childrenoverlap 1 2",
+        ),
+        (
+            "subdivide a 2 c box 0 0 0 4 10 10 d box 5 0 0 10 10 10",
+            "= refused gap",
+        ),
+        ("consolidate a 1 x", "= refused few"),
+        ("consolidate a 2 a x", "= refused unknown x"),
+        ("consolidate a 2 a a", "= refused repeated a"),
+        ("layer rights", "= ok"),
+        ("register r box 0 0 0 1 1 1", "= ok"),
+        ("consolidate a 2 a r", "= refused layers r"),
+        ("consolidate a 2 a b", "= refused known a"),
+        ("retire x", "= refused unknown x"),
+        ("neighbours x", "= refused unknown x"),
+        ("history x", "= refused unknown x"),
+        ("layer base", "= ok"),
+        (
+            "list",
+            "= parcels 3\n= lot a born 1 live\n= lot b born 2 live\n= lot r born 25 live layer rights",
+        ),
+    ];
+    expect_in_turn(&rt, rt.alloc(), &rows)?;
+    Ok(())
+}
+
+#[test]
+fn lots_come_and_go(rt: HostRuntime) -> Result<(), Fail> {
+    let rows = [
+        ("register a box 0 0 0 10 10 10", "= ok"),
+        ("register b box 10 0 0 20 10 10", "= ok"),
+        ("neighbours a", "= neighbours 1\n= parcel b"),
+        ("cut a half 1 0 0 -5 a1 a2", "= ok"),
+        (
+            "subdivide b 2 b1 box 10 0 0 15 10 10 b2 box 15 0 0 20 10 10",
+            "= ok",
+        ),
+        ("consolidate c 2 a1 b1", "= ok"),
+        ("retire b2", "= ok"),
+        (
+            "history c",
+            "= lots 5\n= lot a born 1 ended 4\n= lot b born 2 ended 5\n= lot a1 born 4 ended 6 from a\n= lot b1 born 5 ended 6 from b\n= lot c born 6 live from a1 b1",
+        ),
+        ("at 7 5 5 1", "= parcel c"),
+        ("asof 5 7 5 5 1", "= parcel a1"),
+        ("asof 3 7 5 5 1", "= parcel a"),
+        ("asof 0 7 5 5 1", "= nobody"),
+        ("asof 900 7 5 5 1", "= parcel c"),
+        ("at 17 5 5 1", "= nobody"),
+        ("member lot c 12 5 5 1", "= yes"),
+        ("register b2 all", "= refused known b2"),
+        ("audit", "= clear 2"),
+    ];
+    expect_in_turn(&rt, rt.alloc(), &rows)?;
     Ok(())
 }
 
@@ -314,18 +467,18 @@ fn the_form_of_an_expression_is_made_test_by_test(rt: HostRuntime) -> Result<(),
 #[test]
 fn lines_that_are_too_long_are_not_echoed(rt: HostRuntime) -> Result<(), Fail> {
     let line = vec![in rt.alloc(); b'x'; 65537]?;
-    let answer = Machine::new(rt.alloc())?.step(&rt, rt.alloc(), 2, &line)?;
-    assert_eq!(rt; answer.n, 2);
+    let answer = opened(rt.alloc())?.step(&rt, rt.alloc(), 1, &line)?;
+    assert_eq!(rt; answer.n, 1);
     assert!(rt; answer.echo.items().is_empty());
     let mut text = Vec::new(rt.alloc());
     write_answer(&answer, false, &mut text)?;
-    assert_eq!(rt; text.as_slice(), b"> 2\n= refused long\n".as_slice());
+    assert_eq!(rt; text.as_slice(), b"> 1\n= refused long\n".as_slice());
     Ok(())
 }
 
 #[test]
 fn blank_lines_say_nothing(rt: HostRuntime) -> Result<(), Fail> {
-    let answer = Machine::new(rt.alloc())?.step(&rt, rt.alloc(), 1, b"# south")?;
+    let answer = opened(rt.alloc())?.step(&rt, rt.alloc(), 1, b"# south")?;
     assert!(rt; answer.verdicts.items().is_empty());
     Ok(())
 }

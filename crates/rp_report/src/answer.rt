@@ -1,6 +1,7 @@
 //! What is told of a line.
 
 use rp_cert::Proofs;
+use rp_history::LotLine;
 use rp_space::{Halves, Listed, Name, Numbers};
 use rp_syntax::Why;
 use std::alloc::{AllocError, Global};
@@ -12,10 +13,32 @@ pub enum Refusal {
     Bad(Why),
     /// The first name or lot, in reading order, that isn't there.
     Unknown(Name),
-    /// A new name that is there already.
+    /// A new name or id that is there already.
     Known(Name),
+    /// An id of the line that stood before in it.
+    Repeated(Name),
+    /// A lot that is in another layer than the first lot of the line.
+    Layers(Name),
+    /// Two new ids are one.
+    Same,
+    /// There are fewer than two lots or children.
+    Few,
+    /// The region has no point.
+    Empty,
     /// The work that the line asks for passes a limit.
     Limit,
+    /// A live lot of the layer with which the region shares a point.
+    Overlaps(Name),
+    /// The first (1) or the second (2) side of a cut would have no point.
+    EmptySide(u8),
+    /// The child with this number, from 1, has no point.
+    EmptyChild(u32),
+    /// The child with this number, from 1, is not within the lot.
+    Outside(u32),
+    /// Two children, by their numbers from 1, share a point.
+    ChildrenOverlap(u32, u32),
+    /// A point of the lot is in no child.
+    Gap,
     /// The first (1) or the second (2) of two regions has no point.
     EmptyRegion(u8),
 }
@@ -53,10 +76,22 @@ pub enum Verdict {
     Parts(u32),
     /// A part, by its half-spaces: the points that all of them hold.
     Part(Halves),
+    /// The parcel that is asked for, or one of several.
+    Parcel(Name),
+    /// No parcel has the point.
+    Nobody,
+    /// How many neighbours there are; a line for each follows.
+    Neighbours(u32),
+    /// No two of the live parcels, so many, share a point.
+    Clear(u32),
+    /// How many live parcels there are; a line for each follows.
+    Parcels(u32),
+    /// How many lots there are; a line for each follows.
+    Lots(u32),
+    /// A lot.
+    Lot(LotLine),
     /// The line is refused.
     Refused(Refusal),
-    /// The line is refused, since its command is not built yet.
-    Unbuilt,
 }
 
 /// The bytes of a line that are echoed.

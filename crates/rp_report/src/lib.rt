@@ -3,6 +3,7 @@
 
 mod answer;
 mod items;
+mod lot;
 mod numbers;
 mod pieces;
 mod proof;

@@ -1,6 +1,7 @@
 use crate::{Answer, Refusal, Verdict, Verdicts, write_answer};
 use rp_cert::{Proof, Proofs};
-use rp_space::{Half, Halves, Inside, IntBox, Name, Numbers, Outside, Point, Term};
+use rp_history::LotLine;
+use rp_space::{Half, Halves, Inside, IntBox, Name, Names, Numbers, Outside, Point, Term};
 use rp_syntax::Why;
 use std::alloc::{AllocError, Global};
 use std::process::Abort;
@@ -38,7 +39,6 @@ fn each_verdict_has_its_line(rt: HostRuntime) -> Result<(), Fail> {
         (Verdict::Pieces(0), b"> 7 all\n= pieces 0\n"),
         (Verdict::Parts(0), b"> 7 all\n= parts 0\n"),
         (Verdict::Parts(1024), b"> 7 all\n= parts 1024\n"),
-        (Verdict::Unbuilt, b"> 7 all\n= refused unbuilt\n"),
     ] {
         expect_text(&rt, rt.alloc(), (7, b"all"), verdict, want)?;
     }
@@ -72,6 +72,94 @@ fn each_refusal_has_its_words(rt: HostRuntime) -> Result<(), Fail> {
         expect_text(&rt, rt.alloc(), (7, b"all"), verdict, want)?;
     }
     Ok(())
+}
+
+#[test]
+fn each_verdict_of_the_register_has_its_line(rt: HostRuntime) -> Result<(), Fail> {
+    let name = Name::new(b"west").ok_or("no name")?;
+    for (verdict, want) in [
+        (
+            Verdict::Parcel(name),
+            b"> 7 all\n= parcel west\n".as_slice(),
+        ),
+        (Verdict::Nobody, b"> 7 all\n= nobody\n"),
+        (Verdict::Neighbours(2), b"> 7 all\n= neighbours 2\n"),
+        (Verdict::Clear(800), b"> 7 all\n= clear 800\n"),
+        (Verdict::Parcels(0), b"> 7 all\n= parcels 0\n"),
+        (Verdict::Lots(3), b"> 7 all\n= lots 3\n"),
+    ] {
+        expect_text(&rt, rt.alloc(), (7, b"all"), verdict, want)?;
+    }
+    Ok(())
+}
+
+#[test]
+fn each_refusal_of_the_register_has_its_words(rt: HostRuntime) -> Result<(), Fail> {
+    let name = Name::new(b"west").ok_or("no name")?;
+    for (refusal, want) in [
+        (
+            Refusal::Repeated(name),
+            b"> 7 all\n= refused repeated west\n".as_slice(),
+        ),
+        (Refusal::Layers(name), b"> 7 all\n= refused layers west\n"),
+        (Refusal::Same, b"> 7 all\n= refused same\n"),
+        (Refusal::Few, b"> 7 all\n= refused few\n"),
+        (Refusal::Empty, b"> 7 all\n= refused empty\n"),
+        (
+            Refusal::Overlaps(name),
+            b"> 7 all\n= refused overlaps west\n",
+        ),
+        (Refusal::EmptySide(2), b"> 7 all\n= refused emptyside 2\n"),
+        (
+            Refusal::EmptyChild(1024),
+            b"> 7 all\n= refused emptychild 1024\n",
+        ),
+        (Refusal::Outside(3), b"> 7 all\n= refused outside 3\n"),
+        (
+            Refusal::ChildrenOverlap(1, 12),
+            b"> 7 all\n= refused childrenoverlap 1 12\n",
+        ),
+        (Refusal::Gap, b"> 7 all\n= refused gap\n"),
+    ] {
+        let verdict = Verdict::Refused(refusal);
+        expect_text(&rt, rt.alloc(), (7, b"all"), verdict, want)?;
+    }
+    Ok(())
+}
+
+/// Writes the line of a lot with this layer, this end and these origins, and compares its text.
+fn expect_lot(
+    rt: &impl Abort,
+    alloc: Global,
+    (layer, ended): (&[u8], Option<u32>),
+    origins: Names,
+    want: &[u8],
+) -> Result<(), Fail> {
+    let lot = LotLine {
+        id: Name::new(b"west").ok_or("no name")?,
+        layer: Name::new(layer).ok_or("no name")?,
+        born: 3,
+        ended,
+        origins,
+    };
+    expect_text(rt, alloc, (7, b"list"), Verdict::Lot(lot), want)?;
+    Ok(())
+}
+
+#[test]
+fn a_live_lot_of_the_first_layer_has_the_shortest_line(rt: HostRuntime) -> Result<(), Fail> {
+    let origins = Names::new(rt.alloc());
+    let want = b"> 7 list\n= lot west born 3 live\n";
+    expect_lot(&rt, rt.alloc(), (b"base", None), origins, want)
+}
+
+#[test]
+fn a_lot_line_tells_end_layer_and_origins(rt: HostRuntime) -> Result<(), Fail> {
+    let mut origins = Names::new(rt.alloc());
+    origins.push(Name::new(b"east").ok_or("no name")?)?;
+    origins.push(Name::new(b"base").ok_or("no name")?)?;
+    let want = b"> 7 list\n= lot west born 3 ended 12 layer rights from east base\n";
+    expect_lot(&rt, rt.alloc(), (b"rights", Some(12)), origins, want)
 }
 
 #[test]

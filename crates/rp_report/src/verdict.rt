@@ -1,11 +1,14 @@
 //! The text of verdict lines.
 ghost use Rattle.std.specs.Prelude.{◌≡◌};
 ghost use Rattle.rp_reports.specs.Text.{fault_word, refusal_text, verdict_text};
+ghost use Rattle.rp_model.specs.commands.Verdict.{children_overlap};
 ghost use Rattle.rp_syntax.specs.Views.{fault_of};
+ghost use Rattle.rp_report.specs.Fronts.{Writes};
 ghost use Rattle.rp_report.specs.Views.{refusal_of, verdict_of};
 
 use crate::answer::{Refusal, Verdict};
 use crate::items::{WriteText, write_operand, write_operands};
+use crate::numbers::write_spaced;
 use crate::pieces::append;
 use rp_syntax::Why;
 use std::alloc::AllocError;
@@ -23,6 +26,14 @@ fn fault_word(why: Why) -> &'static [u8]
     }
 }
 
+/// Appends that two children share a point, by their numbers.
+fn write_children(first: u32, second: u32, out: &mut Vec<u8>) -> Result<(), AllocError>
+    ensures { Writes result out.old.items out.new.items (refusal_text (children_overlap first second)) }
+{
+    append(b"childrenoverlap ", out)?;
+    write_spaced(&first, &[second], out)
+}
+
 impl WriteText for Refusal {
     ghost text = { λ r. refusal_text (refusal_of r) };
 
@@ -31,7 +42,18 @@ impl WriteText for Refusal {
             Refusal::Bad(why) => append(fault_word(*why), out),
             Refusal::Unknown(name) => write_operand(b"unknown", name, out),
             Refusal::Known(name) => write_operand(b"known", name, out),
+            Refusal::Repeated(name) => write_operand(b"repeated", name, out),
+            Refusal::Layers(name) => write_operand(b"layers", name, out),
+            Refusal::Same => append(b"same", out),
+            Refusal::Few => append(b"few", out),
+            Refusal::Empty => append(b"empty", out),
             Refusal::Limit => append(b"limit", out),
+            Refusal::Overlaps(name) => write_operand(b"overlaps", name, out),
+            Refusal::EmptySide(k) => write_operand(b"emptyside", &(*k as u32), out),
+            Refusal::EmptyChild(k) => write_operand(b"emptychild", k, out),
+            Refusal::Outside(k) => write_operand(b"outside", k, out),
+            Refusal::ChildrenOverlap(m, n) => write_children(*m, *n, out),
+            Refusal::Gap => append(b"gap", out),
             Refusal::EmptyRegion(k) => write_operand(b"emptyregion", &(*k as u32), out),
         }
     }
@@ -57,8 +79,14 @@ impl WriteText for Verdict {
             Verdict::Piece(numbers) => write_operands(b"= piece", numbers.items(), out),
             Verdict::Parts(count) => write_operand(b"= parts", count, out),
             Verdict::Part(halves) => write_operands(b"= part", halves.items(), out),
+            Verdict::Parcel(name) => write_operand(b"= parcel", name, out),
+            Verdict::Nobody => append(b"= nobody", out),
+            Verdict::Neighbours(count) => write_operand(b"= neighbours", count, out),
+            Verdict::Clear(count) => write_operand(b"= clear", count, out),
+            Verdict::Parcels(count) => write_operand(b"= parcels", count, out),
+            Verdict::Lots(count) => write_operand(b"= lots", count, out),
+            Verdict::Lot(lot) => write_operand(b"=", lot, out),
             Verdict::Refused(refusal) => write_operand(b"= refused", refusal, out),
-            Verdict::Unbuilt => append(b"= refused unbuilt", out),
         }
     }
 }

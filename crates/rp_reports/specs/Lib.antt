@@ -1,7 +1,6 @@
 pub mod Text
 pub mod Report
 pub mod Machine
-pub mod Built
 pub mod ProofText
 pub mod Check
 pub mod TrueReport

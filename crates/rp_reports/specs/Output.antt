@@ -6,8 +6,7 @@ use Rattle.std.specs.Fmt.{decimal}
 use Rattle.std.specs.Str.{bytes_eq}
 use Rattle.rp_language.specs.Grammar.{Reading, command, bad, reading, spelling, natural_spelled}
 use Rattle.rp_reports.specs.Text.{line_end}
-use Rattle.rp_reports.specs.Report.{script_lines, last_line}
-use Rattle.rp_reports.specs.Built.{IsReportSoFar, IsBriefReportSoFar}
+use Rattle.rp_reports.specs.Report.{script_lines, last_line, IsReport, IsBriefReport}
 use Rattle.rp_reports.specs.Check.{is_accepted, IsFirstWrong}
 use Rattle.rp_reports.specs.Made.{made_script, trial_lines}
 
@@ -120,8 +119,8 @@ IsFound lines told = (IsTrue (is_accepted lines) × (told ≡ codes "accepted" �
 
 -- the lines are the whole output of a task on the input
 abbrev pub IsOutput : Task → List ℕ → List (List ℕ) → Type 0
-IsOutput run_script bytes lines = IsReportSoFar bytes lines
-IsOutput run_brief bytes lines = IsBriefReportSoFar bytes lines
+IsOutput run_script bytes lines = IsReport bytes lines
+IsOutput run_brief bytes lines = IsBriefReport bytes lines
 IsOutput check_report bytes lines = IsFound (report_lines bytes) lines
 IsOutput spell_script bytes lines = lines ≡ spelled_script bytes
 IsOutput (make_script n seed) bytes lines = lines ≡ made_script n seed

@@ -3,5 +3,4 @@ pub mod RowLaws
 pub mod StateLaws
 pub mod RunLaws
 pub mod CheckLaws
-pub mod BuiltLaws
 pub mod LayerLaws

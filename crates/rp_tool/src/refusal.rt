@@ -10,7 +10,7 @@ use rp_report::{Answer, Verdict};
 fn is_refusal(verdict: &Verdict) -> bool
     ensures { result ≡ is_refused_line (verdict_text (verdict_of verdict.now)) }
 {
-    matches!(verdict, Verdict::Refused(_) | Verdict::Unbuilt)
+    matches!(verdict, Verdict::Refused(_))
 }
 
 /// Whether some of the verdicts refuses its line.

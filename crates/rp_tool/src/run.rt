@@ -1,6 +1,8 @@
-ghost use Rattle.std.specs.Prelude.{◌≡◌, ◌≤◌, length, IfErr, IfOk, OnOk};
+ghost use Rattle.std.specs.Prelude.{◌≡◌, ◌+◌, ◌≤◌, length, IfErr, IfOk, OnOk};
 ghost use Rattle.rp_reports.specs.Output.{most_script_bytes, run_script};
-ghost use Rattle.rp_reports.specs.Built.{state_so_far};
+ghost use Rattle.rp_model.specs.states.State.{state_of_parts};
+ghost use Rattle.rp_model.specs.states.Sound.{IsLaterThan};
+ghost use Rattle.rp_reports.specs.Machine.{step_state};
 ghost use Rattle.rp_tool.specs.Output.{PutsAnswer, PutsOutput, HasOutputCause};
 
 use super::fault::OutputFault;
@@ -14,6 +16,7 @@ use std::alloc::Global;
 use std::thread::Threads;
 
 /// Puts the report lines of one line of the script, by way of a buffer for their text. Answers whether one is a refusal.
+/// The number of the line is above those of all lines before it.
 fn run_line<R: Threads + Sync, K: Sink>(
     rt: &R,
     alloc: Global,
@@ -23,10 +26,12 @@ fn run_line<R: Threads + Sync, K: Sink>(
     text: &mut Vec<u8>,
     sink: &mut K,
 ) -> Result<bool, OutputFault>
+    requires { IsLaterThan number (state_of_parts machine.old) }
     ensures counts { K.faults sink.old ≤ K.faults sink.new }
     ensures answer { IfOk result (λ refused.
         PutsAnswer machine.old number line.now (K.said sink.old) (K.said sink.new) refused) }
-    ensures state { OnOk result (machine.new ≡ state_so_far machine.old number line.now) }
+    ensures state { OnOk result (machine.new ≡ step_state machine.old number line.now) }
+    ensures later { OnOk result (IsLaterThan (number + 1) (state_of_parts machine.new)) }
     ensures cause { IfErr result (HasOutputCause (K.faults sink.old) (K.faults sink.new)) }
 {
     let answer = machine.step(rt, alloc, number, line)?;

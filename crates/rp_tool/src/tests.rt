@@ -166,8 +166,6 @@ fn answers_within_the_bounds_and_refuses_past_them(rt: HostRuntime) -> Result<()
         ("member minus name a lot b 0 0 0 1", "= refused unknown a"),
         ("empty half 0 0 0 0", "= refused zero"),
         ("empty name a", "= refused unknown a"),
-        // A command that is not built.
-        ("audit", "= refused unbuilt"),
     ];
     for (line, verdict) in rows {
         let report = report_of(rt.alloc(), line, verdict)?;

@@ -1,4 +1,6 @@
-use Rattle.std.proofs.Common.{arith}
+use Rattle.std.proofs.Common.{arith, sym, subst}
+use Rattle.rp_model.specs.states.State.{PlainState, state_of_parts}
+use Rattle.rp_model.specs.states.Sound.{IsLaterThan}
 use Rattle.rp_tool.proofs.RunLemmas.{HasTold-start, HasTold-more, PutsOutput-run}
 use Rattle.rp_tool.proofs.run.run.Goals as goal
 
@@ -8,6 +10,7 @@ loop-line-init g c =
     record {
       counts = omega arith;
       number = omega (arith, c.requires);
+      later = subst (λ (s : PlainState). IsLaterThan 1 (state_of_parts s)) (sym c.in_ok-machine.ensures) (record { births = tt; ends = tt });
       told = HasTold-start c.args.script.now said c.in_ok-machine.machine c.in_ok-machine.ensures;
     }
 
@@ -16,6 +19,7 @@ loop-line-preserved g c =
     record {
       counts = omega (arith, c.loop-line.invariant.counts, c.in_ok-refused.ensures.counts);
       number = omega (arith, c.loop-line.invariant.number, c.in-Some.ensures.shorter);
+      later = c.in_ok-refused.ensures.later;
       told =
           HasTold-more c.args.script.now (g.K.Sink.said c.args.sink.now) (g.K.Sink.said c.loop-line.sink) (g.K.Sink.said c.run_line.new.sink)
           c.loop-line.machine c.run_line.new.machine c.loop-line.number

@@ -1,5 +1,7 @@
 use Rattle.std.proofs.Common.{◌≤◌, ◌+◌, length}
 use Rattle.rp_reports.specs.Output.{most_script_bytes}
+use Rattle.rp_model.specs.states.State.{state_of_parts}
+use Rattle.rp_model.specs.states.Sound.{IsLaterThan}
 use Rattle.rp_tool.proofs.RunLemmas.{HasTold}
 use Rattle.rp_tool.proofs.run.run.Given as goal
 
@@ -8,6 +10,7 @@ invariant-loop-line g l =
     record {
       counts : g.K.Sink.faults l.fn.sink ≤ g.K.Sink.faults l.sink;
       number : l.number + length l.rest ≤ most_script_bytes + 1;
+      later : IsLaterThan l.number (state_of_parts l.machine);
       told : HasTold l.script (g.K.Sink.said l.fn.sink) (g.K.Sink.said l.sink) l.machine l.number l.rest l.refused;
     }
 

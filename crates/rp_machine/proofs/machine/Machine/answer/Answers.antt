@@ -1,43 +1,30 @@
-use Rattle.std.proofs.Common.{◌≡◌, map, subst}
-use Rattle.rp_cert.specs.Lines.{line_of}
+use Rattle.std.proofs.Common.{◌∙◌, subst}
 use Rattle.rp_language.proofs.ReadBounds.{read_expressions_are_kept_spec}
-use Rattle.rp_walks.specs.Walk.{Work, done}
+use Rattle.rp_machine.proofs.ReadChildren.{read_children_are_few}
+use Rattle.rp_walks.specs.Walk.{Work, first_tester}
+use Rattle.rp_model.specs.commands.Row.{row}
 use Rattle.rp_syntax.specs.Views.{command_of}
-use Rattle.rp_machine.specs.Replies.{row_so_far, reply_of, ComesTo}
-use Rattle.rp_machine.proofs.Told.{reply_answered, reply_changes, fault_answered, fault_unchanged}
+use Rattle.rp_machine.specs.Replies.{Runs}
+use Rattle.rp_machine.proofs.Told.{row_answered, row_changed}
 use Rattle.rp_machine.proofs.machine.Machine.answer.Goals as goal
 
-pub row-requires : goal.row-requires
-row-requires c = read_expressions_are_kept_spec c.args.line.now (command_of c.args.asked.now) c.requires
+pub carry_out-row-requires-clause-kept : goal.carry_out-row-requires-clause-kept
+carry_out-row-requires-clause-kept c = read_expressions_are_kept_spec c.args.line.now (command_of c.args.asked.now) c.requires.read
 
-pub returns-in-Ok-clause-answer : goal.returns-in-Ok-clause-answer
-returns-in-Ok-clause-answer c =
+pub carry_out-row-requires-clause-few : goal.carry_out-row-requires-clause-few
+carry_out-row-requires-clause-few c = read_children_are_few c.args.line.now (command_of c.args.asked.now) c.requires.read
+
+pub returns-clause-answer : goal.returns-clause-answer
+returns-clause-answer c =
     let s = c.args.self.now in
     let asked = command_of c.args.asked.now in
-    let new = c.row.new.work in
-    let walked = subst (λ (w : Work). row_so_far s asked w ≡ done (reply_of c.in-Ok.reply) new) c.new-work.ensures c.in-Ok.ensures.walks in
-    reply_answered s c.args.n c.args.line.now asked new c.in-Ok.reply (map line_of c.into_proofs.result.items) c.complete.result c.requires walked c.into_proofs.ensures c.complete.ensures.answer
+    let run = subst (λ (w : Work). Runs c.carry_out-row.result c.args.n c.carry_out-row.new.work s c.carry_out-row.new.self (row first_tester s asked w)) c.new-work.ensures c.carry_out-row.ensures in
+    (λ i. record { number = c.args.n; echo = c.in_ok-echo.ensures i; proofs = c.row_proofs-proofs.ensures i; verdicts = c.in_ok-verdicts.ensures.lines i })
+    ∙ row_answered s c.carry_out-row.new.self c.args.n c.args.line.now asked c.carry_out-row.result c.carry_out-row.new.work c.requires.read c.in_ok-verdicts.ensures.there run
 
-pub returns-in-Ok-clause-state : goal.returns-in-Ok-clause-state
-returns-in-Ok-clause-state c =
+pub returns-clause-state : goal.returns-clause-state
+returns-clause-state c =
     let s = c.args.self.now in
     let asked = command_of c.args.asked.now in
-    let new = c.row.new.work in
-    let walked = subst (λ (w : Work). row_so_far s asked w ≡ done (reply_of c.in-Ok.reply) new) c.new-work.ensures c.in-Ok.ensures.walks in
-    reply_changes s c.complete.new.self c.args.n c.args.line.now asked new c.in-Ok.reply c.complete.result c.requires walked c.complete.ensures.state
-
-pub returns-in-Err-clause-answer : goal.returns-in-Err-clause-answer
-returns-in-Err-clause-answer c =
-    let s = c.args.self.now in
-    let asked = command_of c.args.asked.now in
-    let new = c.row.new.work in
-    let comes = subst (λ (w : Work). ComesTo c.in-Err.fault new (row_so_far s asked w)) c.new-work.ensures c.in-Err.ensures.walks in
-    fault_answered s c.args.n c.args.line.now asked new c.in-Err.fault c.refused.result c.requires comes c.refused.ensures
-
-pub returns-in-Err-clause-state : goal.returns-in-Err-clause-state
-returns-in-Err-clause-state c =
-    let s = c.args.self.now in
-    let asked = command_of c.args.asked.now in
-    let new = c.row.new.work in
-    let comes = subst (λ (w : Work). ComesTo c.in-Err.fault new (row_so_far s asked w)) c.new-work.ensures c.in-Err.ensures.walks in
-    fault_unchanged s c.args.n c.args.line.now asked new c.in-Err.fault c.refused.result c.requires comes c.refused.ensures
+    let run = subst (λ (w : Work). Runs c.carry_out-row.result c.args.n c.carry_out-row.new.work s c.carry_out-row.new.self (row first_tester s asked w)) c.new-work.ensures c.carry_out-row.ensures in
+    row_changed s c.carry_out-row.new.self c.args.n c.args.line.now asked c.carry_out-row.result c.carry_out-row.new.work c.requires.read c.in_ok-verdicts.ensures.there run

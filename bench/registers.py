@@ -1,0 +1,52 @@
+"""Scripts about the register that are timed: parcels are registered, cut, subdivided and asked for.
+
+A script of a kind is made of one number alone, which says how many parcels it has, so that two runs time the same work.
+No line of them is refused.
+"""
+import regions
+
+# The edge of a storey, and its height, in millimetres.
+EDGE, HEIGHT = 12_000, 3_000
+# How many units a storey of a tower has on either side of its hall, and how deep a unit is.
+UNITS, DEPTH = 5, 18_000
+
+
+def unit_boxes(count):
+    """Boxes of one unit in a row, each registered."""
+    return [f"register p{number} {regions.box((number, 0, 0), (number + 1, 1, 1))}" for number in range(count)]
+
+
+def storeys(count):
+    """Storeys one upon the other, each registered, cut by a skew plane and asked for neighbours; then all are audited and listed."""
+    lines = []
+    for number in range(count):
+        low, high = HEIGHT * number, HEIGHT * (number + 1)
+        lines += [
+            f"register s{number} {regions.box((0, 0, low), (EDGE, EDGE, high))}",
+            # Through the middle of the storey.
+            f"cut s{number} half 5 3 2 {-4 * EDGE - low - high} s{number}-in s{number}-out",
+            f"neighbours s{number}-in",
+        ]
+    return lines + ["audit", "list"]
+
+
+def owners(count):
+    """A row of boxes of one unit, and whose the middle of each is."""
+    return unit_boxes(count) + [f"at {2 * number + 1} 1 1 2" for number in range(count)]
+
+
+def tower(count):
+    """A tower of so many storeys, subdivided at once into the units of each and all that is left as common property."""
+    breadth, depth = UNITS * EDGE, 2 * DEPTH + 4_000
+    boxes = [
+        regions.box((EDGE * column, south, HEIGHT * storey), (EDGE * (column + 1), south + DEPTH, HEIGHT * (storey + 1)))
+        for storey in range(count)
+        for column in range(UNITS)
+        for south in (0, depth - DEPTH)
+    ]
+    children = [f"u{number} {box}" for number, box in enumerate(boxes)]
+    return [
+        f"register tower {regions.box((0, 0, 0), (breadth, depth, HEIGHT * count))}",
+        f"let units = {regions.joined('or', boxes)}",
+        f"subdivide tower {len(boxes) + 1} {' '.join(children)} common minus lot tower name units",
+    ]

@@ -1,0 +1,62 @@
+//! Lots that are born, and lots that end.
+ghost use Rattle.std.specs.Prelude.{◌≡◌, ◌≤◌, ◌++◌, false, IsTrue, map, length, IfOk};
+ghost use Rattle.std.specs.List.{AllByRecursion};
+ghost use Rattle.rp_language.specs.Name.{is_among};
+ghost use Rattle.rp_model.specs.states.State.{ids_of, born_at, ended_at};
+ghost use Rattle.rp_model.specs.states.Sound.{are_distinct};
+ghost use Rattle.rp_history.specs.Lots.{lot_of, new_lot_of};
+
+use crate::list::LotList;
+use crate::lot::{Birth, LotLine};
+use rp_space::{Listed, Name, Names};
+use std::alloc::{AllocError, Global};
+
+/// The lots that are born at the line, in order. Answers `AllocError` only for want of memory.
+pub(crate) fn lots_born(
+    alloc: Global,
+    line: u32,
+    births: &[Birth],
+) -> Result<Listed<LotLine>, AllocError>
+    ensures { IfOk result (λ born. map lot_of born.items ≡ map (born_at line) (map new_lot_of births.now)) }
+{
+    let mut born = Listed::new(alloc);
+    for birth in births {
+        born.push(lot_born(alloc, line, birth)?)?;
+    }
+    Ok(born)
+}
+
+/// A lot that is born at the line. Answers `AllocError` only for want of memory.
+fn lot_born(alloc: Global, line: u32, birth: &Birth) -> Result<LotLine, AllocError>
+    ensures { IfOk result (λ lot. lot_of lot ≡ born_at line (new_lot_of birth.now)) }
+{
+    Ok(LotLine {
+        id: birth.id,
+        layer: birth.layer,
+        born: line,
+        ended: None,
+        origins: Names::copy_of(alloc, birth.origins.items())?,
+    })
+}
+
+/// Ends the lots of these ids at the line, as far as they are live. The room stays.
+pub(crate) fn end_all(list: &mut LotList, line: u32, ids: &[Name])
+    ensures lots { list.new.lots ≡ map (ended_at line ids.now) list.old.lots }
+    ensures spare { list.new.spare ≡ list.old.spare }
+{
+    for id in ids {
+        list.end(line, id);
+    }
+}
+
+/// Puts lots with new ids last, in order. There is room for them.
+pub(crate) fn append(list: &mut LotList, born: Listed<LotLine>)
+    requires room { length born.items ≤ list.old.spare }
+    requires fresh { AllByRecursion (λ l. is_among l.id (ids_of list.old.lots) ≡ false) (map lot_of born.items) }
+    requires distinct { IsTrue (are_distinct (ids_of (map lot_of born.items))) }
+    ensures { list.new.lots ≡ list.old.lots ++ map lot_of born.items }
+{
+    for lot in born.into_items() {
+        list.push(lot);
+    }
+}

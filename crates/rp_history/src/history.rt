@@ -1,0 +1,120 @@
+//! The history of lots, and what is asked of it.
+ghost use Rattle.std.specs.Prelude.{◌≡◌, ◌<◌, [], ◌∷◌, map, length, slice_get, IsTrue, IfSome, IfOk, OnOk, OnErr};
+ghost use Rattle.std.specs.Option.{option_and_then};
+ghost use Rattle.rp_language.specs.Name.{is_among};
+ghost use Rattle.rp_model.specs.states.State.{lot_with_id, live_lot, alive_after, ids_of, lineage, lots_replaced, ended_at};
+ghost use Rattle.rp_model.specs.states.Sound.{are_distinct};
+ghost use Rattle.rp_history.specs.Lots.{lot_of, new_lot_of, lots_after, AreBornBefore, AreKeptWell, AreNew};
+
+use crate::births::{append, end_all, lots_born};
+use crate::lineage::{marked, marked_ids};
+use crate::list::LotList;
+use crate::lot::{Birth, LotLine};
+use rp_space::{Name, Names};
+use std::alloc::{AllocError, Global};
+use std::marker::Model;
+
+/// All lots that were ever registered, in the order of their births. A contract sees them as lots without parts.
+#[derive(Debug, Drop)]
+pub struct History {
+    list: LotList,
+}
+
+impl Model for History {
+    ghost use Rattle.std.specs.Prelude.{List};
+    ghost use Rattle.rp_model.specs.states.State.{Lot};
+    ghost use Rattle.rp_history.specs.Lots.{AreKeptWell};
+
+    ghost Value = { List (Lot (Unit {0})) };
+
+    ghost view = { λ a. a.list.lots };
+
+    ghost invariant = { λ a. AreKeptWell a.list.lots };
+}
+
+impl History {
+    /// No lots. Takes no memory.
+    pub fn new(alloc: Global) -> History
+        ensures { result ≡ [] }
+    {
+        History {
+            list: LotList::new(alloc),
+        }
+    }
+
+    /// Ends the lots of these ids at the line, as far as they are live, and lets others be born there, which go last, in
+    /// order. All lots were born before the line; the new ids are new and distinct, and their origins are known.
+    /// Answers `AllocError` only for want of memory; then all is as before.
+    pub fn note(
+        &mut self,
+        alloc: Global,
+        line: u32,
+        births: &[Birth],
+        ends: &[Name],
+    ) -> Result<(), AllocError>
+        requires later { AreBornBefore line self.old }
+        requires new { AreNew self.old (map new_lot_of births.now) }
+        ensures ok { OnOk result (self.new ≡ lots_after line self.old (lots_replaced ends.now (map new_lot_of births.now))) }
+        ensures err { OnErr result (self.new ≡ self.old) }
+        ensures well { OnOk result (AreKeptWell self.new) }
+    {
+        let born = lots_born(alloc, line, births)?;
+        self.list.reserve(born.items().len())?;
+        end_all(&mut self.list, line, ends);
+        append(&mut self.list, born);
+        Ok(())
+    }
+
+    /// Ends a lot at the line, where it is live. All lots were born before the line. Takes no memory.
+    pub fn end(&mut self, line: u32, id: Name)
+        requires { AreBornBefore line self.old }
+        ensures lots { self.new ≡ map (ended_at line (id ∷ [])) self.old }
+        ensures well { AreKeptWell self.new }
+    {
+        self.list.end(line, &id);
+    }
+
+    /// All lots in the order of their births.
+    pub fn lots(&self) -> &[LotLine]
+        ensures value { map lot_of result.now ≡ self.now }
+        ensures well { AreKeptWell self.now }
+    {
+        self.list.lots()
+    }
+
+    /// The place of a lot among all lots, found without a walk over them. `None` exactly where the id was never registered.
+    pub fn place_of(&self, id: &Name) -> Option<usize>
+        ensures lot { option_and_then (λ k. slice_get self.now k) result ≡ lot_with_id id.now self.now }
+        ensures within { IfSome result (λ k. k < length self.now) }
+        ensures distinct { IsTrue (are_distinct (ids_of self.now)) }
+    {
+        self.list.place_of(id)
+    }
+
+    /// The place of a live lot among all lots, found without a walk over them. `None` exactly where the id isn't live.
+    pub fn live_place(&self, id: &Name) -> Option<usize>
+        ensures lot { option_and_then (λ k. slice_get self.now k) result ≡ live_lot id.now self.now }
+        ensures within { IfSome result (λ k. k < length self.now) }
+    {
+        self.list.live_place(id)
+    }
+
+    /// Whether the lot was born at the line or before, and wasn't ended at the line or before.
+    pub fn alive(&self, id: Name, line: u32) -> bool
+        ensures { result ≡ is_among id (ids_of (alive_after line self.now)) }
+    {
+        match self.place_of(&id) {
+            Some(place) => self.lots()[place].is_alive_after(line),
+            None => false,
+        }
+    }
+
+    /// The ids of a lot and of all lots from which it descends through origins, in the order of their births; none where
+    /// the id was never registered. Answers `AllocError` only for want of memory.
+    pub fn lineage(&self, alloc: Global, id: Name) -> Result<Names, AllocError>
+        ensures { IfOk result (λ ids. ids.items ≡ ids_of (lineage id self.now)) }
+    {
+        let marks = marked(alloc, self, &id)?;
+        marked_ids(alloc, self.list.lots(), &marks)
+    }
+}

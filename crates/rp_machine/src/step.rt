@@ -1,0 +1,140 @@
+//! One line of a script after the other.
+ghost use Rattle.std.specs.Prelude.{◌≡◌, ◌+◌, ◌<◌, ◌∷◌, ◌++◌, [], map, IfOk, OnOk, OnErr};
+ghost use Rattle.rp_language.specs.Grammar.{reading, command};
+ghost use Rattle.rp_model.specs.states.State.{state_of_parts};
+ghost use Rattle.rp_model.specs.states.Sound.{IsLaterThan};
+ghost use Rattle.rp_reports.specs.Report.{echoed, bad_answer};
+ghost use Rattle.rp_reports.specs.Machine.{step_answer, step_state};
+ghost use Rattle.rp_cert.specs.Lines.{line_of};
+ghost use Rattle.rp_report.specs.Views.{answer_of, verdict_of};
+ghost use Rattle.rp_syntax.specs.Views.{command_of, fault_of};
+ghost use Rattle.rp_machine.specs.Replies.{verdicts_of_row, proofs_of_row, IsWant};
+
+use crate::fault::RowFault;
+use crate::machine::Machine;
+use crate::reply::Reply;
+use rp_cert::Proofs;
+use rp_region::Work;
+use rp_report::{Answer, Echo, Refusal, Verdict, Verdicts};
+use rp_syntax::{Command, Line, Why, read_line};
+use std::alloc::{AllocError, Global};
+use std::thread::Threads;
+
+/// The bytes of a line that is no command, as they are echoed: none of a line that is too long.
+fn echoed(line: &[u8], why: Why) -> &[u8]
+    ensures { result.now ≡ echoed (fault_of why) line.now }
+{
+    match why {
+        Why::Long => &[],
+        _ => line,
+    }
+}
+
+/// The answer to a line that is no command. Answers `AllocError` only for want of memory.
+fn bad_line(alloc: Global, n: u32, line: &[u8], why: Why) -> Result<Answer, AllocError>
+    ensures { IfOk result (λ a. answer_of a ≡ bad_answer n line.now (fault_of why)) }
+{
+    let verdict = Verdict::Refused(Refusal::Bad(why));
+    Answer::with_verdict(alloc, n, echoed(line, why), Proofs::new(alloc), verdict)
+}
+
+/// An empty list with room for one verdict line. Answers `AllocError` only for want of memory.
+fn room_for_one(alloc: Global) -> Result<Verdicts, AllocError>
+    ensures empty { IfOk result (λ lines. lines.items ≡ []) }
+    ensures room { IfOk result (λ lines. 0 < lines.spare) }
+{
+    let mut lines = Verdicts::new(alloc);
+    lines.reserve(1)?;
+    Ok(lines)
+}
+
+/// The list with one more verdict line, for which there is room. Takes no memory.
+fn with_line(mut lines: Verdicts, verdict: Verdict) -> Verdicts
+    requires { 0 < lines.spare }
+    ensures { result.items ≡ lines.items ++ verdict ∷ [] }
+{
+    lines.push(verdict).unwrap();
+    lines
+}
+
+/// The verdict lines of a row: those of its reply, or the one line of a refusal or a change, for which there is room.
+/// Takes no memory. Answers `AllocError` only where the row does.
+fn row_lines(row: Result<Reply, RowFault>, room: Verdicts) -> Result<Verdicts, AllocError>
+    requires empty { room.items ≡ [] }
+    requires room { 0 < room.spare }
+    ensures lines { IfOk result (λ lines. map verdict_of lines.items ≡ verdicts_of_row row) }
+    ensures there { OnOk result (¬ IsWant row) }
+    ensures want { OnErr result (IsWant row) }
+{
+    match row {
+        Ok(Reply::Told(lines)) => Ok(lines),
+        Ok(Reply::Done) => Ok(with_line(room, Verdict::Ok)),
+        Err(RowFault::Refused(refusal)) => Ok(with_line(room, Verdict::Refused(refusal))),
+        Err(RowFault::Limit) => Ok(with_line(room, Verdict::Refused(Refusal::Limit))),
+        Err(RowFault::Memory(fault)) => Err(fault),
+    }
+}
+
+/// The proof lines of a row, which has done this work: none where it passes a limit. Takes no memory.
+fn row_proofs(alloc: Global, row: &Result<Reply, RowFault>, work: Work) -> Proofs
+    ensures { map line_of result.items ≡ proofs_of_row row.now work.proofs }
+{
+    match row {
+        Err(RowFault::Limit) => Proofs::new(alloc),
+        _ => work.into_proofs(),
+    }
+}
+
+impl Machine {
+    /// The answer to the line with the number `n`, which is above every birth and every end of a lot, and what it changes.
+    /// A blank line has an answer without echo and verdicts. A line that is refused changes nothing. Answers `AllocError`
+    /// only for want of memory; then the machine is as it was. The next number is above every birth and every end again.
+    pub fn step<R: Threads + Sync>(
+        &mut self,
+        _rt: &R,
+        alloc: Global,
+        n: u32,
+        line: &[u8],
+    ) -> Result<Answer, AllocError>
+        requires { IsLaterThan n (state_of_parts self.old) }
+        ensures answer { IfOk result (λ a. answer_of a ≡ step_answer self.old n line.now) }
+        ensures state { OnOk result (self.new ≡ step_state self.old n line.now) }
+        ensures unchanged { OnErr result (self.new ≡ self.old) }
+        ensures later { OnOk result (IsLaterThan (n + 1) (state_of_parts self.new)) }
+    {
+        match read_line(alloc, line)? {
+            Line::Blank => Ok(Answer::blank(alloc, n)),
+            Line::Cmd(asked) => self.answer(alloc, n, line, &asked),
+            Line::Bad(why) => bad_line(alloc, n, line, why),
+        }
+    }
+
+    /// The answer to a line that reads as the command, and what it changes. The memory of the answer is taken before
+    /// anything changes.
+    fn answer(
+        &mut self,
+        alloc: Global,
+        n: u32,
+        line: &[u8],
+        asked: &Command,
+    ) -> Result<Answer, AllocError>
+        requires later { IsLaterThan n (state_of_parts self.old) }
+        requires read { reading line.now ≡ command (command_of asked.now) }
+        ensures answer { IfOk result (λ a. answer_of a ≡ step_answer self.old n line.now) }
+        ensures state { OnOk result (self.new ≡ step_state self.old n line.now) }
+        ensures unchanged { OnErr result (self.new ≡ self.old) }
+    {
+        let echo = Echo::copy_of(alloc, line)?;
+        let room = room_for_one(alloc)?;
+        let mut work = Work::new(alloc);
+        let row = self.carry_out(alloc, n, asked, &mut work);
+        let proofs = row_proofs(alloc, &row, work);
+        let verdicts = row_lines(row, room)?;
+        Ok(Answer {
+            n,
+            echo,
+            proofs,
+            verdicts,
+        })
+    }
+}

@@ -1,0 +1,133 @@
+-- Live lots that are behind another one, counted and shown to be apart.
+use Rattle.std.proofs.Common.{◌≡◌, ℕ, zero, suc, ◌+◌, ◌<◌, ◌≤◌, Bool, true, false, not, cond, List, [], ◌∷◌, map, filter, length, drop, get_or, Option, Some, None, slice_get, refl, sym, ap, ◌∙◌, subst, arith}
+use Rattle.std.specs.Prelude.{IsTrue, Result, Ok, Err, IfOk, is_some, is_none, IsSome, ◌↔◌}
+use Rattle.std.specs.List.{AllByRecursion}
+use Rattle.std.proofs.lemmas.Option.{get_or_from_slice_get}
+use Rattle.rp_geometry.specs.sets.Shape.{Part, shape_of_parts}
+use Rattle.rp_geometry.specs.sets.Sets.{Overlaps}
+use Rattle.rp_language.specs.Name.{label_eq}
+use Rattle.rp_walks.specs.Walk.{Outcome, done, Work, after_first, first_tester}
+use Rattle.rp_walks.specs.Form.{common_nearby}
+use Rattle.rp_history.specs.declared.lot.LotLine.{LotLine}
+use Rattle.rp_history.specs.Lots.{lot_of}
+use Rattle.rp_model.specs.states.State.{Lot, bare_lot, is_live, live_lots, lots_of_layer, ids_of}
+use Rattle.rp_model.specs.states.Sound.{are_distinct, Pairwise}
+use Rattle.rp_model.specs.commands.Row.{lot_parts, all_apart, all_apart_from}
+use Rattle.rp_states.proofs.Labels.{label_is}
+use Rattle.rp_states.proofs.Listing.{all_passed}
+use Rattle.rp_algebra.proofs.Listed.{all_map}
+use Rattle.rp_history.proofs.Found.{first_alone, rest_distinct}
+use Rattle.rp_parcels.specs.Kept.{AreSound}
+use Rattle.rp_parcels.specs.declared.near.Reach.TheVariants.{Overlap}
+use Rattle.rp_parcels.specs.Near.{others_in, is_near, lots_at}
+use Rattle.rp_parcels.proofs.Stepped.{drop_item}
+use Rattle.rp_parcels.proofs.Found.{ids_distinct, line_at}
+use Rattle.rp_parcels.proofs.Searched.{lots_left}
+use Rattle.rp_parcels.proofs.Skipped.{others_all, apart_on, apart_near}
+use Rattle.rp_parcels.proofs.Alone.{ApartLots, live_apart}
+
+-- what follows where a call has a result
+pub if_ok_then : {A E : Type 0} (P Q : A → Type 0) (r : Result A E) → ((x : A) → P x → Q x) → IfOk r P → IfOk r Q
+if_ok_then P Q (Ok x) f h = f x h
+if_ok_then P Q (Err e) f h = tt
+
+-- ---- the lots behind a place
+
+-- what is left of a list begins with the lot at the place
+pub left_at : (lots : List (Lot (Unit {0}))) (k : ℕ) (l : Lot (Unit {0})) → k < length lots → slice_get lots k ≡ Some l → drop k lots ≡ l ∷ drop (k + 1) lots
+left_at lots k l within at = drop_item lots k l within (sym (get_or_from_slice_get lots k l l at))
+
+-- ids stay distinct
+distinct_left : (k : ℕ) (lots : List (Lot (Unit {0}))) → IsTrue (are_distinct (ids_of lots)) → IsTrue (are_distinct (ids_of (drop k lots)))
+distinct_left zero lots d = d
+distinct_left (suc k) [] d = d
+distinct_left (suc k) (l ∷ lots) d = distinct_left k lots (rest_distinct l lots d)
+
+-- the others behind a lot are all lots of its layer there
+pub others_behind : (lots : List (Lot (Unit {0}))) → AreSound lots → (k : ℕ) (l : Lot (Unit {0})) → k < length lots → slice_get lots k ≡ Some l → others_in l.layer l.id (drop (k + 1) lots) ≡ lots_of_layer l.layer (live_lots (drop (k + 1) lots))
+others_behind lots sound k l within at =
+    others_all l.layer l.id (drop (k + 1) lots)
+    (first_alone l (drop (k + 1) lots) (subst (λ (ls : List (Lot (Unit {0}))). IsTrue (are_distinct (ids_of ls))) (left_at lots k l within at) (distinct_left k lots (ids_distinct lots sound))))
+
+-- live lots that are left begin with a live lot
+pub live_first : (lots : List (Lot (Unit {0}))) (k : ℕ) (l : Lot (Unit {0})) → k < length lots → slice_get lots k ≡ Some l → is_live l ≡ true → live_lots (drop k lots) ≡ l ∷ live_lots (drop (k + 1) lots)
+live_first lots k l within at live =
+    ap (λ (ls : List (Lot (Unit {0}))). live_lots ls) (left_at lots k l within at) ∙ ap (λ (b : Bool). cond b (l ∷ live_lots (drop (k + 1) lots)) (live_lots (drop (k + 1) lots))) live
+
+-- and not with an ended one
+pub live_next : (lots : List (Lot (Unit {0}))) (k : ℕ) (l : Lot (Unit {0})) → k < length lots → slice_get lots k ≡ Some l → is_live l ≡ false → live_lots (drop k lots) ≡ live_lots (drop (k + 1) lots)
+live_next lots k l within at ended =
+    ap (λ (ls : List (Lot (Unit {0}))). live_lots ls) (left_at lots k l within at) ∙ ap (λ (b : Bool). cond b (l ∷ live_lots (drop (k + 1) lots)) (live_lots (drop (k + 1) lots))) ended
+
+-- ---- apart
+
+-- the live lots that are left are apart
+apart_left : (k : ℕ) (lots : List (Lot (Unit {0}))) → Pairwise ApartLots (live_lots lots) → Pairwise ApartLots (live_lots (drop k lots))
+apart_left zero lots h = h
+apart_left (suc k) [] h = h
+apart_left (suc k) (l ∷ lots) h = by (is_live l) (apart_left k lots) h
+  where
+    by : (b : Bool) → (Pairwise ApartLots (live_lots lots) → Pairwise ApartLots (live_lots (drop k lots))) → Pairwise ApartLots (cond b (l ∷ live_lots lots) (live_lots lots)) → Pairwise ApartLots (live_lots (drop k lots))
+    by true later g = later g.1
+    by false later g = later g
+
+-- a live lot shares no point with those of its layer behind it
+pub apart_behind : (lots : List (Lot (Unit {0}))) → AreSound lots → (k : ℕ) (l : Lot (Unit {0})) → k < length lots → slice_get lots k ≡ Some l → is_live l ≡ true →
+    AllByRecursion (λ m. ¬ Overlaps (shape_of_parts l.parts) (shape_of_parts m.parts)) (lots_of_layer l.layer (live_lots (drop (k + 1) lots)))
+apart_behind lots sound k l within at live =
+    all_passed (λ (m : Lot (Unit {0})). ¬ Overlaps (shape_of_parts l.parts) (shape_of_parts m.parts)) (λ m. label_eq m.layer l.layer) (live_lots (drop (k + 1) lots))
+    (all_map (ApartLots l) (λ (m : Lot (Unit {0})). label_eq m.layer l.layer ≡ true → ¬ Overlaps (shape_of_parts l.parts) (shape_of_parts m.parts)) (λ m apart e. apart (sym (label_is m.layer l.layer e))) (live_lots (drop (k + 1) lots))
+    (subst (Pairwise ApartLots) (live_first lots k l within at live) (apart_left k lots (live_apart lots sound))).0)
+
+-- ---- one after the other
+
+-- the next lot is apart, and the others are left
+pub shown_apart : (ps : List Part) (lots : List (Lot (Unit {0}))) (places : List ℕ) (i k : ℕ) (l : Lot (Unit {0})) (w v : Work) (found : Bool) (o : Outcome Work (Unit {0})) → i < length places → k ≡ get_or places i 0 → slice_get lots k ≡ Some l →
+    all_apart_from first_tester ps (lot_parts (lots_at lots (drop i places))) w ≡ o → common_nearby first_tester ps l.parts w ≡ done found v → found ≡ false → all_apart_from first_tester ps (lot_parts (lots_at lots (drop (i + 1) places))) v ≡ o
+shown_apart ps lots places i k l w v found o h e at left made none =
+    sym (ap (λ (b : Bool). apart_on ps (lot_parts (lots_at lots (drop (i + 1) places))) b v) none)
+    ∙ sym (ap (after_first (apart_on ps (lot_parts (lots_at lots (drop (i + 1) places))))) made)
+    ∙ sym (ap (λ (ls : List (Lot (Unit {0}))). all_apart_from first_tester ps (lot_parts ls) w) (lots_left lots places i k l h e at))
+    ∙ left
+
+-- a search that finds nothing where there is nothing
+pub finds_none : {A : Type 0} (o : Option A) (P : Type 0) → (IsSome o ↔ P) → ¬ P → is_some o ≡ false
+finds_none None P h n = refl
+finds_none (Some x) P h n = absurd (n (h.0 refl))
+
+-- the line of a lot that is known to be at its place
+pub own_line : (lots history : List (Lot (Unit {0}))) (lines : List LotLine) → history ≡ map bare_lot lots → map lot_of lines ≡ history → (k : ℕ) (line : LotLine) → k < length lots → line ≡ get_or lines k line → (l : Lot (Unit {0})) → slice_get lots k ≡ Some l → bare_lot l ≡ lot_of line
+own_line lots history lines e f k line within is l at =
+    let item = line_at lots history lines e f k line within is in
+    let same : Some l ≡ Some item.0 = sym at ∙ item.1 in
+    let g : l ≡ item.0 = cc in
+    ap (λ (m : Lot (Unit {0})). bare_lot m) g ∙ item.2
+
+-- a lot is live where its line has no end
+pub line_is_live : (l : Lot (Unit {0})) (line item : LotLine) (r b : Bool) → bare_lot l ≡ lot_of line → line ≡ item → is_some item.ended ≡ not r → r ≡ b → is_live l ≡ b
+line_is_live l line item r b e i f g = ap (λ (m : Lot (Unit {0})). is_live m) e ∙ ap (λ (m : LotLine). is_none m.ended) i ∙ turned item.ended r f ∙ g
+  where
+    turned : (o : Option ℕ) (d : Bool) → is_some o ≡ not d → is_none o ≡ d
+    turned None true h = refl
+    turned None false h = absurd (cc)
+    turned (Some x) true h = absurd (cc)
+    turned (Some x) false h = refl
+
+-- live lots are no more than all
+pub live_few : (lots : List (Lot (Unit {0}))) → length (live_lots lots) ≤ length lots
+live_few [] = omega arith
+live_few (l ∷ lots) = by (is_live l) (live_few lots)
+  where
+    by : (b : Bool) → length (live_lots lots) ≤ length lots → length (cond b (l ∷ live_lots lots) (live_lots lots)) ≤ suc (length lots)
+    by true later = omega (arith, later)
+    by false later = omega (arith, later)
+
+-- a live lot is shown to be apart from those behind it, and then the others are left
+pub shown_next : (lots : List (Lot (Unit {0}))) (k : ℕ) (l : Lot (Unit {0})) (w : Work) (o : Outcome Work (Unit {0})) → k < length lots → slice_get lots k ≡ Some l → is_live l ≡ true → all_apart first_tester (live_lots (drop k lots)) w ≡ o →
+    after_first (λ _. all_apart first_tester (live_lots (drop (k + 1) lots))) (all_apart_from first_tester l.parts (lot_parts (lots_of_layer l.layer (live_lots (drop (k + 1) lots)))) w) ≡ o
+shown_next lots k l w o within at live left = sym (ap (λ (ls : List (Lot (Unit {0}))). all_apart first_tester ls w) (live_first lots k l within at live)) ∙ left
+
+-- the tests of the near lots are those of all
+pub near_alone : (near : List (Lot (Unit {0}))) (ps : List Part) (qs : List Part) (ls : List (Lot (Unit {0}))) (w : Work) → qs ≡ ps → near ≡ filter (is_near Overlap ps) ls → all_apart_from first_tester qs (lot_parts near) w ≡ all_apart_from first_tester ps (lot_parts ls) w
+near_alone near ps qs ls w e f =
+    ap (λ (rs : List Part). all_apart_from first_tester rs (lot_parts near) w) e ∙ ap (λ (ms : List (Lot (Unit {0}))). all_apart_from first_tester ps (lot_parts ms) w) f ∙ apart_near ps ls w

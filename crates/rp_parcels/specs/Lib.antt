@@ -1,0 +1,7 @@
+pub mod Faults
+pub mod Kept
+pub mod Register
+pub mod Rows
+pub mod Near
+pub mod Walks
+pub mod Points

@@ -1,0 +1,29 @@
+-- Walks of calls that begin with a count.
+use Rattle.std.specs.Prelude.{List, [], Option}
+use Rattle.rp_geometry.specs.sets.Shape.{Part}
+use Rattle.rp_language.specs.Name.{Label}
+use Rattle.rp_walks.specs.Walk.{Walk, Work, count_tests, first_tester, ◌>>◌}
+use Rattle.rp_model.specs.states.State.{Lot}
+use Rattle.rp_walks.specs.Form.{near_pair}
+use Rattle.rp_model.specs.commands.Verdict.{Refusal}
+use Rattle.rp_model.specs.commands.Row.{FormedChild, child_parts, count_among, first_overlapped, first_overlapping_children, touched_lots}
+use Rattle.rp_parcels.specs.declared.near.Reach.TheVariants.{Overlap, Touch}
+use Rattle.rp_parcels.specs.Near.{pairs_with}
+
+-- the pairs of parts whose boxes share more than boundary are counted, and then the first lot that shares a member is looked for
+abbrev pub overlap_counted : {S : Type 0} → List Part → List (Lot S) → Walk Work (Option Label)
+overlap_counted ps lots = do
+  count_tests (pairs_with Overlap ps lots)
+  first_overlapped first_tester ps lots
+
+-- the pairs of parts whose boxes share a point are counted, and then the lots in contact are looked for
+abbrev pub touch_counted : {S : Type 0} → List Part → List (Lot S) → Walk Work (List Label)
+touch_counted ps lots = do
+  count_tests (pairs_with Touch ps lots)
+  touched_lots first_tester [] ps lots
+
+-- the pairs of parts of children whose boxes share more than boundary are counted, and then the first two children that share a member are looked for
+abbrev pub children_counted : List FormedChild → Walk Work (Option Refusal)
+children_counted cs = do
+  count_tests (count_among near_pair (child_parts cs))
+  first_overlapping_children first_tester 1 cs

@@ -1,0 +1,11 @@
+//! The children of a subdivision.
+
+use rp_region::Region;
+use rp_space::Name;
+
+/// A child of a subdivision: a new id, and the region that it gets.
+#[derive(Debug, Drop)]
+pub struct Child {
+    pub id: Name,
+    pub region: Region,
+}

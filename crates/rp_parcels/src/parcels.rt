@@ -1,0 +1,150 @@
+//! The register of parcels: what it keeps, and how it changes.
+ghost use Rattle.std.specs.Prelude.{◌≡◌, ◌+◌, ◌<◌, ◌≤◌, [], length, map, nat_le, slice_get, sum_by, option_copied, option_map, Some, IfOk, OnOk, OnErr};
+ghost use Rattle.rp_walks.specs.Walk.{no_work};
+ghost use Rattle.rp_model.specs.states.State.{Lot, live_lot, parts_of_lot, bare_lot, lots_replaced, parts_under_lots, most_kept_parts};
+ghost use Rattle.rp_model.specs.commands.Row.{row_retire};
+ghost use Rattle.rp_history.specs.Lots.{lots_in, lots_after};
+ghost use Rattle.rp_parcels.specs.Kept.{AreSound};
+ghost use Rattle.rp_parcels.specs.Register.{IsLater, IsFitChange, new_lots};
+ghost use Rattle.rp_parcels.specs.Rows.{Changes};
+
+use crate::fault::ParcelFault;
+use rp_history::{Birth, History};
+use rp_region::Region;
+use rp_space::{Listed, Name};
+use std::alloc::{AllocError, Global};
+use std::marker::Model;
+
+/// The most parts under all parcels together.
+const MAX_PARTS: usize = 65536;
+
+/// All parcels that were ever registered, in the order of registration, with their regions. A contract sees them as the
+/// lots of a sound state: ids are distinct, live parcels of one layer share no point, every parcel has a point, the limits
+/// of parts are kept, every end is above its birth, and origins stand before and are of the same layer.
+#[derive(Debug, Drop)]
+pub struct Parcels {
+    history: History,
+    // The regions of the parcels in the same order, ended ones included.
+    regions: Listed<Region>,
+    // How many parts the regions have together.
+    parts: usize,
+}
+
+impl Model for Parcels {
+    ghost use Rattle.std.specs.Prelude.{List};
+    ghost use Rattle.rp_model.specs.states.State.{Lot};
+    ghost use Rattle.rp_parcels.specs.Kept.{lots_with_parts, IsRegister};
+
+    ghost Value = { List (Lot (Unit {0})) };
+
+    ghost view = { λ a. lots_with_parts a.history a.regions.items };
+
+    ghost invariant = { λ a. IsRegister a.history a.regions.items a.parts };
+}
+
+impl Parcels {
+    /// No parcels. Answers `AllocError` only for want of memory.
+    pub fn new(alloc: Global) -> Result<Parcels, AllocError>
+        ensures { IfOk result (λ parcels. parcels ≡ []) }
+    {
+        Ok(Parcels {
+            history: History::new(alloc),
+            regions: Listed::new(alloc),
+            parts: 0,
+        })
+    }
+
+    /// The births and ends of all parcels, ended ones included.
+    pub fn history(&self) -> &History
+        ensures value { result.now ≡ map bare_lot self.now }
+        ensures few { length self.now ≤ most_kept_parts }
+        ensures sound { AreSound self.now }
+    {
+        // Only so that what holds of all that is kept is known of the lots.
+        let _ = &self.regions;
+        &self.history
+    }
+
+    /// The region of a live parcel, found without a walk over all parcels. `None` exactly where the id isn't live.
+    pub fn region(&self, id: Name) -> Option<&Region>
+        ensures { option_copied result ≡ parts_of_lot (live_lot id self.now) }
+    {
+        let place = self.history().live_place(&id)?;
+        Some(self.region_at(place))
+    }
+
+    /// The region of the parcel at a place, ended or not.
+    pub(crate) fn region_at(&self, place: usize) -> &Region
+        requires { place < length self.now }
+        ensures { option_map (λ l. l.parts) (slice_get self.now place) ≡ Some result.now }
+    {
+        &self.regions.items()[place]
+    }
+
+    /// How many parcels there are, ended ones included: each has a part at least.
+    pub(crate) fn count(&self) -> usize
+        ensures value { result ≡ length self.now }
+        ensures few { result ≤ most_kept_parts }
+    {
+        self.regions.items().len()
+    }
+
+    /// Whether all parcels together may keep so many more parts.
+    pub(crate) fn have_room_for(&self, parts: usize) -> bool
+        ensures sound { AreSound self.now }
+        ensures value { result ≡ nat_le (parts_under_lots self.now + parts) most_kept_parts }
+    {
+        parts <= MAX_PARTS - self.parts
+    }
+
+    /// Ends the parcels of the ids `ends` at the line, and lets others be born in their place, which go last, each with its
+    /// region. Answers `AllocError` only for want of memory; then all is as before.
+    pub(crate) fn replace(
+        &mut self,
+        alloc: Global,
+        line: u32,
+        ends: &[Name],
+        births: &[Birth],
+        regions: Listed<Region>,
+    ) -> Result<(), AllocError>
+        requires later { IsLater line self.old }
+        requires each { length births.now ≡ length regions.items }
+        requires fit { IsFitChange line self.old ends.now (new_lots births.now regions.items) }
+        ensures ok { OnOk result (self.new ≡ lots_after line self.old (lots_replaced ends.now (new_lots births.now regions.items))) }
+        ensures err { OnErr result (self.new ≡ self.old) }
+        ensures sound { OnOk result (AreSound self.new) }
+        ensures later { OnOk result (IsLater (line + 1) self.new) }
+    {
+        let parts = count_parts(regions.items());
+        self.regions.reserve(regions.items().len())?;
+        self.history.note(alloc, line, births, ends)?;
+        self.regions.append(regions).unwrap();
+        self.parts += parts;
+        Ok(())
+    }
+
+    /// Ends a live parcel at the line, which is above every birth and every end. `Unknown(id)` exactly where it isn't live;
+    /// then all is as before. Takes no memory.
+    pub fn retire(&mut self, line: u32, id: Name) -> Result<(), ParcelFault>
+        requires { IsLater line self.old }
+        ensures row { Changes result line no_work no_work self.old self.new (row_retire (lots_in [] self.old) id) }
+        ensures sound { OnOk result (AreSound self.new) }
+        ensures later { OnOk result (IsLater (line + 1) self.new) }
+    {
+        self.live_place(id)?;
+        self.history.end(line, id);
+        Ok(())
+    }
+}
+
+/// How many parts the regions have together.
+fn count_parts(regions: &[Region]) -> usize
+    requires { sum_by (λ ps. length ps) regions.now ≤ most_kept_parts }
+    ensures { result ≡ sum_by (λ ps. length ps) regions.now }
+{
+    let mut count = 0;
+    for region in regions {
+        count += region.parts().len();
+    }
+    count
+}
