@@ -29,7 +29,7 @@ item_at (x ∷ xs) (suc j) f = item_at xs j (omega arith)
 
 module _ {S : Type 0} where
   -- the id of an item is there
-  there : (ls : List (Lot S)) (k : ℕ) (l : Lot S) → slice_get ls k ≡ Some l → is_among l.id (ids_of ls) ≡ true
+  pub there : (ls : List (Lot S)) (k : ℕ) (l : Lot S) → slice_get ls k ≡ Some l → is_among l.id (ids_of ls) ≡ true
   there [] k l e = absurd (cc)
   there (h ∷ ls) zero l e = let same : h ≡ l = cc in or_left (label_eq l.id h.id) (is_among l.id (ids_of ls)) (subst (λ (m : Lot S). label_eq l.id m.id ≡ true) (sym same) (label_itself l.id))
   there (h ∷ ls) (suc k) l e = or_right (label_eq l.id h.id) (is_among l.id (ids_of ls)) (there ls k l e)

@@ -4,7 +4,13 @@ pub mod Found
 pub mod Stepped
 pub mod Checked
 pub mod Repeated
+pub mod Numbers
+pub mod Boxed
+pub mod Emptied
+pub mod Moved
+pub mod Reached
 pub mod Nearby
+pub mod Passed
 pub mod Divided
 pub mod Walked
 pub mod Searched

@@ -1,8 +1,7 @@
 -- The lots that may meet a region are found one after the other.
-use Rattle.std.proofs.Common.{◌≡◌, ℕ, ◌+◌, ◌<◌, Bool, true, false, ◌&&◌, not, cond, ◌==◌, List, [], ◌∷◌, ◌++◌, filter, length, drop, Some, slice_get, refl, sym, ap, ◌∙◌, arith, append_assoc, append-nil, zero-add}
+use Rattle.std.proofs.Common.{◌≡◌, ℕ, ◌+◌, ◌<◌, Bool, true, false, ◌&&◌, not, cond, ◌==◌, List, [], ◌∷◌, ◌++◌, filter, length, get_or, drop, Some, slice_get, refl, sym, ap, ◌∙◌, arith, append_assoc, append-nil, zero-add}
 use Rattle.std.specs.Prelude.{option_map}
 use Rattle.std.specs.Option.{option_to_list}
-use Rattle.std.proofs.lemmas.Option.{get_or_from_slice_get}
 use Rattle.std.proofs.lemmas.List.Sums.{sum_by-cons}
 use Rattle.rp_geometry.specs.sets.Shape.{Part}
 use Rattle.rp_language.specs.Name.{Label, label_eq}
@@ -12,10 +11,10 @@ use Rattle.rp_history.specs.declared.lot.LotLine.{LotLine}
 use Rattle.rp_history.specs.Lots.{lot_of}
 use Rattle.rp_parcels.specs.declared.near.Reach.{Reach}
 use Rattle.rp_parcels.specs.Near.{may_meet, others_in, pairs_with, is_near, lots_at, AreWithin, is_other_in}
-use Rattle.rp_parcels.proofs.Stepped.{drop_item}
+use Rattle.rp_parcels.proofs.Searched.{lots_left}
 
 -- the first lot is among the others, or not
-others_first : {S : Type 0} (y x : Label) (l : Lot S) (ls : List (Lot S)) → others_in y x (l ∷ ls) ≡ cond (is_other_in y x l) (l ∷ others_in y x ls) (others_in y x ls)
+pub others_first : {S : Type 0} (y x : Label) (l : Lot S) (ls : List (Lot S)) → others_in y x (l ∷ ls) ≡ cond (is_other_in y x l) (l ∷ others_in y x ls) (others_in y x ls)
 others_first {S = S} y x l ls = by (is_live l) refl (label_eq l.layer y) refl (not (label_eq x l.id)) refl
   where
     by : (a : Bool) → is_live l ≡ a → (b : Bool) → label_eq l.layer y ≡ b → (d : Bool) → not (label_eq x l.id) ≡ d →
@@ -104,19 +103,19 @@ pub item_parts : (lots : List (Lot (Unit {0}))) (k : ℕ) (l : Lot (Unit {0})) (
 item_parts lots k l ps at e = let f : Some l.parts ≡ Some ps = sym (ap (option_map (λ (m : Lot (Unit {0})). m.parts)) at) ∙ e in cc
 
 -- the lot of a place is passed over, or added
-module _ (r : Reach) (ps : List Part) (y x : Label) (lots from : List (Lot (Unit {0}))) (k pairs : ℕ) (places : List ℕ) (h : AreFound r ps y x lots (drop k lots) from pairs places) (l : Lot (Unit {0})) (line : LotLine) (within : k < length lots) (at : slice_get lots k ≡ Some l) (bare : bare_lot l ≡ lot_of line) where
+module _ (r : Reach) (ps : List Part) (y x : Label) (lots : List (Lot (Unit {0}))) (reached : List ℕ) (i k pairs : ℕ) (places : List ℕ) (h : AreFound r ps y x lots (lots_at lots (drop i reached)) (lots_at lots reached) pairs places) (l : Lot (Unit {0})) (line : LotLine) (within : i < length reached) (is : k ≡ get_or reached i 0) (at : slice_get lots k ≡ Some l) (bare : bare_lot l ≡ lot_of line) where
   -- what is left begins with it
-  left : drop k lots ≡ l ∷ drop (k + 1) lots
-  left = drop_item lots k l within (sym (get_or_from_slice_get lots k l l at))
+  left : lots_at lots (drop i reached) ≡ l ∷ lots_at lots (drop (i + 1) reached)
+  left = lots_left lots reached i k l within is at
 
   -- its test is that of its line
   tested : is_other_in y x l ≡ is_other_in y x (lot_of line)
   tested = ap (λ (m : Lot (Unit {0})). is_other_in y x m) bare
 
   -- it is none of the others
-  pub place_skipped : is_other_in y x (lot_of line) ≡ false → AreFound r ps y x lots (drop (k + 1) lots) from pairs places
-  place_skipped f = found_skip r ps y x lots (drop k lots) from pairs places h l (drop (k + 1) lots) left (tested ∙ f)
+  pub place_skipped : is_other_in y x (lot_of line) ≡ false → AreFound r ps y x lots (lots_at lots (drop (i + 1) reached)) (lots_at lots reached) pairs places
+  place_skipped f = found_skip r ps y x lots (lots_at lots (drop i reached)) (lots_at lots reached) pairs places h l (lots_at lots (drop (i + 1) reached)) left (tested ∙ f)
 
   -- it is one of them
-  pub place_added : is_other_in y x (lot_of line) ≡ true → (more : ℕ) (further : List ℕ) → more ≡ pairs + count_pairs (may_meet r) ps l.parts → lots_at lots further ≡ lots_at lots places ++ filter (is_near r ps) (l ∷ []) → AreWithin lots further → AreFound r ps y x lots (drop (k + 1) lots) from more further
-  place_added f more further m n w = found_add r ps y x lots (drop k lots) from pairs places h l (drop (k + 1) lots) left (tested ∙ f) more further m n w
+  pub place_added : is_other_in y x (lot_of line) ≡ true → (more : ℕ) (further : List ℕ) → more ≡ pairs + count_pairs (may_meet r) ps l.parts → lots_at lots further ≡ lots_at lots places ++ filter (is_near r ps) (l ∷ []) → AreWithin lots further → AreFound r ps y x lots (lots_at lots (drop (i + 1) reached)) (lots_at lots reached) more further
+  place_added f more further m n w = found_add r ps y x lots (lots_at lots (drop i reached)) (lots_at lots reached) pairs places h l (lots_at lots (drop (i + 1) reached)) left (tested ∙ f) more further m n w

@@ -4,7 +4,7 @@ use Rattle.std.specs.Option.{option_to_list}
 use Rattle.std.proofs.lemmas.List.{get_or_default}
 use Rattle.rp_geometry.specs.sets.Shape.{Part}
 use Rattle.rp_language.specs.Name.{Label}
-use Rattle.rp_walks.specs.Walk.{Outcome, Walk, Work, pass, after_first, ◌>>=◌, first_tester}
+use Rattle.rp_walks.specs.Walk.{Outcome, Walk, Work, pass, after_first, first_tester}
 use Rattle.rp_walks.specs.Form.{common_nearby}
 use Rattle.rp_model.specs.states.State.{Lot}
 use Rattle.rp_model.specs.commands.Row.{first_overlapped, touched_lot, touched_lots}

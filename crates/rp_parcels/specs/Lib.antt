@@ -1,4 +1,5 @@
 pub mod Faults
+pub mod Indexed
 pub mod Kept
 pub mod Register
 pub mod Rows

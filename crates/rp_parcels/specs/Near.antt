@@ -1,12 +1,17 @@
 -- The lots that may meet a region, found by the boxes of their parts.
-use Rattle.std.specs.Prelude.{ℕ, ◌<◌, ◌==◌, Bool, ◌&&◌, not, List, [], ◌∷◌, ◌++◌, length, slice_get}
-use Rattle.std.specs.List.{AllByRecursion}
+use Rattle.std.specs.Prelude.{◌≡◌, ℕ, ◌/◌, ◌<◌, ◌≤◌, ◌==◌, Bool, true, false, ◌&&◌, not, nat_le, List, [], ◌∷◌, ◌++◌, map, filter, length, Some, slice_get}
+use Rattle.std.specs.List.{AllByRecursion, Contains}
+use Rattle.std.specs.List.Sorted.{IsStrictlySortedBy}
+use Rattle.std.specs.Ordering.{nat_cmp}
 use Rattle.std.specs.Option.{option_to_list}
 use Rattle.rp_geometry.specs.sets.Shape.{Part}
+use Rattle.rp_geometry.specs.parts.Parts.{most_parts}
 use Rattle.rp_language.specs.Name.{Label, label_eq}
 use Rattle.rp_walks.specs.Form.{near_pair, touching_pair}
 use Rattle.rp_model.specs.states.State.{Lot, is_live, live_lots, lots_of_layer, other_lots}
 use Rattle.rp_model.specs.commands.Row.{count_pairs, count_with_each, lot_parts}
+use Rattle.rp_boxindex.specs.Boxes.{Boxes}
+use Rattle.rp_boxindex.specs.Meeting.{meeting_ids}
 use Rattle.rp_parcels.specs.declared.near.Reach.{Reach}
 use Rattle.rp_parcels.specs.declared.near.Reach.TheVariants.{Overlap, Touch}
 
@@ -39,3 +44,24 @@ AreWithin xs ks = AllByRecursion (λ k. k < length xs) ks
 -- the lot is live, of the layer and has another id
 abbrev pub is_other_in : {S : Type 0} → Label → Label → Lot S → Bool
 is_other_in y x l = is_live l && (label_eq l.layer y && not (label_eq x l.id))
+
+-- boxes are asked for that share no more than boundary too
+abbrev pub is_closed : Reach → Bool
+is_closed Overlap = false
+is_closed Touch = true
+
+-- the numbers of the boxes that let their parts meet a part of the list, of each part in turn
+abbrev pub numbers_near : Reach → List Part → Boxes → List ℕ
+numbers_near r [] boxes = []
+numbers_near r (p ∷ ps) boxes = meeting_ids (is_closed r) p.bounds boxes ++ numbers_near r ps boxes
+
+-- the places of the lots whose parts have the numbers, from a place on
+abbrev pub places_from : ℕ → List ℕ → List ℕ
+places_from from numbers = filter (λ k. nat_le from k) (map (λ n. n / most_parts) numbers)
+
+-- places from one on, in rising order, among which are those of all live lots that have a part that may meet one of the list
+pub record AreReached {S : Type 0} (r : Reach) (ps : List Part) (lots : List (Lot S)) (from : ℕ) (places : List ℕ) : Type 0 where
+  pub rising : IsStrictlySortedBy nat_cmp places
+  pub behind : AllByRecursion (λ k. from ≤ k) places
+  pub within : AreWithin lots places
+  pub all : (k : ℕ) (l : Lot S) → from ≤ k → slice_get lots k ≡ Some l → is_live l ≡ true → is_near r ps l ≡ true → Contains places k

@@ -3,6 +3,7 @@
 #![tactic(auto)]
 
 mod audit;
+mod boxes;
 mod checks;
 mod child;
 mod fault;

@@ -1,18 +1,21 @@
-//! The lots that may meet a region. They are found here alone, by a look at each lot, so that an index of boxes can come
-//! beneath.
+//! The lots that may meet a region. They are found here alone, by the boxes of their parts.
 ghost use Rattle.std.specs.Prelude.{◌≡◌, ◌+◌, ◌*◌, ◌<◌, ◌≤◌, ◌++◌, [], ◌∷◌, length, drop, filter, slice_get, Some, IfOk, OnOk};
 ghost use Rattle.rp_walks.specs.Walk.{count_tests};
 ghost use Rattle.rp_model.specs.states.State.{Lot, most_kept_parts};
 ghost use Rattle.rp_model.specs.commands.Row.{count_pairs};
 ghost use Rattle.rp_history.specs.Lots.{lot_of};
 ghost use Rattle.rp_parcels.specs.Rows.{Walks};
-ghost use Rattle.rp_parcels.specs.Near.{may_meet, others_in, pairs_with, is_near, is_other_in, lots_at, AreWithin};
+ghost use Rattle.rp_parcels.specs.Near.{may_meet, others_in, pairs_with, is_near, is_other_in, lots_at, AreWithin, AreReached};
 
+use crate::boxes::places_from;
 use crate::parcels::Parcels;
+use rp_boxindex::Steps;
 use rp_history::LotLine;
 use rp_region::{OpFault, Region, Work};
 use rp_space::{Listed, Name};
 use std::alloc::{AllocError, Global};
+use std::marker::Brand;
+use std::sync::ledger::{Blank, Ledger};
 
 /// Which boxes let two parts meet.
 #[derive(Clone, Copy, Debug)]
@@ -66,17 +69,41 @@ impl Parcels {
         ensures within { IfOk result (λ near. AreWithin self.now near.places.items) }
         ensures few { IfOk result (λ near. near.pairs ≤ 1048576 * length self.now) }
     {
+        let places = self.reached::<Brand>(alloc, region, from, reach, Blank::new(1))?;
         let mut near = Near {
             pairs: 0,
             places: Listed::new(alloc),
         };
         let lots = self.history().lots();
-        for place in from..lots.len() {
-            if is_other(&lots[place], layer, id) {
-                self.add_if_near(&mut near, region, place, reach)?;
+        for place in &places {
+            if is_other(&lots[*place], layer, id) {
+                self.add_if_near(&mut near, region, *place, reach)?;
             }
         }
         Ok(near)
+    }
+
+    /// The places from one on, in rising order, among which are those of all live lots that have a part that may meet one of
+    /// the region's. Answers `AllocError` only for want of memory.
+    fn reached<L: Ledger>(
+        &self,
+        alloc: Global,
+        region: &Region,
+        from: usize,
+        reach: Reach,
+        blank: Blank,
+    ) -> Result<Vec<usize>, AllocError>
+        requires name { blank.name ≡ L.name }
+        requires parts { blank.parts ≡ L.parts }
+        requires some { 0 < L.parts }
+        ensures { IfOk result (λ places. AreReached reach region.now self.now from places.items) }
+    {
+        let mut steps = Steps::<L>::new(blank);
+        let numbers = self.boxes().meeting(alloc, region, reach, &mut steps)?;
+        let mut places = places_from(alloc, &numbers, from)?;
+        places.sort_unstable();
+        places.dedup();
+        Ok(places)
     }
 
     /// Adds the lot at a place, if it has a part that may meet one of the region's.

@@ -4,10 +4,12 @@ ghost use Rattle.rp_walks.specs.Walk.{no_work};
 ghost use Rattle.rp_model.specs.states.State.{Lot, live_lot, parts_of_lot, bare_lot, lots_replaced, parts_under_lots, most_kept_parts};
 ghost use Rattle.rp_model.specs.commands.Row.{row_retire};
 ghost use Rattle.rp_history.specs.Lots.{lots_in, lots_after};
+ghost use Rattle.rp_parcels.specs.Indexed.{IsIndexed};
 ghost use Rattle.rp_parcels.specs.Kept.{AreSound};
 ghost use Rattle.rp_parcels.specs.Register.{IsLater, IsFitChange, new_lots};
 ghost use Rattle.rp_parcels.specs.Rows.{Changes};
 
+use crate::boxes::LiveBoxes;
 use crate::fault::ParcelFault;
 use rp_history::{Birth, History};
 use rp_region::Region;
@@ -28,6 +30,8 @@ pub struct Parcels {
     regions: Listed<Region>,
     // How many parts the regions have together.
     parts: usize,
+    // The boxes of the parts of live parcels.
+    boxes: LiveBoxes,
 }
 
 impl Model for Parcels {
@@ -39,7 +43,7 @@ impl Model for Parcels {
 
     ghost view = { λ a. lots_with_parts a.history a.regions.items };
 
-    ghost invariant = { λ a. IsRegister a.history a.regions.items a.parts };
+    ghost invariant = { λ a. IsRegister a.history a.regions.items a.parts a.boxes.index };
 }
 
 impl Parcels {
@@ -51,6 +55,7 @@ impl Parcels {
             history: History::new(alloc),
             regions: Listed::new(alloc),
             parts: 0,
+            boxes: LiveBoxes::new(alloc),
         })
     }
 
@@ -79,6 +84,14 @@ impl Parcels {
         ensures { option_map (λ l. l.parts) (slice_get self.now place) ≡ Some result.now }
     {
         &self.regions.items()[place]
+    }
+
+    /// The boxes of the parts of live parcels.
+    pub(crate) fn boxes(&self) -> &LiveBoxes
+        ensures indexed { IsIndexed self.now result.now.index }
+        ensures sound { AreSound self.now }
+    {
+        &self.boxes
     }
 
     /// How many parcels there are, ended ones included: each has a part at least.
@@ -115,9 +128,17 @@ impl Parcels {
         ensures sound { OnOk result (AreSound self.new) }
         ensures later { OnOk result (IsLater (line + 1) self.new) }
     {
-        let parts = count_parts(regions.items());
-        self.regions.reserve(regions.items().len())?;
-        self.history.note(alloc, line, births, ends)?;
+        let added = regions.items();
+        let parts = count_parts(added);
+        let first = self.regions.items().len();
+        self.regions.reserve(added.len())?;
+        self.boxes.add_all(alloc, first, added)?;
+        if let Err(error) = self.history.note(alloc, line, births, ends) {
+            self.boxes.remove_all(first, added);
+            return Err(error);
+        }
+        self.boxes
+            .remove_ended(&self.history, self.regions.items(), ends);
         self.regions.append(regions).unwrap();
         self.parts += parts;
         Ok(())
@@ -133,6 +154,8 @@ impl Parcels {
     {
         self.live_place(id)?;
         self.history.end(line, id);
+        self.boxes
+            .remove_ended(&self.history, self.regions.items(), &[id]);
         Ok(())
     }
 }

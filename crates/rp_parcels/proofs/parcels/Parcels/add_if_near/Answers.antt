@@ -1,4 +1,4 @@
-use Rattle.std.proofs.Common.{◌+◌, ◌<◌, ◌++◌, ap, sym, ◌∙◌, subst, arith}
+use Rattle.std.proofs.Common.{◌<◌, ◌++◌, ap, sym, ◌∙◌, subst, arith}
 use Rattle.rp_model.specs.commands.Row.{count_pairs}
 use Rattle.rp_parcels.specs.Near.{may_meet, lots_at}
 use Rattle.rp_parcels.proofs.Nearby.{one_place_more, near_kept, item_parts}

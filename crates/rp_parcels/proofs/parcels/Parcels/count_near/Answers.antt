@@ -1,4 +1,4 @@
-use Rattle.std.proofs.Common.{◌+◌, ◌<◌, List, true, false, length, ap, sym, ◌∙◌, arith}
+use Rattle.std.proofs.Common.{◌<◌, List, true, false, length, ap, sym, ◌∙◌, arith}
 use Rattle.std.proofs.lemmas.List.{length-map}
 use Rattle.rp_walks.specs.Form.{near_pair}
 use Rattle.rp_model.specs.states.State.{Lot, bare_lot}

@@ -1,9 +1,15 @@
-use Rattle.std.proofs.Common.{◌*◌, ◌≤◌, drop}
+use Rattle.std.proofs.Common.{◌*◌, ◌≤◌, drop, length, get_or}
+use Rattle.rp_parcels.specs.Near.{lots_at}
 use Rattle.rp_parcels.proofs.Nearby.{AreFound}
 use Rattle.rp_parcels.proofs.parcels.Parcels.near.Given as goal
 
--- the lots from the place on were not looked at yet
+-- the ledger of the count of steps
+abbrev pub ghosts-reached : goal.ghosts-reached
+ghosts-reached a = record { name = a.blank.name; parts = a.blank.parts }
+
+-- the lots at the places still to come were not looked at yet
 abbrev pub invariant-loop-place : goal.invariant-loop-place
-invariant-loop-place l =
-    AreFound l.reach l.region l.layer l.id l.self (drop l.place l.self) (drop l.fn.from l.self) l.near.pairs l.near.places.items
-    × (l.near.pairs ≤ 1048576 * l.place)
+invariant-loop-place l = record {
+  found : AreFound l.reach l.region l.layer l.id l.self (lots_at l.self (drop l.place-index l.place-items)) (lots_at l.self l.place-items) l.near.pairs l.near.places.items;
+  few : l.near.pairs ≤ 1048576 * get_or l.place-items l.place-index (length l.self);
+}
