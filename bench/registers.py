@@ -7,6 +7,8 @@ import regions
 
 # The edge of a storey, and its height, in millimetres.
 EDGE, HEIGHT = 12_000, 3_000
+# The edge of the square whose middle all wedges share.
+SQUARE = 1_000_000
 # How many units a storey of a tower has on either side of its hall, and how deep a unit is.
 UNITS, DEPTH = 5, 18_000
 
@@ -14,6 +16,11 @@ UNITS, DEPTH = 5, 18_000
 def unit_boxes(count):
     """Boxes of one unit in a row, each registered."""
     return [f"register p{number} {regions.box((number, 0, 0), (number + 1, 1, 1))}" for number in range(count)]
+
+
+def piled_boxes(count):
+    """Boxes that lie one behind the other on y and all share an interval on x, each registered."""
+    return [f"register p{number} {regions.box((0, number, 0), (1, number + 1, 1))}" for number in range(count)]
 
 
 def storeys(count):
@@ -49,4 +56,26 @@ def tower(count):
         f"register tower {regions.box((0, 0, 0), (breadth, depth, HEIGHT * count))}",
         f"let units = {regions.joined('or', boxes)}",
         f"subdivide tower {len(boxes) + 1} {' '.join(children)} common minus lot tower name units",
+    ]
+
+
+def directions(count):
+    """So many directions from the middle of a square to its edges, four times a whole number, one behind the other."""
+    side = count // 4
+    marks = [-SQUARE + 2 * SQUARE * step // side for step in range(side)]
+    return (
+        [(SQUARE, mark) for mark in marks]
+        + [(-mark, SQUARE) for mark in marks]
+        + [(-SQUARE, -mark) for mark in marks]
+        + [(mark, -SQUARE) for mark in marks]
+    )
+
+
+def wedges(count):
+    """A square cut into so many wedges round its middle, each registered. All touch there, and the boxes of many meet."""
+    square = regions.box((-SQUARE, -SQUARE, 0), (SQUARE, SQUARE, 1000))
+    rays = directions(count)
+    return [
+        f"register w{number} and {square} and half {-ray[1]} {ray[0]} 0 0 half {after[1]} {-after[0]} 0 0"
+        for number, (ray, after) in enumerate(zip(rays, rays[1:] + rays[:1]))
     ]

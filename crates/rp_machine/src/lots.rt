@@ -14,11 +14,16 @@ ghost use Rattle.rp_machine.specs.Lots.{lots_under};
 use crate::fault::RowFault;
 use crate::machine::Machine;
 use crate::reply::one_line;
+use rp_boxindex::Quiet;
 use rp_history::{History, LotLine};
 use rp_region::Work;
 use rp_report::{Refusal, Verdict, Verdicts};
 use rp_space::{Name, Names, Point};
 use std::alloc::{AllocError, Global};
+use std::thread::Threads;
+
+/// The most parcels, or pairs of parcels, that are judged in a row in one thread.
+const GRAIN: usize = 16;
 
 /// The verdict lines of neighbours. Answers `AllocError` only for want of memory.
 fn neighbour_lines(alloc: Global, ids: &[Name]) -> Result<Verdicts, AllocError>
@@ -108,15 +113,18 @@ fn owner_verdict(owner: Option<Name>) -> Verdict
 
 impl Machine {
     /// `neighbours`: the other live lots of the lot's layer in contact with it.
-    pub(crate) fn neighbours(
+    pub(crate) fn neighbours<R: Threads + Sync>(
         &self,
+        rt: &R,
         alloc: Global,
         id: Name,
         work: &mut Work,
     ) -> Result<Verdicts, RowFault>
         ensures { Walks result work.new (row first_tester self.now (ask_neighbours id) work.old) }
     {
-        let ids = self.parcels().neighbours(alloc, id, work)?;
+        let ids = self
+            .parcels()
+            .neighbours(rt, alloc, &Quiet, GRAIN, id, work)?;
         // Only so that it is known that there are few lots.
         let _ = self.parcels().history();
         Ok(neighbour_lines(alloc, ids.items())?)
@@ -158,10 +166,15 @@ impl Machine {
     }
 
     /// `audit`: how many live lots there are, of which no two of one layer share a point.
-    pub(crate) fn audit(&self, alloc: Global, work: &mut Work) -> Result<Verdicts, RowFault>
+    pub(crate) fn audit<R: Threads + Sync>(
+        &self,
+        rt: &R,
+        alloc: Global,
+        work: &mut Work,
+    ) -> Result<Verdicts, RowFault>
         ensures { Walks result work.new (row first_tester self.now ask_audit work.old) }
     {
-        let count = self.parcels().audit(alloc, work)?;
+        let count = self.parcels().audit(rt, alloc, &Quiet, GRAIN, work)?;
         Ok(one_line(alloc, Verdict::Clear(count))?)
     }
 

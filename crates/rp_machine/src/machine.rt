@@ -13,6 +13,7 @@ ghost use Rattle.rp_machine.specs.Replies.{Runs, IsAnswered};
 use crate::fault::RowFault;
 use crate::named::NamedRegions;
 use crate::reply::Reply;
+use rp_boxindex::Quiet;
 use rp_parcels::{Child, ParcelFault, Parcels};
 use rp_region::{Region, Work};
 use rp_report::Refusal;
@@ -140,7 +141,10 @@ impl Machine {
         requires { IsLaterThan n (state_of_parts self.old) }
         ensures { Runs result n work.new self.old self.new (row_register first_tester self.old id form work.old) }
     {
-        answered(self.parcels.register(alloc, n, self.layer, id, form, work))
+        answered(
+            self.parcels
+                .register(alloc, &Quiet, n, self.layer, id, form, work),
+        )
     }
 
     /// A lot is cut in two by a form: the first gets its points in the form, the second the others.

@@ -26,6 +26,7 @@ use rp_report::{Refusal, Verdict, Verdicts};
 use rp_space::Point;
 use rp_syntax::{Command, Expr};
 use std::alloc::{AllocError, Global};
+use std::thread::Threads;
 
 /// The verdict lines of the parts of a form; the half-spaces are moved. Answers `AllocError` only for want of memory.
 fn part_lines(alloc: Global, form: Region) -> Result<Verdicts, AllocError>
@@ -65,8 +66,9 @@ fn told(asked: Result<Verdicts, RowFault>) -> Result<Reply, RowFault>
 impl Machine {
     /// Carries out the command of the line with the number `n`: its reply, or why there is none. Where there is none the
     /// machine is as it was.
-    pub(crate) fn carry_out(
+    pub(crate) fn carry_out<R: Threads + Sync>(
         &mut self,
+        rt: &R,
         alloc: Global,
         n: u32,
         command: &Command,
@@ -83,31 +85,23 @@ impl Machine {
             Command::Empty(region) => told(self.emptiness(alloc, region, work)),
             Command::Pieces(region) => told(self.pieces(alloc, region, work)),
             Command::Show(region) => told(self.show(alloc, region, work)),
-            Command::Equal(a, b) => { told(self.comparison(alloc, Question::Equal, a, b, work)) }
-            Command::Within(a, b) => { told(self.comparison(alloc, Question::Within, a, b, work)) }
-            Command::Overlap(a, b) => {
-                told(self.comparison(alloc, Question::Overlap, a, b, work))
-            }
-            Command::Contact(a, b) => {
-                told(self.comparison(alloc, Question::Contact, a, b, work))
-            }
+            Command::Equal(a, b) => told(self.comparison(alloc, Question::Equal, a, b, work)),
+            Command::Within(a, b) => told(self.comparison(alloc, Question::Within, a, b, work)),
+            Command::Overlap(a, b) => told(self.comparison(alloc, Question::Overlap, a, b, work)),
+            Command::Contact(a, b) => told(self.comparison(alloc, Question::Contact, a, b, work)),
             Command::Rcc(a, b) => told(self.relation(alloc, a, b, work)),
             Command::Register(id, region) => self.register(alloc, n, *id, region, work),
             Command::Cut(id, by, first, second) => {
                 self.cut(alloc, n, *id, by, *first, *second, work)
             }
-            Command::Subdivide(id, entries) => {
-                self.subdivide(alloc, n, *id, entries.items(), work)
-            },
-            Command::Consolidate(new, ids) => {
-                self.consolidate(alloc, n, *new, ids.items(), work)
-            },
+            Command::Subdivide(id, entries) => self.subdivide(alloc, n, *id, entries.items(), work),
+            Command::Consolidate(new, ids) => self.consolidate(alloc, n, *new, ids.items(), work),
             Command::Retire(id) => self.retire(n, *id),
-            Command::Neighbours(id) => told(self.neighbours(alloc, *id, work)),
+            Command::Neighbours(id) => told(self.neighbours(rt, alloc, *id, work)),
             Command::History(id) => told(self.lineage(alloc, *id)),
             Command::At(point) => told(self.owner(alloc, point)),
             Command::Asof(line, point) => told(self.owner_then(alloc, *line, point)),
-            Command::Audit => told(self.audit(alloc, work)),
+            Command::Audit => told(self.audit(rt, alloc, work)),
             Command::List => told(self.list(alloc)),
             Command::Layer(layer) => self.set_layer(*layer),
         }

@@ -91,7 +91,7 @@ impl Machine {
     /// only for want of memory; then the machine is as it was. The next number is above every birth and every end again.
     pub fn step<R: Threads + Sync>(
         &mut self,
-        _rt: &R,
+        rt: &R,
         alloc: Global,
         n: u32,
         line: &[u8],
@@ -104,15 +104,16 @@ impl Machine {
     {
         match read_line(alloc, line)? {
             Line::Blank => Ok(Answer::blank(alloc, n)),
-            Line::Cmd(asked) => self.answer(alloc, n, line, &asked),
+            Line::Cmd(asked) => self.answer(rt, alloc, n, line, &asked),
             Line::Bad(why) => bad_line(alloc, n, line, why),
         }
     }
 
     /// The answer to a line that reads as the command, and what it changes. The memory of the answer is taken before
     /// anything changes.
-    fn answer(
+    fn answer<R: Threads + Sync>(
         &mut self,
+        rt: &R,
         alloc: Global,
         n: u32,
         line: &[u8],
@@ -127,7 +128,7 @@ impl Machine {
         let echo = Echo::copy_of(alloc, line)?;
         let room = room_for_one(alloc)?;
         let mut work = Work::new(alloc);
-        let row = self.carry_out(alloc, n, asked, &mut work);
+        let row = self.carry_out(rt, alloc, n, asked, &mut work);
         let proofs = row_proofs(alloc, &row, work);
         let verdicts = row_lines(row, room)?;
         Ok(Answer {

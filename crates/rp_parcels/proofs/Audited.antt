@@ -1,13 +1,12 @@
 -- Live lots that are behind another one, counted and shown to be apart.
 use Rattle.std.proofs.Common.{◌≡◌, ℕ, zero, suc, ◌+◌, ◌<◌, ◌≤◌, Bool, true, false, not, cond, List, [], ◌∷◌, map, filter, length, drop, get_or, Option, Some, None, slice_get, refl, sym, ap, ◌∙◌, subst, arith}
-use Rattle.std.specs.Prelude.{IsTrue, Result, Ok, Err, IfOk, is_some, is_none, IsSome, ◌↔◌}
+use Rattle.std.specs.Prelude.{IsTrue, Result, Ok, Err, IfOk, is_some, is_none}
 use Rattle.std.specs.List.{AllByRecursion}
 use Rattle.std.proofs.lemmas.Option.{get_or_from_slice_get}
 use Rattle.rp_geometry.specs.sets.Shape.{Part, shape_of_parts}
 use Rattle.rp_geometry.specs.sets.Sets.{Overlaps}
 use Rattle.rp_language.specs.Name.{label_eq}
-use Rattle.rp_walks.specs.Walk.{Outcome, done, Work, after_first, first_tester}
-use Rattle.rp_walks.specs.Form.{common_nearby}
+use Rattle.rp_walks.specs.Walk.{Outcome, Work, after_first, first_tester}
 use Rattle.rp_history.specs.declared.lot.LotLine.{LotLine}
 use Rattle.rp_history.specs.Lots.{lot_of}
 use Rattle.rp_model.specs.states.State.{Lot, bare_lot, is_live, live_lots, lots_of_layer, ids_of}
@@ -19,11 +18,10 @@ use Rattle.rp_algebra.proofs.Listed.{all_map}
 use Rattle.rp_history.proofs.Found.{first_alone, rest_distinct}
 use Rattle.rp_parcels.specs.Kept.{AreSound}
 use Rattle.rp_parcels.specs.declared.near.Reach.TheVariants.{Overlap}
-use Rattle.rp_parcels.specs.Near.{others_in, is_near, lots_at}
+use Rattle.rp_parcels.specs.Near.{others_in, is_near}
 use Rattle.rp_parcels.proofs.Stepped.{drop_item}
 use Rattle.rp_parcels.proofs.Found.{ids_distinct, line_at}
-use Rattle.rp_parcels.proofs.Searched.{lots_left}
-use Rattle.rp_parcels.proofs.Skipped.{others_all, apart_on, apart_near}
+use Rattle.rp_parcels.proofs.Skipped.{others_all, apart_near}
 use Rattle.rp_parcels.proofs.Alone.{ApartLots, live_apart}
 
 -- what follows where a call has a result
@@ -80,20 +78,6 @@ apart_behind lots sound k l within at live =
     (subst (Pairwise ApartLots) (live_first lots k l within at live) (apart_left k lots (live_apart lots sound))).0)
 
 -- ---- one after the other
-
--- the next lot is apart, and the others are left
-pub shown_apart : (ps : List Part) (lots : List (Lot (Unit {0}))) (places : List ℕ) (i k : ℕ) (l : Lot (Unit {0})) (w v : Work) (found : Bool) (o : Outcome Work (Unit {0})) → i < length places → k ≡ get_or places i 0 → slice_get lots k ≡ Some l →
-    all_apart_from first_tester ps (lot_parts (lots_at lots (drop i places))) w ≡ o → common_nearby first_tester ps l.parts w ≡ done found v → found ≡ false → all_apart_from first_tester ps (lot_parts (lots_at lots (drop (i + 1) places))) v ≡ o
-shown_apart ps lots places i k l w v found o h e at left made none =
-    sym (ap (λ (b : Bool). apart_on ps (lot_parts (lots_at lots (drop (i + 1) places))) b v) none)
-    ∙ sym (ap (after_first (apart_on ps (lot_parts (lots_at lots (drop (i + 1) places))))) made)
-    ∙ sym (ap (λ (ls : List (Lot (Unit {0}))). all_apart_from first_tester ps (lot_parts ls) w) (lots_left lots places i k l h e at))
-    ∙ left
-
--- a search that finds nothing where there is nothing
-pub finds_none : {A : Type 0} (o : Option A) (P : Type 0) → (IsSome o ↔ P) → ¬ P → is_some o ≡ false
-finds_none None P h n = refl
-finds_none (Some x) P h n = absurd (n (h.0 refl))
 
 -- the line of a lot that is known to be at its place
 pub own_line : (lots history : List (Lot (Unit {0}))) (lines : List LotLine) → history ≡ map bare_lot lots → map lot_of lines ≡ history → (k : ℕ) (line : LotLine) → k < length lots → line ≡ get_or lines k line → (l : Lot (Unit {0})) → slice_get lots k ≡ Some l → bare_lot l ≡ lot_of line

@@ -15,6 +15,7 @@ use Rattle.rp_parcels.specs.declared.fault.ParcelFault.{ParcelFault}
 use Rattle.rp_parcels.specs.Rows.{Cause, wanting, cause_of, EndsBy, Changes}
 use Rattle.rp_parcels.specs.declared.near.Reach.TheVariants.{Touch}
 use Rattle.rp_parcels.specs.Near.{others_in, pairs_with, is_near, lots_at}
+use Rattle.rp_parcels.specs.Judged.{parts_at}
 use Rattle.rp_parcels.specs.Walks.{overlap_counted, touch_counted}
 use Rattle.rp_parcels.proofs.Skipped.{touch_near}
 use Rattle.rp_parcels.proofs.Walked.{check_passes}
@@ -31,6 +32,14 @@ parts_here x lots k ps same at = by (live_lot x lots) (sym (ap (option_map (λ (
     by : (o : Option (Lot (Unit {0}))) → option_map (λ l. l.parts) o ≡ Some ps → ps ≡ parts_or_none (parts_of_lot o)
     by None e = absurd (cc)
     by (Some l) e = let f : l.parts ≡ ps = cc in sym f
+
+-- the parts at the place of a live lot are those with its id
+pub parts_live : (x : Label) (lots : List (Lot (Unit {0}))) (k : ℕ) → slice_get lots k ≡ live_lot x lots → parts_at lots k ≡ parts_with_id (lots_in [] lots) x
+parts_live x lots k same = ap (λ (o : Option (Lot (Unit {0}))). elim o as (λ _. List Part) [ None ↦ [] | Some l ↦ l.parts ]) same ∙ by (live_lot x lots)
+  where
+    by : (o : Option (Lot (Unit {0}))) → (elim o as (λ _. List Part) [ None ↦ [] | Some l ↦ l.parts ]) ≡ parts_or_none (parts_of_lot o)
+    by None = refl
+    by (Some l) = refl
 
 -- a registration whose checks pass, for which there is room and which overlaps no lot
 pub register_walked : (y : Label) (lots : List (Lot (Unit {0}))) (x : Label) (ps : List Part) (w v : Work) → and_then (check_new (lots_in [] lots) x) (refuse_if (length ps == 0) empty_region) ≡ None → check_size (parts_under_lots lots + length ps) most_kept_parts w ≡ done tt w →

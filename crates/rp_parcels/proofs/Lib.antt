@@ -21,6 +21,10 @@ pub mod Skipped
 pub mod Composed
 pub mod Alone
 pub mod Audited
+pub mod Framed
+pub mod Shown
+pub mod Collected
+pub mod Touched
 pub mod Untold
 pub mod Subdivided
 pub mod Children

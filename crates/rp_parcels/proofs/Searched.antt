@@ -7,7 +7,7 @@ use Rattle.rp_language.specs.Name.{Label}
 use Rattle.rp_walks.specs.Walk.{Outcome, Walk, Work, pass, after_first, first_tester}
 use Rattle.rp_walks.specs.Form.{common_nearby}
 use Rattle.rp_model.specs.states.State.{Lot}
-use Rattle.rp_model.specs.commands.Row.{first_overlapped, touched_lot, touched_lots}
+use Rattle.rp_model.specs.commands.Row.{first_overlapped}
 use Rattle.rp_parcels.specs.Near.{lots_at, AreWithin}
 use Rattle.rp_parcels.proofs.Stepped.{drop_item}
 
@@ -29,11 +29,6 @@ search_on x ps ls found = elim found [ true ↦ pass (Some x) | false ↦ first_
 pub search_left : (ps : List Part) (lots : List (Lot (Unit {0}))) (places : List ℕ) (i k : ℕ) (l : Lot (Unit {0})) (w : Work) (o : Outcome Work (Option Label)) → i < length places → k ≡ get_or places i 0 → slice_get lots k ≡ Some l →
     first_overlapped first_tester ps (lots_at lots (drop i places)) w ≡ o → after_first (search_on l.id ps (lots_at lots (drop (i + 1) places))) (common_nearby first_tester ps l.parts w) ≡ o
 search_left ps lots places i k l w o h e at left = sym (ap (λ (ls : List (Lot (Unit {0}))). first_overlapped first_tester ps ls w) (lots_left lots places i k l h e at)) ∙ left
-
--- what is left of a search for lots in contact, with the next lot first
-pub touch_left : (found : List Label) (ps : List Part) (lots : List (Lot (Unit {0}))) (places : List ℕ) (i k : ℕ) (l : Lot (Unit {0})) (w : Work) (o : Outcome Work (List Label)) → i < length places → k ≡ get_or places i 0 → slice_get lots k ≡ Some l →
-    touched_lots first_tester found ps (lots_at lots (drop i places)) w ≡ o → after_first (λ more. touched_lots first_tester more ps (lots_at lots (drop (i + 1) places))) (touched_lot first_tester found ps l w) ≡ o
-touch_left found ps lots places i k l w o h e at left = sym (ap (λ (ls : List (Lot (Unit {0}))). touched_lots first_tester found ps ls w) (lots_left lots places i k l h e at)) ∙ left
 
 -- an id behind those found, where its lot touches
 abbrev pub touched_by : List Label → Label → Bool → Walk Work (List Label)

@@ -4,7 +4,7 @@ use Rattle.std.specs.List.{AllByRecursion}
 use Rattle.std.proofs.lemmas.List.Sums.{sum_by-cons}
 use Rattle.rp_geometry.specs.sets.Shape.{Shape, Part, shape_of_parts}
 use Rattle.rp_geometry.specs.sets.Sets.{IsNonempty}
-use Rattle.rp_geometry.specs.parts.Parts.{AreOf, IsPart, most_parts}
+use Rattle.rp_geometry.specs.parts.Parts.{AreOf, IsPart, IsRegion, most_parts}
 use Rattle.rp_geometry.proofs.Members.{not_in_nothing}
 use Rattle.rp_model.specs.states.State.{Lot, lot_of_parts, parts_under_lots, most_kept_parts}
 use Rattle.rp_states.proofs.Listing.{all_unmapped}
@@ -37,11 +37,15 @@ few_parts lots h = subst (λ (n : ℕ). n ≤ most_kept_parts) (image_sums lot_o
 pub few_lots : (lots : List (Lot (Unit {0}))) → AreSound lots → length lots ≤ most_kept_parts
 few_lots lots h = let many = as_many_parts lots (all_nonempty lots h) in let few = few_parts lots h in omega (arith, many, few)
 
+-- the parts of each sound lot are a region
+pub region_each : (lots : List (Lot (Unit {0}))) → AreSound lots → (k : ℕ) (l : Lot (Unit {0})) → slice_get lots k ≡ Some l → IsRegion l.parts
+region_each lots h = by lots (all_unmapped (λ (l : Lot Shape). AreOf IsPart l.set l.parts) lot_of_parts lots h.lots_keep_parts)
+  where
+    by : (ls : List (Lot (Unit {0}))) → AllByRecursion (λ l. AreOf IsPart (shape_of_parts l.parts) l.parts) ls → (k : ℕ) (l : Lot (Unit {0})) → slice_get ls k ≡ Some l → IsRegion l.parts
+    by [] all k l e = absurd (cc)
+    by (m ∷ ls) all zero l e = let same : m ≡ l = cc in subst (λ (a : Lot (Unit {0})). IsRegion a.parts) same all.0.all
+    by (m ∷ ls) all (suc k) l e = by ls all.1 k l e
+
 -- each sound lot has few parts
 pub few_parts_each : (lots : List (Lot (Unit {0}))) → AreSound lots → (k : ℕ) (l : Lot (Unit {0})) → slice_get lots k ≡ Some l → length l.parts ≤ most_parts
-few_parts_each lots h = by lots (all_unmapped (λ (l : Lot Shape). AreOf IsPart l.set l.parts) lot_of_parts lots h.lots_keep_parts)
-  where
-    by : (ls : List (Lot (Unit {0}))) → AllByRecursion (λ l. AreOf IsPart (shape_of_parts l.parts) l.parts) ls → (k : ℕ) (l : Lot (Unit {0})) → slice_get ls k ≡ Some l → length l.parts ≤ most_parts
-    by [] all k l e = absurd (cc)
-    by (m ∷ ls) all zero l e = let same : m ≡ l = cc in subst (λ (a : Lot (Unit {0})). length a.parts ≤ most_parts) same all.0.all.few
-    by (m ∷ ls) all (suc k) l e = by ls all.1 k l e
+few_parts_each lots h k l e = (region_each lots h k l e).few

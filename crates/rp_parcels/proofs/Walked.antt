@@ -22,11 +22,6 @@ pub fails_first : {A B : Type 0} (e : OpFault) (next : A → Walk Work B) (v : W
 fails_first Limit next v p o left m = sym left ∙ ap (after_first next) m
 fails_first (Memory e) next v p o left m = tt
 
--- a fault of a walk
-pub fails_of : {A : Type 0} (e : OpFault) (walk : Walk Work A) (w v : Work) → IsFaultOf e w v walk → FailsWith e v (walk w)
-fails_of Limit walk w v m = m
-fails_of (Memory e) walk w v m = tt
-
 -- the same outcome in other words
 pub fails_as : {A : Type 0} (e : OpFault) (v : Work) (o p : Outcome Work A) → o ≡ p → FailsWith e v o → FailsWith e v p
 fails_as e v o p f h = subst (FailsWith e v) f h

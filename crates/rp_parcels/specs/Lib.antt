@@ -4,5 +4,6 @@ pub mod Kept
 pub mod Register
 pub mod Rows
 pub mod Near
+pub mod Judged
 pub mod Walks
 pub mod Points

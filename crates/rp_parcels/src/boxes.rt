@@ -9,7 +9,7 @@ ghost use Rattle.rp_parcels.specs.Indexed.{AreUnder, NoneFrom, StayUnder, AreEmp
 ghost use Rattle.rp_parcels.specs.Near.{numbers_near, places_from};
 
 use crate::near::Reach;
-use rp_boxindex::{Index, IndexFault, Quiet, Steps};
+use rp_boxindex::{Index, IndexFault, Steps, Watch};
 use rp_history::History;
 use rp_region::Region;
 use rp_space::Name;
@@ -189,9 +189,10 @@ impl LiveBoxes {
 
     /// The numbers of the boxes that let their parts meet a part of a region, of each part in turn.
     /// Answers `AllocError` only for want of memory.
-    pub(crate) fn meeting<L: Ledger>(
+    pub(crate) fn meeting<W: Watch, L: Ledger>(
         &self,
         alloc: Global,
+        watch: &W,
         region: &Region,
         reach: Reach,
         steps: &mut Steps<L>,
@@ -203,7 +204,7 @@ impl LiveBoxes {
         for part in region.parts() {
             let more = self
                 .index
-                .meeting(alloc, part.bounds(), closed, &Quiet, steps)?;
+                .meeting(alloc, part.bounds(), closed, watch, steps)?;
             numbers.extend_from_slice(&more)?;
         }
         Ok(numbers)

@@ -1,5 +1,5 @@
 //! The checks on names that come before the rest of a call.
-ghost use Rattle.std.specs.Prelude.{◌≡◌, ◌+◌, ◌<◌, ◌≤◌, [], None, length, slice_get, option_map, IfOk};
+ghost use Rattle.std.specs.Prelude.{◌≡◌, ◌+◌, ◌<◌, [], None, length, slice_get, option_map, IfOk};
 ghost use Rattle.rp_walks.specs.Walk.{Work};
 ghost use Rattle.rp_model.specs.states.State.{live_lot, layer_with_id, layer_of_first, parts_under_lots, most_kept_parts};
 ghost use Rattle.rp_model.specs.commands.Verdict.{repeated};

@@ -9,6 +9,7 @@ mod child;
 mod fault;
 mod near;
 mod neighbours;
+mod pairs;
 mod parcels;
 mod points;
 mod register;

@@ -9,7 +9,7 @@ ghost use Rattle.rp_parcels.specs.Near.{may_meet, others_in, pairs_with, is_near
 
 use crate::boxes::places_from;
 use crate::parcels::Parcels;
-use rp_boxindex::Steps;
+use rp_boxindex::{Steps, Watch};
 use rp_history::LotLine;
 use rp_region::{OpFault, Region, Work};
 use rp_space::{Listed, Name};
@@ -54,9 +54,10 @@ fn count_pairs(region: &Region, other: &Region, reach: Reach) -> u64
 impl Parcels {
     /// The live lots of a layer, from a place on, that have another id and a part that may meet one of the region's, in
     /// order. Answers `AllocError` only for want of memory.
-    pub(crate) fn near(
+    pub(crate) fn near<W: Watch>(
         &self,
         alloc: Global,
+        watch: &W,
         region: &Region,
         layer: &Name,
         id: &Name,
@@ -69,7 +70,7 @@ impl Parcels {
         ensures within { IfOk result (λ near. AreWithin self.now near.places.items) }
         ensures few { IfOk result (λ near. near.pairs ≤ 1048576 * length self.now) }
     {
-        let places = self.reached::<Brand>(alloc, region, from, reach, Blank::new(1))?;
+        let places = self.reached::<W, Brand>(alloc, watch, region, from, reach, Blank::new(1))?;
         let mut near = Near {
             pairs: 0,
             places: Listed::new(alloc),
@@ -85,9 +86,10 @@ impl Parcels {
 
     /// The places from one on, in rising order, among which are those of all live lots that have a part that may meet one of
     /// the region's. Answers `AllocError` only for want of memory.
-    fn reached<L: Ledger>(
+    fn reached<W: Watch, L: Ledger>(
         &self,
         alloc: Global,
+        watch: &W,
         region: &Region,
         from: usize,
         reach: Reach,
@@ -99,7 +101,9 @@ impl Parcels {
         ensures { IfOk result (λ places. AreReached reach region.now self.now from places.items) }
     {
         let mut steps = Steps::<L>::new(blank);
-        let numbers = self.boxes().meeting(alloc, region, reach, &mut steps)?;
+        let numbers = self
+            .boxes()
+            .meeting(alloc, watch, region, reach, &mut steps)?;
         let mut places = places_from(alloc, &numbers, from)?;
         places.sort_unstable();
         places.dedup();

@@ -1,5 +1,5 @@
 //! A region becomes a parcel.
-ghost use Rattle.std.specs.Prelude.{◌≡◌, ◌+◌, ◌==◌, [], ◌∷◌, length, option_map, false, IfOk, IfErr, IfSome, OnOk};
+ghost use Rattle.std.specs.Prelude.{◌≡◌, ◌+◌, ◌==◌, [], length, option_map, false, IfOk, IfErr, IfSome, OnOk};
 ghost use Rattle.rp_geometry.specs.searches.ProofLine.{in_line};
 ghost use Rattle.rp_language.specs.Name.{is_among};
 ghost use Rattle.rp_walks.specs.Walk.{first_tester};
@@ -18,19 +18,21 @@ ghost use Rattle.rp_parcels.specs.Walks.{overlap_counted};
 use crate::fault::ParcelFault;
 use crate::near::{Reach, count_tests};
 use crate::parcels::Parcels;
+use rp_boxindex::Watch;
 use rp_history::Birth;
 use rp_region::{OpFault, Region, Work};
 use rp_space::{Inside, Listed, Name, Names};
-use std::alloc::{AllocError, Global};
+use std::alloc::Global;
 
 impl Parcels {
     /// Registers a region as a new parcel of a layer, born at the line, which is above every birth and every end.
     /// Refusals, in this order: `Known(id)`; `Empty`; `Limit` where all parcels together would keep more than 65,536
     /// parts, or too many pairs of a new part and a part of a live parcel of the layer have boxes that meet; `Overlaps`
     /// with the first live parcel of the layer that shares a point. After a refusal all is as before.
-    pub fn register(
+    pub fn register<W: Watch>(
         &mut self,
         alloc: Global,
+        watch: &W,
         line: u32,
         layer: Name,
         id: Name,
@@ -45,7 +47,7 @@ impl Parcels {
     {
         self.check_registration(id, &region)?;
         self.check_room(region.parts().len())?;
-        if let Some((other, points)) = self.overlapped(alloc, &layer, &id, &region, work)? {
+        if let Some((other, points)) = self.overlapped(alloc, watch, &layer, &id, &region, work)? {
             return Err(ParcelFault::Overlaps(other, points));
         }
         let births = [Birth {
@@ -72,9 +74,10 @@ impl Parcels {
 
     /// The first live parcel of the layer that shares a point with the region, and what shows it. As many tests are counted
     /// as there are pairs of parts whose boxes meet. The id is that of no parcel.
-    fn overlapped(
+    fn overlapped<W: Watch>(
         &self,
         alloc: Global,
+        watch: &W,
         layer: &Name,
         id: &Name,
         region: &Region,
@@ -84,7 +87,7 @@ impl Parcels {
         ensures makes { Walks (option_map (λ f. f.0)) result work.old work.new (overlap_counted region.now (present_lots (lots_in layer.now self.now))) }
         ensures told { IfOk result (λ o. IfSome o (λ f. IsLast (in_line f.1) work.new.proofs)) }
     {
-        let near = self.near(alloc, region, layer, id, 0, Reach::Overlap)?;
+        let near = self.near(alloc, watch, region, layer, id, 0, Reach::Overlap)?;
         count_tests(work, near.pairs)?;
         self.first_overlapped(alloc, region, near.places.items(), work)
     }

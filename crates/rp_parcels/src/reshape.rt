@@ -4,7 +4,7 @@ ghost use Rattle.rp_geometry.specs.sets.Shape.{Part};
 ghost use Rattle.rp_geometry.specs.parts.Parts.{most_parts};
 ghost use Rattle.rp_walks.specs.Walk.{first_tester};
 ghost use Rattle.rp_walks.specs.Form.{if_at_most};
-ghost use Rattle.rp_model.specs.states.State.{layer_with_id, layer_of_first, lots_replaced};
+ghost use Rattle.rp_model.specs.states.State.{layer_with_id, lots_replaced};
 ghost use Rattle.rp_model.specs.commands.Checks.{check_live};
 ghost use Rattle.rp_model.specs.commands.Row.{row_cut, row_consolidate, parts_with_id, joined_parts};
 ghost use Rattle.rp_history.specs.Lots.{lots_in, lots_after};

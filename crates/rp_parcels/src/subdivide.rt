@@ -11,7 +11,6 @@ ghost use Rattle.rp_region.specs.Pairs.{IsLast};
 ghost use Rattle.rp_history.specs.Lots.{lots_in};
 ghost use Rattle.rp_parcels.specs.Kept.{AreSound};
 ghost use Rattle.rp_parcels.specs.Register.{IsLater, child_of};
-ghost use Rattle.rp_parcels.specs.Walks.{children_counted};
 ghost use Rattle.rp_parcels.specs.Rows.{Walks, Changes, Checks, Refuses, IsTold};
 
 use crate::child::Child;

@@ -9,13 +9,13 @@ use Rattle.rp_machine.proofs.Told.{row_answered, row_changed}
 use Rattle.rp_machine.proofs.machine.Machine.answer.Goals as goal
 
 pub carry_out-row-requires-clause-kept : goal.carry_out-row-requires-clause-kept
-carry_out-row-requires-clause-kept c = read_expressions_are_kept_spec c.args.line.now (command_of c.args.asked.now) c.requires.read
+carry_out-row-requires-clause-kept g c κs alive = read_expressions_are_kept_spec c.args.line.now (command_of c.args.asked.now) c.requires.read
 
 pub carry_out-row-requires-clause-few : goal.carry_out-row-requires-clause-few
-carry_out-row-requires-clause-few c = read_children_are_few c.args.line.now (command_of c.args.asked.now) c.requires.read
+carry_out-row-requires-clause-few g c κs alive = read_children_are_few c.args.line.now (command_of c.args.asked.now) c.requires.read
 
 pub returns-clause-answer : goal.returns-clause-answer
-returns-clause-answer c =
+returns-clause-answer g c =
     let s = c.args.self.now in
     let asked = command_of c.args.asked.now in
     let run = subst (λ (w : Work). Runs c.carry_out-row.result c.args.n c.carry_out-row.new.work s c.carry_out-row.new.self (row first_tester s asked w)) c.new-work.ensures c.carry_out-row.ensures in
@@ -23,7 +23,7 @@ returns-clause-answer c =
     ∙ row_answered s c.carry_out-row.new.self c.args.n c.args.line.now asked c.carry_out-row.result c.carry_out-row.new.work c.requires.read c.in_ok-verdicts.ensures.there run
 
 pub returns-clause-state : goal.returns-clause-state
-returns-clause-state c =
+returns-clause-state g c =
     let s = c.args.self.now in
     let asked = command_of c.args.asked.now in
     let run = subst (λ (w : Work). Runs c.carry_out-row.result c.args.n c.carry_out-row.new.work s c.carry_out-row.new.self (row first_tester s asked w)) c.new-work.ensures c.carry_out-row.ensures in

@@ -8,15 +8,15 @@ use Rattle.rp_machine.proofs.LotLemmas.{question_run}
 use Rattle.rp_machine.proofs.machine.Machine.carry_out.Goals as goal
 
 pub subdivide-requires-clause-kept : goal.subdivide-requires-clause-kept
-subdivide-requires-clause-kept c =
+subdivide-requires-clause-kept g c =
     subst (λ (es : List _). AllByRecursion IsKeptExpression (shapes_of es)) (sym c.items.ensures)
     (kept_shapes c.in-Subdivide.entries.items (subst (λ (d : Command). AllByRecursion IsKeptExpression (expressions_of d)) (ap command_of c.in-Subdivide.is) c.requires.kept))
 
 pub returns-in-At : goal.returns-in-At
-returns-in-At c = question_run c.told-in-At.result c.owner.result c.args.n c.args.work.now c.args.work.now c.args.self.now (command_of c.args.command.now) (ask_at c.in-At.point) (ap command_of c.in-At.is) c.told-in-At.ensures (c.owner.ensures c.args.work.now)
+returns-in-At g c = question_run c.told-in-At.result c.owner.result c.args.n c.args.work.now c.args.work.now c.args.self.now (command_of c.args.command.now) (ask_at c.in-At.point) (ap command_of c.in-At.is) c.told-in-At.ensures (c.owner.ensures c.args.work.now)
 
 pub returns-in-Asof : goal.returns-in-Asof
-returns-in-Asof c = question_run c.told-in-Asof.result c.owner_then.result c.args.n c.args.work.now c.args.work.now c.args.self.now (command_of c.args.command.now) (ask_as_of c.in-Asof.line c.in-Asof.point) (ap command_of c.in-Asof.is) c.told-in-Asof.ensures (c.owner_then.ensures c.args.work.now)
+returns-in-Asof g c = question_run c.told-in-Asof.result c.owner_then.result c.args.n c.args.work.now c.args.work.now c.args.self.now (command_of c.args.command.now) (ask_as_of c.in-Asof.line c.in-Asof.point) (ap command_of c.in-Asof.is) c.told-in-Asof.ensures (c.owner_then.ensures c.args.work.now)
 
 pub returns-in-List : goal.returns-in-List
-returns-in-List c = question_run c.told-in-List.result c.list.result c.args.n c.args.work.now c.args.work.now c.args.self.now (command_of c.args.command.now) ask_list (ap command_of c.in-List.is) c.told-in-List.ensures (c.list.ensures c.args.work.now)
+returns-in-List g c = question_run c.told-in-List.result c.list.result c.args.n c.args.work.now c.args.work.now c.args.self.now (command_of c.args.command.now) ask_list (ap command_of c.in-List.is) c.told-in-List.ensures (c.list.ensures c.args.work.now)

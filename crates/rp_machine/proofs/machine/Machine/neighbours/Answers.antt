@@ -10,7 +10,7 @@ use Rattle.rp_machine.proofs.LotLemmas.{question_fails, neighbours_few}
 use Rattle.rp_machine.proofs.machine.Machine.neighbours.Goals as goal
 
 pub returns-in_err-ids : goal.returns-in_err-ids
-returns-in_err-ids c =
+returns-in_err-ids g c =
     let p = err_from_is_err_and c.from_residual.result c.from_residual.ensures.1 in
     let s = c.args.self.now in
     let w = c.args.work.now in
@@ -18,7 +18,7 @@ returns-in_err-ids c =
     (ap (λ (lots : List (Lot (Unit {0}))). row_neighbours first_tester (lots_in [] lots) c.args.id w) c.parcels.ensures ∙ same_neighbours s c.args.id w)
 
 pub neighbour_lines-requires : goal.neighbour_lines-requires
-neighbour_lines-requires c =
+neighbour_lines-requires g c =
     let lots = c.parcels.result.now in
     let few : length c.in_ok-ids.ids.items ≤ length lots = neighbours_few lots c.args.id c.args.work.now c.neighbours.new.work c.in_ok-ids.ids.items c.in_ok-ids.ensures.row in
     let same : length c.items.result.now ≡ length c.in_ok-ids.ids.items = ap length c.items.ensures in
@@ -26,7 +26,7 @@ neighbour_lines-requires c =
     omega (arith, c.history.ensures.few)
 
 pub returns : goal.returns
-returns c =
+returns g c =
     let s = c.args.self.now in
     let w = c.args.work.now in
     sym (same_neighbours s c.args.id w) ∙ sym (ap (λ (lots : List (Lot (Unit {0}))). row_neighbours first_tester (lots_in [] lots) c.args.id w) c.parcels.ensures) ∙ c.in_ok-ids.ensures.row

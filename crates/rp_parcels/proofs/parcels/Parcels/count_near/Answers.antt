@@ -10,7 +10,7 @@ use Rattle.rp_parcels.proofs.parcels.Parcels.count_near.Goals as goal
 use Rattle.rp_parcels.proofs.parcels.Parcels.count_near.Goals.{then-is_none+in_ok-pairs, else-is_none}
 
 pub loop-place-preserved : goal.loop-place-preserved
-loop-place-preserved c =
+loop-place-preserved g c =
     let lots = c.args.self.now in
     let k = c.loop-place.place in
     let many = sym (length-map c.lots-lots.result.now lot_of) ∙ ap length (c.lots-lots.ensures.value ∙ c.history.ensures.value) ∙ length-map lots bare_lot in

@@ -6,6 +6,6 @@ use Rattle.rp_parcels.proofs.parcels.Parcels.count_near.Given as goal
 
 -- the pairs of the live lots still to come are not counted yet
 abbrev pub invariant-loop-place : goal.invariant-loop-place
-invariant-loop-place l =
+invariant-loop-place g l =
     (l.pairs + count_in_layers near_pair (live_lots (drop l.place l.self)) ≡ count_in_layers near_pair (live_lots l.self))
     × (l.pairs ≤ 68719476736 * l.place)

@@ -8,7 +8,7 @@ use Rattle.rp_parcels.proofs.Audited.{if_ok_then, others_behind, own_line}
 use Rattle.rp_parcels.proofs.parcels.Parcels.later_near.Goals as goal
 
 pub returns-clause-pairs : goal.returns-clause-pairs
-returns-clause-pairs c =
+returns-clause-pairs g c =
     if_ok_then _ _ c.near.result
     (λ near e l at.
     let lots = c.args.self.now in
@@ -22,7 +22,7 @@ returns-clause-pairs c =
     c.near.ensures.pairs
 
 pub returns-clause-lots : goal.returns-clause-lots
-returns-clause-lots c =
+returns-clause-lots g c =
     if_ok_then _ _ c.near.result
     (λ near e l at.
     let lots = c.args.self.now in

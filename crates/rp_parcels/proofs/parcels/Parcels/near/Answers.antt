@@ -10,7 +10,7 @@ use Rattle.rp_parcels.proofs.parcels.Parcels.near.Goals as goal
 use Rattle.rp_parcels.proofs.parcels.Parcels.near.Goals.{then-is_other+in_ok-add_if_near, else-is_other}
 
 pub loop-place-init : goal.loop-place-init
-loop-place-init c =
+loop-place-init g c =
     let lots = c.args.self.now in
     let reached = c.deref-place-items.result.now in
     let none = c.new-2.ensures in
@@ -21,7 +21,7 @@ loop-place-init c =
     }
 
 pub add_if_near-requires-clause-few : goal.add_if_near-requires-clause-few
-add_if_near-requires-clause-few c =
+add_if_near-requires-clause-few g c =
     let reached = c.deref-place-items.result.now in
     let i = c.loop-place.place-index in
     let own = get_or_default reached i 0 (length c.args.self.now) c.loop-place-test.true in
@@ -29,7 +29,7 @@ add_if_near-requires-clause-few c =
     omega (arith, own, few)
 
 pub loop-place-preserved : goal.loop-place-preserved
-loop-place-preserved c =
+loop-place-preserved g c =
     let lots = c.args.self.now in
     let r = c.args.reach in
     let ps = c.args.region.now in
@@ -63,7 +63,7 @@ loop-place-preserved c =
     ]
 
 pub returns : goal.returns
-returns c =
+returns g c =
     let lots = c.args.self.now in
     let r = c.args.reach in
     let ps = c.args.region.now in

@@ -11,7 +11,7 @@ use Rattle.rp_parcels.proofs.Skipped.{search_near, others_all}
 use Rattle.rp_parcels.proofs.parcels.Parcels.overlapped.Goals as goal
 
 pub returns-in_err-count_tests-clause-makes : goal.returns-in_err-count_tests-clause-makes
-returns-in_err-count_tests-clause-makes c =
+returns-in_err-count_tests-clause-makes g c =
     let p = err_from_is_err_and c.from_residual-in_err-count_tests.result c.from_residual-in_err-count_tests.ensures.1 in
     let ps = c.args.region.now in
     let lots = lots_of_layer c.args.layer.now (live_lots c.args.self.now) in
@@ -21,7 +21,7 @@ returns-in_err-count_tests-clause-makes c =
     (ap (λ (n : ℕ). after_first (λ _. first_overlapped first_tester ps lots) (count_tests n c.args.work.now)) counted) c.in_err-count_tests.ensures)
 
 pub returns-clause-makes : goal.returns-clause-makes
-returns-clause-makes c =
+returns-clause-makes g c =
     let ps = c.args.region.now in
     let lots = lots_of_layer c.args.layer.now (live_lots c.args.self.now) in
     let others = others_all c.args.layer.now c.args.id.now c.args.self.now c.requires in

@@ -1,0 +1,160 @@
+//! Pairs of parcels, judged in halves of work.
+ghost use Rattle.std.specs.Prelude.{◌≡◌, ◌≤◌, ◌++◌, length, map, IfOk, OnOk};
+ghost use Rattle.std.specs.List.{AllByRecursion};
+ghost use Rattle.rp_walks.specs.Walk.{most_tests};
+ghost use Rattle.rp_region.specs.Makes.{Makes};
+ghost use Rattle.rp_parcels.specs.Judged.{pair_of, ids_that_meet, pair_test, judged, judged_at, with_all_lines, IsPairWithin, ArePairsWithin, CountsNothing};
+
+use crate::near::Reach;
+use crate::parcels::Parcels;
+use rp_boxindex::Watch;
+use rp_crew::{Judge, judge_all};
+use rp_region::{OpFault, Region, Work};
+use rp_space::{Name, Names};
+use std::alloc::{AllocError, Global};
+use std::thread::Threads;
+
+/// Two parcels, by their places among all.
+#[derive(Clone, Copy, Debug)]
+pub(crate) struct Pair {
+    pub first: usize,
+    pub second: usize,
+}
+
+/// What the tests of a pair have shown: whether the two meet, and the proof lines. The id is that of the second parcel.
+#[derive(Debug, Drop)]
+pub(crate) struct Judged {
+    pub id: Name,
+    pub meets: bool,
+    pub work: Work,
+}
+
+/// Pairs of parcels, of which each is judged by itself.
+#[derive(Drop)]
+struct Pairs<'a, W: Watch> {
+    parcels: &'a Parcels,
+    watch: &'a W,
+    pairs: &'a [Pair],
+    reach: Reach,
+    ghost within: { ArePairsWithin parcels.now pairs.now },
+}
+
+impl<W: Watch> Judge for Pairs<'_, W> {
+    type Out = Judged;
+
+    ghost size = { λ s. length s.pairs.now };
+
+    ghost meaning = { λ s i. judged_at s.reach s.parcels.now s.pairs.now i };
+
+    fn count(&self) -> usize {
+        self.pairs.len()
+    }
+
+    fn judge(&self, alloc: Global, i: usize) -> Result<Judged, AllocError> {
+        self.watch.item(i);
+        self.parcels.judge_pair(alloc, self.pairs[i], self.reach)
+    }
+}
+
+impl Parcels {
+    /// What the tests of each pair show, in order. They are judged in halves, down to runs of at most `grain` pairs, and the
+    /// watch is told of each pair as its tests begin. Answers `AllocError` only for want of memory.
+    pub(crate) fn judge_pairs<R: Threads + Sync, W: Watch>(
+        &self,
+        rt: &R,
+        alloc: Global,
+        watch: &W,
+        grain: usize,
+        pairs: &[Pair],
+        reach: Reach,
+    ) -> Result<Vec<Judged>, AllocError>
+        requires grain { 1 ≤ grain }
+        requires within { AllByRecursion (IsPairWithin self.now) pairs.now }
+        ensures { IfOk result (λ all. all.items ≡ map (judged reach self.now) pairs.now) }
+    {
+        let pairs = Pairs {
+            parcels: self,
+            watch,
+            pairs,
+            reach,
+        };
+        judge_all(rt, alloc, grain, &pairs)
+    }
+
+    /// What the tests of a pair show. Answers `AllocError` only for want of memory.
+    fn judge_pair(&self, alloc: Global, pair: Pair, reach: Reach) -> Result<Judged, AllocError>
+        requires { IsPairWithin self.now pair }
+        ensures { IfOk result (λ one. one ≡ judged reach self.now pair) }
+    {
+        let mut work = Work::new(alloc);
+        let first = self.region_at(pair.first);
+        let second = self.region_at(pair.second);
+        match do_meet(alloc, first, second, reach, &mut work) {
+            Ok(meets) => Ok(Judged {
+                id: self.history().lots()[pair.second].id,
+                meets,
+                work,
+            }),
+            Err(OpFault::Memory(error)) => Err(error),
+            Err(OpFault::Limit) => unreachable!(),
+        }
+    }
+}
+
+/// Whether two regions meet. Only those pairs of their parts are tested whose boxes let them; nothing is counted.
+fn do_meet(
+    alloc: Global,
+    first: &Region,
+    second: &Region,
+    reach: Reach,
+    work: &mut Work,
+) -> Result<bool, OpFault>
+    ensures { Makes (λ meets. meets) result work.old work.new (pair_test reach first.now second.now) }
+{
+    match reach {
+        Reach::Overlap => Ok(first.first_common(alloc, second, true, work)?.is_some()),
+        Reach::Touch => Ok(first.first_touch(alloc, second, true, work)?.is_some()),
+    }
+}
+
+/// Appends the pairs of a parcel with each of some others, by their places. Answers `AllocError` only for want of memory.
+pub(crate) fn add_pairs(
+    pairs: &mut Vec<Pair>,
+    first: usize,
+    others: &[usize],
+) -> Result<(), AllocError>
+    ensures { OnOk result (pairs.new.items ≡ pairs.old.items ++ map (pair_of first) others.now) }
+{
+    for second in others {
+        pairs.push(Pair {
+            first,
+            second: *second,
+        })?;
+    }
+    Ok(())
+}
+
+/// The ids of the second parcels of those pairs that meet, in order. Answers `AllocError` only for want of memory.
+pub(crate) fn ids_that_meet(alloc: Global, all: &[Judged]) -> Result<Names, AllocError>
+    ensures { IfOk result (λ ids. ids.items ≡ ids_that_meet all.now) }
+{
+    let mut ids = Names::new(alloc);
+    for one in all {
+        if one.meets {
+            ids.push(one.id)?;
+        }
+    }
+    Ok(ids)
+}
+
+/// Appends the proof lines of all pairs in order; they are moved. Answers `AllocError` only for want of memory.
+pub(crate) fn append_all(alloc: Global, work: &mut Work, all: Vec<Judged>) -> Result<(), AllocError>
+    requires few { work.old.tests ≤ most_tests }
+    requires uncounted { AllByRecursion CountsNothing all.items }
+    ensures { OnOk result (work.new ≡ with_all_lines work.old all.items) }
+{
+    for one in all {
+        work.append(alloc, one.work)?;
+    }
+    Ok(())
+}
