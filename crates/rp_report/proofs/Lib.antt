@@ -1,2 +1,9 @@
+mod EchoLaws
 mod FrontLemmas
+mod ItemLemmas
 mod LineLemmas
+mod NumberWords
+mod ProofLaws
+mod ReaderLaws
+mod WordLemmas
+mod WrittenLemmas

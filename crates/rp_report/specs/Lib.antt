@@ -1,3 +1,4 @@
 pub mod Fronts
 pub mod LineTexts
+pub mod Readers
 pub mod Views

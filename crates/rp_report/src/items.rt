@@ -1,5 +1,5 @@
 //! Things that have a text, one behind the other.
-ghost use Rattle.std.specs.Prelude.{◌≡◌, ◌∷◌, ◌++◌, ℕ, List};
+ghost use Rattle.std.specs.Prelude.{◌∷◌, ◌++◌, ℕ, List};
 ghost use Rattle.rp_language.specs.Grammar.{space};
 ghost use Rattle.rp_reports.specs.Text.{items_text};
 ghost use Rattle.rp_report.specs.Fronts.{Writes};

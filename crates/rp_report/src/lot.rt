@@ -1,5 +1,4 @@
 //! The text of what is told of a lot.
-ghost use Rattle.std.specs.Prelude.{◌≡◌};
 ghost use Rattle.rp_reports.specs.Text.{end_text, layer_text, origins_text};
 ghost use Rattle.rp_report.specs.Fronts.{Writes};
 

@@ -1,5 +1,4 @@
 //! Pieces of a text, appended to what stands before them.
-ghost use Rattle.std.specs.Prelude.{◌≡◌};
 ghost use Rattle.rp_report.specs.Fronts.{Writes, joined};
 
 use std::alloc::AllocError;

@@ -1,5 +1,5 @@
 //! The text of proof lines.
-ghost use Rattle.std.specs.Prelude.{◌≡◌, ◌++◌, map, codes};
+ghost use Rattle.std.specs.Prelude.{◌++◌, map, codes};
 ghost use Rattle.rp_reports.specs.Text.{half_space_text, term_text, items_text, proof_text, proof_texts, text_of_lines};
 ghost use Rattle.rp_cert.specs.Lines.{line_of};
 ghost use Rattle.rp_report.specs.Fronts.{Writes};

@@ -1,4 +1,6 @@
-use crate::{Answer, Refusal, Verdict, Verdicts, write_answer};
+use crate::{
+    Answer, Refusal, Verdict, Verdicts, read_echo, read_proof, write_answer, write_verdict,
+};
 use rp_cert::{Proof, Proofs};
 use rp_history::LotLine;
 use rp_space::{Half, Halves, Inside, IntBox, Name, Names, Numbers, Outside, Point, Term};
@@ -42,6 +44,15 @@ fn each_verdict_has_its_line(rt: HostRuntime) -> Result<(), Fail> {
     ] {
         expect_text(&rt, rt.alloc(), (7, b"all"), verdict, want)?;
     }
+    Ok(())
+}
+
+#[test]
+fn a_verdict_is_written_alone(rt: HostRuntime) -> Result<(), Fail> {
+    let mut out = Vec::new(rt.alloc());
+    write_verdict(&Verdict::Pieces(3), &mut out)?;
+    write_verdict(&Verdict::Refused(Refusal::Gap), &mut out)?;
+    assert_eq!(rt; out.as_slice(), b"= pieces 3= refused gap".as_slice());
     Ok(())
 }
 
@@ -350,4 +361,152 @@ fn multiples_and_boxes_are_told(rt: HostRuntime) -> Result<(), Fail> {
 fn a_brief_answer_leaves_proof_lines_out(rt: HostRuntime) -> Result<(), Fail> {
     let origin = Point::new(0, 0, 0, 1).ok().ok_or("no point")?;
     expect_proof(&rt, rt.alloc(), Proof::At(origin), true, b"> 7 q\n= no\n")
+}
+
+/// Reads a proof line, writes it in an answer, and compares the text.
+fn expect_read(rt: &impl Abort, alloc: Global, line: &[u8]) -> Result<(), Fail> {
+    let proof = read_proof(line).ok_or("no proof line")?;
+    let mut want = Vec::from_slice(alloc, b"> 7 q\n")?;
+    want.extend_from_slice(line)?;
+    want.extend_from_slice(b"\n= no\n")?;
+    expect_proof(rt, alloc, proof, false, want.as_slice())
+}
+
+#[test]
+fn proof_lines_are_read_back(rt: HostRuntime) -> Result<(), Fail> {
+    for line in [
+        b"  in (0 0 0 1)".as_slice(),
+        b"  in (0 0 0 1) (0 0 10 1) (-1 2 -3 4) (5 0 0 1)",
+        b"  out 1*(1 0 0 0) 1*(-1 0 0 0)",
+        b"  out 37778931862957161709567*(0 0 0 -1)",
+        b"  at (-2535301200456458802993406410751 1 0 37778931862957161709567)",
+        b"  apart 2*(-1 0 0 10) 3*(1 0 0 -11) 4*(0 1 0 0) 5*(0 0 1 0)",
+        b"  drop (16777213 0 0 -844424930131968) 1*(1 0 0 0)",
+        b"  box -16777216 0 0 16777216 10 10",
+        b"  box 0 0 0 0 0 0",
+    ] {
+        expect_read(&rt, rt.alloc(), line)?;
+    }
+    Ok(())
+}
+
+/// Expects that a line is no proof line.
+fn expect_no_proof(rt: &impl Abort, line: &[u8]) {
+    assert!(rt; read_proof(line).is_none(), "{line:?}");
+}
+
+#[test]
+fn other_spellings_are_no_proof_lines(rt: HostRuntime) -> Result<(), Fail> {
+    for line in [
+        b"".as_slice(),
+        b"  in",
+        b"  in ",
+        b" in (0 0 0 1)",
+        b"   in (0 0 0 1)",
+        b"  In (0 0 0 1)",
+        b"  in  (0 0 0 1)",
+        b"  in (0 0 0 1) ",
+        b"  in (0  0 0 1)",
+        b"  in (0 0 0 1",
+        b"  in 0 0 0 1",
+        b"  in (0 0 0)",
+        b"  in (0 0 0 1 1)",
+        b"  in (+1 0 0 1)",
+        b"  in (-0 0 0 1)",
+        b"  in (01 0 0 1)",
+        b"  at",
+        b"  at (0 0 0 1) (0 0 0 1)",
+        b"  out 1 *(1 0 0 0)",
+        b"  out 1(1 0 0 0)",
+        b"  out (1 0 0 0)",
+        b"  apart (0 0 0 1)",
+        b"  drop (1 0 0 0)",
+        b"  drop 1*(1 0 0 0)",
+        b"  box 0 0 0 1 1",
+        b"  box 0 0 0 1 1 1 1",
+        b"  box (0 0 0 1 1 1)",
+    ] {
+        expect_no_proof(&rt, line);
+    }
+    Ok(())
+}
+
+#[test]
+fn what_passes_a_bound_is_no_proof_line(rt: HostRuntime) -> Result<(), Fail> {
+    for line in [
+        b"  at (2 0 0 2)".as_slice(),
+        b"  at (0 0 0 0)",
+        b"  at (0 0 0 -1)",
+        b"  at (2535301200456458802993406410752 0 0 1)",
+        b"  at (1 0 0 37778931862957161709568)",
+        b"  in (0 0 0 1) (0 0 1 1) (0 1 0 1) (1 0 0 1) (1 1 1 1)",
+        b"  out 0*(1 0 0 0)",
+        b"  out -1*(1 0 0 0)",
+        b"  out 37778931862957161709568*(1 0 0 0)",
+        b"  out 1*(2 0 0 0)",
+        b"  out 1*(0 0 0 0)",
+        b"  out 1*(16777217 0 0 0)",
+        b"  out 1*(1 0 0 844424930131969)",
+        b"  out 1*(1 0 0 0) 1*(1 0 0 1) 1*(1 0 0 2) 1*(1 0 0 3) 1*(1 0 0 4)",
+        b"  drop (1 0 0 9223372036854775808) 1*(1 0 0 0)",
+        b"  box 0 0 0 1 1 16777217",
+        b"  box -16777217 0 0 1 1 1",
+    ] {
+        expect_no_proof(&rt, line);
+    }
+    Ok(())
+}
+
+/// A line with a number of so many digits between two texts.
+fn with_digits(alloc: Global, front: &[u8], count: u32, end: &[u8]) -> Result<Vec<u8>, AllocError> {
+    let mut line = Vec::from_slice(alloc, front)?;
+    for _ in 0..count {
+        line.push(b'9')?;
+    }
+    line.extend_from_slice(end)?;
+    Ok(line)
+}
+
+#[test]
+fn numbers_of_any_length_are_read(rt: HostRuntime) -> Result<(), Fail> {
+    for (front, end) in [
+        (b"  at (".as_slice(), b" 0 0 1)".as_slice()),
+        (b"  at (-", b" 0 0 1)"),
+        (b"  out ", b"*(1 0 0 0)"),
+        (b"  drop (1 0 0 ", b") 1*(1 0 0 0)"),
+        (b"  box 0 0 0 1 1 ", b""),
+    ] {
+        let line = with_digits(rt.alloc(), front, 10000, end)?;
+        expect_no_proof(&rt, line.as_slice());
+    }
+    let line = with_digits(rt.alloc(), b"> ", 10000, b" x")?;
+    assert!(rt; read_echo(line.as_slice()).is_none());
+    Ok(())
+}
+
+#[test]
+fn echoes_give_number_and_place(rt: HostRuntime) -> Result<(), Fail> {
+    for (line, want) in [
+        (b"> 1".as_slice(), Some((1, None))),
+        (b"> 1 ", Some((1, Some(4)))),
+        (b"> 1  ", Some((1, Some(4)))),
+        (b"> 16777216 x", Some((16777216, Some(11)))),
+        (b"> 7 a b", Some((7, Some(4)))),
+        (b"> 0", None),
+        (b"> 01", None),
+        (b"> +1", None),
+        (b"> -1", None),
+        (b"> 16777217", None),
+        (b"> 4294967297", None),
+        (b">1", None),
+        (b"> ", None),
+        (b">  1", None),
+        (b" > 1", None),
+        (b"> 1x", None),
+        (b"= yes", None),
+        (b"", None),
+    ] {
+        assert_eq!(rt; read_echo(line), want, "{line:?}");
+    }
+    Ok(())
 }

@@ -1,11 +1,11 @@
 //! The text of an answer.
-ghost use Rattle.std.specs.Prelude.{◌≡◌, ◌∷◌, [], ◌++◌};
-ghost use Rattle.rp_reports.specs.Text.{echo_text, line_end, text_of_lines, answer_lines};
+ghost use Rattle.std.specs.Prelude.{◌∷◌, [], ◌++◌};
+ghost use Rattle.rp_reports.specs.Text.{echo_text, line_end, text_of_lines, answer_lines, verdict_text};
 ghost use Rattle.rp_report.specs.Fronts.{Writes};
-ghost use Rattle.rp_report.specs.Views.{answer_of};
+ghost use Rattle.rp_report.specs.Views.{answer_of, verdict_of};
 
-use crate::answer::Answer;
-use crate::items::write_lines;
+use crate::answer::{Answer, Verdict};
+use crate::items::{WriteText, write_lines};
 use crate::pieces::append_all;
 use crate::proof::write_told_proofs;
 use itoa::Buffer;
@@ -38,4 +38,13 @@ pub fn write_answer(a: &Answer, brief: bool, out: &mut Vec<u8>) -> Result<(), Al
     write_echo(a.n, a.echo.items(), out)?;
     write_told_proofs(a.proofs.items(), brief, out)?;
     write_lines(verdicts, out)
+}
+
+/// Appends the text of a verdict line, without a line end.
+///
+/// After `AllocError` `out` has what it had and a front of that text.
+pub fn write_verdict(verdict: &Verdict, out: &mut Vec<u8>) -> Result<(), AllocError>
+    ensures { Writes result out.old.items out.new.items (verdict_text (verdict_of verdict.now)) }
+{
+    verdict.write_text(out)
 }

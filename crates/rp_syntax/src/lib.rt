@@ -20,6 +20,7 @@ mod words;
 
 pub use command::{Command, Entries, Expr, Line, Why};
 use fault::ReadFault;
+pub use number::spelled;
 pub use spelling::write_command;
 use std::alloc::{AllocError, Global};
 use words::Words;

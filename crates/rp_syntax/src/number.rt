@@ -36,7 +36,8 @@ fn starts_above_zero(digits: &[u8]) -> bool
     }
 }
 
-/// The whole number that a word spells, held at `HELD` in size, or nothing.
+/// The whole number that a word spells: 0, or an optional minus sign and digits of which the first isn't 0. Where it passes
+/// 2^120 in size it is held there. `None` exactly where the word spells no number.
 pub fn spelled(word: &[u8]) -> Option<i128>
     ensures { result ≡ option_map held (number_spelled word.now) }
 {
