@@ -1,0 +1,125 @@
+//! What is left of a list of parts outside a second one, test by test.
+ghost use Rattle.std.specs.Prelude.{◌+◌, ◌≤◌, ◌<◌, [], length};
+ghost use Rattle.rp_geometry.specs.parts.Parts.{most_half_spaces};
+ghost use Rattle.rp_reports.specs.Check.{follow_count, line_tester};
+ghost use Rattle.rp_walks.specs.Form.{carve_one, carve, subtract_pair, subtract_part, subtract};
+ghost use Rattle.rp_follow.specs.Follows.{Follows};
+
+use crate::form::{Form, MAX_PARTS};
+use crate::kept::Kept;
+use crate::lost::Lost;
+use crate::meeting::Meeting;
+use crate::part::made;
+use crate::trail::Trail;
+use rp_space::{Half, joined};
+use std::alloc::Global;
+
+/// The parts of a list without those of a second list, one after the other.
+pub(crate) fn subtract(
+    alloc: Global,
+    parts: Form,
+    others: &[Kept],
+    trail: &mut Trail<'_>,
+) -> Result<Form, Lost>
+    ensures { Follows (λ form. form.items) result trail.old trail.new (subtract line_tester parts.items others.now) }
+{
+    let mut current = parts;
+    for other in others {
+        current = subtract_part(alloc, current, other, trail)?;
+        if current.items().len() > MAX_PARTS {
+            return Err(Lost::Limit);
+        }
+    }
+    Ok(current)
+}
+
+/// The parts of a list without one part.
+fn subtract_part(
+    alloc: Global,
+    parts: Form,
+    other: &Kept,
+    trail: &mut Trail<'_>,
+) -> Result<Form, Lost>
+    ensures { Follows (λ form. form.items) result trail.old trail.new (subtract_part line_tester [] parts.items other.now) }
+{
+    let mut left = Form::new(alloc);
+    for part in parts.into_items() {
+        subtract_pair(alloc, &mut left, part, other, trail)?;
+    }
+    Ok(left)
+}
+
+/// What is left of one part outside another, behind what is left already: the part itself, without a test, where the
+/// boxes do not meet.
+fn subtract_pair(
+    alloc: Global,
+    left: &mut Form,
+    part: Kept,
+    other: &Kept,
+    trail: &mut Trail<'_>,
+) -> Result<(), Lost>
+    ensures { Follows (λ _. left.new.items) result trail.old trail.new (subtract_pair line_tester left.old.items part other.now) }
+{
+    if !Meeting::Common.may_be(&part, other) {
+        left.push(part)?;
+        return Ok(());
+    }
+    count_test(trail)?;
+    let cell = part.cell();
+    let halves = other.cell();
+    let meets = trail.strict(cell, halves)?;
+    if meets {
+        return carve(alloc, left, cell, halves, trail);
+    }
+    left.push(part)?;
+    Ok(())
+}
+
+/// What is left of a cell outside some half-spaces, piece by piece: outside each of them, inside those before.
+fn carve(
+    alloc: Global,
+    left: &mut Form,
+    cell: &[Half],
+    halves: &[Half],
+    trail: &mut Trail<'_>,
+) -> Result<(), Lost>
+    requires cell { length cell.now ≤ most_half_spaces }
+    requires halves { length halves.now ≤ most_half_spaces }
+    ensures { Follows (λ _. left.new.items) result trail.old trail.new (carve line_tester left.old.items cell.now [] halves.now) }
+{
+    for (i, half) in halves.iter().enumerate() {
+        carve_one(alloc, left, cell, &halves[..i], half, trail)?;
+    }
+    Ok(())
+}
+
+/// What is left of a cell outside one half-space, inside those before.
+fn carve_one(
+    alloc: Global,
+    left: &mut Form,
+    cell: &[Half],
+    before: &[Half],
+    half: &Half,
+    trail: &mut Trail<'_>,
+) -> Result<(), Lost>
+    requires { length cell.now + length before.now < 64 }
+    ensures { Follows (λ _. left.new.items) result trail.old trail.new (carve_one line_tester left.old.items cell.now before.now half.now) }
+{
+    count_test(trail)?;
+    let mut piece = joined(cell, before);
+    piece.push(half.not());
+    if let Some(part) = made(alloc, piece.as_slice(), trail)? {
+        left.push(part)?;
+    }
+    Ok(())
+}
+
+/// Counts one test.
+fn count_test(trail: &mut Trail<'_>) -> Result<(), Lost>
+    ensures { Follows (λ x. x) result trail.old trail.new (follow_count 1) }
+{
+    if !trail.count(1) {
+        return Err(Lost::Limit);
+    }
+    Ok(())
+}

@@ -1,0 +1,75 @@
+//! The half-spaces that the lines of a part test drop.
+ghost use Rattle.std.specs.Prelude.{◌≡◌, ◌≤◌, ◌++◌, ◌∷◌, [], length};
+ghost use Rattle.rp_geometry.specs.Geometry.{complement, half_space_eq, is_listed};
+ghost use Rattle.std.specs.List.{position};
+ghost use Rattle.rp_walks.specs.Walk.{done};
+ghost use Rattle.rp_reports.specs.Check.{next_proof, without, dropped_by, follow_drops};
+
+use crate::trail::Trail;
+use rp_cert::{Proof, check_outside};
+use rp_space::{Half, System, joined};
+
+/// Takes the lines that drop half-spaces of a cell, one after the other, as long as they pass. What is kept is left.
+pub(crate) fn follow_drops(kept: &mut System, trail: &mut Trail<'_>)
+    requires { length kept.old.items ≤ 64 }
+    ensures value { follow_drops trail.old.lines kept.old.items trail.old ≡ done kept.new.items trail.new }
+    ensures few { length kept.new.items ≤ 64 }
+{
+    while let Some(half) = dropped(kept.as_slice(), trail) {
+        remove(kept, &half);
+        trail.take();
+    }
+}
+
+/// The half-space that the next line drops: it is kept, and the multiples show that none of the others' members is outside
+/// it.
+fn dropped(kept: &[Half], trail: &Trail<'_>) -> Option<Half>
+    requires { length kept.now ≤ 64 }
+    ensures { result ≡ dropped_by kept.now (next_proof trail.now.lines) }
+{
+    let Proof::Dropped(half, terms) = trail.next_proof()? else {
+        return None;
+    };
+    if !is_listed(&half, kept) {
+        return None;
+    }
+    if !check_outside(outside_of(&half, kept).as_slice(), terms.items(), true) {
+        return None;
+    }
+    Some(half)
+}
+
+/// The cell of all half-spaces but the first place of one of them, and then of its complement.
+fn outside_of(half: &Half, halves: &[Half]) -> System
+    requires { length halves.now ≤ 64 }
+    ensures { result.items ≡ without half.now halves.now ++ complement half.now ∷ [] }
+{
+    let mut cell = joined(halves, &[]);
+    remove(&mut cell, half);
+    cell.push(half.not());
+    cell
+}
+
+/// Takes the first place of a half-space away, if there is one.
+fn remove(halves: &mut System, half: &Half)
+    ensures items { halves.new.items ≡ without half.now halves.old.items }
+    ensures fewer { length halves.new.items ≤ length halves.old.items }
+{
+    if let Some(place) = place_of(half, halves.as_slice()) {
+        halves.remove(place);
+    }
+}
+
+/// The first place of a half-space in a list.
+fn place_of(half: &Half, halves: &[Half]) -> Option<usize>
+    ensures { result ≡ position (half_space_eq half.now) halves.now }
+{
+    halves.iter().position(|other| half == other)
+}
+
+/// Whether a half-space stands in a list.
+pub(crate) fn is_listed(half: &Half, halves: &[Half]) -> bool
+    ensures { result ≡ is_listed half.now halves.now }
+{
+    halves.iter().any(|other| half == other)
+}

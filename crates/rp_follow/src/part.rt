@@ -1,0 +1,55 @@
+//! Part tests.
+ghost use Rattle.std.specs.Prelude.{◌≤◌, length, Some, IfOk};
+ghost use Rattle.rp_geometry.specs.parts.Parts.{IsCheckedPart};
+ghost use Rattle.rp_walks.specs.FormLaws.{IsMadeOf};
+ghost use Rattle.rp_reports.specs.Check.{follow_made, follow_part};
+ghost use Rattle.rp_follow.specs.Follows.{Follows, IsShown};
+
+use crate::drops::follow_drops;
+use crate::kept::{Kept, keep_halves};
+use crate::lost::Lost;
+use crate::sides::{follow_box, follow_sides};
+use crate::trail::Trail;
+use rp_space::{Half, Halves, joined};
+use std::alloc::Global;
+
+/// The most half-spaces of a part.
+const MAX_HALVES: usize = 32;
+
+/// A part test of a cell of at most 64 half-spaces, on the next lines: the part that they make of it, and `None` where the
+/// strict test shows that the cell has no point. Lines may drop half-spaces that add nothing; then a line gives a box, and
+/// further ones show those of its sides that are neither kept nor the cube's. `Limit` exactly where more than 32
+/// half-spaces are kept and the next line drops none. `Refused` and `Wrong` come where a line that is due doesn't stand
+/// there.
+pub fn made(alloc: Global, cell: &[Half], trail: &mut Trail<'_>) -> Result<Option<Kept>, Lost>
+    requires { length cell.now ≤ 64 }
+    ensures follows { Follows (λ part. part) result trail.old trail.new (follow_part cell.now) }
+    ensures made { IfOk result (λ part. IsMadeOf IsCheckedPart cell.now part) }
+{
+    keep_halves(cell);
+    let inside = trail.strict_test(cell)?;
+    if !inside {
+        return Ok(None);
+    }
+    let part = made_inside(alloc, cell, trail)?;
+    Ok(Some(part))
+}
+
+/// The part of a cell of which a strict test has just shown that it has a point.
+fn made_inside(alloc: Global, cell: &[Half], trail: &mut Trail<'_>) -> Result<Kept, Lost>
+    requires few { length cell.now ≤ 64 }
+    requires shown { IsShown cell.now trail.old }
+    ensures { Follows Some result trail.old trail.new (follow_made cell.now) }
+{
+    keep_halves(cell);
+    let mut kept = joined(cell, &[]);
+    follow_drops(&mut kept, trail);
+    if kept.len() > MAX_HALVES {
+        return Err(Lost::Limit);
+    }
+    let bounds = follow_box(trail)?;
+    let slim = kept.as_slice();
+    follow_sides(slim, &bounds, trail)?;
+    let halves = Halves::copy_of(alloc, slim)?;
+    Ok(Kept { halves, bounds })
+}

@@ -1,0 +1,405 @@
+ghost use Rattle.std.specs.Prelude.{◌≡◌, ◌≤◌, true, length, IfOk};
+ghost use Rattle.rp_geometry.specs.Geometry.{is_box_in_bounds};
+ghost use Rattle.rp_space.specs.Boxes.{integer_box};
+ghost use Rattle.rp_reports.specs.Output.{most_report_bytes};
+
+use crate::{Form, Kept, Lost, Trail, common, copy, differed, joined, made, touching};
+use rp_space::{Half, Halves, IntBox, box_halves};
+use std::alloc::Global;
+use std::process::Abort;
+use std::test::Fail;
+
+/// A box from 0 to 10 on each axis.
+const WEST: IntBox = IntBox {
+    lo: [0, 0, 0],
+    hi: [10, 10, 10],
+};
+
+/// A box that shares a face with the first one.
+const EAST: IntBox = IntBox {
+    lo: [10, 0, 0],
+    hi: [20, 10, 10],
+};
+
+/// A box that has a part in common with the first one.
+const MIDDLE: IntBox = IntBox {
+    lo: [4, 2, 2],
+    hi: [12, 8, 8],
+};
+
+/// Shows that a type may be sent to other threads and shared with them.
+fn needs_send_sync<T: Send + Sync>() {}
+
+#[test]
+fn types_cross_threads() {
+    needs_send_sync::<Kept>();
+    needs_send_sync::<Form>();
+    needs_send_sync::<Trail<'static>>();
+    needs_send_sync::<Lost>();
+}
+
+#[test]
+fn a_trail_gives_the_lines_in_order(rt: HostRuntime) {
+    let mut trail = Trail::new(b"first\n\nthird\r\nlast");
+    let lines: [(u32, &[u8]); 4] = [(1, b"first"), (2, b""), (3, b"third\r"), (4, b"last")];
+    for (number, line) in lines {
+        assert_eq!(rt; trail.number(), number);
+        assert_eq!(rt; trail.peek(), Some(line));
+        trail.take();
+    }
+    assert_eq!(rt; trail.number(), 5);
+    assert_eq!(rt; trail.peek(), None);
+}
+
+#[test]
+fn one_line_alone_tells_of_a_limit(rt: HostRuntime) {
+    let table: [(&[u8], bool); 4] = [
+        (b"= refused limit\n= yes\n", true),
+        (b"= refused limit", true),
+        (b"= refused limit \n", false),
+        (b"", false),
+    ];
+    for (report, tells) in table {
+        expect_limit(&rt, report, tells);
+    }
+}
+
+/// Expects that the first line of a report tells of a limit, or that it doesn't.
+fn expect_limit(rt: &impl Abort, report: &[u8], tells: bool)
+    requires { length report.now ≤ most_report_bytes }
+{
+    assert_eq!(rt; Trail::new(report).tells_limit(), tells);
+}
+
+#[test]
+fn tests_are_counted_up_to_the_limit(rt: HostRuntime) {
+    let mut trail = Trail::new(b"");
+    for (n, passes) in [(65536, true), (1, false), (0, true)] {
+        assert_eq!(rt; trail.count(n), passes);
+    }
+    trail.begin();
+    for (n, passes) in [(u64::MAX, false), (65537, false), (1, true), (65535, true)] {
+        assert_eq!(rt; trail.count(n), passes);
+    }
+}
+
+/// Follows a strict test of two boxes on a report.
+fn expect_strict(rt: &impl Abort, report: &[u8], second: &IntBox, wanted: Result<bool, Lost>)
+    requires short { length report.now ≤ most_report_bytes }
+    requires bounds { is_box_in_bounds (integer_box second.now) ≡ true }
+{
+    let mut trail = Trail::new(report);
+    assert_eq!(rt;
+        trail.strict(&box_halves(&WEST), &box_halves(second)),
+        wanted
+    );
+}
+
+#[test]
+fn a_strict_test_takes_a_line_that_passes(rt: HostRuntime) {
+    expect_strict(&rt, b"  in (6 6 6 1)", &MIDDLE, Ok(true));
+    expect_strict(&rt, b"  in (4 6 6 1)", &MIDDLE, Err(Lost::Wrong(1)));
+    expect_strict(&rt, b"  at (6 6 6 1)", &MIDDLE, Err(Lost::Wrong(1)));
+    expect_strict(&rt, b"  out 1*(-1 0 0 10) 1*(1 0 0 -10)", &EAST, Ok(false));
+    expect_strict(
+        &rt,
+        b"  apart 1*(-1 0 0 10) 1*(1 0 0 -10)",
+        &EAST,
+        Err(Lost::Wrong(1)),
+    );
+    expect_strict(&rt, b"= refused limit\n", &EAST, Err(Lost::Refused));
+    expect_strict(&rt, b"", &EAST, Err(Lost::Wrong(1)));
+}
+
+/// Follows a weak test of two boxes on a report.
+fn expect_weak(rt: &impl Abort, report: &[u8], second: &IntBox, wanted: Result<bool, Lost>)
+    requires short { length report.now ≤ most_report_bytes }
+    requires bounds { is_box_in_bounds (integer_box second.now) ≡ true }
+{
+    let mut trail = Trail::new(report);
+    assert_eq!(rt; trail.weak(&box_halves(&WEST), &box_halves(second)), wanted);
+}
+
+/// A box apart from the first one.
+const FAR: IntBox = IntBox {
+    lo: [11, 0, 0],
+    hi: [20, 10, 10],
+};
+
+#[test]
+fn a_weak_test_takes_a_line_that_passes(rt: HostRuntime) {
+    expect_weak(&rt, b"  at (10 3 3 1)", &EAST, Ok(true));
+    expect_weak(&rt, b"  at (9 3 3 1)", &EAST, Err(Lost::Wrong(1)));
+    expect_weak(&rt, b"  apart 1*(-1 0 0 10) 1*(1 0 0 -11)", &FAR, Ok(false));
+    expect_weak(
+        &rt,
+        b"  apart 1*(-1 0 0 10) 1*(1 0 0 -10)",
+        &EAST,
+        Err(Lost::Wrong(1)),
+    );
+    expect_weak(&rt, b"= refused limit", &FAR, Err(Lost::Refused));
+}
+
+/// The half-spaces of the first box and one that adds nothing.
+fn loose_box(alloc: Global) -> Result<Halves, Fail>
+    ensures { IfOk result (λ halves. length halves.items ≤ 64) }
+{
+    let mut halves = Halves::copy_of(alloc, &box_halves(&WEST))?;
+    halves.push(Half::new(1, 0, 0, 1)?)?;
+    Ok(halves)
+}
+
+/// Follows a part test of a box with one half-space that adds nothing.
+fn loose_part(alloc: Global, report: &[u8]) -> Result<(Option<Kept>, u32), Fail>
+    requires { length report.now ≤ most_report_bytes }
+{
+    let mut trail = Trail::new(report);
+    let halves = loose_box(alloc)?;
+    let part = made(alloc, halves.items(), &mut trail)?;
+    Ok((part, trail.number()))
+}
+
+#[test]
+fn a_part_test_drops_what_adds_nothing(rt: HostRuntime) -> Result<(), Fail> {
+    let report =
+        b"  in (1 1 1 1)\n  drop (1 0 0 1) 1*(1 0 0 0) 1*(-1 0 0 -1)\n  box 0 0 0 10 10 10\n";
+    let (part, number) = loose_part(rt.alloc(), report)?;
+    let part = part.ok_or("no part")?;
+    assert_eq!(rt; number, 4);
+    assert_eq!(rt; part.halves.items(), box_halves(&WEST).as_slice());
+    assert_eq!(rt; part.copy(rt.alloc())?.bounds, WEST);
+    Ok(())
+}
+
+#[test]
+fn a_box_that_is_not_the_least_is_shown(rt: HostRuntime) -> Result<(), Fail> {
+    let report =
+        b"  in (1 1 1 1)\n  drop (1 0 0 1) 1*(1 0 0 0) 1*(-1 0 0 -1)\n  box -1 0 0 10 10 10\n  out 1*(1 0 0 0) 1*(-1 0 0 -1)\n";
+    let (part, number) = loose_part(rt.alloc(), report)?;
+    let part = part.ok_or("no part")?;
+    assert_eq!(rt; number, 5);
+    assert_eq!(rt; part.bounds.lo, [-1, 0, 0]);
+    Ok(())
+}
+
+/// Follows a part test of a box with one half-space that adds nothing, on a report that doesn't fit.
+fn expect_lost(rt: &impl Abort, alloc: Global, report: &[u8], wanted: Lost) -> Result<(), Fail>
+    requires { length report.now ≤ most_report_bytes }
+{
+    let mut trail = Trail::new(report);
+    let halves = loose_box(alloc)?;
+    let lost = made(alloc, halves.items(), &mut trail).err();
+    assert_eq!(rt; lost, Some(wanted));
+    Ok(())
+}
+
+#[test]
+fn a_part_test_finds_the_wrong_line(rt: HostRuntime) -> Result<(), Fail> {
+    let table: [(&[u8], Lost); 6] = [
+        (b"  in (0 1 1 1)\n", Lost::Wrong(1)),
+        (
+            b"  in (1 1 1 1)\n  drop (1 0 0 0) 1*(1 0 0 1) 1*(-1 0 0 0)\n",
+            Lost::Wrong(2),
+        ),
+        (b"  in (1 1 1 1)\n  box 0 0 0 0 10 10\n", Lost::Wrong(2)),
+        (
+            b"  in (1 1 1 1)\n  box 1 0 0 10 10 10\n  out 1*(1 0 0 0) 1*(-1 0 0 1)\n",
+            Lost::Wrong(3),
+        ),
+        (b"  in (1 1 1 1)\n  box -2 0 0 10 10 10", Lost::Wrong(3)),
+        (b"  in (1 1 1 1)\n= refused limit\n", Lost::Refused),
+    ];
+    for (report, wanted) in table {
+        expect_lost(&rt, rt.alloc(), report, wanted)?;
+    }
+    Ok(())
+}
+
+/// Half-spaces that all hold the origin: more than a part may keep.
+fn many_halves(alloc: Global) -> Result<Halves, Fail>
+    ensures { IfOk result (λ halves. length halves.items ≤ 64) }
+{
+    let mut halves = Halves::new(alloc);
+    for d in 1..34u8 {
+        halves.push(Half::new(1, 0, 0, i64::from(d))?)?;
+    }
+    Ok(halves)
+}
+
+/// Follows a part test of these half-spaces, and tells the number of the next line.
+fn crowded(alloc: Global, report: &[u8]) -> Result<(Option<Lost>, u32), Fail>
+    requires { length report.now ≤ most_report_bytes }
+{
+    let mut trail = Trail::new(report);
+    let halves = many_halves(alloc)?;
+    let lost = made(alloc, halves.items(), &mut trail).err();
+    Ok((lost, trail.number()))
+}
+
+#[test]
+fn more_than_32_half_spaces_are_a_limit(rt: HostRuntime) -> Result<(), Fail> {
+    let limit = crowded(rt.alloc(), b"  in (0 0 0 1)\n= refused limit\n")?;
+    assert_eq!(rt; limit, (Some(Lost::Limit), 2));
+    let dropped = crowded(
+        rt.alloc(),
+        b"  in (0 0 0 1)\n  drop (1 0 0 33) 1*(1 0 0 1) 1*(-1 0 0 -33)\n",
+    )?;
+    assert_eq!(rt; dropped, (Some(Lost::Wrong(3)), 3));
+    Ok(())
+}
+
+/// The form of a box, by a part test.
+fn box_form(alloc: Global, bounds: &IntBox, trail: &mut Trail<'_>) -> Result<Form, Lost>
+    requires { is_box_in_bounds (integer_box bounds.now) ≡ true }
+{
+    let mut form = Form::new(alloc);
+    if let Some(part) = made(alloc, &box_halves(bounds), trail)? {
+        form.push(part)?;
+    }
+    Ok(form)
+}
+
+/// The forms of the first box and of another one.
+fn two_boxes(alloc: Global, second: &IntBox, trail: &mut Trail<'_>) -> Result<(Form, Form), Lost>
+    requires { is_box_in_bounds (integer_box second.now) ≡ true }
+{
+    let west = box_form(alloc, &WEST, trail)?;
+    let second = box_form(alloc, second, trail)?;
+    Ok((west, second))
+}
+
+#[test]
+fn a_join_has_the_common_part(rt: HostRuntime) -> Result<(), Fail> {
+    let mut trail = Trail::new(
+        b"  in (1 1 1 1)\n  box 0 0 0 10 10 10\n  in (6 6 6 1)\n  box 4 2 2 12 8 8\n  in (6 6 6 1)\n  box 4 2 2 10 8 8\n",
+    );
+    let (west, middle) = two_boxes(rt.alloc(), &MIDDLE, &mut trail)?;
+    let both = joined(rt.alloc(), &west, &middle, &mut trail)?;
+    assert_eq!(rt; trail.number(), 7);
+    let [part] = both.items() else {
+        return Err("not one part".into());
+    };
+    assert_eq!(rt; part.halves.items().len(), 12);
+    assert_eq!(rt; part.bounds.hi, [10, 8, 8]);
+    assert_eq!(rt; copy(rt.alloc(), &both)?.items().len(), 1);
+    Ok(())
+}
+
+#[test]
+fn a_difference_is_carved(rt: HostRuntime) -> Result<(), Fail> {
+    let mut trail = Trail::new(
+        b"  in (1 1 1 1)\n  box 0 0 0 10 10 10\n  in (1 1 1 1)\n  box 0 0 0 4 10 10\n  in (1 1 1 1)\n  out 1*(1 0 0 0) 1*(-1 0 0 0)\n  in (5 5 5 1)\n  box 4 0 0 10 10 10\n  out 1*(0 1 0 0) 1*(0 -1 0 0)\n  out 1*(0 -1 0 10) 1*(0 1 0 -10)\n  out 1*(0 0 1 0) 1*(0 0 -1 0)\n  out 1*(0 0 -1 10) 1*(0 0 1 -10)\n",
+    );
+    let second = IntBox {
+        lo: [0, 0, 0],
+        hi: [4, 10, 10],
+    };
+    let (west, second) = two_boxes(rt.alloc(), &second, &mut trail)?;
+    let rest = differed(rt.alloc(), &west, &second, &mut trail)?;
+    assert_eq!(rt; trail.number(), 13);
+    let [part] = rest.items() else {
+        return Err("not one part".into());
+    };
+    assert_eq!(rt; part.halves.items().len(), 8);
+    assert_eq!(rt; part.bounds.lo, [4, 0, 0]);
+    Ok(())
+}
+
+#[test]
+fn boxes_that_share_a_face_touch_and_have_no_common_point(rt: HostRuntime) -> Result<(), Fail> {
+    let mut trail = Trail::new(
+        b"  in (1 1 1 1)\n  box 0 0 0 10 10 10\n  in (11 1 1 1)\n  box 10 0 0 20 10 10\n  out 1*(-1 0 0 10) 1*(1 0 0 -10)\n  at (10 0 0 1)\n  at (10 1 1 1)\n",
+    );
+    let (west, east) = two_boxes(rt.alloc(), &EAST, &mut trail)?;
+    for near in [false, true] {
+        assert!(rt; !common(&west, &east, near, &mut trail)?);
+        assert!(rt; touching(&west, &east, near, &mut trail)?);
+    }
+    // Near, no pair of these boxes is tested for a common point.
+    assert_eq!(rt; trail.number(), 8);
+    // Two tests were counted: one more than 65,534 further ones is a limit.
+    assert!(rt; trail.count(65534));
+    assert_eq!(rt; common(&west, &east, false, &mut trail), Err(Lost::Limit));
+    Ok(())
+}
+
+#[test]
+fn boxes_with_a_common_part_meet(rt: HostRuntime) -> Result<(), Fail> {
+    let mut trail = Trail::new(
+        b"  in (1 1 1 1)\n  box 0 0 0 10 10 10\n  in (6 6 6 1)\n  box 4 2 2 12 8 8\n  in (6 6 6 1)\n  at (10 2 2 1)\n  in (9 3 3 1)\n  at (6 6 6 1)\n",
+    );
+    let (west, middle) = two_boxes(rt.alloc(), &MIDDLE, &mut trail)?;
+    for near in [false, true] {
+        assert!(rt; common(&west, &middle, near, &mut trail)?);
+        assert!(rt; touching(&west, &middle, near, &mut trail)?);
+    }
+    assert_eq!(rt; trail.number(), 9);
+    Ok(())
+}
+
+#[test]
+fn boxes_apart_are_not_in_contact(rt: HostRuntime) -> Result<(), Fail> {
+    let mut trail = Trail::new(
+        b"  in (1 1 1 1)\n  box 0 0 0 10 10 10\n  in (12 1 1 1)\n  box 11 0 0 20 10 10\n  apart 1*(-1 0 0 10) 1*(1 0 0 -11)\n",
+    );
+    let (west, far) = two_boxes(rt.alloc(), &FAR, &mut trail)?;
+    for near in [false, true] {
+        assert!(rt; !touching(&west, &far, near, &mut trail)?);
+    }
+    assert_eq!(rt; trail.number(), 6);
+    Ok(())
+}
+
+/// Follows the join and the difference of two boxes on a report that doesn't fit, with so many tests counted before.
+fn expect_forms_lost(
+    rt: &impl Abort,
+    alloc: Global,
+    report: &[u8],
+    count: u64,
+    wanted: Lost,
+) -> Result<(), Fail>
+    requires { length report.now ≤ most_report_bytes }
+{
+    for is_join in [true, false] {
+        let mut trail = Trail::new(report);
+        let (west, middle) = two_boxes(alloc, &MIDDLE, &mut trail)?;
+        assert!(rt; trail.count(count));
+        let lost = if is_join {
+            joined(alloc, &west, &middle, &mut trail).err()
+        } else {
+            differed(alloc, &west, &middle, &mut trail).err()
+        };
+        assert_eq!(rt; lost, Some(wanted));
+    }
+    Ok(())
+}
+
+#[test]
+fn forms_are_lost_at_a_line_or_a_limit(rt: HostRuntime) -> Result<(), Fail> {
+    let table: [(&[u8], u64, Lost); 4] = [
+        (
+            b"  in (1 1 1 1)\n  box 0 0 0 10 10 10\n  in (6 6 6 1)\n  box 4 2 2 12 8 8\n  in (11 6 6 1)\n",
+            0,
+            Lost::Wrong(5),
+        ),
+        (
+            b"  in (1 1 1 1)\n  box 0 0 0 10 10 10\n  in (6 6 6 1)\n  box 4 2 2 12 8 8",
+            65535,
+            Lost::Wrong(5),
+        ),
+        (
+            b"  in (1 1 1 1)\n  box 0 0 0 10 10 10\n  in (6 6 6 1)\n  box 4 2 2 12 8 8\n= refused limit",
+            0,
+            Lost::Refused,
+        ),
+        (
+            b"  in (1 1 1 1)\n  box 0 0 0 10 10 10\n  in (6 6 6 1)\n  box 4 2 2 12 8 8\n  in (6 6 6 1)\n",
+            65536,
+            Lost::Limit,
+        ),
+    ];
+    for (report, count, wanted) in table {
+        expect_forms_lost(&rt, rt.alloc(), report, count, wanted)?;
+    }
+    Ok(())
+}
