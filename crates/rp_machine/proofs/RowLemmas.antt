@@ -10,7 +10,7 @@ use Rattle.rp_model.specs.commands.Verdict.{Verdict, known, piece_lines}
 use Rattle.rp_model.specs.commands.Checks.{refuse_if}
 use Rattle.rp_model.specs.commands.Row.{Reply, refusal, accepted, check, row_define}
 use Rattle.rp_space.specs.Listed.{Listed}
-use Rattle.rp_pieces.specs.Lists.{lists_of}
+use Rattle.rp_groups.specs.Lists.{lists_of}
 use Rattle.rp_machine.specs.Named.{kept_under, IsNewName}
 
 -- ---- `let`

@@ -112,6 +112,13 @@ fn owner_verdict(owner: Option<Name>) -> Verdict
 }
 
 impl Machine {
+    /// How many lots of all layers are live.
+    pub fn count_live(&self) -> u32
+        ensures { result ≡ length (live_lots self.now.lots) }
+    {
+        self.parcels().count_live()
+    }
+
     /// `neighbours`: the other live lots of the lot's layer in contact with it.
     pub(crate) fn neighbours<R: Threads + Sync>(
         &self,

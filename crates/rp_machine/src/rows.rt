@@ -9,7 +9,7 @@ ghost use Rattle.rp_model.specs.states.State.{state_of_parts};
 ghost use Rattle.rp_model.specs.states.Sound.{IsLaterThan};
 ghost use Rattle.rp_model.specs.commands.Verdict.{part_lines_of, piece_lines};
 ghost use Rattle.rp_model.specs.commands.Row.{Reply as ModelReply, row};
-ghost use Rattle.rp_pieces.specs.Lists.{numbers_of};
+ghost use Rattle.rp_groups.specs.Lists.{numbers_of};
 ghost use Rattle.rp_report.specs.Views.{verdict_of};
 ghost use Rattle.rp_syntax.specs.Views.{expression_of, command_of};
 ghost use Rattle.rp_machine.specs.Children.{HasFewChildren};

@@ -446,6 +446,15 @@ fn lots_come_and_go(rt: HostRuntime) -> Result<(), Fail> {
 }
 
 #[test]
+fn live_lots_are_counted(rt: HostRuntime) -> Result<(), Fail> {
+    let mut machine = opened(rt.alloc())?;
+    let line = "register a box 0 0 0 10 10 10";
+    expect_told(&rt, rt.alloc(), &mut machine, 1, line, "= ok")?;
+    assert_eq!(rt; machine.count_live(), 1);
+    Ok(())
+}
+
+#[test]
 fn the_form_of_an_expression_is_made_test_by_test(rt: HostRuntime) -> Result<(), Fail> {
     let machine = Machine::new(rt.alloc())?;
     let block = Expr::Block(IntBox {

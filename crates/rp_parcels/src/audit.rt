@@ -43,8 +43,8 @@ impl Parcels {
         Ok(self.count_live())
     }
 
-    /// How many parcels are live.
-    fn count_live(&self) -> u32
+    /// How many parcels of all layers are live.
+    pub fn count_live(&self) -> u32
         ensures { result ≡ length (live_lots self.now) }
     {
         let mut count = 0;

@@ -148,6 +148,7 @@ fn sides_of_a_cut_touch(rt: HostRuntime) -> Result<(), Fail> {
     let near = neighbours_of(&rt, rt.alloc(), &Quiet, 16, &parcels, b"low")?;
     assert_eq!(rt; near.items(), [name(b"high")?].as_slice());
     assert_eq!(rt; audited(&rt, rt.alloc(), &Quiet, 16, &parcels)?, (2, 0));
+    assert_eq!(rt; parcels.count_live(), 2);
     Ok(())
 }
 

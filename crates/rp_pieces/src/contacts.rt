@@ -5,7 +5,7 @@ ghost use Rattle.rp_geometry.specs.parts.Parts.{most_parts};
 ghost use Rattle.rp_walks.specs.Walk.{first_tester};
 ghost use Rattle.rp_walks.specs.Pieces.{numbered_from, link_pair, links_with_part, links_among};
 ghost use Rattle.rp_region.specs.Makes.{Makes};
-ghost use Rattle.rp_pieces.specs.Lists.{IsWithin};
+ghost use Rattle.rp_groups.specs.Lists.{IsWithin};
 
 use rp_region::{OpFault, Part, Work};
 use rp_space::Listed;

@@ -2,12 +2,10 @@
 #![tactic(auto)]
 
 mod contacts;
-mod forest;
-mod groups;
 mod region;
 
-pub use groups::PieceList;
 pub use region::pieces;
+pub use rp_groups::PieceList;
 
 #[cfg(test)]
 mod tests;

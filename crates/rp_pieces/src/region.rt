@@ -5,10 +5,10 @@ ghost use Rattle.rp_geometry.specs.parts.Parts.{most_parts};
 ghost use Rattle.rp_walks.specs.Walk.{first_tester};
 ghost use Rattle.rp_walks.specs.Pieces.{pair_count, pieces_of_parts};
 ghost use Rattle.rp_region.specs.Makes.{Makes};
-ghost use Rattle.rp_pieces.specs.Lists.{numbers_of};
+ghost use Rattle.rp_groups.specs.Lists.{numbers_of};
 
 use crate::contacts::links_among;
-use crate::groups::{PieceList, groups_of_links};
+use rp_groups::{PieceList, groups_of_links};
 use rp_region::{OpFault, Part, Region, Work};
 use rp_space::Listed;
 use std::alloc::Global;

@@ -2,7 +2,7 @@ use Rattle.std.proofs.Common.{◌≡◌, ◌++◌, map}
 use Rattle.std.specs.Vec.Iter.{into_iter_items}
 use Rattle.rp_model.specs.commands.Verdict.{Verdict, piece_lines}
 use Rattle.rp_report.specs.Views.{verdict_of}
-use Rattle.rp_pieces.specs.Lists.{numbers_of}
+use Rattle.rp_groups.specs.Lists.{numbers_of}
 use Rattle.rp_machine.proofs.rows.piece_lines.Given as goal
 
 -- the lines so far and those of the pieces still to come are all lines

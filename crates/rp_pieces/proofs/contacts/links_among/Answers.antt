@@ -5,7 +5,7 @@ use Rattle.std.specs.List.{AllByRecursion}
 use Rattle.rp_walks.specs.Walk.{first_tester}
 use Rattle.rp_walks.specs.Pieces.{numbered_from, links_with_part, links_among}
 use Rattle.rp_region.proofs.Left.{next_left, fault_left}
-use Rattle.rp_pieces.specs.Lists.{IsWithin}
+use Rattle.rp_groups.specs.Lists.{IsWithin}
 use Rattle.rp_pieces.proofs.Linked.{with_part_tells, among_tells, part_left}
 use Rattle.rp_pieces.proofs.contacts.links_among.Goals as goal
 

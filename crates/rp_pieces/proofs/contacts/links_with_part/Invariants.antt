@@ -3,7 +3,7 @@ use Rattle.std.specs.List.{AllByRecursion}
 use Rattle.rp_walks.specs.Walk.{first_tester}
 use Rattle.rp_walks.specs.Pieces.{numbered_from, links_with_part}
 use Rattle.rp_region.proofs.Left.{IsLeft}
-use Rattle.rp_pieces.specs.Lists.{IsWithin}
+use Rattle.rp_groups.specs.Lists.{IsWithin}
 use Rattle.rp_pieces.proofs.contacts.links_with_part.Given as goal
 
 -- the parts still to come are left, and the links found so far are of parts of the list

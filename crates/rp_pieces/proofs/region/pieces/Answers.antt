@@ -5,8 +5,7 @@ use Rattle.rp_geometry.specs.parts.Groups.{groups_of}
 use Rattle.rp_walks.specs.Walk.{done, pass}
 use Rattle.rp_region.proofs.Grows.{pass_tells}
 use Rattle.rp_region.proofs.Left.{end_left, given_up}
-use Rattle.rp_pieces.specs.Lists.{numbers_of}
-use Rattle.rp_pieces.proofs.Few.{few_lists}
+use Rattle.rp_groups.specs.Lists.{numbers_of}
 use Rattle.rp_pieces.proofs.Linked.{groups_left, pieces_right}
 use Rattle.rp_pieces.proofs.region.pieces.Goals as goal
 
@@ -25,10 +24,10 @@ returns-clause-right c =
     let links = c.links_among.new.links.items in
     let made = end_left (done (groups_of links (length ps)) c.links_among.new.work)
     (groups_left ps c.parts-parts.result.now c.new-links.result.items links c.pair_count.result c.parts-parts.ensures.value c.pair_count.ensures c.new-links.ensures c.if-not-count.ensures c.in_ok-links_among.ensures.makes) refl in
-    let is : numbers_of c.in_ok-groups_of_links.field-0 ≡ groups_of links (length ps) = c.in_ok-groups_of_links.ensures ∙ (λ i. groups_of (c.items.ensures i) (length (c.parts-parts.ensures.value i))) in
+    let is : numbers_of c.in_ok-groups_of_links.field-0 ≡ groups_of links (length ps) = c.in_ok-groups_of_links.ensures.right ∙ (λ i. groups_of (c.items.ensures i) (length (c.parts-parts.ensures.value i))) in
     subst (ArePieces ps) (sym is) (pieces_right ps (groups_of links (length ps)) c.args.work.now c.links_among.new.work c.parts-parts.ensures.kept made)
 
 pub returns-clause-few : goal.returns-clause-few
 returns-clause-few c =
-    let few = few_lists c.in_ok-groups_of_links.field-0 c.items.result.now (length c.parts-parts.result.now) c.in_ok-groups_of_links.ensures in
+    let few = c.in_ok-groups_of_links.ensures.few in
     grind (arith, few, c.parts-parts.ensures.few)

@@ -1,10 +1,10 @@
 use Rattle.std.proofs.Common.{◌≡◌, ◌∷◌, [], ◌++◌, ℕ, ◌≤◌, List, length, get_or, set, sym, ap, ◌∙◌, arith}
 use Rattle.rp_space.specs.Listed.{Listed}
-use Rattle.rp_pieces.specs.Lists.{lists_of, with_number}
+use Rattle.rp_groups.specs.Lists.{lists_of, with_number}
 use Rattle.std.proofs.lemmas.Result.{on_ok_weaker}
-use Rattle.rp_pieces.proofs.Put.{put_known, put_new}
-use Rattle.rp_pieces.proofs.groups.put.Goals as goal
-use Rattle.rp_pieces.proofs.groups.put.Goals.{then-place-len+in_ok-push, else-place-len}
+use Rattle.rp_groups.proofs.Put.{put_known, put_new}
+use Rattle.rp_groups.proofs.groups.put.Goals as goal
+use Rattle.rp_groups.proofs.groups.put.Goals.{then-place-len+in_ok-push, else-place-len}
 
 -- a new list, where the code has the place and the lists in other words
 new_list : (lists now : List (Listed ℕ)) (place k : ℕ) (fresh old new : Listed ℕ) → place ≡ length lists → now ≡ lists ++ fresh ∷ [] → fresh.items ≡ [] → old ≡ get_or now place old → new.items ≡ old.items ++ k ∷ []

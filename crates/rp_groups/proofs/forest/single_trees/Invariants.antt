@@ -1,5 +1,5 @@
 use Rattle.std.proofs.Common.{◌≡◌, ℕ, ◌<◌, length, get_or}
-use Rattle.rp_pieces.proofs.forest.single_trees.Given as goal
+use Rattle.rp_groups.proofs.forest.single_trees.Given as goal
 
 -- each number so far is its own root
 abbrev pub invariant-loop-number : goal.invariant-loop-number

@@ -1,5 +1,5 @@
-use Rattle.rp_pieces.proofs.Trees.{next_joined}
-use Rattle.rp_pieces.proofs.forest.forest_of_links.Goals as goal
+use Rattle.rp_groups.proofs.Trees.{next_joined}
+use Rattle.rp_groups.proofs.forest.forest_of_links.Goals as goal
 
 pub loop-link-preserved : goal.loop-link-preserved
 loop-link-preserved c =

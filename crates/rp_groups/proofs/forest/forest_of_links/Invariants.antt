@@ -1,6 +1,6 @@
 use Rattle.std.proofs.Common.{take}
-use Rattle.rp_pieces.specs.Forest.{IsForest}
-use Rattle.rp_pieces.proofs.forest.forest_of_links.Given as goal
+use Rattle.rp_groups.specs.Forest.{IsForest}
+use Rattle.rp_groups.proofs.forest.forest_of_links.Given as goal
 
 -- the links so far have joined the trees
 abbrev pub invariant-loop-link : goal.invariant-loop-link

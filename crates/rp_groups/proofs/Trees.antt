@@ -5,9 +5,9 @@ use Rattle.std.proofs.lemmas.List.{length-set, get_or-set_same, get_or-set_other
 use Rattle.std.specs.List.{AllByRecursion}
 use Rattle.rp_geometry.specs.laws.PieceLaws.{IsJoined, itself, further}
 use Rattle.rp_one_piece.proofs.Growth.{joined_on, joined_end, joined_back}
-use Rattle.rp_pieces.specs.Forest.{AreLow, IsForest}
-use Rattle.rp_pieces.specs.Lists.{IsWithin}
-use Rattle.rp_pieces.proofs.Ways.{joined_more, joined_last, Meets, joined_cases}
+use Rattle.rp_groups.specs.Forest.{AreLow, IsForest}
+use Rattle.rp_groups.specs.Lists.{IsWithin}
+use Rattle.rp_groups.proofs.Ways.{joined_more, joined_last, Meets, joined_cases}
 
 -- the number above a number
 abbrev pub above : List ℕ → ℕ → ℕ

@@ -1,7 +1,7 @@
 use Rattle.std.proofs.Common.{◌≡◌, ℕ, ◌≤◌, List, get_or}
 use Rattle.rp_geometry.specs.laws.PieceLaws.{IsJoined}
-use Rattle.rp_pieces.specs.Forest.{AreLow, IsForest}
-use Rattle.rp_pieces.proofs.forest.root_of.Given as goal
+use Rattle.rp_groups.specs.Forest.{AreLow, IsForest}
+use Rattle.rp_groups.proofs.forest.root_of.Given as goal
 
 -- the number is joined to the one that was asked for, and the trees are the same
 abbrev pub invariant-loop-parents : goal.invariant-loop-parents

@@ -1,7 +1,7 @@
 use Rattle.std.proofs.Common.{◌<◌, length, arith}
 use Rattle.rp_geometry.specs.laws.PieceLaws.{itself}
-use Rattle.rp_pieces.proofs.Trees.{set_low, root_stays, two_above, step_up}
-use Rattle.rp_pieces.proofs.forest.root_of.Goals as goal
+use Rattle.rp_groups.proofs.Trees.{set_low, root_stays, two_above, step_up}
+use Rattle.rp_groups.proofs.forest.root_of.Goals as goal
 
 pub loop-parents-init : goal.loop-parents-init
 loop-parents-init c = (c.requires.low, omega arith, λ k e. e, λ links n h f. (f, itself))

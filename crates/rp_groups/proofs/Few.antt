@@ -5,7 +5,7 @@ use Rattle.std.specs.List.{flat_map}
 use Rattle.std.proofs.lemmas.List.FromFn.{length-range_with_len}
 use Rattle.rp_geometry.specs.parts.Groups.{is_listed_number, group_of, groups, groups_of, numbers_to}
 use Rattle.rp_space.specs.Listed.{Listed}
-use Rattle.rp_pieces.specs.Lists.{lists_of, numbers_of}
+use Rattle.rp_groups.specs.Lists.{lists_of, numbers_of}
 
 -- of the numbers still to come
 few_left : (links : List (ℕ × ℕ)) (all ks : List ℕ) → length (groups links all ks) ≤ length ks

@@ -1,7 +1,7 @@
 -- A number put into a list of a list of lists, as the code does it.
 use Rattle.std.proofs.Common.{◌≡◌, ℕ, zero, suc, ◌<◌, List, [], ◌∷◌, ◌++◌, length, get_or, set, ap, ◌∙◌, arith}
 use Rattle.rp_space.specs.Listed.{Listed}
-use Rattle.rp_pieces.specs.Lists.{lists_of, with_number}
+use Rattle.rp_groups.specs.Lists.{lists_of, with_number}
 
 -- a number behind those of a list at a place
 pub put_known : (lists : List (Listed ℕ)) (place k : ℕ) (old new : Listed ℕ) → place < length lists → old ≡ get_or lists place old → new.items ≡ old.items ++ k ∷ [] → lists_of (set lists place new) ≡ with_number place k (lists_of lists)

@@ -3,7 +3,7 @@ ghost use Rattle.std.specs.Prelude.{◌≡◌, ◌≤◌, IfOk, OnOk, length};
 ghost use Rattle.std.specs.List.{AllByRecursion};
 ghost use Rattle.rp_geometry.specs.parts.Groups.{groups_of};
 ghost use Rattle.rp_geometry.specs.parts.Parts.{most_parts};
-ghost use Rattle.rp_pieces.specs.Lists.{numbers_of, lists_of, with_number, IsWithin};
+ghost use Rattle.rp_groups.specs.Lists.{numbers_of, lists_of, with_number, IsWithin};
 
 use crate::forest::forest_of_links;
 use rp_space::{Listed, Numbers};
@@ -15,14 +15,15 @@ pub type PieceList = Listed<Numbers>;
 /// The groups into which links join the numbers from 1 to `count`, in the order of their first numbers: each root of a
 /// tree begins a group, and each other number comes into the group of the number above it. Answers `AllocError` only for
 /// want of memory.
-pub(crate) fn groups_of_links(
+pub fn groups_of_links(
     alloc: Global,
     count: u32,
     links: &[(u32, u32)],
 ) -> Result<PieceList, AllocError>
     requires few { count ≤ most_parts }
     requires within { AllByRecursion (IsWithin count) links.now }
-    ensures { IfOk result (λ list. numbers_of list ≡ groups_of links.now count) }
+    ensures right { IfOk result (λ list. numbers_of list ≡ groups_of links.now count) }
+    ensures few { IfOk result (λ list. length list.items ≤ count) }
 {
     let parents = forest_of_links(alloc, count, links)?;
     let mut groups = Vec::new(alloc);

@@ -1,6 +1,6 @@
-use Rattle.rp_pieces.specs.Lists.{lists_of}
-use Rattle.rp_pieces.proofs.Grouped.{IsGrouped}
-use Rattle.rp_pieces.proofs.groups.groups_of_links.Given as goal
+use Rattle.rp_groups.specs.Lists.{lists_of}
+use Rattle.rp_groups.proofs.Grouped.{IsGrouped}
+use Rattle.rp_groups.proofs.groups.groups_of_links.Given as goal
 
 -- the numbers so far are in groups
 abbrev pub invariant-loop-before : goal.invariant-loop-before

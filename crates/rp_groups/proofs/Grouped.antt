@@ -12,9 +12,9 @@ use Rattle.rp_one_piece.proofs.Growth.{joined_on, joined_end, joined_back}
 use Rattle.rp_one_piece.proofs.Grouped.{of_classes, groups_are_joined_spec}
 use Rattle.rp_one_piece.proofs.Partition.{Holds, holds_later, AreDisjoint, has_first}
 use Rattle.rp_one_piece.proofs.Rising.{Rises}
-use Rattle.rp_pieces.specs.Forest.{IsForest}
-use Rattle.rp_pieces.specs.Lists.{with_number}
-use Rattle.rp_pieces.proofs.Trees.{above}
+use Rattle.rp_groups.specs.Forest.{IsForest}
+use Rattle.rp_groups.specs.Lists.{with_number}
+use Rattle.rp_groups.proofs.Trees.{above}
 
 -- ---- a list with a number behind it
 

@@ -1,6 +1,6 @@
 use Rattle.std.proofs.Common.{inl, inr, refl, arith}
-use Rattle.rp_pieces.proofs.Trees.{trees_joined}
-use Rattle.rp_pieces.proofs.forest.join.Goals as goal
+use Rattle.rp_groups.proofs.Trees.{trees_joined}
+use Rattle.rp_groups.proofs.forest.join.Goals as goal
 
 pub returns-then-one-other-clause-joined : goal.returns-then-one-other-clause-joined
 returns-then-one-other-clause-joined c = λ links n h l f.

@@ -1,12 +1,13 @@
-use Rattle.std.proofs.Common.{◌≡◌, ℕ, inl, inr, List, length, get_or, sym, ap, ◌∙◌, subst, arith}
+use Rattle.std.proofs.Common.{◌≡◌, ℕ, ◌≤◌, inl, inr, List, length, get_or, sym, ap, ◌∙◌, subst, arith}
 use Rattle.std.proofs.lemmas.List.{length-map}
 use Rattle.rp_space.specs.Listed.{Listed}
 use Rattle.rp_geometry.specs.parts.Groups.{groups_of}
-use Rattle.rp_pieces.specs.Lists.{lists_of, numbers_of}
-use Rattle.rp_pieces.proofs.Grouped.{IsGrouped, next_grouped, groups_made}
+use Rattle.rp_groups.specs.Lists.{lists_of, numbers_of}
+use Rattle.rp_groups.proofs.Few.{few_lists}
+use Rattle.rp_groups.proofs.Grouped.{IsGrouped, next_grouped, groups_made}
 use Rattle.std.proofs.lemmas.Result.{IfOk-weaker}
-use Rattle.rp_pieces.proofs.groups.groups_of_links.Goals as goal
-use Rattle.rp_pieces.proofs.groups.groups_of_links.Goals.{then-parent-number, else-parent-number}
+use Rattle.rp_groups.proofs.groups.groups_of_links.Goals as goal
+use Rattle.rp_groups.proofs.groups.groups_of_links.Goals.{then-parent-number, else-parent-number}
 
 -- how many lists there are
 lists_length : (lists : List (Listed ℕ)) → length (lists_of lists) ≡ length lists
@@ -49,4 +50,8 @@ returns c =
     let all : c.loop-before.before ≡ c.args.count = omega arith in
     let made = groups_made c.args.links.now c.args.count c.in_ok-parents.parents.items c.in_ok-parents.ensures (lists_of c.loop-before.groups.items) c.loop-before.places.items
     (subst (λ m. IsGrouped c.args.links.now c.args.count c.in_ok-parents.parents.items m (lists_of c.loop-before.groups.items) c.loop-before.places.items) all c.loop-before.invariant) in
-    IfOk-weaker c.listed.result (λ (list : Listed (Listed ℕ)). list.items ≡ c.loop-before.groups.items) (λ list. numbers_of list ≡ groups_of c.args.links.now c.args.count) (λ list e. ap lists_of e ∙ made) c.listed.ensures
+    let right = IfOk-weaker c.listed.result (λ (list : Listed (Listed ℕ)). list.items ≡ c.loop-before.groups.items) (λ list. numbers_of list ≡ groups_of c.args.links.now c.args.count) (λ list e. ap lists_of e ∙ made) c.listed.ensures in
+    record {
+      right = right;
+      few = IfOk-weaker c.listed.result (λ list. numbers_of list ≡ groups_of c.args.links.now c.args.count) (λ (list : Listed (Listed ℕ)). length list.items ≤ c.args.count) (λ list. few_lists list c.args.links.now c.args.count) right;
+    }

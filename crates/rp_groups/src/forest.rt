@@ -3,8 +3,8 @@ ghost use Rattle.std.specs.Prelude.{◌≡◌, ℕ, ◌+◌, ◌<◌, ◌≤◌,
 ghost use Rattle.std.specs.List.{AllByRecursion};
 ghost use Rattle.rp_geometry.specs.laws.PieceLaws.{IsJoined};
 ghost use Rattle.rp_geometry.specs.parts.Parts.{most_parts};
-ghost use Rattle.rp_pieces.specs.Lists.{IsWithin};
-ghost use Rattle.rp_pieces.specs.Forest.{AreLow, IsForest};
+ghost use Rattle.rp_groups.specs.Lists.{IsWithin};
+ghost use Rattle.rp_groups.specs.Forest.{AreLow, IsForest};
 
 use std::alloc::{AllocError, Global};
 
