@@ -1,0 +1,85 @@
+-- An answer by its echo: the number and the text.
+use Rattle.std.proofs.Common.{◌≡◌, ℕ, suc, ◌+◌, ◌<◌, ◌≤◌, Bool, true, false, nat_lt, ◌&&◌, List, [], ◌∷◌, Option, Some, None, refl, sym, ap, ◌∙◌, subst, arith}
+use Rattle.std.specs.Prelude.{IfSome, is_none}
+use Rattle.rp_algebra.proofs.Listed.{all_map}
+use Rattle.rp_geometry.specs.sets.Shape.{Shape}
+use Rattle.rp_language.specs.Expression.{Expression, Meaning, first_of_two, first_unknown, first_unknown_among}
+use Rattle.rp_language.specs.Name.{Label}
+use Rattle.rp_walks.specs.Walk.{Outcome, done, stopped, line_wrong, Walk, after_first, pass, stop}
+use Rattle.rp_model.specs.states.State.{Lot, State, PlainState}
+use Rattle.rp_model.specs.states.Sound.{IsLaterThan}
+use Rattle.rp_reports.specs.ProofText.{Echo}
+use Rattle.rp_reports.specs.Check.{Trail, Progress, with_no_tests, follow_echo, follow_numbered, next_echo, follow_answer}
+use Rattle.rp_checker.specs.declared.halt.Halt.{Halt}
+use Rattle.rp_checker.specs.declared.halt.Halt.TheVariants.{Wrong, Memory}
+use Rattle.rp_checker.specs.Answers.{IsWrongAt, HaltsBy}
+use Rattle.rp_checker.proofs.Ahead.{halts_on}
+
+-- ---- echoes
+
+-- the walk behind an echo, by whether its number is above the last one
+abbrev numbered_by : Progress → Echo → Bool → Walk Trail Progress
+numbered_by q e b = elim b [ false ↦ stop line_wrong | true ↦ (λ t. after_first (λ s. pass (record { last = e.number; state = s })) (follow_echo e.number q.state e.text (with_no_tests t))) ]
+
+-- the line is wrong where it is no echo
+pub no_echo : (q : Progress) (t : Trail) (n : ℕ) → n ≡ t.number → next_echo t.lines ≡ None → IsWrongAt n (follow_answer q t)
+unfolding follow_answer
+no_echo q t n same e = record { at = t; stops = ap (λ (o : Option Echo). follow_numbered q o t) e; number = same }
+
+-- it is wrong where its number is not above the last one
+pub low_echo : (q : Progress) (t : Trail) (n : ℕ) (e : Echo) → n ≡ t.number → next_echo t.lines ≡ Some e → e.number ≤ q.last → IsWrongAt n (follow_answer q t)
+unfolding follow_answer
+low_echo q t n e same f low = record { at = t; stops = ap (λ (o : Option Echo). follow_numbered q o t) f ∙ ap (λ (b : Bool). numbered_by q e b t) (not_above q.last e.number low); number = same }
+  where
+    not_above : (m k : ℕ) → k ≤ m → nat_lt m k ≡ false
+    not_above m k h = grind arith
+
+-- else the answer follows
+pub high_echo : (q : Progress) (t : Trail) (e : Echo) → next_echo t.lines ≡ Some e → q.last < e.number → follow_answer q t ≡ after_first (λ s. pass (record { last = e.number; state = s })) (follow_echo e.number q.state e.text (with_no_tests t))
+unfolding follow_answer
+high_echo q t e f high = ap (λ (o : Option Echo). follow_numbered q o t) f ∙ ap (λ (b : Bool). numbered_by q e b t) (above q.last e.number high)
+  where
+    above : (m k : ℕ) → m < k → nat_lt m k ≡ true
+    above m k h = grind arith
+
+-- where the answer halts, so does the numbered one
+pub echo_halts : (q : Progress) (t u : Trail) (e : Echo) (h : Halt) → next_echo t.lines ≡ Some e → q.last < e.number → u ≡ with_no_tests t → HaltsBy h (follow_echo e.number q.state e.text u) → HaltsBy h (follow_answer q t)
+echo_halts q t u e h f high begun m =
+    subst (HaltsBy h) (sym (high_echo q t e f high))
+    (halts_on (λ s. pass (record { last = e.number; state = s })) h (follow_echo e.number q.state e.text (with_no_tests t)) (subst (λ (v : Trail). HaltsBy h (follow_echo e.number q.state e.text v)) begun m))
+
+-- where the answer ends, so does the numbered one
+pub echo_ends : (q : Progress) (t u v : Trail) (e : Echo) (after : PlainState) → next_echo t.lines ≡ Some e → q.last < e.number → u ≡ with_no_tests t → follow_echo e.number q.state e.text u ≡ done after v
+    → follow_answer q t ≡ done (record { last = e.number; state = after }) v
+echo_ends q t u v e after f high begun m =
+    high_echo q t e f high ∙ ap (λ (w : Trail). after_first (λ s. pass (record { last = e.number; state = s })) (follow_echo e.number q.state e.text w)) (sym begun) ∙ ap (after_first (λ s. pass (record { last = e.number; state = s }))) m
+
+-- ---- numbers
+
+-- births and ends before a line are before a later one
+pub later_still : (m n : ℕ) (s : State) → m < n → IsLaterThan (m + 1) s → IsLaterThan n s
+later_still m n s below late = record {
+  births = all_map (λ (l : Lot Shape). l.born < m + 1) (λ (l : Lot Shape). l.born < n) (λ l h. omega (arith, h, below)) s.lots late.births;
+  ends = all_map (λ (l : Lot Shape). IfSome l.ended (λ k. k < m + 1)) (λ (l : Lot Shape). IfSome l.ended (λ k. k < n)) (λ l. by l.ended) s.lots late.ends;
+}
+  where
+    by : (o : Option ℕ) → IfSome o (λ k. k < m + 1) → IfSome o (λ k. k < n)
+    by None h = tt
+    by (Some k) h = omega (arith, h, below)
+
+-- ---- names that are missing
+
+-- none is missing of an expression alone
+pub none_of_one : (o : Option Label) → is_none o ≡ is_none (first_of_two o None)
+none_of_one None = refl
+none_of_one (Some x) = refl
+
+-- none is missing of the first and of the others
+pub none_of_both : (o p : Option Label) → is_none (first_of_two o None) ≡ true → is_none (first_of_two o p) ≡ is_none p
+none_of_both None p h = refl
+none_of_both (Some x) p h = absurd (cc)
+
+-- one is missing of the first
+pub one_of_first : (o p : Option Label) → is_none (first_of_two o None) ≡ false → is_none (first_of_two o p) ≡ false
+one_of_first None p h = absurd (cc)
+one_of_first (Some x) p h = refl

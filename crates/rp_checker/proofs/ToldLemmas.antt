@@ -1,0 +1,23 @@
+-- What the rows of questions come to, as replies.
+use Rattle.std.proofs.Common.{◌≡◌, Result, Ok, Err, sym, subst}
+use Rattle.rp_language.specs.Expression.{Command}
+use Rattle.rp_walks.specs.Walk.{Outcome}
+use Rattle.rp_model.specs.states.State.{PlainState}
+use Rattle.rp_model.specs.commands.Row.{Reply as ModelReply, row}
+use Rattle.rp_reports.specs.Check.{Trail, line_tester}
+use Rattle.rp_report.specs.declared.answer.Verdict.{Verdict as CodeVerdict}
+use Rattle.rp_space.specs.Listed.{Listed}
+use Rattle.rp_checker.specs.declared.reply.Reply.{Reply}
+use Rattle.rp_checker.specs.declared.reply.RowEnd.{RowEnd}
+use Rattle.rp_checker.specs.Replies.{Replies, Tells, reply_told}
+
+-- the reply to a question
+told_replies : (q : Result (Listed CodeVerdict) RowEnd) (t : Trail) (o : Outcome Trail ModelReply) → Tells q t o → Replies (reply_told q) t o
+told_replies (Ok lines) t o h = h
+told_replies (Err e) t o h = h
+
+-- a question that the command asks, without a test
+pub question_told : (r : Result Reply RowEnd) (q : Result (Listed CodeVerdict) RowEnd) (t : Trail) (s : PlainState) (asked asks : Command) → asked ≡ asks → r ≡ reply_told q → Tells q t (row line_tester s asks t) → Replies r t (row line_tester s asked t)
+question_told r q t s asked asks same is h =
+    subst (λ (x : Result Reply RowEnd). Replies x t (row line_tester s asked t)) (sym is)
+    (told_replies q t (row line_tester s asked t) (subst (λ (c : Command). Tells q t (row line_tester s c t)) (sym same) h))

@@ -1,0 +1,278 @@
+//! Whole answers of a report, and what each changes.
+ghost use Rattle.std.specs.Prelude.{◌≡◌, ◌+◌, ◌<◌, ◌∷◌, [], ℕ, length, map, IfOk, is_none, option_map};
+ghost use Rattle.std.specs.List.{AllByRecursion};
+ghost use Rattle.rp_language.specs.Expression.{IsKeptExpression, expressions_of, first_unknown_among};
+ghost use Rattle.rp_language.specs.Grammar.{bad, reading};
+ghost use Rattle.rp_model.specs.commands.Row.{Reply as ModelReply};
+ghost use Rattle.rp_model.specs.states.State.{PlainState, changed, parts_in, state_of_parts};
+ghost use Rattle.rp_model.specs.states.Sound.{IsLaterThan};
+ghost use Rattle.rp_reports.specs.Check.{Trail as ModelTrail, limit_allowed, follow_verdicts, follow_walk, follow_command, follow_fault, follow_text, follow_echo, next_echo, follow_answer};
+ghost use Rattle.rp_walks.specs.Walk.{Outcome};
+ghost use Rattle.rp_syntax.specs.Views.{child_of, command_of, expression_of, fault_of};
+ghost use Rattle.rp_follow.specs.Follows.{StopsBy};
+ghost use Rattle.rp_checker.specs.Answers.{Answers, echo_with};
+ghost use Rattle.rp_checker.specs.Children.{HasFewChildren};
+ghost use Rattle.rp_checker.specs.Kept.{IsSoundOnLines, ComesFromKnown};
+ghost use Rattle.rp_checker.specs.Replies.{reply_of, Replies};
+
+use crate::halt::Halt;
+use crate::lines::{follow_limit, follow_verdict, follow_verdicts};
+use crate::register::Register;
+use crate::reply::{Reply, RowEnd, one_line};
+use rp_follow::{Lost, Trail};
+use rp_report::{Refusal, Verdict, read_echo};
+use rp_space::Name;
+use rp_syntax::{Command, Expr, Line, Why, read_line};
+use std::alloc::Global;
+
+/// What becomes of an answer whose row is followed no further: the report may tell of a limit where one is met, and
+/// instead of a test where the command can meet one.
+fn follow_lost(allowed: bool, lost: Lost, trail: &mut Trail<'_>) -> Result<(), Halt>
+    ensures { (n : ℕ) (s : PlainState) (o : Outcome ModelTrail ModelReply) → StopsBy lost trail.old o → Answers (λ _. s) result trail.new (follow_walk n s allowed o) }
+{
+    match lost {
+        Lost::Wrong(number) => Err(Halt::Wrong(number)),
+        Lost::Refused => {
+            if allowed {
+                return Ok(());
+            }
+            Err(Halt::Wrong(trail.number().saturating_sub(1)))
+        }
+        Lost::Limit => {
+            if allowed {
+                return follow_limit(trail);
+            }
+            Err(Halt::Wrong(trail.number()))
+        }
+        Lost::Memory(fault) => Err(Halt::Memory(fault)),
+    }
+}
+
+/// The answer to a line that is no command, behind its echo.
+fn follow_fault(alloc: Global, why: Why, trail: &mut Trail<'_>) -> Result<(), Halt>
+    ensures { (s : PlainState) → Answers (λ _. s) result trail.new (follow_fault s (fault_of why) trail.old) }
+{
+    follow_verdict(alloc, &Verdict::Refused(Refusal::Bad(why)), trail)
+}
+
+/// The answer to an echo, which is the next line, with a text that is no command. A text that is too long is wrong there.
+fn follow_bad(alloc: Global, why: Why, trail: &mut Trail<'_>) -> Result<(), Halt>
+    requires { 0 < length trail.old.lines }
+    ensures { (n : ℕ) (s : PlainState) → Answers (λ _. s) result trail.new (follow_text n s (bad (fault_of why)) trail.old) }
+{
+    match why {
+        Why::Long => Err(Halt::Wrong(trail.number())),
+        Why::Syntax | Why::Range | Why::Zero | Why::Nodes => {
+            trail.take();
+            follow_fault(alloc, why, trail)
+        }
+    }
+}
+
+/// The echo that stands next: its number and its text. `None` where the next line is no echo, or where no line is left.
+fn next_echo<'a>(trail: &Trail<'a>) -> Option<(u32, Option<&'a [u8]>)>
+    ensures { option_map echo_with result ≡ next_echo trail.now.lines }
+{
+    let line = trail.peek()?;
+    match read_echo(line)? {
+        (n, Some(place)) => Some((n, Some(&line[place..]))),
+        (n, None) => Some((n, None)),
+    }
+}
+
+impl Register {
+    /// Whether all names and lots of an expression are there.
+    fn knows(&self, region: &Expr) -> bool
+        ensures { result ≡ is_none (first_unknown_among (parts_in self.now) (expression_of region.now ∷ [])) }
+    {
+        self.first_unknown(region).is_none()
+    }
+
+    /// Whether all names and lots of two expressions are there.
+    fn knows_both(&self, a: &Expr, b: &Expr) -> bool
+        ensures { result ≡ is_none (first_unknown_among (parts_in self.now) (expression_of a.now ∷ expression_of b.now ∷ [])) }
+    {
+        self.knows(a) && self.knows(b)
+    }
+
+    /// Whether all names and lots of the children of a subdivision are there.
+    fn knows_children(&self, entries: &[(Name, Expr)]) -> bool
+        ensures { result ≡ is_none (first_unknown_among (parts_in self.now) (map (λ c. c.shape) (map child_of entries.now))) }
+    {
+        for (_, region) in entries {
+            if !self.knows(region) {
+                return false;
+            }
+        }
+        true
+    }
+
+    /// Whether the report may tell of a limit in place of the first verdict line of a command: the command can meet one,
+    /// and all names and lots of its expressions are there.
+    fn limit_allowed(&self, command: &Command) -> bool
+        ensures { result ≡ limit_allowed self.now (command_of command.now) }
+    {
+        match command {
+            Command::Let(_, region)
+            | Command::Empty(region)
+            | Command::Pieces(region)
+            | Command::Show(region)
+            | Command::Register(_, region)
+            | Command::Cut(_, region, _, _) => self.knows(region),
+            Command::Equal(a, b)
+            | Command::Within(a, b)
+            | Command::Overlap(a, b)
+            | Command::Contact(a, b)
+            | Command::Rcc(a, b) => self.knows_both(a, b),
+            Command::Subdivide(_, entries) => self.knows_children(entries.items()),
+            Command::Consolidate(_, _) | Command::Neighbours(_) | Command::Audit => true,
+            Command::Member(_, _)
+            | Command::Retire(_)
+            | Command::History(_)
+            | Command::At(_)
+            | Command::Asof(_, _)
+            | Command::List
+            | Command::Layer(_) => false,
+        }
+    }
+
+    /// Takes the verdict lines of a reply, and then makes its change; or takes a line that tells of a limit in their place,
+    /// which changes nothing.
+    fn follow_reply(
+        &mut self,
+        alloc: Global,
+        n: u32,
+        allowed: bool,
+        reply: Reply,
+        trail: &mut Trail<'_>,
+    ) -> Result<(), Halt>
+        requires later { IsLaterThan n (state_of_parts self.old) }
+        requires known { ComesFromKnown self.old (reply_of reply).change }
+        requires sound { IsSoundOnLines (changed n self.old (reply_of reply).change) }
+        ensures { Answers (λ _. self.new) result trail.new (follow_verdicts n self.old allowed (reply_of reply) trail.old) }
+    {
+        if allowed && trail.tells_limit() {
+            return follow_limit(trail);
+        }
+        match reply {
+            Reply::Told(lines) => follow_verdicts(alloc, lines.items(), trail),
+            Reply::Changed(change) => {
+                follow_verdict(alloc, &Verdict::Ok, trail)?;
+                self.apply(alloc, n, change)?;
+                Ok(())
+            }
+        }
+    }
+
+    /// The rest of an answer, once the row of its command was followed.
+    fn follow_row(
+        &mut self,
+        alloc: Global,
+        n: u32,
+        allowed: bool,
+        row: Result<Reply, RowEnd>,
+        trail: &mut Trail<'_>,
+    ) -> Result<(), Halt>
+        requires later { IsLaterThan n (state_of_parts self.old) }
+        requires known { IfOk row (λ reply. ComesFromKnown self.old (reply_of reply).change) }
+        requires sound { IfOk row (λ reply. IsSoundOnLines (changed n self.old (reply_of reply).change)) }
+        ensures { (o : Outcome ModelTrail ModelReply) → Replies row trail.old o → Answers (λ _. self.new) result trail.new (follow_walk n self.old allowed o) }
+    {
+        match row {
+            Ok(reply) => self.follow_reply(alloc, n, allowed, reply, trail),
+            Err(RowEnd::Refused(refusal)) => {
+                self.keep_sound();
+                let lines = one_line(alloc, Verdict::Refused(refusal))?;
+                self.follow_reply(alloc, n, allowed, Reply::Told(lines), trail)
+            }
+            Err(RowEnd::Shared) => Err(Halt::Wrong(trail.number().saturating_sub(1))),
+            Err(RowEnd::Lost(lost)) => follow_lost(allowed, lost, trail),
+        }
+    }
+
+    /// The answer to a command, behind its echo.
+    fn follow_command(
+        &mut self,
+        alloc: Global,
+        n: u32,
+        command: &Command,
+        trail: &mut Trail<'_>,
+    ) -> Result<(), Halt>
+        requires later { IsLaterThan n (state_of_parts self.old) }
+        requires kept { AllByRecursion IsKeptExpression (expressions_of (command_of command.now)) }
+        requires few { HasFewChildren (command_of command.now) }
+        ensures { Answers (λ _. self.new) result trail.new (follow_command n self.old (command_of command.now) trail.old) }
+    {
+        self.keep_sound();
+        let allowed = self.limit_allowed(command);
+        let row = self.carry_out(alloc, command, trail);
+        self.follow_row(alloc, n, allowed, row, trail)
+    }
+
+    /// The answer to an echo with a text, which is the next line. A text that is blank or too long is wrong there.
+    fn follow_text(
+        &mut self,
+        alloc: Global,
+        n: u32,
+        text: &[u8],
+        trail: &mut Trail<'_>,
+    ) -> Result<(), Halt>
+        requires later { IsLaterThan n (state_of_parts self.old) }
+        requires left { 0 < length trail.old.lines }
+        ensures { Answers (λ _. self.new) result trail.new (follow_text n self.old (reading text.now) trail.old) }
+    {
+        let line = read_line(alloc, text)?;
+        match line {
+            Line::Blank => Err(Halt::Wrong(trail.number())),
+            Line::Bad(why) => follow_bad(alloc, why, trail),
+            Line::Cmd(command) => {
+                trail.take();
+                self.follow_command(alloc, n, &command, trail)
+            }
+        }
+    }
+
+    /// The answer to an echo, which is the next line, with its text or without one.
+    fn follow_echo(
+        &mut self,
+        alloc: Global,
+        n: u32,
+        text: Option<&[u8]>,
+        trail: &mut Trail<'_>,
+    ) -> Result<(), Halt>
+        requires later { IsLaterThan n (state_of_parts self.old) }
+        requires left { 0 < length trail.old.lines }
+        ensures { Answers (λ _. self.new) result trail.new (follow_echo n self.old (option_map (λ t. t.now) text.entry) trail.old) }
+    {
+        match text {
+            Some(text) => self.follow_text(alloc, n, text, trail),
+            None => {
+                trail.take();
+                follow_fault(alloc, Why::Long, trail)
+            }
+        }
+    }
+
+    /// Takes the lines of the next answer, whose number must be above `last`, and makes its change. Answers its number.
+    /// `Wrong` with the number of the first line that doesn't fit.
+    pub(crate) fn follow_answer(
+        &mut self,
+        alloc: Global,
+        last: u32,
+        trail: &mut Trail<'_>,
+    ) -> Result<u32, Halt>
+        requires { IsLaterThan (last + 1) (state_of_parts self.old) }
+        ensures { Answers (λ n. record { last = n; state = self.new }) result trail.new (follow_answer (record { last = last; state = self.old }) trail.old) }
+    {
+        let wrong = Halt::Wrong(trail.number());
+        let Some((n, text)) = next_echo(trail) else {
+            return Err(wrong);
+        };
+        if n <= last {
+            return Err(wrong);
+        }
+        trail.begin();
+        self.follow_echo(alloc, n, text, trail)?;
+        Ok(n)
+    }
+}

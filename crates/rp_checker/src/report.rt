@@ -1,0 +1,49 @@
+//! Whole reports.
+ghost use Rattle.std.specs.Prelude.{◌≡◌, ◌≤◌, ℕ, List, length, IfOk};
+ghost use Rattle.rp_reports.specs.Check.{finding};
+ghost use Rattle.rp_reports.specs.Output.{most_report_bytes, most_script_bytes, report_lines};
+ghost use Rattle.rp_reports.specs.Report.{IsReport};
+ghost use Rattle.rp_reports.specs.Text.{text_of_lines};
+ghost use Rattle.rp_checker.specs.Found.{found_of, TellsRight};
+
+use crate::halt::Halt;
+use crate::register::Register;
+use rp_follow::Trail;
+use rp_true_report::every_report_is_accepted;
+use std::alloc::{AllocError, Global};
+
+/// What the check of a report finds.
+#[derive(Clone, Copy, Debug, PartialEq, Eq)]
+pub enum Found {
+    /// The report is accepted.
+    Accepted,
+    /// The line of this number, from 1, is the first at which no accepted report goes on; it is one more than the number of
+    /// lines where every line fits and the report breaks off.
+    Wrong(u32),
+}
+
+/// Whether a report of at most 67,108,864 bytes is accepted, and else which of its lines is the first wrong one. Nothing
+/// is searched for: each certificate that the report shows is checked, and every verdict must be the one that follows from
+/// those that pass. What is accepted is true of the regions that the echoed commands give, whoever wrote it; and the report
+/// of every script is accepted.
+///
+/// Answers `AllocError` only for want of memory.
+pub fn check_report(alloc: Global, report: &[u8]) -> Result<Found, AllocError>
+    requires { length report.now ≤ most_report_bytes }
+    ensures found { IfOk result (λ found. found_of found ≡ finding (report_lines report.now)) }
+    ensures right { IfOk result (λ found. TellsRight found (report_lines report.now)) }
+    ensures whole { IfOk result (λ found. (script : List ℕ) → length script ≤ most_script_bytes → (told : List (List ℕ)) → IsReport script told → report.now ≡ text_of_lines told → found ≡ Found.Accepted) }
+{
+    every_report_is_accepted();
+    let mut trail = Trail::new(report);
+    let mut register = Register::new(alloc);
+    let mut last = 0;
+    while trail.peek().is_some() {
+        match register.follow_answer(alloc, last, &mut trail) {
+            Ok(n) => last = n,
+            Err(Halt::Wrong(n)) => return Ok(Found::Wrong(n)),
+            Err(Halt::Memory(fault)) => return Err(fault),
+        }
+    }
+    Ok(Found::Accepted)
+}

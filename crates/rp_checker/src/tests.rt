@@ -1,0 +1,260 @@
+ghost use Rattle.std.specs.Prelude.{◌≤◌, length};
+ghost use Rattle.rp_reports.specs.Output.{most_report_bytes};
+
+use crate::{Found, check_report};
+use std::alloc::Global;
+use std::process::Abort;
+use std::test::Fail;
+
+/// Checks a report.
+fn expect(rt: &impl Abort, alloc: Global, report: &[u8], wanted: Found) -> Result<(), Fail>
+    requires { length report.now ≤ most_report_bytes }
+{
+    assert_eq!(rt; check_report(alloc, report)?, wanted);
+    Ok(())
+}
+
+/// Checks a report that is put together while the test runs.
+fn expect_made(rt: &impl Abort, alloc: Global, report: &[u8], wanted: Found) -> Result<(), Fail> {
+    assert!(rt; report.len() <= 67108864);
+    assert_eq!(rt; check_report(alloc, report)?, wanted);
+    Ok(())
+}
+
+#[test]
+fn true_reports_are_accepted(rt: HostRuntime) -> Result<(), Fail> {
+    let table: [&[u8]; 6] = [
+        b"",
+        b"> 1 empty box 0 0 0 0 10 10\n  out 1*(1 0 0 0) 1*(-1 0 0 0)\n= yes\n",
+        b"> 1 empty box 0 0 0 0 10 10\n  out 1*(1 0 0 0) 1*(-1 0 0 0)\n= yes",
+        b"> 1 empty box 0 0 0 10 10 10\n  in (0 0 0 1) (0 0 10 1) (0 10 0 1) (10 0 0 1)\n  box 0 0 0 10 10 10\n  in (0 0 0 1) (0 0 10 1) (0 10 0 1) (10 0 0 1)\n= no\n",
+        b"> 1 overlap box 0 0 0 10 10 10 box 10 0 0 20 10 10\n  in (0 0 0 1) (0 0 10 1) (0 10 0 1) (10 0 0 1)\n  box 0 0 0 10 10 10\n  in (10 0 0 1) (10 0 10 1) (10 10 0 1) (20 0 0 1)\n  box 10 0 0 20 10 10\n  out 1*(-1 0 0 10) 1*(1 0 0 -10)\n= no\n",
+        b"> 3 member box 0 0 0 10 10 10 1 1 1 1\n= yes\n> 5 layer rights\n= ok\n",
+    ];
+    for report in table {
+        expect(&rt, rt.alloc(), report, Found::Accepted)?;
+    }
+    Ok(())
+}
+
+#[test]
+fn certificates_need_not_be_the_first(rt: HostRuntime) -> Result<(), Fail> {
+    let table: [&[u8]; 6] = [
+        b"> 1 empty box 0 0 0 0 10 10\n  out 37778931862957161709567*(1 0 0 0) 37778931862957161709567*(-1 0 0 0)\n= yes\n",
+        b"> 1 empty box 0 0 0 0 10 10\n  out 1*(-1 0 0 0) 1*(1 0 0 0)\n= yes\n",
+        b"> 1 empty box 0 0 0 0 10 10\n  out 1*(1 0 0 0) 1*(1 0 0 0) 2*(-1 0 0 0)\n= yes\n",
+        b"> 1 empty box 0 0 0 0 10 10\n  out 2*(1 0 0 0) 2*(-1 0 0 0)\n= yes\n",
+        b"> 7 empty box 0 0 0 0 10 10\n  out 1*(1 0 0 0) 1*(-1 0 0 0)\n= yes\n",
+        b"> 1 empty box 0 0 0 10 10 10\n  in (1 1 1 1)\n  box -1 0 0 10 10 10\n  out 1*(1 0 0 0) 1*(-1 0 0 -1)\n  in (9 9 9 2)\n= no\n",
+    ];
+    for report in table {
+        expect(&rt, rt.alloc(), report, Found::Accepted)?;
+    }
+    Ok(())
+}
+
+#[test]
+fn a_changed_line_is_wrong(rt: HostRuntime) -> Result<(), Fail> {
+    let table: [(&[u8], u32); 20] = [
+        (
+            b"> 1 empty box 0 0 0 0 10 10\n  out 37778931862957161709568*(1 0 0 0) 37778931862957161709568*(-1 0 0 0)\n= yes\n",
+            2,
+        ),
+        (
+            b"> 1 empty box 0 0 0 0 10 10\n  out 0*(1 0 0 0) 1*(-1 0 0 0)\n= yes\n",
+            2,
+        ),
+        (
+            b"> 1 empty box 0 0 0 0 10 10\n  out 01*(1 0 0 0) 1*(-1 0 0 0)\n= yes\n",
+            2,
+        ),
+        (
+            b"> 1 empty box 0 0 0 0 10 10\n  out 2*(1 0 0 0) 1*(-1 0 0 0)\n= yes\n",
+            2,
+        ),
+        (
+            b"> 1 empty box 0 0 0 0 10 10\n  out 1*(1 0 0 0) 1*(1 0 0 0) 1*(1 0 0 0) 1*(1 0 0 0) 4*(-1 0 0 0)\n= yes\n",
+            2,
+        ),
+        (
+            b"> 1 empty box 0 0 0 0 10 10\n  out 1*(2 0 0 0) 1*(-1 0 0 0)\n= yes\n",
+            2,
+        ),
+        (
+            b"> 1 empty box 0 0 0 0 10 10\n  out 1*(0 0 0 -1)\n= yes\n",
+            2,
+        ),
+        (
+            b"> 1 empty box 0 0 0 0 10 10\n  in (2535301200456458802993406410751 0 0 1)\n= yes\n",
+            2,
+        ),
+        (
+            b"> 1 empty box 0 0 0 0 10 10\n  in (2535301200456458802993406410752 0 0 1)\n= yes\n",
+            2,
+        ),
+        (
+            b"> 0 empty box 0 0 0 0 10 10\n  out 1*(1 0 0 0) 1*(-1 0 0 0)\n= yes\n",
+            1,
+        ),
+        (
+            b"> 01 empty box 0 0 0 0 10 10\n  out 1*(1 0 0 0) 1*(-1 0 0 0)\n= yes\n",
+            1,
+        ),
+        (b"> 1 # note\n  out 1*(1 0 0 0) 1*(-1 0 0 0)\n= yes\n", 1),
+        (b"> 1 \n= yes\n", 1),
+        (b"> 1\n  out 1*(1 0 0 0) 1*(-1 0 0 0)\n= yes\n", 2),
+        (
+            b"> 1 empty box 0 0 0 0 10 10\n= yes\n  out 1*(1 0 0 0) 1*(-1 0 0 0)\n",
+            2,
+        ),
+        (
+            b"> 1 empty box 0 0 0 0 10 10\n  out 1*(1 0 0 0) 1*(-1 0 0 0)\n= yes\r\n",
+            3,
+        ),
+        (
+            b"> 1 empty box 0 0 0 0 10 10\n  out 1*(1 0 0 0) 1*(-1 0 0 0)\n= no\n",
+            3,
+        ),
+        (b"> 1 empty box 0 0 0 0 10 10\n= yes\n", 2),
+        (
+            b"> 1 empty box 0 0 0 0 10 10\n  out 1*(1 0 0 0) 1*(-1 0 0 0)\n",
+            3,
+        ),
+        (b"> 2 layer a\n= ok\n> 2 layer b\n= ok\n", 3),
+    ];
+    for (report, number) in table {
+        expect(&rt, rt.alloc(), report, Found::Wrong(number))?;
+    }
+    Ok(())
+}
+
+#[test]
+fn a_limit_may_be_told(rt: HostRuntime) -> Result<(), Fail> {
+    let table: [(&[u8], Found); 10] = [
+        (
+            b"> 1 empty box 0 0 0 0 10 10\n= refused limit\n",
+            Found::Accepted,
+        ),
+        (
+            b"> 1 empty box 0 0 0 0 10 10\n  out 1*(1 0 0 0) 1*(-1 0 0 0)\n= refused limit\n",
+            Found::Accepted,
+        ),
+        (
+            b"> 1 let a = box 0 0 0 10 10 10\n  in (1 1 1 1)\n  box 0 0 0 10 10 10\n= refused limit\n> 2 empty name a\n= refused unknown a\n",
+            Found::Accepted,
+        ),
+        (
+            b"> 1 let a = box 0 0 0 10 10 10\n  in (1 1 1 1)\n  box 0 0 0 10 10 10\n= ok\n> 2 let a = all\n= refused limit\n",
+            Found::Accepted,
+        ),
+        (b"> 1 empty name a\n= refused limit\n", Found::Wrong(2)),
+        (
+            b"> 1 member box 0 0 0 10 10 10 1 1 1 1\n= refused limit\n",
+            Found::Wrong(2),
+        ),
+        (b"> 1 layer b\n= refused limit\n", Found::Wrong(2)),
+        (b"> 1 at 0 0 0 1\n= refused limit\n", Found::Wrong(2)),
+        (b"> 1 retire a\n= refused limit\n", Found::Wrong(2)),
+        (
+            b"> 1 empty box 0 0 0 0 10 10\n= refused limit\n= yes\n",
+            Found::Wrong(3),
+        ),
+    ];
+    for (report, wanted) in table {
+        expect(&rt, rt.alloc(), report, wanted)?;
+    }
+    Ok(())
+}
+
+#[test]
+fn lines_that_are_no_command_are_refused(rt: HostRuntime) -> Result<(), Fail> {
+    let table: [(&[u8], Found); 6] = [
+        (b"> 1 walk\n= refused syntax\n", Found::Accepted),
+        (
+            b"> 1 member half 0 0 0 0 1 1 1 1\n= refused zero\n",
+            Found::Accepted,
+        ),
+        (b"> 16777216\n= refused long\n", Found::Accepted),
+        (b"> 16777217\n= refused long\n", Found::Wrong(1)),
+        (b"> 1 walk\n= refused range\n", Found::Wrong(2)),
+        (b"> 1 walk\n= refused limit\n", Found::Wrong(2)),
+    ];
+    for (report, wanted) in table {
+        expect(&rt, rt.alloc(), report, wanted)?;
+    }
+    Ok(())
+}
+
+#[test]
+fn names_stand_for_what_was_made(rt: HostRuntime) -> Result<(), Fail> {
+    let table: [(&[u8], Found); 3] = [
+        (
+            b"> 1 let a = box 0 0 0 10 10 10\n  in (1 1 1 1)\n  box 0 0 0 10 10 10\n= ok\n> 2 let a = all\n= refused known a\n> 3 empty name a\n  in (2 2 2 1)\n= no\n",
+            Found::Accepted,
+        ),
+        (
+            b"> 1 let a = box 0 0 0 10 10 10\n  in (1 1 1 1)\n  box 0 0 0 10 10 10\n= ok\n> 2 empty name b\n= refused unknown b\n",
+            Found::Accepted,
+        ),
+        (
+            b"> 1 let a = box 0 0 0 10 10 10\n  in (1 1 1 1)\n  box 0 0 0 10 10 10\n= refused known a\n",
+            Found::Wrong(4),
+        ),
+    ];
+    for (report, wanted) in table {
+        expect(&rt, rt.alloc(), report, wanted)?;
+    }
+    Ok(())
+}
+
+/// The lines of a report in which no line may be left out, and none may stand twice.
+const LINES: [&[u8]; 17] = [
+    b"> 1 let a = box 0 0 0 10 10 10",
+    b"  in (1 1 1 1)",
+    b"  box 0 0 0 10 10 10",
+    b"= ok",
+    b"> 2 within box 0 0 0 10 10 5 name a",
+    b"  in (1 1 1 1)",
+    b"  box 0 0 0 10 10 5",
+    b"  in (2 2 2 1)",
+    b"  out 1*(1 0 0 0) 1*(-1 0 0 0)",
+    b"  out 1*(-1 0 0 10) 1*(1 0 0 -10)",
+    b"  out 1*(0 1 0 0) 1*(0 -1 0 0)",
+    b"  out 1*(0 -1 0 10) 1*(0 1 0 -10)",
+    b"  out 1*(0 0 1 0) 1*(0 0 -1 0)",
+    b"  out 1*(0 0 -1 5) 1*(0 0 1 -10)",
+    b"= yes",
+    b"> 4 walk",
+    b"= refused syntax",
+];
+
+/// The lines of the report, where the line at one place stands so many times.
+fn report_with(alloc: Global, place: usize, times: usize) -> Result<Vec<u8>, Fail> {
+    let mut report = Vec::new(alloc);
+    for (i, line) in LINES.iter().enumerate() {
+        let copies = if i == place { times } else { 1 };
+        for _ in 0..copies {
+            report.extend_from_slice(line)?;
+            report.push(b'\n')?;
+        }
+    }
+    Ok(report)
+}
+
+#[test]
+fn no_line_may_be_left_out_or_stand_twice(rt: HostRuntime) -> Result<(), Fail> {
+    expect_made(
+        &rt,
+        rt.alloc(),
+        &report_with(rt.alloc(), 0, 1)?,
+        Found::Accepted,
+    )?;
+    for place in 0..17usize {
+        let number = place as u32 + 1;
+        let left_out = report_with(rt.alloc(), place, 0)?;
+        expect_made(&rt, rt.alloc(), &left_out, Found::Wrong(number))?;
+        let doubled = report_with(rt.alloc(), place, 2)?;
+        expect_made(&rt, rt.alloc(), &doubled, Found::Wrong(number + 1))?;
+    }
+    Ok(())
+}
