@@ -32,11 +32,15 @@ fn status_of_error(error: &io::Error) -> u8 {
 /// What a status says that is no answer.
 fn message(status: u8) -> Option<&'static str> {
     match status {
-        UNLISTED => Some("these words are not known; the listed ones are: run, script"),
+        UNLISTED => Some(
+            "these words are not known; the listed ones are: run, run brief, check, script, make N SEED, trial N SEED",
+        ),
         READ_FAILED => Some("reading the input failed"),
         PUT_FAILED => Some("writing the output failed"),
         OUT_OF_MEMORY => Some("out of memory"),
-        TOO_LONG => Some("the input has more than 16777216 bytes"),
+        TOO_LONG => Some(
+            "the input is too long: a script may have 16777216 bytes, a report that is checked 67108864",
+        ),
         UNREADABLE_WORDS => Some("the words of the command line cannot be read"),
         _ => None,
     }

@@ -58,19 +58,6 @@ task_of (word ∷ next ∷ []) = task_of_two word next
 task_of (word ∷ first ∷ second ∷ []) = task_of_three word (number_between 1 1000 first) (number_between 0 18446744073709551615 second)
 task_of _ = None
 
--- which tasks are built: whoever builds a task changes its line here
-abbrev pub is_task_built : Task → Bool
-is_task_built run_script = true
-is_task_built run_brief = false
-is_task_built check_report = false
-is_task_built spell_script = true
-is_task_built (make_script n seed) = false
-is_task_built (try_script n seed) = false
-
--- the task of a list of words, if it is one of those listed that are built
-abbrev pub task_so_far : List (List ℕ) → Option Task
-task_so_far words = option_and_then (λ t. elim (is_task_built t) [ true ↦ Some t | false ↦ None ]) (task_of words)
-
 -- the most bytes of a script
 abbrev pub most_script_bytes : ℕ
 most_script_bytes = 16777216

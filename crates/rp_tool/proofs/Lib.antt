@@ -1,6 +1,12 @@
+pub mod CheckLemmas
 pub mod IntakeLemmas
 pub mod LineLemmas
+pub mod MadeLemmas
+pub mod NumberLemmas
 pub mod RefusalLemmas
 pub mod RunLemmas
 pub mod SinkLemmas
 pub mod SpellLemmas
+pub mod TaskLemmas
+pub mod TextLemmas
+pub mod TrialLemmas

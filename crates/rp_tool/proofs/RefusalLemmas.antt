@@ -1,10 +1,10 @@
 -- Which report lines of an answer are refusals.
-use Rattle.std.proofs.Common.{◌≡◌, ℕ, Bool, false, ◌||◌, List, [], ◌∷◌, ◌++◌, map, refl, sym, ap, ◌∙◌}
+use Rattle.std.proofs.Common.{◌≡◌, ℕ, Bool, true, false, ◌||◌, List, [], ◌∷◌, ◌++◌, map, refl, sym, ap, ◌∙◌}
 use Rattle.std.proofs.Math.Bool.{or_assoc}
 use Rattle.std.specs.List.{list_any}
 use Rattle.rp_reports.specs.Output.{is_refused_line}
 use Rattle.rp_geometry.specs.searches.ProofLine.{ProofLine, in_line, out_line, at_line, apart_line, drop_line, box_line}
-use Rattle.rp_reports.specs.Text.{lines_with, echo_text, proof_text, verdict_text, Answer}
+use Rattle.rp_reports.specs.Text.{lines_with, echo_text, proof_text, proof_texts, verdict_text, Answer}
 use Rattle.rp_report.specs.Views.{verdict_of}
 use Rattle.rp_report.specs.declared.answer.Verdict.{Verdict}
 
@@ -26,10 +26,11 @@ is_refused_line-proof (apart_line terms) = refl
 is_refused_line-proof (drop_line h terms) = refl
 is_refused_line-proof (box_line b) = refl
 
--- so none of several is
-list_any-proofs : (ls : List ProofLine) → list_any is_refused_line (map proof_text ls) ≡ false
-list_any-proofs [] = refl
-list_any-proofs (l ∷ ls) = rw (is_refused_line-proof l) (list_any-proofs ls)
+-- so none of several is, if they are told at all
+list_any-proofs : (brief : Bool) (ls : List ProofLine) → list_any is_refused_line (proof_texts brief ls) ≡ false
+list_any-proofs true ls = refl
+list_any-proofs false [] = refl
+list_any-proofs false (l ∷ ls) = rw (is_refused_line-proof l) (list_any-proofs false ls)
 
 -- one of the lines of two lists passes the test where one of either does
 pub list_any-append : (test : List ℕ → Bool) (xs ys : List (List ℕ)) → list_any test (xs ++ ys) ≡ (list_any test xs || list_any test ys)
@@ -42,9 +43,9 @@ list_any-verdicts [] = refl
 list_any-verdicts (v ∷ vs) = ap (λ b. refuses v || b) (list_any-verdicts vs)
 
 -- the lines of an answer have a refusal where one of its verdicts is one
-pub list_any-lines : (a : Answer) (vs : List Verdict) → list_any is_refused_line (lines_with false a (map verdict_of vs)) ≡ list_any refuses vs
-list_any-lines a [] = refl
-list_any-lines a (v ∷ vs) =
+pub list_any-lines : (brief : Bool) (a : Answer) (vs : List Verdict) → list_any is_refused_line (lines_with brief a (map verdict_of vs)) ≡ list_any refuses vs
+list_any-lines brief a [] = refl
+list_any-lines brief a (v ∷ vs) =
     rw (is_refused_line-echo a.number a.echo)
-    (list_any-append is_refused_line (map proof_text a.proofs) (map verdict_text (map verdict_of (v ∷ vs)))
-    ∙ ap (λ b. b || list_any is_refused_line (map verdict_text (map verdict_of (v ∷ vs)))) (list_any-proofs a.proofs) ∙ list_any-verdicts (v ∷ vs))
+    (list_any-append is_refused_line (proof_texts brief a.proofs) (map verdict_text (map verdict_of (v ∷ vs)))
+    ∙ ap (λ b. b || list_any is_refused_line (map verdict_text (map verdict_of (v ∷ vs)))) (list_any-proofs brief a.proofs) ∙ list_any-verdicts (v ∷ vs))

@@ -1,6 +1,12 @@
 -- Pieces that come to the end of what a sink said, one after the other.
-use Rattle.std.proofs.Common.{◌≡◌, ℕ, List, ◌++◌, Option, Some, None, ap, ◌∙◌, subst, append_assoc}
+use Rattle.std.proofs.Common.{◌≡◌, ℕ, List, [], ◌++◌, Option, Some, None, refl, sym, ap, ◌∙◌, subst, append_assoc}
+use Rattle.std.proofs.lemmas.List.{append-nil}
 use Rattle.rp_io.specs.Bytes.{Appends}
+
+-- no piece
+pub Appends-nothing : (said : Option (List ℕ)) → Appends said said []
+Appends-nothing None = tt
+Appends-nothing (Some bytes) = (bytes, refl, sym (append-nil bytes))
 
 -- one piece and then another
 pub Appends-append : (old middle new : Option (List ℕ)) (first second : List ℕ) → Appends old middle first → Appends middle new second → Appends old new (first ++ second)

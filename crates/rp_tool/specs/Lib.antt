@@ -1,4 +1,7 @@
+pub mod Check
 pub mod Intake
 pub mod Lines
+pub mod Made
 pub mod Output
 pub mod Status
+pub mod Trial

@@ -1,20 +1,25 @@
 -- What is put for one line of a script, and for a whole one.
-use Rattle.std.specs.Prelude.{◌≡◌, ◌↔◌, ℕ, Bool, false, IsTrue, List, Option}
+use Rattle.std.specs.Prelude.{◌≡◌, ◌↔◌, ℕ, Bool, true, false, IsTrue, List, Option}
 use Rattle.std.specs.List.{list_any}
 use Rattle.rp_io.specs.Bytes.{Appends}
 use Rattle.rp_io.specs.Faults.{HasRisen}
 use Rattle.rp_language.specs.Grammar.{Reading}
-use Rattle.rp_reports.specs.Output.{Task, IsOutput, IsRefused, is_refused_line, is_bad_reading, spelled_lines}
+use Rattle.rp_reports.specs.Output.{Task, run_script, run_brief, IsOutput, IsRefused, is_refused_line, is_bad_reading, spelled_lines}
 use Rattle.rp_reports.specs.Machine.{step_answer}
 use Rattle.rp_model.specs.states.State.{PlainState}
 use Rattle.rp_reports.specs.Text.{answer_lines, text_of_lines}
 use Rattle.rp_tool.specs.declared.fault.OutputFault.{OutputFault}
 use Rattle.rp_tool.specs.declared.fault.OutputFault.TheVariants.{Put, Memory}
 
--- the report lines of the answer to a line came to the end of what a sink said; the mark says whether one of them is a refusal
-pub record PutsAnswer (before : PlainState) (number : ℕ) (line : List ℕ) (old new : Option (List ℕ)) (refused : Bool) : Type 0 where
-  pub text : Appends old new (text_of_lines (answer_lines false (step_answer before number line)))
-  pub mark : refused ≡ list_any is_refused_line (answer_lines false (step_answer before number line))
+-- the task that wants a report, full or brief
+abbrev pub report_task : Bool → Task
+report_task true = run_brief
+report_task false = run_script
+
+-- the report lines, full or brief, of the answer to a line came to the end of what a sink said; the mark says whether one of them is a refusal
+pub record PutsAnswer (brief : Bool) (before : PlainState) (number : ℕ) (line : List ℕ) (old new : Option (List ℕ)) (refused : Bool) : Type 0 where
+  pub text : Appends old new (text_of_lines (answer_lines brief (step_answer before number line)))
+  pub mark : refused ≡ list_any is_refused_line (answer_lines brief (step_answer before number line))
 
 -- the spelling of a command came to the end of what a sink said, and nothing for any other line; the mark says whether the line is bad
 pub record PutsSpelling (r : Reading) (old new : Option (List ℕ)) (bad : Bool) : Type 0 where

@@ -1,27 +1,79 @@
 -- What the tool is asked to do, and what a status says of its output.
-use Rattle.std.specs.Prelude.{◌≡◌, ◌↔◌, ℕ, Bool, true, false, List, ◌++◌, Option, Some, Result, Ok, Err}
+use Rattle.std.specs.Prelude.{◌≡◌, ◌↔◌, ℕ, Bool, true, false, List, ◌++◌, Option, Some, None, Result, Ok, Err}
 use Rattle.rp_io.specs.Bytes.{Appends}
 use Rattle.rp_reports.specs.Text.{text_of_lines}
-use Rattle.rp_reports.specs.Output.{Task as ModelTask, run_script, spell_script, task_so_far, IsOutput, IsRefused}
+use Rattle.rp_reports.specs.Output.{Task as ModelTask, run_script, run_brief, check_report, spell_script, make_script, try_script, task_of, most_script_bytes, most_report_bytes, IsOutput, IsRefused}
 use Rattle.rp_tool.specs.declared.status.TheConstants.{DONE, REFUSED, READ_FAILED, PUT_FAILED, OUT_OF_MEMORY, TOO_LONG}
 use Rattle.rp_tool.specs.declared.intake.IntakeFault.{IntakeFault}
 use Rattle.rp_tool.specs.declared.intake.IntakeFault.TheVariants.{Failed, TooLong, Memory}
 use Rattle.rp_tool.specs.declared.fault.OutputFault.{OutputFault}
 use Rattle.rp_tool.specs.declared.fault.OutputFault.TheVariants.{Put, Memory as OutputMemory}
 use Rattle.rp_tool.specs.declared.task.Task.{Task}
-use Rattle.rp_tool.specs.declared.task.Task.TheVariants.{Run, Script}
+use Rattle.rp_tool.specs.declared.task.Task.TheVariants.{Given, Check, Made}
+use Rattle.rp_tool.specs.declared.task.GivenTask.{GivenTask}
+use Rattle.rp_tool.specs.declared.task.GivenTask.TheVariants.{Run, RunBrief, Spell}
+use Rattle.rp_tool.specs.declared.task.MadeTask.{MadeTask}
+use Rattle.rp_tool.specs.declared.task.MadeTask.TheVariants.{Write, Try}
+
+-- the task of the model, with a script that is read
+abbrev pub meaning_of_given : GivenTask → ModelTask
+meaning_of_given Run = run_script
+meaning_of_given RunBrief = run_brief
+meaning_of_given Spell = spell_script
+
+-- the task of the model, with the script of a building
+abbrev pub meaning_of_made : MadeTask → ℕ → ℕ → ModelTask
+meaning_of_made Write n seed = make_script n seed
+meaning_of_made Try n seed = try_script n seed
 
 -- the task of the model
 abbrev pub meaning_of : Task → ModelTask
-meaning_of Run = run_script
-meaning_of Script = spell_script
+meaning_of (Given t) = meaning_of_given t
+meaning_of Check = check_report
+meaning_of (Made t b) = meaning_of_made t b.storeys b.seed
+
+-- the task reads its input
+abbrev pub reads_task : ModelTask → Bool
+reads_task run_script = true
+reads_task run_brief = true
+reads_task check_report = true
+reads_task spell_script = true
+reads_task (make_script n seed) = false
+reads_task (try_script n seed) = false
+
+-- the task is there and reads its input
+abbrev pub reads_if_listed : Option ModelTask → Bool
+reads_if_listed None = false
+reads_if_listed (Some t) = reads_task t
+
+-- the words name a task that reads its input
+abbrev pub reads_input : List (List ℕ) → Bool
+reads_input words = reads_if_listed (task_of words)
+
+-- the most bytes of the input of a task
+abbrev pub most_bytes_of : ModelTask → ℕ
+most_bytes_of run_script = most_script_bytes
+most_bytes_of run_brief = most_script_bytes
+most_bytes_of check_report = most_report_bytes
+most_bytes_of spell_script = most_script_bytes
+most_bytes_of (make_script n seed) = most_script_bytes
+most_bytes_of (try_script n seed) = most_script_bytes
+
+-- the most bytes of the input of a task, if it is there
+abbrev pub most_if_listed : Option ModelTask → ℕ
+most_if_listed None = most_script_bytes
+most_if_listed (Some t) = most_bytes_of t
+
+-- the most bytes of the input for the words
+abbrev pub most_input_bytes : List (List ℕ) → ℕ
+most_input_bytes words = most_if_listed (task_of words)
 
 -- the words name a task, the whole output of that task on the input came to the end of what the sink said,
 -- and the status is 1 exactly where something was refused
 pub record IsOutputOf (words : List (List ℕ)) (input : List ℕ) (old new : Option (List ℕ)) (status : ℕ) : Type 0 where
   pub task : ModelTask
   pub lines : List (List ℕ)
-  pub listed : task_so_far words ≡ Some task
+  pub listed : task_of words ≡ Some task
   pub output : IsOutput task input lines
   pub written : Appends old new (text_of_lines lines)
   pub refused : (status ≡ 1) ↔ IsRefused task input lines
@@ -30,7 +82,7 @@ pub record IsOutputOf (words : List (List ℕ)) (input : List ℕ) (old new : Op
 pub record HasWritten (words : List (List ℕ)) (input old new : List ℕ) (status : ℕ) : Type 0 where
   pub task : ModelTask
   pub lines : List (List ℕ)
-  pub listed : task_so_far words ≡ Some task
+  pub listed : task_of words ≡ Some task
   pub output : IsOutput task input lines
   pub written : new ≡ old ++ text_of_lines lines
   pub refused : (status ≡ 1) ↔ IsRefused task input lines
@@ -41,9 +93,18 @@ status_of_intake Failed = READ_FAILED
 status_of_intake TooLong = TOO_LONG
 status_of_intake (Memory e) = OUT_OF_MEMORY
 
+-- the status where an output was not put whole
+abbrev pub status_of_fault : OutputFault → ℕ
+status_of_fault Put = PUT_FAILED
+status_of_fault (OutputMemory e) = OUT_OF_MEMORY
+
+-- the status of an output in which nothing can be refused
+abbrev pub status_of_made : Result (Unit {0}) OutputFault → ℕ
+status_of_made (Ok done) = DONE
+status_of_made (Err fault) = status_of_fault fault
+
 -- the status of an output, which is that of a refusal where it says that something was refused
 abbrev pub status_of_output : Result Bool OutputFault → ℕ
 status_of_output (Ok true) = REFUSED
 status_of_output (Ok false) = DONE
-status_of_output (Err Put) = PUT_FAILED
-status_of_output (Err (OutputMemory e)) = OUT_OF_MEMORY
+status_of_output (Err fault) = status_of_fault fault

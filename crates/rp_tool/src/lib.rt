@@ -2,16 +2,24 @@
 //! status.
 #![tactic(auto)]
 
+mod building;
+mod check;
 mod fault;
 mod intake;
 mod lines;
+mod made;
+mod make;
+mod number;
 mod output;
 mod refusal;
 mod run;
 mod spell;
 pub mod status;
+mod summary;
 mod task;
+mod text;
 mod top;
+mod trial;
 
 pub use top::tool;
 

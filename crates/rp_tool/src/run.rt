@@ -1,9 +1,9 @@
 ghost use Rattle.std.specs.Prelude.{◌≡◌, ◌+◌, ◌≤◌, length, IfErr, IfOk, OnOk};
-ghost use Rattle.rp_reports.specs.Output.{most_script_bytes, run_script};
+ghost use Rattle.rp_reports.specs.Output.{most_script_bytes};
 ghost use Rattle.rp_model.specs.states.State.{state_of_parts};
 ghost use Rattle.rp_model.specs.states.Sound.{IsLaterThan};
 ghost use Rattle.rp_reports.specs.Machine.{step_state};
-ghost use Rattle.rp_tool.specs.Output.{PutsAnswer, PutsOutput, HasOutputCause};
+ghost use Rattle.rp_tool.specs.Output.{PutsAnswer, PutsOutput, HasOutputCause, report_task};
 
 use super::fault::OutputFault;
 use super::lines::next_line;
@@ -15,44 +15,46 @@ use rp_report::write_answer;
 use std::alloc::Global;
 use std::thread::Threads;
 
-/// Puts the report lines of one line of the script, by way of a buffer for their text. Answers whether one is a refusal.
-/// The number of the line is above those of all lines before it.
+/// Puts the report lines of one line of the script, by way of a buffer for their text, where the report is brief without
+/// the proof lines. Answers whether one is a refusal. The number of the line is above those of all lines before it.
 fn run_line<R: Threads + Sync, K: Sink>(
     rt: &R,
     alloc: Global,
     machine: &mut Machine,
     number: u32,
     line: &[u8],
+    brief: bool,
     text: &mut Vec<u8>,
     sink: &mut K,
 ) -> Result<bool, OutputFault>
     requires { IsLaterThan number (state_of_parts machine.old) }
     ensures counts { K.faults sink.old ≤ K.faults sink.new }
     ensures answer { IfOk result (λ refused.
-        PutsAnswer machine.old number line.now (K.said sink.old) (K.said sink.new) refused) }
+        PutsAnswer brief machine.old number line.now (K.said sink.old) (K.said sink.new) refused) }
     ensures state { OnOk result (machine.new ≡ step_state machine.old number line.now) }
     ensures later { OnOk result (IsLaterThan (number + 1) (state_of_parts machine.new)) }
     ensures cause { IfErr result (HasOutputCause (K.faults sink.old) (K.faults sink.new)) }
 {
     let answer = machine.step(rt, alloc, number, line)?;
     text.clear();
-    write_answer(&answer, false, text)?;
+    write_answer(&answer, brief, text)?;
     put_lines(sink, text)?;
     Ok(has_refusal(&answer))
 }
 
-/// Puts the report of a script, answer by answer: one machine answers its lines in order. Answers whether something
-/// was refused.
+/// Puts the report of a script, answer by answer, full or without the proof lines: one machine answers its lines in
+/// order. Answers whether something was refused.
 pub fn run<R: Threads + Sync, K: Sink>(
     rt: &R,
     alloc: Global,
     script: &[u8],
+    brief: bool,
     sink: &mut K,
 ) -> Result<bool, OutputFault>
     requires { length script.now ≤ most_script_bytes }
     ensures counts { K.faults sink.old ≤ K.faults sink.new }
     ensures report { IfOk result (λ refused.
-        PutsOutput run_script script.now (K.said sink.old) (K.said sink.new) refused) }
+        PutsOutput (report_task brief) script.now (K.said sink.old) (K.said sink.new) refused) }
     ensures cause { IfErr result (HasOutputCause (K.faults sink.old) (K.faults sink.new)) }
 {
     let mut machine = Machine::new(alloc)?;
@@ -61,7 +63,16 @@ pub fn run<R: Threads + Sync, K: Sink>(
     let mut number = 1;
     let mut refused = false;
     while let Some((line, behind)) = next_line(rest) {
-        refused |= run_line(rt, alloc, &mut machine, number, line, &mut text, sink)?;
+        refused |= run_line(
+            rt,
+            alloc,
+            &mut machine,
+            number,
+            line,
+            brief,
+            &mut text,
+            sink,
+        )?;
         rest = behind;
         number += 1;
     }

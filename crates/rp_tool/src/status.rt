@@ -18,5 +18,6 @@ pub const PUT_FAILED: u8 = 4;
 /// Memory ran out. Lines of the output may have been written before.
 pub const OUT_OF_MEMORY: u8 = 5;
 
-/// The source gave a byte past the limit of 16,777,216. Nothing was written.
+/// The source gave a byte past the limit: 16,777,216 for a script, 67,108,864 for a report that is checked. Nothing was
+/// written.
 pub const TOO_LONG: u8 = 6;

@@ -1,8 +1,9 @@
 //! The worked rows of the report, and what the tool answers where it does not come to the end.
-ghost use Rattle.std.specs.Prelude.{◌≡◌, ◌≢◌, ◌≤◌, ◌<◌, ◌⊎◌, false, [], map, length, None, string_bytes};
+ghost use Rattle.std.specs.Prelude.{◌≡◌, ◌≢◌, ◌≤◌, ◌<◌, ◌⊎◌, false, [], map, length, IsTrue, None, string_bytes};
 ghost use Rattle.rp_io.specs.Faults.{last_count};
-ghost use Rattle.rp_reports.specs.Output.{task_so_far, most_script_bytes};
-ghost use Rattle.rp_tool.specs.Status.{HasWritten};
+ghost use Rattle.rp_reports.specs.Output.{check_report, most_report_bytes, task_of};
+ghost use Rattle.rp_tool.specs.Check.{IsWrittenReport};
+ghost use Rattle.rp_tool.specs.Status.{HasWritten, most_input_bytes, reads_input};
 
 use crate::status::{DONE, OUT_OF_MEMORY, PUT_FAILED, READ_FAILED, REFUSED, TOO_LONG, UNLISTED};
 use crate::tool;
@@ -21,8 +22,8 @@ fn words_of(alloc: Global, texts: &[&str]) -> Result<Vec<String>, AllocError> {
 }
 
 /// The status of the tool over a source and a sink that never fail: neither a read nor a put is to blame. With status 0 or
-/// 1 the sink has the whole output behind what it had, as long as its room was not passed; and for listed words and an
-/// input within its limit nothing but want of memory stands in the way.
+/// 1 the sink has the whole output behind what it had, as long as its room was not passed; for listed words and an input
+/// within its limit nothing but want of memory stands in the way; and `check` accepts what was written for a script.
 fn quiet_status<R: Threads + Sync>(
     rt: &R,
     alloc: Global,
@@ -35,13 +36,16 @@ fn quiet_status<R: Threads + Sync>(
     ensures put { result ≢ PUT_FAILED }
     ensures whole { result ≤ REFUSED → sink.new.is_passed ≡ false
         → HasWritten (map string_bytes words.now) source.old sink.old.bytes sink.new.bytes result }
-    ensures completes { task_so_far (map string_bytes words.now) ≢ None → length source.old ≤ most_script_bytes
+    ensures completes { task_of (map string_bytes words.now) ≢ None → length source.old ≤ most_input_bytes (map string_bytes words.now)
         → (result ≤ REFUSED) ⊎ (result ≡ OUT_OF_MEMORY) }
+    ensures accepts { task_of (map string_bytes words.now) ≡ Some check_report → length source.old ≤ most_report_bytes → IsWrittenReport source.old
+        → (result ≡ DONE) ⊎ (result ≡ OUT_OF_MEMORY) }
 {
     tool(rt, alloc, words, source, sink)
 }
 
-/// The same over a source and a sink in memory, whose faults are listed: where none came the output is whole.
+/// The same over a source and a sink in memory, whose faults are listed: where none came the output is whole, and the
+/// source was read to its end or not at all.
 fn memory_status<R: Threads + Sync>(
     rt: &R,
     alloc: Global,
@@ -51,8 +55,9 @@ fn memory_status<R: Threads + Sync>(
 ) -> u8
     ensures whole { result ≤ REFUSED
         → HasWritten (map string_bytes words.now) source.old.left sink.old.bytes sink.new.bytes result }
-    ensures at_end { result ≤ REFUSED → source.new.left ≡ [] }
-    ensures completes { task_so_far (map string_bytes words.now) ≢ None → length source.old.left ≤ most_script_bytes
+    ensures at_end { result ≤ REFUSED → IsTrue (reads_input (map string_bytes words.now)) → source.new.left ≡ [] }
+    ensures unread { reads_input (map string_bytes words.now) ≡ false → source.new ≡ source.old }
+    ensures completes { task_of (map string_bytes words.now) ≢ None → length source.old.left ≤ most_input_bytes (map string_bytes words.now)
         → source.new.faults ≡ source.old.faults → source.old.faults < last_count
         → sink.new.faults ≡ sink.old.faults → sink.old.faults < last_count
         → (result ≤ REFUSED) ⊎ (result ≡ OUT_OF_MEMORY) }
@@ -218,6 +223,129 @@ fn spells_each_command(rt: HostRuntime) -> Result<(), Fail> {
 }
 
 #[test]
+fn brief_reports_tell_no_proof_line(rt: HostRuntime) -> Result<(), Fail> {
+    let rows = [
+        (
+            "empty box 0 0 0 0 10 10\n",
+            DONE,
+            "> 1 empty box 0 0 0 0 10 10\n= yes\n",
+        ),
+        (
+            "empty box 0 0 0 10 10 10\n# a note\nempty name a\n",
+            REFUSED,
+            "> 1 empty box 0 0 0 10 10 10\n= no\n> 3 empty name a\n= refused unknown a\n",
+        ),
+        ("", DONE, ""),
+    ];
+    for (script, want, report) in rows {
+        let (status, told) = run_on(&rt, rt.alloc(), &["run", "brief"], script.as_bytes())?;
+        assert_eq!(rt; status, want, "on {script:?}");
+        assert_eq!(rt; told.as_slice(), report.as_bytes(), "on {script:?}");
+    }
+    Ok(())
+}
+
+#[test]
+fn checks_reports(rt: HostRuntime) -> Result<(), Fail> {
+    let rows = [
+        ("", "accepted\n"),
+        (
+            "> 1 empty box 0 0 0 0 10 10\n  out 1*(1 0 0 0) 1*(-1 0 0 0)\n= yes\n",
+            "accepted\n",
+        ),
+        // Other multiples that show the same.
+        (
+            "> 1 empty box 0 0 0 0 10 10\n  out 7*(-1 0 0 0) 7*(1 0 0 0)\n= yes\n",
+            "accepted\n",
+        ),
+        (
+            "> 1 empty box 0 0 0 0 10 10\n  out 1*(1 0 0 0) 2*(-1 0 0 0)\n= yes\n",
+            "wrong 2\n",
+        ),
+        (
+            "> 1 empty box 0 0 0 0 10 10\n  out 1*(1 0 0 0) 1*(-1 0 0 0)\n= no\n",
+            "wrong 3\n",
+        ),
+        // It breaks off.
+        ("> 1 empty box 0 0 0 0 10 10\n", "wrong 2\n"),
+        // A carriage return belongs to its line.
+        ("> 1 member all 0 0 0 1\n= yes\r\n", "wrong 2\n"),
+    ];
+    for (report, want) in rows {
+        let (status, told) = run_on(&rt, rt.alloc(), &["check"], report.as_bytes())?;
+        let accepted = want == "accepted\n";
+        assert_eq!(rt;
+            status,
+            if accepted { DONE } else { REFUSED },
+            "on {report:?}"
+        );
+        assert_eq!(rt; told.as_slice(), want.as_bytes(), "on {report:?}");
+    }
+    Ok(())
+}
+
+#[test]
+fn accepts_what_was_written(rt: HostRuntime) -> Result<(), Fail> {
+    let script =
+        "let a = box 0 0 0 10 10 10\nshow minus name a box 0 0 0 4 10 10\nwalk\n\nregister lot-7 name a\nregister lot-8 name a\ncut lot-7 half 1 0 0 -5 east west\nneighbours east\n";
+    let (_, report) = run_on(&rt, rt.alloc(), &["run"], script.as_bytes())?;
+    let (status, told) = run_on(&rt, rt.alloc(), &["check"], &report)?;
+    assert_eq!(rt; status, DONE);
+    assert_eq!(rt; told.as_slice(), b"accepted\n".as_slice());
+    Ok(())
+}
+
+#[test]
+fn makes_scripts_from_their_seeds(rt: HostRuntime) -> Result<(), Fail> {
+    let rows = [
+        (
+            ["make", "1", "0"],
+            "register s0 box 0 0 0 60000 40000 3000\ncut s0 half 1 6 0 -150000 s0a s0b\nneighbours s0a\naudit\nlist\n",
+        ),
+        (
+            ["make", "2", "18446744073709551615"],
+            "register s0 box 0 0 0 60000 40000 3000\ncut s0 half 6 8 0 -340000 s0a s0b\nneighbours s0a\nregister s1 box 0 0 3000 60000 40000 6000\ncut s1 half 1 1 0 -50000 s1a s1b\nneighbours s1a\naudit\nlist\n",
+        ),
+        (
+            ["trial", "1", "0"],
+            "lines 5\nrefused 0\nlive 2\nproofs 16\n",
+        ),
+    ];
+    // Nothing is read, so what the source has is no matter.
+    for (words, want) in rows {
+        let (status, told) = run_on(&rt, rt.alloc(), words.as_slice(), b"walk\n")?;
+        assert_eq!(rt; status, DONE, "on {words:?}");
+        assert_eq!(rt; told.as_slice(), want.as_bytes(), "on {words:?}");
+    }
+    Ok(())
+}
+
+#[test]
+fn numbers_of_words_have_one_spelling_and_bounds(rt: HostRuntime) -> Result<(), Fail> {
+    let rows = [
+        ("0", "0"),
+        ("1001", "0"),
+        ("01", "0"),
+        ("+1", "0"),
+        ("-1", "0"),
+        ("", "0"),
+        ("1", ""),
+        ("1", "00"),
+        ("1", "-0"),
+        ("1", "1a"),
+        ("1", "18446744073709551616"),
+    ];
+    for (storeys, seed) in rows {
+        for word in ["make", "trial"] {
+            let (status, told) = run_on(&rt, rt.alloc(), &[word, storeys, seed], b"")?;
+            assert_eq!(rt; status, UNLISTED, "on {word} {storeys:?} {seed:?}");
+            assert_eq!(rt; told.len(), 0);
+        }
+    }
+    Ok(())
+}
+
+#[test]
 fn writes_nothing_where_a_read_fails(rt: HostRuntime) -> Result<(), Fail> {
     let alloc = rt.alloc();
     let words = words_of(alloc, &["run"])?;
@@ -255,23 +383,33 @@ fn knows_no_other_words(rt: HostRuntime) -> Result<(), Fail> {
     Ok(())
 }
 
-/// The status on a script of so many line ends.
+/// The status and the count of bytes put, on so many line ends.
 fn status_on_line_ends<R: Threads + Sync>(
     rt: &R,
     alloc: Global,
+    word: &str,
     count: usize,
 ) -> Result<(u8, usize), AllocError> {
-    let script = vec![in alloc; b'\n'; count]?;
-    let (status, told) = run_on(rt, alloc, &["run"], &script)?;
+    let input = vec![in alloc; b'\n'; count]?;
+    let (status, told) = run_on(rt, alloc, &[word], &input)?;
     Ok((status, told.len()))
 }
 
 #[test]
 fn takes_sixteen_million_bytes_and_no_more(rt: HostRuntime) -> Result<(), Fail> {
     for (count, want) in [(16_777_216, DONE), (16_777_217, TOO_LONG)] {
-        let (status, length) = status_on_line_ends(&rt, rt.alloc(), count)?;
+        let (status, length) = status_on_line_ends(&rt, rt.alloc(), "run", count)?;
         assert_eq!(rt; status, want);
         assert_eq!(rt; length, 0);
     }
+    Ok(())
+}
+
+#[test]
+fn checks_longer_reports_than_scripts(rt: HostRuntime) -> Result<(), Fail> {
+    let (status, length) = status_on_line_ends(&rt, rt.alloc(), "check", 16_777_217)?;
+    // An empty line is no line of a report.
+    assert_eq!(rt; status, REFUSED);
+    assert_eq!(rt; length, b"wrong 1\n".len());
     Ok(())
 }

@@ -1,16 +1,22 @@
-ghost use Rattle.std.specs.Prelude.{◌≡◌, ◌≢◌, ◌⊎◌, ◌↔◌, ◌<◌, ◌≤◌, [], length, map, string_bytes, IfErr, IfOk, IfSome};
+ghost use Rattle.std.specs.Prelude.{◌≡◌, ◌≢◌, ◌⊎◌, ◌↔◌, ◌<◌, ◌≤◌, [], false, length, map, string_bytes, IfErr, IfOk, IfSome, IsTrue, List, OnOk, ℕ};
 ghost use Rattle.rp_io.specs.Faults.{HasRisen};
-ghost use Rattle.rp_reports.specs.Output.{task_so_far, most_script_bytes};
+ghost use Rattle.rp_reports.specs.Output.{check_report, most_report_bytes, most_script_bytes, report_lines, task_of};
+ghost use Rattle.rp_reports.specs.TrueReport.{IsTrueReport};
+ghost use Rattle.rp_tool.specs.Check.{IsWrittenReport};
 ghost use Rattle.rp_tool.specs.Intake.{IsPastLimit};
 ghost use Rattle.rp_tool.specs.Output.{PutsOutput, HasOutputCause};
-ghost use Rattle.rp_tool.specs.Status.{IsOutputOf, meaning_of, status_of_intake, status_of_output};
+ghost use Rattle.rp_tool.specs.Status.{IsOutputOf, meaning_of_given, meaning_of_made, most_input_bytes, reads_input, status_of_fault, status_of_intake, status_of_made, status_of_output};
 
+use super::building::Building;
+use super::check::check;
 use super::fault::OutputFault;
 use super::intake::{IntakeFault, read_whole};
+use super::make::make;
 use super::run::run;
 use super::spell::spell;
 use super::status::{DONE, OUT_OF_MEMORY, PUT_FAILED, READ_FAILED, REFUSED, TOO_LONG, UNLISTED};
-use super::task::{Task, listed_task};
+use super::task::{GivenTask, MadeTask, Task, listed_task};
+use super::trial::trial;
 use rp_io::{Sink, Source};
 use std::alloc::Global;
 use std::thread::Threads;
@@ -18,15 +24,25 @@ use std::thread::Threads;
 /// The most bytes of a script.
 const MOST_SCRIPT_BYTES: usize = 16_777_216;
 
+/// The most bytes of a report that is checked.
+const MOST_REPORT_BYTES: usize = 67_108_864;
+
 /// Does what the words of a command line ask for: reads the source to its end, writes the output to the sink, and
 /// answers a status.
 ///
-/// Two lists of words are listed. The input is a script of at most 16,777,216 bytes for both, and the output has one put
-/// for each line.
+/// These words are listed. The input is a script of at most 16,777,216 bytes, with `check` a report of at most 67,108,864
+/// bytes. The output has one put for each line.
 ///
 /// - `run`: the output is the report of the script. Refused is what a verdict line says is refused.
+/// - `run brief`: the same without the proof lines.
+/// - `check`: the output is `accepted`, or `wrong n` with the number of the first line at which no accepted report goes on.
+///   Refused is a report that is not accepted.
 /// - `script`: the output is each command of the script in its one spelling. Blank and bad lines are left out. Refused
 ///   are the bad lines: those that are neither blank nor a command.
+/// - `make N SEED`, N from 1 to 1,000 and SEED from 0 to 18,446,744,073,709,551,615, in the spelling of a script: nothing is
+///   read, and the output is the script of a building of N storeys, drawn from the seed. Nothing is refused.
+/// - `trial N SEED`, with the same numbers: nothing is read, and the output is what is counted in the report of that script.
+///   Nothing is refused.
 ///
 /// What each status says stands in [`crate::status`].
 pub fn tool<R: Threads + Sync, S: Source, K: Sink>(
@@ -39,55 +55,97 @@ pub fn tool<R: Threads + Sync, S: Source, K: Sink>(
     ensures status { result ≤ TOO_LONG }
     ensures counts { (S.faults source.old ≤ S.faults source.new) × (K.faults sink.old ≤ K.faults sink.new) }
 
-    // The input was read to its end, and the whole output was written.
+    // The whole output was written, and the input was read to its end.
     ensures whole { result ≤ REFUSED → IfSome (S.left source.old) (λ input.
         IsOutputOf (map string_bytes words.now) input (K.said sink.old) (K.said sink.new) result) }
-    ensures at_end { result ≤ REFUSED → IfSome (S.left source.old) (λ _. S.left source.new ≡ Some []) }
+    ensures at_end { result ≤ REFUSED → IsTrue (reads_input (map string_bytes words.now))
+        → IfSome (S.left source.old) (λ _. S.left source.new ≡ Some []) }
+
+    // Words that read no input: whatever the source has, nothing is read, and the output is the same.
+    ensures unread { reads_input (map string_bytes words.now) ≡ false → source.new ≡ source.old }
+    ensures made { result ≤ REFUSED → reads_input (map string_bytes words.now) ≡ false
+        → IsOutputOf (map string_bytes words.now) [] (K.said sink.old) (K.said sink.new) result }
+    ensures makes { task_of (map string_bytes words.now) ≢ None → reads_input (map string_bytes words.now) ≡ false
+        → (¬ HasRisen (K.faults sink.old) (K.faults sink.new)) → (result ≡ DONE) ⊎ (result ≡ OUT_OF_MEMORY) }
 
     // Nothing is read or written for words that are not listed.
-    ensures unlisted { (result ≡ UNLISTED) ↔ (task_so_far (map string_bytes words.now) ≡ None) }
+    ensures unlisted { (result ≡ UNLISTED) ↔ (task_of (map string_bytes words.now) ≡ None) }
     ensures untouched { result ≡ UNLISTED → (source.new ≡ source.old) × (sink.new ≡ sink.old) }
 
     // What each other status says.
     ensures read_failed { result ≡ READ_FAILED → HasRisen (S.faults source.old) (S.faults source.new) }
     ensures put_failed { result ≡ PUT_FAILED → HasRisen (K.faults sink.old) (K.faults sink.new) }
-    ensures too_long { result ≡ TOO_LONG → IsPastLimit (S.left source.old) most_script_bytes }
+    ensures too_long { result ≡ TOO_LONG → IsPastLimit (S.left source.old) (most_input_bytes (map string_bytes words.now)) }
     ensures nothing_written { (result ≡ READ_FAILED) ⊎ (result ≡ TOO_LONG) → sink.new ≡ sink.old }
 
-    // When an input past the limit is refused, and when one within it is done.
-    ensures refuses { task_so_far (map string_bytes words.now) ≢ None
+    // When an input past the limit of its task is refused, and when one within it is done.
+    ensures refuses { IsTrue (reads_input (map string_bytes words.now))
         → (¬ HasRisen (S.faults source.old) (S.faults source.new))
-        → IfSome (S.left source.old) (λ input. most_script_bytes < length input → (result ≡ TOO_LONG) ⊎ (result ≡ OUT_OF_MEMORY)) }
-    ensures completes { task_so_far (map string_bytes words.now) ≢ None
+        → IfSome (S.left source.old) (λ input. most_input_bytes (map string_bytes words.now) < length input → (result ≡ TOO_LONG) ⊎ (result ≡ OUT_OF_MEMORY)) }
+    ensures completes { task_of (map string_bytes words.now) ≢ None
         → (¬ HasRisen (S.faults source.old) (S.faults source.new)) → (¬ HasRisen (K.faults sink.old) (K.faults sink.new))
-        → IfSome (S.left source.old) (λ input. length input ≤ most_script_bytes → (result ≤ REFUSED) ⊎ (result ≡ OUT_OF_MEMORY)) }
+        → IfSome (S.left source.old) (λ input. length input ≤ most_input_bytes (map string_bytes words.now) → (result ≤ REFUSED) ⊎ (result ≡ OUT_OF_MEMORY)) }
+
+    // A report that is accepted is true, whoever wrote it, and one that was written whole is accepted.
+    ensures is_true { result ≡ DONE → task_of (map string_bytes words.now) ≡ Some check_report
+        → IfSome (S.left source.old) (λ input. IsTrueReport (report_lines input)) }
+    ensures accepts { task_of (map string_bytes words.now) ≡ Some check_report
+        → (¬ HasRisen (S.faults source.old) (S.faults source.new)) → (¬ HasRisen (K.faults sink.old) (K.faults sink.new))
+        → IfSome (S.left source.old) (λ input. length input ≤ most_report_bytes → IsWrittenReport input → (result ≡ DONE) ⊎ (result ≡ OUT_OF_MEMORY)) }
 {
     let Some(task) = listed_task(words) else {
         return UNLISTED;
     };
-    match read_whole(alloc, source, MOST_SCRIPT_BYTES) {
-        Ok(script) => output_status(put_output(rt, alloc, task, &script, sink)),
-        Err(fault) => intake_status(fault),
+    match task {
+        Task::Given(task) => match read_whole(alloc, source, MOST_SCRIPT_BYTES) {
+            Ok(script) => output_status(put_given(rt, alloc, task, &script, sink)),
+            Err(fault) => intake_status(fault),
+        },
+        Task::Check => match read_whole(alloc, source, MOST_REPORT_BYTES) {
+            Ok(report) => output_status(check(alloc, &report, sink)),
+            Err(fault) => intake_status(fault),
+        },
+        Task::Made(task, building) => made_status(put_made(rt, alloc, task, building, sink)),
     }
 }
 
-/// Puts the output of a task on a script. Answers whether something was refused.
-fn put_output<R: Threads + Sync, K: Sink>(
+/// Puts the output of a task on a script that was read. Answers whether something was refused.
+fn put_given<R: Threads + Sync, K: Sink>(
     rt: &R,
     alloc: Global,
-    task: Task,
+    task: GivenTask,
     script: &[u8],
     sink: &mut K,
 ) -> Result<bool, OutputFault>
     requires { length script.now ≤ most_script_bytes }
     ensures counts { K.faults sink.old ≤ K.faults sink.new }
     ensures output { IfOk result (λ refused.
-        PutsOutput (meaning_of task) script.now (K.said sink.old) (K.said sink.new) refused) }
+        PutsOutput (meaning_of_given task) script.now (K.said sink.old) (K.said sink.new) refused) }
     ensures cause { IfErr result (HasOutputCause (K.faults sink.old) (K.faults sink.new)) }
 {
     match task {
-        Task::Run => run(rt, alloc, script, sink),
-        Task::Script => spell(alloc, script, sink),
+        GivenTask::Run => run(rt, alloc, script, false, sink),
+        GivenTask::RunBrief => run(rt, alloc, script, true, sink),
+        GivenTask::Spell => spell(alloc, script, sink),
+    }
+}
+
+/// Puts the output of a task on the script of a building. Nothing can be refused.
+fn put_made<R: Threads + Sync, K: Sink>(
+    rt: &R,
+    alloc: Global,
+    task: MadeTask,
+    building: Building,
+    sink: &mut K,
+) -> Result<(), OutputFault>
+    ensures counts { K.faults sink.old ≤ K.faults sink.new }
+    ensures output { OnOk result ((input : List ℕ) →
+        PutsOutput (meaning_of_made task building.storeys building.seed) input (K.said sink.old) (K.said sink.new) false) }
+    ensures cause { IfErr result (HasOutputCause (K.faults sink.old) (K.faults sink.new)) }
+{
+    match task {
+        MadeTask::Write => make(alloc, building, sink),
+        MadeTask::Try => trial(rt, alloc, building, sink),
     }
 }
 
@@ -98,8 +156,27 @@ fn output_status(outcome: Result<bool, OutputFault>) -> u8
     match outcome {
         Ok(false) => DONE,
         Ok(true) => REFUSED,
-        Err(OutputFault::Put) => PUT_FAILED,
-        Err(OutputFault::Memory(_)) => OUT_OF_MEMORY,
+        Err(fault) => fault_status(fault),
+    }
+}
+
+/// The status of an output in which nothing can be refused.
+fn made_status(outcome: Result<(), OutputFault>) -> u8
+    ensures { result ≡ status_of_made outcome }
+{
+    match outcome {
+        Ok(()) => DONE,
+        Err(fault) => fault_status(fault),
+    }
+}
+
+/// The status where an output was not put whole.
+fn fault_status(fault: OutputFault) -> u8
+    ensures { result ≡ status_of_fault fault }
+{
+    match fault {
+        OutputFault::Put => PUT_FAILED,
+        OutputFault::Memory(_) => OUT_OF_MEMORY,
     }
 }
 

@@ -5,6 +5,6 @@ use Rattle.rp_tool.proofs.RefusalLemmas.{refuses, list_any-lines}
 use Rattle.rp_tool.proofs.refusal.has_refusal.Goals as goal
 
 pub returns : goal.returns
-returns c =
+returns c = λ brief.
     c.any_refusal.ensures ∙ ap (list_any refuses) c.items.ensures
-    ∙ sym (list_any-lines (answer_of c.args.answer.now) c.args.answer.now.verdicts.items)
+    ∙ sym (list_any-lines brief (answer_of c.args.answer.now) c.args.answer.now.verdicts.items)

@@ -11,7 +11,7 @@ loop-line-init g c =
       counts = omega arith;
       number = omega (arith, c.requires);
       later = subst (λ (s : PlainState). IsLaterThan 1 (state_of_parts s)) (sym c.in_ok-machine.ensures) (record { births = tt; ends = tt });
-      told = HasTold-start c.args.script.now said c.in_ok-machine.machine c.in_ok-machine.ensures;
+      told = HasTold-start c.args.brief c.args.script.now said c.in_ok-machine.machine c.in_ok-machine.ensures;
     }
 
 pub loop-line-preserved : goal.loop-line-preserved
@@ -21,7 +21,7 @@ loop-line-preserved g c =
       number = omega (arith, c.loop-line.invariant.number, c.in-Some.ensures.shorter);
       later = c.in_ok-refused.ensures.later;
       told =
-          HasTold-more c.args.script.now (g.K.Sink.said c.args.sink.now) (g.K.Sink.said c.loop-line.sink) (g.K.Sink.said c.run_line.new.sink)
+          HasTold-more c.args.brief c.args.script.now (g.K.Sink.said c.args.sink.now) (g.K.Sink.said c.loop-line.sink) (g.K.Sink.said c.run_line.new.sink)
           c.loop-line.machine c.run_line.new.machine c.loop-line.number
           c.loop-line.rest.now c.in-Some.line.now c.in-Some.behind.now c.loop-line.refused c.in_ok-refused.field-0 c.loop-line.invariant.told
           c.in-Some.ensures.next c.in_ok-refused.ensures.answer c.in_ok-refused.ensures.state;
@@ -29,5 +29,5 @@ loop-line-preserved g c =
 
 pub returns-clause-report : goal.returns-clause-report
 returns-clause-report g c =
-    PutsOutput-run c.args.script.now (g.K.Sink.said c.args.sink.now) (g.K.Sink.said c.loop-line.sink) c.loop-line.machine c.loop-line.number c.loop-line.rest.now
+    PutsOutput-run c.args.brief c.args.script.now (g.K.Sink.said c.args.sink.now) (g.K.Sink.said c.loop-line.sink) c.loop-line.machine c.loop-line.number c.loop-line.rest.now
     c.loop-line.refused c.loop-line.invariant.told c.in_default.ensures.end

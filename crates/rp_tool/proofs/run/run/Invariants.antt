@@ -11,7 +11,7 @@ invariant-loop-line g l =
       counts : g.K.Sink.faults l.fn.sink ≤ g.K.Sink.faults l.sink;
       number : l.number + length l.rest ≤ most_script_bytes + 1;
       later : IsLaterThan l.number (state_of_parts l.machine);
-      told : HasTold l.script (g.K.Sink.said l.fn.sink) (g.K.Sink.said l.sink) l.machine l.number l.rest l.refused;
+      told : HasTold l.brief l.script (g.K.Sink.said l.fn.sink) (g.K.Sink.said l.sink) l.machine l.number l.rest l.refused;
     }
 
 abbrev pub decreases-loop-line : goal.decreases-loop-line

@@ -1,0 +1,60 @@
+-- The outputs of tasks, where the status says that all was written.
+use Rattle.std.proofs.Common.{◌≡◌, ℕ, ◌≤◌, Bool, true, false, IsTrue, List, Option, Some, None, IfSome, Result, Ok, Err, IfOk, refl, sym, ◌∙◌, subst, arith}
+use Rattle.std.specs.Result.{OnOk}
+use Rattle.rp_io.specs.Bytes.{Appends}
+use Rattle.rp_reports.specs.Output.{Task, make_script, try_script, task_of}
+use Rattle.rp_reports.specs.Made.{made_script, trial_lines}
+use Rattle.rp_reports.specs.Text.{text_of_lines}
+use Rattle.rp_tool.specs.Output.{PutsOutput}
+use Rattle.rp_tool.specs.declared.task.MadeTask.{MadeTask}
+use Rattle.rp_tool.specs.declared.task.MadeTask.TheVariants.{Write, Try}
+use Rattle.rp_tool.specs.declared.fault.OutputFault.{OutputFault}
+use Rattle.rp_tool.specs.declared.fault.OutputFault.TheVariants.{Put, Memory}
+use Rattle.rp_tool.specs.declared.status.TheConstants.{REFUSED}
+use Rattle.rp_tool.specs.Intake.{IsWhole}
+use Rattle.rp_tool.specs.Status.{IsOutputOf, meaning_of_made, status_of_made, status_of_output}
+
+-- nothing is refused in a made script that is written
+pub PutsOutput-make : (n seed : ℕ) (input : List ℕ) (old now : Option (List ℕ)) → Appends old now (text_of_lines (made_script n seed)) → PutsOutput (make_script n seed) input old now false
+PutsOutput-make n seed input old now h = record { lines = made_script n seed; output = refl; text = h; mark = ((λ (h : IsTrue false). absurd (cc)), λ r. absurd r) }
+
+-- nor in its summary
+pub PutsOutput-trial : (n seed : ℕ) (input : List ℕ) (old now : Option (List ℕ)) → Appends old now (text_of_lines (trial_lines n seed)) → PutsOutput (try_script n seed) input old now false
+PutsOutput-trial n seed input old now h = record { lines = trial_lines n seed; output = refl; text = h; mark = ((λ (h : IsTrue false). absurd (cc)), λ r. absurd r) }
+
+-- the output of a call that wrote the script
+pub OnOk-make : {X E : Type 0} (r : Result X E) (t : MadeTask) (n seed : ℕ) (old now : Option (List ℕ)) → t ≡ Write → OnOk r (Appends old now (text_of_lines (made_script n seed)))
+    → OnOk r ((input : List ℕ) → PutsOutput (meaning_of_made t n seed) input old now false)
+OnOk-make (Ok x) t n seed old now e h = λ input. subst (λ (u : MadeTask). PutsOutput (meaning_of_made u n seed) input old now false) (sym e) (PutsOutput-make n seed input old now h)
+OnOk-make (Err x) t n seed old now e h = tt
+
+-- the output of a call that wrote its summary
+pub OnOk-trial : {X E : Type 0} (r : Result X E) (t : MadeTask) (n seed : ℕ) (old now : Option (List ℕ)) → t ≡ Try → OnOk r (Appends old now (text_of_lines (trial_lines n seed)))
+    → OnOk r ((input : List ℕ) → PutsOutput (meaning_of_made t n seed) input old now false)
+OnOk-trial (Ok x) t n seed old now e h = λ input. subst (λ (u : MadeTask). PutsOutput (meaning_of_made u n seed) input old now false) (sym e) (PutsOutput-trial n seed input old now h)
+OnOk-trial (Err x) t n seed old now e h = tt
+
+-- where the status says that all was written, the output of the words is there
+pub IsOutputOf-made : (outcome : Result (Unit {0}) OutputFault) (words : List (List ℕ)) (task : Task) (status : ℕ) (input : List ℕ) (old now : Option (List ℕ)) → status ≡ status_of_made outcome → status ≤ REFUSED
+    → task_of words ≡ Some task → OnOk outcome ((any : List ℕ) → PutsOutput task any old now false) → IsOutputOf words input old now status
+IsOutputOf-made (Ok done) words task status input old now e low listed puts =
+    let h = puts input in
+    record { task = task; lines = h.lines; listed = listed; output = h.output; written = h.text; refused = ((λ one. absurd (omega (arith, e, one))), λ r. let no : IsTrue false = h.mark.1 r in absurd (cc)) }
+IsOutputOf-made (Err Put) words task status input old now e low listed puts = absurd (omega (arith, e, low))
+IsOutputOf-made (Err (Memory x)) words task status input old now e low listed puts = absurd (omega (arith, e, low))
+
+-- the output of a task on bytes that were read, where the status says that all was written
+pub IsOutputOf-read : (outcome : Result Bool OutputFault) (words : List (List ℕ)) (task : Task) (status : ℕ) (bytes : List ℕ) (old now : Option (List ℕ)) → status ≡ status_of_output outcome → status ≤ REFUSED
+    → task_of words ≡ Some task → IfOk outcome (λ refused. PutsOutput task bytes old now refused) → IsOutputOf words bytes old now status
+IsOutputOf-read (Ok true) words task status bytes old now e low listed h =
+    record { task = task; lines = h.lines; listed = listed; output = h.output; written = h.text; refused = ((λ one. h.mark.0 refl), λ r. omega (arith, e)) }
+IsOutputOf-read (Ok false) words task status bytes old now e low listed h =
+    record { task = task; lines = h.lines; listed = listed; output = h.output; written = h.text; refused = ((λ one. absurd (omega (arith, e, one))), λ r. let no : IsTrue false = h.mark.1 r in absurd (cc)) }
+IsOutputOf-read (Err Put) words task status bytes old now e low listed h = absurd (omega (arith, e, low))
+IsOutputOf-read (Err (Memory x)) words task status bytes old now e low listed h = absurd (omega (arith, e, low))
+
+-- the bytes that were read are all that the source had
+pub IsOutputOf-whole : (before after : Option (List ℕ)) (words : List (List ℕ)) (status : ℕ) (bytes whole : List ℕ) (old now : Option (List ℕ)) → IsWhole before after whole → bytes ≡ whole
+    → IsOutputOf words bytes old now status → IfSome before (λ input. IsOutputOf words input old now status)
+IsOutputOf-whole None after words status bytes whole old now w e h = tt
+IsOutputOf-whole (Some left) after words status bytes whole old now w e h = subst (λ (input : List ℕ). IsOutputOf words input old now status) (e ∙ w.0) h

@@ -1,0 +1,46 @@
+use Rattle.std.proofs.Common.{◌≡◌, ℕ, List, [], Option, Some, None, IfSome, map, string_bytes, sym, ap, ◌∙◌}
+use Rattle.std.specs.Option.{option_map}
+use Rattle.rp_reports.specs.Output.{check_report, task_of}
+use Rattle.rp_tool.specs.declared.task.Task.{Task}
+use Rattle.rp_tool.specs.declared.task.Task.TheVariants.{Check, Made}
+use Rattle.rp_tool.specs.Status.{meaning_of, meaning_of_made}
+use Rattle.rp_tool.proofs.TaskLemmas.{IsOutputOf-made, IsOutputOf-read, IsOutputOf-whole}
+use Rattle.rp_tool.proofs.top.tool.Goals as goal
+
+-- what the words name
+listed : (words : List (List ℕ)) (found : Option Task) (task made : Task) → option_map meaning_of found ≡ task_of words → found ≡ Some task → task ≡ made → task_of words ≡ Some (meaning_of made)
+listed words found task made e is made_is = sym e ∙ ap (option_map meaning_of) is ∙ ap (λ (t : Task). Some (meaning_of t)) made_is
+
+-- what holds of every list holds of one that may be there
+for_some : (P : List ℕ → Type 0) (left : Option (List ℕ)) → ((input : List ℕ) → P input) → IfSome left P
+for_some P None all = tt
+for_some P (Some input) all = all input
+
+pub returns-in-Made-clause-whole : goal.returns-in-Made-clause-whole
+returns-in-Made-clause-whole g c = λ low.
+    let words = map string_bytes c.args.words.now in
+    let task = meaning_of_made c.in-Made.task c.in-Made.building.storeys c.in-Made.building.seed in
+    let old = g.K.Sink.said c.args.sink.now in
+    let now = g.K.Sink.said c.put_made.new.sink in
+    for_some _ (g.S.Source.left c.args.source.now)
+    (λ input. IsOutputOf-made c.put_made.result words task c.made_status.result input old now c.made_status.ensures low
+    (listed words c.listed_task.result c.in-Some.task (Made c.in-Made.task c.in-Made.building) c.listed_task.ensures c.in-Some.is c.in-Made.is) c.put_made.ensures.output)
+
+pub returns-in-Made-clause-made : goal.returns-in-Made-clause-made
+returns-in-Made-clause-made g c = λ low unread.
+    let words = map string_bytes c.args.words.now in
+    let task = meaning_of_made c.in-Made.task c.in-Made.building.storeys c.in-Made.building.seed in
+    IsOutputOf-made c.put_made.result words task c.made_status.result [] (g.K.Sink.said c.args.sink.now) (g.K.Sink.said c.put_made.new.sink) c.made_status.ensures low
+    (listed words c.listed_task.result c.in-Some.task (Made c.in-Made.task c.in-Made.building) c.listed_task.ensures c.in-Some.is c.in-Made.is) c.put_made.ensures.output
+
+pub returns-in-Ok-read_whole-clause-whole : goal.returns-in-Ok-read_whole-clause-whole
+returns-in-Ok-read_whole-clause-whole g c = λ low.
+    let words = map string_bytes c.args.words.now in
+    let status = c.output_status-in-Ok-read_whole.result in
+    let bytes = c.deref-in-Ok-read_whole.result.now in
+    let old = g.K.Sink.said c.args.sink.now in
+    let now = g.K.Sink.said c.check.new.sink in
+    IsOutputOf-whole (g.S.Source.left c.args.source.now) (g.S.Source.left c.read_whole-in-Check.new.source) words status bytes c.in-Ok-read_whole.report.items old now
+    c.in-Ok-read_whole.ensures.whole c.deref-in-Ok-read_whole.ensures.value
+    (IsOutputOf-read c.check.result words check_report status bytes old now c.output_status-in-Ok-read_whole.ensures low
+    (listed words c.listed_task.result c.in-Some.task Check c.listed_task.ensures c.in-Some.is c.in-Check.is) c.check.ensures.finding)

@@ -1,0 +1,29 @@
+ghost use Rattle.std.specs.Prelude.{◌≤◌, IfErr, OnOk};
+ghost use Rattle.rp_io.specs.Bytes.{Appends};
+ghost use Rattle.rp_reports.specs.Made.{made_script};
+ghost use Rattle.rp_reports.specs.Text.{text_of_lines};
+ghost use Rattle.rp_tool.specs.Output.{HasOutputCause};
+
+use super::building::Building;
+use super::fault::OutputFault;
+use super::made::MadeScript;
+use rp_io::Sink;
+use std::alloc::Global;
+
+/// Puts the script of a building, one put for each line. It is not held whole.
+pub fn make<K: Sink>(alloc: Global, building: Building, sink: &mut K) -> Result<(), OutputFault>
+    ensures counts { K.faults sink.old ≤ K.faults sink.new }
+    ensures script { OnOk result (Appends (K.said sink.old) (K.said sink.new)
+        (text_of_lines (made_script building.storeys building.seed))) }
+    ensures cause { IfErr result (HasOutputCause (K.faults sink.old) (K.faults sink.new)) }
+{
+    let mut script = MadeScript::new(building);
+    let mut text = Vec::new(alloc);
+    while let Some(line) = script.next_line() {
+        text.clear();
+        line.write(&mut text)?;
+        text.extend_from_slice(b"\n")?;
+        sink.put(&text)?;
+    }
+    Ok(())
+}

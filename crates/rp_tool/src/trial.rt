@@ -1,0 +1,32 @@
+ghost use Rattle.std.specs.Prelude.{◌≤◌, IfErr, OnOk};
+ghost use Rattle.rp_io.specs.Bytes.{Appends};
+ghost use Rattle.rp_reports.specs.Made.{trial_lines};
+ghost use Rattle.rp_reports.specs.Text.{text_of_lines};
+ghost use Rattle.rp_tool.specs.Output.{HasOutputCause};
+
+use super::building::Building;
+use super::fault::OutputFault;
+use super::output::put_lines;
+use super::summary::{summary_of, write_summary};
+use rp_io::Sink;
+use std::alloc::Global;
+use std::thread::Threads;
+
+/// Runs the script of a building, and puts the summary of its report, one put for each line.
+pub fn trial<R: Threads + Sync, K: Sink>(
+    rt: &R,
+    alloc: Global,
+    building: Building,
+    sink: &mut K,
+) -> Result<(), OutputFault>
+    ensures counts { K.faults sink.old ≤ K.faults sink.new }
+    ensures summary { OnOk result (Appends (K.said sink.old) (K.said sink.new)
+        (text_of_lines (trial_lines building.storeys building.seed))) }
+    ensures cause { IfErr result (HasOutputCause (K.faults sink.old) (K.faults sink.new)) }
+{
+    let summary = summary_of(rt, alloc, building)?;
+    let mut text = Vec::new(alloc);
+    write_summary(&summary, &mut text)?;
+    put_lines(sink, &text)?;
+    Ok(())
+}
