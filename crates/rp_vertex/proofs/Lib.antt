@@ -1,4 +1,7 @@
 mod InBounds
 mod Joined
+mod Lines
 mod Rounded
+mod Span
 mod Tested
+mod Unwanted

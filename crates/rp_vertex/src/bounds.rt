@@ -10,7 +10,9 @@ ghost use Rattle.rp_geometry.specs.searches.Search.{all_of_pairs, all_of_triples
 ghost use Rattle.rp_geometry.specs.searches.Vertex.{any_point, vertex_at, vertices};
 ghost use Rattle.rp_space.specs.Boxes.{integer_box};
 ghost use Rattle.rp_vertex.specs.Joined.{HasCube, joined};
+ghost use Rattle.rp_vertex.specs.Line.{HoldsVertices};
 
+use crate::line::{Line, line_of};
 use crate::search::are_nonnegative;
 use rp_space::{Half, IntBox, Meeting, Pair, with_cube};
 
@@ -66,10 +68,30 @@ fn joined_with_two(
     requires { HasCube system.now }
     ensures { option_map integer_box result ≡ joined (option_map integer_box bounds) (filter_map (vertex_at any_point system.now pair.now.first pair.now.second) others.now) }
 {
+    let line = line_of(system, pair);
     for h in others {
-        bounds = joined_with_three(bounds, system, pair, h);
+        bounds = joined_on(bounds, system, pair, &line, h);
     }
     bounds
+}
+
+/// The least box that holds a box and the vertex of three planes, if there is one and it is not passed over on the line of
+/// two of them.
+fn joined_on(
+    bounds: Option<IntBox>,
+    system: &[Half],
+    pair: &Pair,
+    line: &Line,
+    h: &Half,
+) -> Option<IntBox>
+    requires cube { HasCube system.now }
+    requires line { HoldsVertices system.now pair.now line.now }
+    ensures { option_map integer_box result ≡ joined (option_map integer_box bounds) (option_to_list (vertex_at any_point system.now pair.now.first pair.now.second h.now)) }
+{
+    if line.passes(h) {
+        return bounds;
+    }
+    joined_with_three(bounds, system, pair, h)
 }
 
 /// The least box that holds a box and the meeting point of three planes, where it is a vertex. The point is not put into

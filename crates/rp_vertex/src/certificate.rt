@@ -6,9 +6,10 @@ ghost use Rattle.rp_geometry.specs.sets.Sets.{IsEmpty};
 ghost use Rattle.rp_geometry.specs.searches.Certificate.{is_inside_certificate};
 ghost use Rattle.rp_geometry.specs.searches.Vertex.{first_inside, first_weak_point, first_vertex, any_point, points_from};
 ghost use Rattle.rp_geometry.specs.laws.CellLaws.{IsSolution};
+ghost use Rattle.rp_vertex.specs.Joined.{HasCube};
 
 use crate::flat::flat_at;
-use crate::search::{Wanted, first_vertex};
+use crate::search::{Wanted, Way, first_vertex};
 use rp_space::{Half, Inside, Point, with_cube};
 
 /// The first inside certificate of a cell: the first vertex of the cell with the domain cube, and then, as long as a
@@ -23,7 +24,18 @@ pub fn first_inside(cell: &[Half]) -> Option<Inside>
     ensures none { IsNone result ↔ IsEmpty (shape_of_cell cell.now) }
 {
     let system = with_cube(cell);
-    first_points(system.as_slice())
+    first_points(Way::Lines, system.as_slice())
+}
+
+/// The same, by a search over all triples of planes: to compare the times.
+pub fn first_inside_over_triples(cell: &[Half]) -> Option<Inside>
+    requires { length cell.now ≤ 64 }
+    ensures first { result ≡ first_inside cell.now }
+    ensures passes { IfSome result (λ points. IsTrue (is_inside_certificate cell.now points)) }
+    ensures none { IsNone result ↔ IsEmpty (shape_of_cell cell.now) }
+{
+    let system = with_cube(cell);
+    first_points(Way::Triples, system.as_slice())
 }
 
 /// The first weak point of a cell: the first vertex of the cell with the domain cube. No half-space of the cell and of the
@@ -36,21 +48,23 @@ pub fn first_weak(cell: &[Half]) -> Option<Point>
     ensures none { IsNone result ↔ ((p : RationalPoint) → ¬ IsSolution false cell.now p) }
 {
     let system = with_cube(cell);
-    first_vertex(Wanted::Any, system.as_slice())
+    first_vertex(Way::Lines, Wanted::Any, system.as_slice())
 }
 
 /// The points that are taken of the vertices of a list of half-spaces.
-fn first_points(system: &[Half]) -> Option<Inside>
-    requires { length system.now ≤ 70 }
+fn first_points(way: Way, system: &[Half]) -> Option<Inside>
+    requires few { length system.now ≤ 70 }
+    requires cube { HasCube system.now }
     ensures { result ≡ points_from system.now (first_vertex any_point system.now) }
 {
-    let first = first_vertex(Wanted::Any, system)?;
-    points_from(system, first)
+    let first = first_vertex(way, Wanted::Any, system)?;
+    points_from(way, system, first)
 }
 
 /// The points that are taken from a first one on, which is the first vertex of the list.
-fn points_from(system: &[Half], first: Point) -> Option<Inside>
+fn points_from(way: Way, system: &[Half], first: Point) -> Option<Inside>
     requires few { length system.now ≤ 70 }
+    requires cube { HasCube system.now }
     requires first { first_vertex any_point system.now ≡ Some first }
     ensures { result ≡ points_from system.now (Some first) }
 {
@@ -58,7 +72,7 @@ fn points_from(system: &[Half], first: Point) -> Option<Inside>
     taken.push(first);
     let mut flat = flat_at(system, &first);
     while !flat.is_empty() {
-        let next = first_vertex(Wanted::Lifting(flat.as_slice()), system)?;
+        let next = first_vertex(way, Wanted::Lifting(flat.as_slice()), system)?;
         taken.push(next);
         flat = flat_at(flat.as_slice(), &next);
     }

@@ -5,10 +5,11 @@
 mod bounds;
 mod certificate;
 mod flat;
+mod line;
 mod search;
 
 pub use bounds::box_of_vertices;
-pub use certificate::{first_inside, first_weak};
+pub use certificate::{first_inside, first_inside_over_triples, first_weak};
 
 #[cfg(test)]
 mod tests;

@@ -4,8 +4,11 @@ ghost use Rattle.std.specs.Prelude.{◌≡◌, ◌&&◌};
 ghost use Rattle.rp_geometry.specs.Geometry.{all_nonnegative};
 ghost use Rattle.rp_geometry.specs.searches.Search.{first_of, first_of_pairs};
 ghost use Rattle.rp_geometry.specs.searches.Vertex.{lifts, vertex_at, first_vertex};
-ghost use Rattle.rp_vertex.specs.Wanted.{is_wanted};
+ghost use Rattle.rp_vertex.specs.Joined.{HasCube};
+ghost use Rattle.rp_vertex.specs.Line.{HoldsVertices};
+ghost use Rattle.rp_vertex.specs.Wanted.{are_among, is_wanted, lie_within};
 
+use crate::line::{Line, line_of};
 use rp_space::{Half, Meeting, Pair, Point};
 
 /// Which vertices are wanted.
@@ -17,13 +20,23 @@ pub(crate) enum Wanted<'a> {
     Lifting(&'a [Half]),
 }
 
+/// How the search goes.
+#[derive(Clone, Copy)]
+pub(crate) enum Way {
+    /// All third planes are tried for each two.
+    Triples,
+    /// Those that meet what the list leaves of the line of the two.
+    Lines,
+}
+
 /// The first wanted vertex of a list of half-spaces.
 #[tactic(auto, unfolding(rp_geometry::specs::searches::Vertex::first_vertex))]
-pub(crate) fn first_vertex(wanted: Wanted, system: &[Half]) -> Option<Point>
+pub(crate) fn first_vertex(way: Way, wanted: Wanted, system: &[Half]) -> Option<Point>
+    requires { HasCube system.now }
     ensures { result ≡ first_vertex (is_wanted wanted.entry) system.now }
 {
     for i in 0..system.len() {
-        let found = first_with_one(wanted, system, &system[i], &system[i + 1..]);
+        let found = first_with_one(way, wanted, system, &system[i], &system[i + 1..]);
         if found.is_some() {
             return found;
         }
@@ -32,12 +45,21 @@ pub(crate) fn first_vertex(wanted: Wanted, system: &[Half]) -> Option<Point>
 }
 
 /// The first wanted vertex on the plane of `f` and two planes of `others`.
-fn first_with_one(wanted: Wanted, system: &[Half], f: &Half, others: &[Half]) -> Option<Point>
+fn first_with_one(
+    way: Way,
+    wanted: Wanted,
+    system: &[Half],
+    f: &Half,
+    others: &[Half],
+) -> Option<Point>
+    requires { HasCube system.now }
     ensures { result ≡ first_of_pairs (vertex_at (is_wanted wanted.entry) system.now f.now) others.now }
 {
+    if lie_within(wanted, f, f) {
+        return None;
+    }
     for i in 0..others.len() {
-        let pair = Pair::new(f, &others[i]);
-        let found = first_with_two(wanted, system, &pair, &others[i + 1..]);
+        let found = first_on_both(way, wanted, system, f, &others[i], &others[i + 1..]);
         if found.is_some() {
             return found;
         }
@@ -45,17 +67,83 @@ fn first_with_one(wanted: Wanted, system: &[Half], f: &Half, others: &[Half]) ->
     None
 }
 
+/// The first wanted vertex on the planes of `f` and `g` and one of `others`.
+fn first_on_both(
+    way: Way,
+    wanted: Wanted,
+    system: &[Half],
+    f: &Half,
+    g: &Half,
+    others: &[Half],
+) -> Option<Point>
+    requires { HasCube system.now }
+    ensures { result ≡ first_of (vertex_at (is_wanted wanted.entry) system.now f.now g.now) others.now }
+{
+    if lie_within(wanted, f, g) {
+        return None;
+    }
+    let pair = Pair::new(f, g);
+    let line = line_by(way, system, &pair);
+    first_with_two(wanted, system, &pair, &line, others)
+}
+
+/// Whether no vertex on both planes is wanted, since those wanted are to lift nothing but these two.
+fn lie_within(wanted: Wanted, f: &Half, g: &Half) -> bool
+    ensures { result ≡ lie_within wanted.entry f.now g.now }
+{
+    match wanted {
+        Wanted::Any => false,
+        Wanted::Lifting(flat) => are_among(flat, f, g),
+    }
+}
+
+/// Whether each of the half-spaces is one of two.
+fn are_among(halves: &[Half], f: &Half, g: &Half) -> bool
+    ensures { result ≡ are_among halves.now f.now g.now }
+{
+    halves.iter().all(|half| half == f || half == g)
+}
+
+/// What is known of the line of a pair.
+pub(crate) fn line_by(way: Way, system: &[Half], pair: &Pair) -> Line
+    requires { HasCube system.now }
+    ensures { HoldsVertices system.now pair.now result }
+{
+    match way {
+        Way::Triples => Line::Unknown,
+        Way::Lines => line_of(system, pair),
+    }
+}
+
 /// The first wanted vertex on both planes of a pair and one of `others`.
-fn first_with_two(wanted: Wanted, system: &[Half], pair: &Pair, others: &[Half]) -> Option<Point>
+fn first_with_two(
+    wanted: Wanted,
+    system: &[Half],
+    pair: &Pair,
+    line: &Line,
+    others: &[Half],
+) -> Option<Point>
+    requires { HoldsVertices system.now pair.now line.now }
     ensures { result ≡ first_of (vertex_at (is_wanted wanted.entry) system.now pair.now.first pair.now.second) others.now }
 {
     for h in others {
-        let found = vertex_at(wanted, system, pair, h);
+        let found = vertex_on(wanted, system, pair, line, h);
         if found.is_some() {
             return found;
         }
     }
     None
+}
+
+/// The wanted vertex of three planes, if it is not passed over on the line of two of them.
+fn vertex_on(wanted: Wanted, system: &[Half], pair: &Pair, line: &Line, h: &Half) -> Option<Point>
+    requires { HoldsVertices system.now pair.now line.now }
+    ensures { result ≡ vertex_at (is_wanted wanted.entry) system.now pair.now.first pair.now.second h.now }
+{
+    if line.passes(h) {
+        return None;
+    }
+    vertex_at(wanted, system, pair, h)
 }
 
 /// The meeting point of three planes, where it is a wanted vertex. It is tested before it is put into lowest terms,

@@ -7,5 +7,5 @@ use Rattle.rp_vertex.proofs.bounds.joined_with_two.Goals as goal
 pub loop-h-preserved : goal.loop-h-preserved
 loop-h-preserved c =
     third_more (vertex_at any_point c.args.system.now c.args.pair.now.first c.args.pair.now.second) c.args.others.now c.loop-h.h-index c.h-item.result
-    (option_map integer_box c.loop-h.bounds) (option_map integer_box c.joined_with_three-bounds.result) _ c.loop-h-test.true c.h-item.is
-    c.joined_with_three-bounds.ensures c.loop-h.invariant
+    (option_map integer_box c.loop-h.bounds) (option_map integer_box c.joined_on-bounds.result) _ c.loop-h-test.true c.h-item.is
+    c.joined_on-bounds.ensures c.loop-h.invariant
