@@ -6,12 +6,13 @@ use Rattle.rp_geometry.specs.Geometry.{HalfSpace}
 use Rattle.rp_geometry.specs.searches.Vertex.{first_inside}
 use Rattle.rp_geometry.specs.searches.Elimination.{first_outside}
 use Rattle.rp_bench.specs.declared.search.Search.{Search}
-use Rattle.rp_bench.specs.declared.search.Search.TheVariants.{Decide, Inside, Outside, Apart}
+use Rattle.rp_bench.specs.declared.search.Search.TheVariants.{Decide, Inside, Along, Outside, Apart}
 
 -- the word that asks for a search, and that tells that it found something
 abbrev pub word_of : Search → List ℕ
 word_of Decide = codes "decide"
 word_of Inside = codes "inside"
+word_of Along = codes "along"
 word_of Outside = codes "outside"
 word_of Apart = codes "apart"
 
@@ -22,9 +23,12 @@ search_of word =
       | true ↦ Some Decide
       | false ↦ elim (bytes_eq word (codes "inside")) [
         | true ↦ Some Inside
-        | false ↦ elim (bytes_eq word (codes "outside")) [
-          | true ↦ Some Outside
-          | false ↦ elim (bytes_eq word (codes "apart")) [ true ↦ Some Apart | false ↦ None ]
+        | false ↦ elim (bytes_eq word (codes "along")) [
+          | true ↦ Some Along
+          | false ↦ elim (bytes_eq word (codes "outside")) [
+            | true ↦ Some Outside
+            | false ↦ elim (bytes_eq word (codes "apart")) [ true ↦ Some Apart | false ↦ None ]
+          ]
         ]
       ]
     ]
@@ -33,5 +37,6 @@ search_of word =
 abbrev pub size_found : Search → List HalfSpace → Option ℕ
 size_found Decide cell = elim (first_inside cell) [ Some points ↦ Some (length points) | None ↦ option_map length (first_outside true cell) ]
 size_found Inside cell = option_map length (first_inside cell)
+size_found Along cell = option_map length (first_inside cell)
 size_found Outside cell = option_map length (first_outside true cell)
 size_found Apart cell = option_map length (first_outside false cell)

@@ -6,15 +6,17 @@ ghost use Rattle.rp_bench.specs.Found.{search_of, size_found, word_of};
 use rp_cell::{Strict, decide_strict};
 use rp_elim::first_outside;
 use rp_space::Half;
-use rp_vertex::first_inside;
+use rp_vertex::{first_inside, first_inside_over_triples};
 
 /// A search for a certificate of a cell.
 #[derive(Clone, Copy, Debug, PartialEq, Eq)]
 pub enum Search {
-    /// For the one or the other, over kept vertices.
+    /// For the one or the other, as the program decides.
     Decide,
-    /// For points that show that the cell has a point.
+    /// For points that show that the cell has a point, over triples of planes.
     Inside,
+    /// For the same points, along the lines of two planes.
+    Along,
     /// For multiples of half-spaces that show that it has none.
     Outside,
     /// For multiples of half-spaces that show that its weak system has no point.
@@ -29,6 +31,7 @@ impl Search {
         match word {
             "decide" => Some(Search::Decide),
             "inside" => Some(Search::Inside),
+            "along" => Some(Search::Along),
             "outside" => Some(Search::Outside),
             "apart" => Some(Search::Apart),
             _ => None,
@@ -42,6 +45,7 @@ impl Search {
         match self {
             Search::Decide => "decide",
             Search::Inside => "inside",
+            Search::Along => "along",
             Search::Outside => "outside",
             Search::Apart => "apart",
         }
@@ -56,7 +60,8 @@ impl Search {
     {
         match self {
             Search::Decide => Some(size_decided(cell)),
-            Search::Inside => first_inside(cell).map(|points| points.items().len()),
+            Search::Inside => first_inside_over_triples(cell).map(|points| points.items().len()),
+            Search::Along => first_inside(cell).map(|points| points.items().len()),
             Search::Outside => first_outside(cell, true).map(|terms| terms.items().len()),
             Search::Apart => first_outside(cell, false).map(|terms| terms.items().len()),
         }

@@ -29,10 +29,10 @@ pub fn read_task(words: &[String]) -> Result<Task>
     ensures { IfOk result (λ task. 0 < task.times) }
 {
     let [search, times] = words else {
-        bail!("two words are wanted: decide, inside, outside or apart, and how often")
+        bail!("two words are wanted: decide, inside, along, outside or apart, and how often")
     };
     let Some(search) = Search::of_word(search) else {
-        bail!("not a search: {search}; there are decide, inside, outside and apart")
+        bail!("not a search: {search}; there are decide, inside, along, outside and apart")
     };
     let times = read_times(times)?;
     Ok(Task { search, times })
