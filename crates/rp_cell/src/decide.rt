@@ -12,7 +12,7 @@ ghost use Rattle.rp_cell.specs.Decisions.{line_of_strict, line_of_weak, DecidesS
 use crate::held::Held;
 use rp_elim::{first_outside, first_outside_of_two};
 use rp_space::{Half, Inside, Outside, Point, keep_bounds};
-use rp_vertex::{first_inside, first_weak};
+use rp_vertex::{first_inside, first_weak, inside_on_first, weak_on_first};
 
 /// Whether a cell has a point.
 #[derive(Debug, Drop)]
@@ -52,7 +52,19 @@ pub fn decide_strict(cell: &[Half]) -> Strict
     if cell.len() < FEW {
         return search_strict(cell);
     }
-    hold_strict(cell)
+    try_strict(cell)
+}
+
+/// The same, by a search on the plane of the first half-space, and over vertices where the first point is not on it.
+fn try_strict(cell: &[Half]) -> Strict
+    requires { length cell.now ≤ 64 }
+    ensures decides { DecidesStrict cell.now result }
+    ensures line { line_of_strict result ≡ strict_line cell.now }
+{
+    match inside_on_first(cell) {
+        Some(points) => Strict::Inside(points),
+        None => hold_strict(cell),
+    }
 }
 
 /// The same, over vertices. It is apart so that nobody else makes room for them.
@@ -64,7 +76,7 @@ fn hold_strict(cell: &[Half]) -> Strict
     Held::new(cell).strict()
 }
 
-/// The same, by a search over triples of planes.
+/// The same, by a search over the vertices in their order.
 pub(crate) fn search_strict(cell: &[Half]) -> Strict
     requires { length cell.now ≤ 64 }
     ensures decides { DecidesStrict cell.now result }
@@ -92,7 +104,19 @@ pub fn decide_weak(cell: &[Half]) -> Weak
     if cell.len() < FEW {
         return search_weak(cell);
     }
-    hold_weak(cell)
+    try_weak(cell)
+}
+
+/// The same, by a search on the plane of the first half-space, and over vertices where the first point is not on it.
+fn try_weak(cell: &[Half]) -> Weak
+    requires { length cell.now ≤ 64 }
+    ensures decides { DecidesWeak cell.now result }
+    ensures line { line_of_weak result ≡ weak_line cell.now }
+{
+    match weak_on_first(cell) {
+        Some(p) => Weak::At(p),
+        None => hold_weak(cell),
+    }
 }
 
 /// The same, over vertices. It is apart so that nobody else makes room for them.
@@ -104,7 +128,7 @@ fn hold_weak(cell: &[Half]) -> Weak
     Held::new(cell).weak()
 }
 
-/// The same, by a search over triples of planes.
+/// The same, by a search over the vertices in their order.
 pub(crate) fn search_weak(cell: &[Half]) -> Weak
     requires { length cell.now ≤ 64 }
     ensures decides { DecidesWeak cell.now result }

@@ -1,5 +1,5 @@
 -- What a list of half-spaces leaves of the line of two planes.
-use Rattle.std.specs.Prelude.{◌≡◌, Bool, true, false, ◌&&◌, ◌||◌, ◌⊎◌, pos, negsuc, ◌≤ℤ◌, List, Option, Some, None}
+use Rattle.std.specs.Prelude.{◌≡◌, Bool, true, false, ◌&&◌, ◌||◌, ◌⊎◌, pos, negsuc, ◌≤ℤ◌, List, Some, None}
 use Rattle.std.specs.List.{Contains}
 use Rattle.rp_algebra.specs.Integer.{is_negative, is_positive}
 use Rattle.rp_geometry.specs.Geometry.{RationalPoint, HalfSpace, IsPoint, side_value, cube_bound, half_space_of, reduced_point}
@@ -61,11 +61,11 @@ IsInCube pair span =
 abbrev pub IsNothingLeft : List HalfSpace → TwoHalfSpaces → Type 0
 IsNothingLeft system pair = (p : RationalPoint) → IsLeft system pair p → ⊥
 
--- the ends hold between them what is left, or nothing is left
-abbrev pub HoldsLeft : List HalfSpace → TwoHalfSpaces → Option Span → Type 0
-HoldsLeft system pair None = IsNothingLeft system pair
-HoldsLeft system pair (Some span) = IsSpan system pair span
+-- the ends hold between them what is left, where something is
+abbrev pub HoldsLeft : List HalfSpace → TwoHalfSpaces → Span → Bool → Type 0
+HoldsLeft system pair span true = IsSpan system pair span
+HoldsLeft system pair span false = IsNothingLeft system pair
 
 -- where a half-space stands in a list, the new ends hold what is left between the old ones
-abbrev pub Cuts : TwoHalfSpaces → HalfSpace → Span → Option Span → Type 0
-Cuts pair h span result = (system : List HalfSpace) → Contains system h → IsSpan system pair span → HoldsLeft system pair result
+abbrev pub Cuts : TwoHalfSpaces → HalfSpace → Span → Span → Bool → Type 0
+Cuts pair h old new is_left = (system : List HalfSpace) → Contains system h → IsSpan system pair old → HoldsLeft system pair new is_left

@@ -9,7 +9,7 @@ ghost use Rattle.rp_geometry.specs.laws.CellLaws.{IsSolution};
 ghost use Rattle.rp_vertex.specs.Joined.{HasCube};
 
 use crate::flat::flat_at;
-use crate::search::{Wanted, Way, first_vertex};
+use crate::search::{Wanted, Way, first_vertex, vertex_on_first};
 use rp_space::{Half, Inside, Point, with_cube};
 
 /// The first inside certificate of a cell: the first vertex of the cell with the domain cube, and then, as long as a
@@ -49,6 +49,29 @@ pub fn first_weak(cell: &[Half]) -> Option<Point>
 {
     let system = with_cube(cell);
     first_vertex(Way::Lines, Wanted::Any, system.as_slice())
+}
+
+/// The first inside certificate of a cell, if its first point is on the plane of the first half-space of the list. `None`
+/// tells nothing. A cell has at most 64 half-spaces. Takes no memory.
+pub fn inside_on_first(cell: &[Half]) -> Option<Inside>
+    requires { length cell.now ≤ 64 }
+    ensures first { IfSome result (λ points. first_inside cell.now ≡ Some points) }
+    ensures passes { IfSome result (λ points. IsTrue (is_inside_certificate cell.now points)) }
+{
+    let system = with_cube(cell);
+    let first = vertex_on_first(system.as_slice())?;
+    points_from(Way::Lines, system.as_slice(), first)
+}
+
+/// The first weak point of a cell, if it is on the plane of the first half-space of the list. `None` tells nothing.
+/// A cell has at most 64 half-spaces. Takes no memory.
+pub fn weak_on_first(cell: &[Half]) -> Option<Point>
+    requires { length cell.now ≤ 64 }
+    ensures first { IfSome result (λ p. first_weak_point cell.now ≡ Some p) }
+    ensures passes { IfSome result (λ p. IsSolution false cell.now p) }
+{
+    let system = with_cube(cell);
+    vertex_on_first(system.as_slice())
 }
 
 /// The points that are taken of the vertices of a list of half-spaces.

@@ -9,7 +9,9 @@ mod line;
 mod search;
 
 pub use bounds::box_of_vertices;
-pub use certificate::{first_inside, first_inside_over_triples, first_weak};
+pub use certificate::{
+    first_inside, first_inside_over_triples, first_weak, inside_on_first, weak_on_first,
+};
 
 #[cfg(test)]
 mod tests;

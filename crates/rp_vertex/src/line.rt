@@ -1,5 +1,5 @@
 //! What a list of half-spaces leaves of the line of two planes: where it can have a vertex.
-ghost use Rattle.std.specs.Prelude.{◌≡◌, ◌<ℤ◌, ◌≤ℤ◌, pos, IfSome, Some};
+ghost use Rattle.std.specs.Prelude.{◌≡◌, ◌<ℤ◌, ◌≤ℤ◌, pos, true, IfSome};
 ghost use Rattle.rp_geometry.specs.Geometry.{side_value};
 ghost use Rattle.rp_vertex.specs.Joined.{HasCube};
 ghost use Rattle.rp_vertex.specs.Line.{Cuts, HoldsVertices, IsBetween, IsInCube, IsSpan, are_on_one_side, passes};
@@ -88,58 +88,50 @@ fn clipped(system: &[Half], pair: &Pair, mut span: Span) -> Line
     ensures { HoldsVertices system.now pair.now result }
 {
     for h in system {
-        match cut(pair, h, span) {
-            Some(left) => span = left,
-            None => return Line::Empty,
+        if !cut(pair, h, &mut span) {
+            return Line::Empty;
         }
     }
     Line::Between(span)
 }
 
-/// What a half-space leaves of a part of the line of two planes. `None` where that is nothing.
-fn cut(pair: &Pair, h: &Half, span: Span) -> Option<Span>
-    ensures { Cuts pair.now h.now span result }
+/// Leaves of a part of the line of two planes what a half-space leaves of it. False where that is nothing.
+fn cut(pair: &Pair, h: &Half, span: &mut Span) -> bool
+    ensures { Cuts pair.now h.now span.old span.new result }
 {
     let is_one_out = span.one.side(h) < 0;
     let is_two_out = span.two.side(h) < 0;
     if is_one_out && is_two_out {
-        return None;
+        return false;
     }
     if is_one_out {
-        return Some(with_one(pair, h, span));
+        cut_one(pair, h, span);
+        return true;
     }
     if is_two_out {
-        return Some(with_two(pair, h, span));
+        cut_two(pair, h, span);
     }
-    Some(span)
+    true
 }
 
-/// The part from the plane of a half-space, which is negative at the one end.
-fn with_one(pair: &Pair, h: &Half, span: Span) -> Span
-    requires one { side_value h.now span.one <ℤ pos 0 }
-    requires two { pos 0 ≤ℤ side_value h.now span.two }
-    ensures { Cuts pair.now h.now span (Some result) }
+/// Puts the one end, at which a half-space is negative, on its plane.
+fn cut_one(pair: &Pair, h: &Half, span: &mut Span)
+    requires one { side_value h.now span.old.one <ℤ pos 0 }
+    requires two { pos 0 ≤ℤ side_value h.now span.old.two }
+    ensures { Cuts pair.now h.now span.old span.new true }
 {
-    match pair.meeting(h) {
-        Some(end) => Span {
-            one: end,
-            two: span.two,
-        },
-        None => span,
+    if let Some(end) = pair.meeting(h) {
+        span.one = end;
     }
 }
 
-/// The part up to the plane of a half-space, which is negative at the other end.
-fn with_two(pair: &Pair, h: &Half, span: Span) -> Span
-    requires one { pos 0 ≤ℤ side_value h.now span.one }
-    requires two { side_value h.now span.two <ℤ pos 0 }
-    ensures { Cuts pair.now h.now span (Some result) }
+/// Puts the other end, at which a half-space is negative, on its plane.
+fn cut_two(pair: &Pair, h: &Half, span: &mut Span)
+    requires one { pos 0 ≤ℤ side_value h.now span.old.one }
+    requires two { side_value h.now span.old.two <ℤ pos 0 }
+    ensures { Cuts pair.now h.now span.old span.new true }
 {
-    match pair.meeting(h) {
-        Some(end) => Span {
-            one: span.one,
-            two: end,
-        },
-        None => span,
+    if let Some(end) = pair.meeting(h) {
+        span.two = end;
     }
 }

@@ -1,9 +1,9 @@
 //! The search for the first vertex: the first meeting point of three planes of a list, in the order of the triples,
 //! at which no half-space of the list is negative.
-ghost use Rattle.std.specs.Prelude.{◌≡◌, ◌&&◌};
+ghost use Rattle.std.specs.Prelude.{◌≡◌, ◌&&◌, IfSome, Some};
 ghost use Rattle.rp_geometry.specs.Geometry.{all_nonnegative};
 ghost use Rattle.rp_geometry.specs.searches.Search.{first_of, first_of_pairs};
-ghost use Rattle.rp_geometry.specs.searches.Vertex.{lifts, vertex_at, first_vertex};
+ghost use Rattle.rp_geometry.specs.searches.Vertex.{any_point, lifts, vertex_at, first_vertex};
 ghost use Rattle.rp_vertex.specs.Joined.{HasCube};
 ghost use Rattle.rp_vertex.specs.Line.{HoldsVertices};
 ghost use Rattle.rp_vertex.specs.Wanted.{are_among, is_wanted, lie_within};
@@ -42,6 +42,16 @@ pub(crate) fn first_vertex(way: Way, wanted: Wanted, system: &[Half]) -> Option<
         }
     }
     None
+}
+
+/// The first vertex of a list of half-spaces, if it is on the plane of the first one. `None` tells nothing.
+#[tactic(auto, unfolding(rp_geometry::specs::searches::Vertex::first_vertex))]
+pub(crate) fn vertex_on_first(system: &[Half]) -> Option<Point>
+    requires { HasCube system.now }
+    ensures { IfSome result (λ p. first_vertex any_point system.now ≡ Some p) }
+{
+    let (f, others) = system.split_first()?;
+    first_with_one(Way::Lines, Wanted::Any, system, f, others)
 }
 
 /// The first wanted vertex on the plane of `f` and two planes of `others`.

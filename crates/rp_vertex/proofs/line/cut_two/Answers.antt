@@ -1,7 +1,7 @@
 use Rattle.rp_vertex.proofs.Span.{cut_two}
-use Rattle.rp_vertex.proofs.line.with_two.Goals as goal
+use Rattle.rp_vertex.proofs.line.cut_two.Goals as goal
 
 pub returns-in-Some : goal.returns-in-Some
 returns-in-Some c = λ system listed k.
-    cut_two system c.args.pair.now c.args.span c.args.h.now c.in-Some.end listed k c.requires.one c.requires.two
+    cut_two system c.args.pair.now c.args.span.now c.args.h.now c.in-Some.end listed k c.requires.one c.requires.two
     (record { point = c.in-Some.ensures.point; is = c.in-Some.ensures.in_lowest_terms })
