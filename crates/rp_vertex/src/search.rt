@@ -11,6 +11,9 @@ ghost use Rattle.rp_vertex.specs.Wanted.{are_among, is_wanted, lie_within};
 use crate::line::{Line, line_of};
 use rp_space::{Half, Meeting, Pair, Point};
 
+/// So many lines of one plane are tried for the first vertex. Most often it is on one of these, where it is on the plane.
+const FEW_LINES: usize = 12;
+
 /// Which vertices are wanted.
 #[derive(Clone, Copy)]
 pub(crate) enum Wanted<'a> {
@@ -44,14 +47,40 @@ pub(crate) fn first_vertex(way: Way, wanted: Wanted, system: &[Half]) -> Option<
     None
 }
 
-/// The first vertex of a list of half-spaces, if it is on the plane of the first one. `None` tells nothing.
+/// The first vertex of a list of half-spaces, if it is on the plane of the first one and of one of a few behind it. `None`
+/// tells nothing.
 #[tactic(auto, unfolding(rp_geometry::specs::searches::Vertex::first_vertex))]
 pub(crate) fn vertex_on_first(system: &[Half]) -> Option<Point>
     requires { HasCube system.now }
     ensures { IfSome result (λ p. first_vertex any_point system.now ≡ Some p) }
 {
     let (f, others) = system.split_first()?;
-    first_with_one(Way::Lines, Wanted::Any, system, f, others)
+    first_on_few(system, f, others)
+}
+
+/// The first vertex on the plane of `f` and two planes of `others`, if it is on one of the first few of these. `None` tells
+/// nothing.
+fn first_on_few(system: &[Half], f: &Half, others: &[Half]) -> Option<Point>
+    requires { HasCube system.now }
+    ensures { IfSome result (λ p. first_of_pairs (vertex_at any_point system.now f.now) others.now ≡ Some p) }
+{
+    for i in 0..others.len() {
+        if i == FEW_LINES {
+            return None;
+        }
+        let found = first_on_both(
+            Way::Lines,
+            Wanted::Any,
+            system,
+            f,
+            &others[i],
+            &others[i + 1..],
+        );
+        if found.is_some() {
+            return found;
+        }
+    }
+    None
 }
 
 /// The first wanted vertex on the plane of `f` and two planes of `others`.
