@@ -55,7 +55,7 @@ pub fn decide_strict(cell: &[Half]) -> Strict
     try_strict(cell)
 }
 
-/// The same, by a search on the plane of the first half-space, and over vertices where the first point is not on it.
+/// The same, by a search on a few lines of the first plane, and over vertices where the first point is on none of them.
 fn try_strict(cell: &[Half]) -> Strict
     requires { length cell.now ≤ 64 }
     ensures decides { DecidesStrict cell.now result }
@@ -107,7 +107,7 @@ pub fn decide_weak(cell: &[Half]) -> Weak
     try_weak(cell)
 }
 
-/// The same, by a search on the plane of the first half-space, and over vertices where the first point is not on it.
+/// The same, by a search on a few lines of the first plane, and over vertices where the first point is on none of them.
 fn try_weak(cell: &[Half]) -> Weak
     requires { length cell.now ≤ 64 }
     ensures decides { DecidesWeak cell.now result }

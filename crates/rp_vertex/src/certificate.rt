@@ -51,8 +51,8 @@ pub fn first_weak(cell: &[Half]) -> Option<Point>
     first_vertex(Way::Lines, Wanted::Any, system.as_slice())
 }
 
-/// The first inside certificate of a cell, if its first point is on the plane of the first half-space of the list. `None`
-/// tells nothing. A cell has at most 64 half-spaces. Takes no memory.
+/// The first inside certificate of a cell, if its first point is on one of the first few lines on the plane of the first
+/// half-space of the list. `None` tells nothing. A cell has at most 64 half-spaces. Takes no memory.
 pub fn inside_on_first(cell: &[Half]) -> Option<Inside>
     requires { length cell.now ≤ 64 }
     ensures first { IfSome result (λ points. first_inside cell.now ≡ Some points) }
@@ -63,7 +63,8 @@ pub fn inside_on_first(cell: &[Half]) -> Option<Inside>
     points_from(Way::Lines, system.as_slice(), first)
 }
 
-/// The first weak point of a cell, if it is on the plane of the first half-space of the list. `None` tells nothing.
+/// The first weak point of a cell, if it is on one of the first few lines on the plane of the first half-space of the list.
+/// `None` tells nothing.
 /// A cell has at most 64 half-spaces. Takes no memory.
 pub fn weak_on_first(cell: &[Half]) -> Option<Point>
     requires { length cell.now ≤ 64 }
