@@ -1,10 +1,10 @@
 //! The first certificates made of points.
-ghost use Rattle.std.specs.Prelude.{◌≡◌, ◌≤◌, length, ◌↔◌, IsNone, IfSome, IsTrue, false, Some};
+ghost use Rattle.std.specs.Prelude.{◌≡◌, ◌≤◌, length, ◌↔◌, IsNone, IfSome, IsTrue, false, true, Some, [], ◌∷◌};
 ghost use Rattle.rp_geometry.specs.Geometry.{RationalPoint};
 ghost use Rattle.rp_geometry.specs.sets.Shape.{shape_of_cell};
 ghost use Rattle.rp_geometry.specs.sets.Sets.{IsEmpty};
 ghost use Rattle.rp_geometry.specs.searches.Certificate.{is_inside_certificate};
-ghost use Rattle.rp_geometry.specs.searches.Vertex.{first_inside, first_weak_point, first_vertex, any_point, points_from};
+ghost use Rattle.rp_geometry.specs.searches.Vertex.{first_inside, first_weak_point, first_vertex, flat_half_spaces, any_point, points_from};
 ghost use Rattle.rp_geometry.specs.laws.CellLaws.{IsSolution};
 ghost use Rattle.rp_vertex.specs.Joined.{HasCube};
 
@@ -60,7 +60,19 @@ pub fn inside_on_first(cell: &[Half]) -> Option<Inside>
 {
     let system = with_cube(cell);
     let first = vertex_on_first(system.as_slice())?;
+    // On more than three planes it may be the only point of a cell without members, and all lines would be gone over.
+    if !is_on_three(system.as_slice(), &first) {
+        return None;
+    }
     points_from(Way::Lines, system.as_slice(), first)
+}
+
+/// Whether at most three half-spaces of a list are not positive at the point.
+fn is_on_three(system: &[Half], p: &Point) -> bool
+    requires { length system.now ≤ 70 }
+    ensures { result ≡ true ↔ length (flat_half_spaces system.now (p.now ∷ [])) ≤ 3 }
+{
+    flat_at(system, p).len() <= 3
 }
 
 /// The first weak point of a cell, if it is on one of the first few lines on the plane of the first half-space of the list.

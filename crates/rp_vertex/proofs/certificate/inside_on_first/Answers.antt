@@ -10,7 +10,7 @@ is_first : (c : goal.After-points_from) → c.points_from.result ≡ first_insid
 unfolding first_inside
 is_first c =
     c.points_from.ensures
-    ∙ ap (λ (hs : List HalfSpace). points_from hs (Some c.in_ok-first.first)) (c.as_slice-2.ensures.value ∙ c.with_cube-system.ensures.items)
+    ∙ ap (λ (hs : List HalfSpace). points_from hs (Some c.in_ok-first.first)) (c.as_slice-3.ensures.value ∙ c.with_cube-system.ensures.items)
     ∙ ap (points_from (with_cube c.args.cell.now)) (sym (ap (λ (hs : List HalfSpace). first_vertex any_point hs) (sym (c.as_slice.ensures.value ∙ c.with_cube-system.ensures.items)) ∙ c.in_ok-first.ensures))
 
 pub returns-clause-first : goal.returns-clause-first
