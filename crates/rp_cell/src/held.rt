@@ -97,6 +97,17 @@ impl Held {
         }
     }
 
+    /// Holds the same cell as another. Copies the vertices that are there, and not all the room for them.
+    pub fn copy_from(&mut self, other: &Held)
+        ensures { self.new ≡ other.now }
+    {
+        self.cell = joined(other.halves(), &[]);
+        self.clip.copy_from(&other.clip);
+        self.whole = other.whole;
+        self.inner = other.inner;
+        self.closed = other.closed;
+    }
+
     /// Puts further half-spaces behind those of the cell: at most 64 together.
     pub fn extend(&mut self, more: &[Half])
         requires { length self.old + length more.now ≤ 64 }

@@ -228,8 +228,10 @@ fn a_held_cell_grows_and_is_slimmed(rt: HostRuntime) -> Result<(), Fail> {
     let mut held = Held::new(&cell[..3]);
     held.push(cell[3]);
     held.extend(&[cell[0]]);
-    let copy = held.copy();
+    let mut copy = held.copy();
     assert_eq!(rt; copy.halves().len(), 5);
+    copy.hold(&cell[..1]);
+    copy.copy_from(&held);
     let slimmed = copy.slim(rt.alloc())?;
     assert_eq!(rt;
         slimmed.kept.items(),

@@ -1,19 +1,20 @@
 //! What is left of a list of parts outside a second one, test by test.
-ghost use Rattle.std.specs.Prelude.{◌≡◌, ◌+◌, ◌≤◌, ◌<◌, [], length};
+ghost use Rattle.std.specs.Prelude.{◌≡◌, ◌≤◌, ◌<◌, [], ◌++◌, length, List};
+ghost use Rattle.rp_geometry.specs.Geometry.{HalfSpace};
 ghost use Rattle.rp_geometry.specs.parts.Parts.{most_half_spaces};
 ghost use Rattle.rp_walks.specs.Walk.{count_tests, first_tester};
 ghost use Rattle.rp_walks.specs.Form.{carve_one, carve, carve_or_keep, subtract_pair, subtract_part, subtract};
 ghost use Rattle.rp_region.specs.Makes.{Makes};
 
 use crate::fault::OpFault;
+use crate::front::Front;
 use crate::part::Part;
 use crate::region::MAX_PARTS;
 use crate::work::Work;
-use rp_cell::Held;
-use rp_space::{Half, Listed, joined};
+use rp_space::{Half, Listed};
 use std::alloc::Global;
 
-/// The parts of a list without those of a second list, one after the other. Each cell is held in turn.
+/// The parts of a list without those of a second list, one after the other. Each part that is carved is held in turn.
 pub(crate) fn subtract(
     alloc: Global,
     parts: Listed<Part>,
@@ -23,9 +24,9 @@ pub(crate) fn subtract(
     ensures { Makes (λ left. left.items) result work.old work.new (subtract first_tester parts.items others.now) }
 {
     let mut current = parts;
-    let mut held = Held::new(&[]);
+    let mut front = Front::new();
     for other in others {
-        current = subtract_part(alloc, current, other, &mut held, work)?;
+        current = subtract_part(alloc, current, other, &mut front, work)?;
         if current.items().len() > MAX_PARTS {
             return Err(OpFault::Limit);
         }
@@ -38,14 +39,14 @@ fn subtract_part(
     alloc: Global,
     parts: Listed<Part>,
     other: &Part,
-    held: &mut Held,
+    front: &mut Front,
     work: &mut Work,
 ) -> Result<Listed<Part>, OpFault>
     ensures { Makes (λ left. left.items) result work.old work.new (subtract_part first_tester [] parts.items other.now) }
 {
     let mut left = Listed::new(alloc);
     for part in parts.into_items() {
-        subtract_pair(alloc, &mut left, part, other, held, work)?;
+        subtract_pair(alloc, &mut left, part, other, front, work)?;
     }
     Ok(left)
 }
@@ -57,7 +58,7 @@ fn subtract_pair(
     left: &mut Listed<Part>,
     part: Part,
     other: &Part,
-    held: &mut Held,
+    front: &mut Front,
     work: &mut Work,
 ) -> Result<(), OpFault>
     ensures { Makes (λ _. left.new.items) result work.old work.new (subtract_pair first_tester left.old.items part other.now) }
@@ -68,7 +69,7 @@ fn subtract_pair(
     }
     count_test(work)?;
     match work.strict(alloc, part.halves(), other.halves())? {
-        Some(_) => carve(alloc, left, part.halves(), other.halves(), held, work),
+        Some(_) => carve(alloc, left, part.halves(), other.halves(), front, work),
         None => {
             left.push(part)?;
             Ok(())
@@ -82,36 +83,36 @@ fn carve(
     left: &mut Listed<Part>,
     cell: &[Half],
     halves: &[Half],
-    held: &mut Held,
+    front: &mut Front,
     work: &mut Work,
 ) -> Result<(), OpFault>
     requires cell { length cell.now ≤ most_half_spaces }
     requires halves { length halves.now ≤ most_half_spaces }
     ensures { Makes (λ _. left.new.items) result work.old work.new (carve first_tester left.old.items cell.now [] halves.now) }
 {
-    for (i, half) in halves.iter().enumerate() {
-        carve_one(alloc, left, cell, &halves[..i], half, held, work)?;
+    front.hold(cell);
+    for half in halves {
+        carve_one(alloc, left, half, front, work)?;
+        front.push(*half);
     }
     Ok(())
 }
 
-/// What is left of a cell outside one half-space, inside those before.
+/// What is left of the held cell outside one half-space.
 fn carve_one(
     alloc: Global,
     left: &mut Listed<Part>,
-    cell: &[Half],
-    before: &[Half],
     half: &Half,
-    held: &mut Held,
+    front: &mut Front,
     work: &mut Work,
 ) -> Result<(), OpFault>
-    requires { length cell.now + length before.now < 64 }
-    ensures { Makes (λ _. left.new.items) result work.old work.new (carve_one first_tester left.old.items cell.now before.now half.now) }
+    requires { length front.old < 64 }
+    ensures same { front.new ≡ front.old }
+    ensures makes { (cell before : List HalfSpace) → front.old ≡ cell ++ before
+        → Makes (λ _. left.new.items) result work.old work.new (carve_one first_tester left.old.items cell before half.now) }
 {
     count_test(work)?;
-    let mut piece = joined(cell, before);
-    piece.push(half.not());
-    if let Some(part) = work.part(alloc, held, piece.as_slice())? {
+    if let Some(part) = front.part_with(alloc, &[half.not()], work)? {
         left.push(part)?;
     }
     Ok(())

@@ -1,31 +1,33 @@
 //! What two lists of parts have in common, test by test.
-ghost use Rattle.std.specs.Prelude.{◌≡◌};
+ghost use Rattle.std.specs.Prelude.{◌≡◌, ◌≤◌, length};
+ghost use Rattle.rp_geometry.specs.sets.Shape.{Part as ModelPart};
+ghost use Rattle.rp_geometry.specs.parts.Parts.{most_half_spaces};
 ghost use Rattle.rp_walks.specs.Walk.{first_tester};
 ghost use Rattle.rp_walks.specs.Form.{join_pair, join_with_part, join_each};
 ghost use Rattle.rp_region.specs.Makes.{Makes};
 
 use crate::fault::OpFault;
+use crate::front::Front;
 use crate::part::Part;
 use crate::region::MAX_PARTS;
 use crate::work::Work;
-use rp_cell::Held;
-use rp_space::{Listed, joined};
+use rp_space::Listed;
 use std::alloc::Global;
 
 /// Each part of a list with each part of a second list: what they have in common comes behind the parts made already. Each
-/// cell is held in turn, whatever was held before.
+/// part of the first is held in turn, whatever was held before.
 pub(crate) fn join_each(
     alloc: Global,
     made: &mut Listed<Part>,
     parts: &[Part],
     others: &[Part],
-    held: &mut Held,
+    front: &mut Front,
     work: &mut Work,
 ) -> Result<(), OpFault>
     ensures { Makes (λ _. made.new.items) result work.old work.new (join_each first_tester made.old.items parts.now others.now) }
 {
     for part in parts {
-        join_with_part(alloc, made, part, others, held, work)?;
+        join_with_part(alloc, made, part, others, front, work)?;
     }
     Ok(())
 }
@@ -36,30 +38,32 @@ fn join_with_part(
     made: &mut Listed<Part>,
     part: &Part,
     others: &[Part],
-    held: &mut Held,
+    front: &mut Front,
     work: &mut Work,
 ) -> Result<(), OpFault>
     ensures { Makes (λ _. made.new.items) result work.old work.new (join_with_part first_tester made.old.items part.now others.now) }
 {
+    front.hold(part.halves());
     for other in others {
-        join_pair(alloc, made, part, other, held, work)?;
+        join_pair(alloc, made, front, other, work)?;
     }
     Ok(())
 }
 
-/// One part test of two parts together.
+/// One part test of two parts together, of which the first is held.
 fn join_pair(
     alloc: Global,
     made: &mut Listed<Part>,
-    part: &Part,
+    front: &mut Front,
     other: &Part,
-    held: &mut Held,
     work: &mut Work,
 ) -> Result<(), OpFault>
-    ensures { Makes (λ _. made.new.items) result work.old work.new (join_pair first_tester made.old.items part.now other.now) }
+    requires { length front.old ≤ most_half_spaces }
+    ensures same { front.new ≡ front.old }
+    ensures makes { (p : ModelPart) → p.cell ≡ front.old
+        → Makes (λ _. made.new.items) result work.old work.new (join_pair first_tester made.old.items p other.now) }
 {
-    let cell = joined(part.halves(), other.halves());
-    if let Some(common) = work.part(alloc, held, cell.as_slice())? {
+    if let Some(common) = front.part_with(alloc, other.halves(), work)? {
         made.push(common)?;
     }
     if made.items().len() > MAX_PARTS {

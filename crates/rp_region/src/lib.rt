@@ -4,6 +4,7 @@
 mod count;
 mod difference;
 mod fault;
+mod front;
 mod join;
 mod pairs;
 mod part;

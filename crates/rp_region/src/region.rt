@@ -15,6 +15,7 @@ ghost use Rattle.rp_region.specs.Pairs.{common_by, touch_by, first_pair_by, IsLa
 
 use crate::difference::subtract;
 use crate::fault::OpFault;
+use crate::front::Front;
 use crate::join::join_each;
 use crate::pairs::first_pair;
 use crate::part::Part;
@@ -93,7 +94,7 @@ impl Region {
             return Err(OpFault::Limit);
         }
         let mut parts = Listed::new(alloc);
-        join_each(alloc, &mut parts, first, second, &mut Held::new(&[]), work)?;
+        join_each(alloc, &mut parts, first, second, &mut Front::new(), work)?;
         Ok(Region { parts })
     }
 

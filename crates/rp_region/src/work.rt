@@ -222,24 +222,8 @@ impl Work {
         self.tell(Proof::Apart(refute_weak(cell)))
     }
 
-    /// A part test of a cell of at most 64 half-spaces: the part of its slim cell, and `None` exactly where the cell has no
-    /// point. Its lines are appended; it isn't counted. `Limit` exactly where the slim cell has more than 32 half-spaces. The
-    /// cell is held for it, whatever was held before.
-    pub(crate) fn part(
-        &mut self,
-        alloc: Global,
-        held: &mut Held,
-        cell: &[Half],
-    ) -> Result<Option<Part>, OpFault>
-        requires { length cell.now ≤ 64 }
-        ensures makes { Makes (λ o. o) result self.old self.new (part_test cell.now) }
-        ensures made { IfOk result (λ o. IsMadeOf IsPart cell.now o) }
-    {
-        held.hold(cell);
-        self.held_part(alloc, held)
-    }
-
-    /// A part test of a cell that is held.
+    /// A part test of a cell that is held: the part of its slim cell, and `None` exactly where the cell has no point. Its lines
+    /// are appended; it isn't counted. `Limit` exactly where the slim cell has more than 32 half-spaces.
     pub(crate) fn held_part(&mut self, alloc: Global, cell: &Held) -> Result<Option<Part>, OpFault>
         ensures makes { Makes (λ o. o) result self.old self.new (part_test cell.now) }
         ensures made { IfOk result (λ o. IsMadeOf IsPart cell.now o) }

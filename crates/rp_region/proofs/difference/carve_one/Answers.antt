@@ -1,4 +1,4 @@
-use Rattle.std.proofs.Common.{◌∷◌, [], ◌++◌, ◌∙◌}
+use Rattle.std.proofs.Common.{◌∷◌, [], ◌++◌}
 use Rattle.std.proofs.lemmas.Result.{err_from_is_err_and}
 use Rattle.rp_walks.specs.Walk.{pass}
 use Rattle.rp_walks.specs.Form.{made_part}
@@ -7,17 +7,17 @@ use Rattle.rp_region.proofs.Left.{given_up}
 use Rattle.rp_region.proofs.Steps.{piece_uncounted, piece_made}
 use Rattle.rp_region.proofs.difference.carve_one.Goals as goal
 
-pub returns-in_err-count_test : goal.returns-in_err-count_test
-returns-in_err-count_test c =
+pub returns-in_err-count_test-clause-makes : goal.returns-in_err-count_test-clause-makes
+returns-in_err-count_test-clause-makes c = λ cell before e.
     let p = err_from_is_err_and c.from_residual.result c.from_residual.ensures.1 in
-    rw (p.1, p.2) (piece_uncounted c.args.left.now.items c.args.cell.now c.args.before.now c.args.half.now c.args.work.now c.count_test.new.work c.in_err-count_test.field-0.0 c.in_err-count_test.ensures)
+    rw (p.1, p.2) (piece_uncounted c.args.left.now.items cell before c.args.half.now c.args.work.now c.count_test.new.work c.in_err-count_test.field-0.0 c.in_err-count_test.ensures)
 
-pub returns-in_err-push : goal.returns-in_err-push
-returns-in_err-push c =
+pub returns-in_err-push-clause-makes : goal.returns-in_err-push-clause-makes
+returns-in_err-push-clause-makes c = λ cell before e.
     let p = err_from_is_err_and c.from_residual-in_err-push.result c.from_residual-in_err-push.ensures.1 in
     let made = c.args.left.now.items in
     let longer = made ++ made_part c.in_ok-part.field-0 in
     rw (p.1, p.2)
     (given_up (pass longer) (pass_tells longer)
-    (piece_made made c.args.cell.now c.args.before.now c.args.half.now c.as_slice.result.now
-    (c.as_slice.ensures.value ∙ c.push.ensures.items ∙ (λ i. c.joined-piece.ensures i ++ c.not.ensures i ∷ [])) c.in_ok-count_test.ensures c.in_ok-part.ensures.makes))
+    (piece_made made cell before c.args.half.now (c.args.front.now ++ c.not.result ∷ [])
+    (λ i. e i ++ c.not.ensures i ∷ []) c.in_ok-count_test.ensures c.in_ok-part.ensures.makes))

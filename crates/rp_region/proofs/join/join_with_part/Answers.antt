@@ -1,4 +1,4 @@
-use Rattle.std.proofs.Common.{◌+◌, drop, ap}
+use Rattle.std.proofs.Common.{◌+◌, drop, sym, ap, ◌∙◌}
 use Rattle.std.proofs.lemmas.Result.{err_from_is_err_and}
 use Rattle.rp_walks.specs.Walk.{first_tester}
 use Rattle.rp_walks.specs.Form.{join_pair, join_with_part}
@@ -14,14 +14,16 @@ returns-in_err-join_pair c =
     rw (p.1, p.2)
     (fault_left (join_pair first_tester c.loop-other.made.items part c.other-item.result) (λ longer. join_with_part first_tester longer part rest)
     (λ longer. join_with_part_tells longer part rest)
-    (left_as (ap (λ qs. join_with_part first_tester c.loop-other.made.items part qs) (drop_item c.args.others.now c.loop-other.other-index c.other-item.result c.loop-other-test.true c.other-item.is)) c.loop-other.invariant)
-    c.in_err-join_pair.field-0.0 c.join_pair.new.work c.in_err-join_pair.ensures)
+    (left_as (ap (λ qs. join_with_part first_tester c.loop-other.made.items part qs) (drop_item c.args.others.now c.loop-other.other-index c.other-item.result c.loop-other-test.true c.other-item.is)) c.loop-other.invariant.1)
+    c.in_err-join_pair.field-0.0 c.join_pair.new.work (c.in_err-join_pair.ensures.makes part (sym c.loop-other.invariant.0)))
 
 pub loop-other-preserved : goal.loop-other-preserved
 loop-other-preserved c =
     let part = c.args.part.now in
-    let rest = drop (c.loop-other.other-index + 1) c.args.others.now in
-    next_left (join_pair first_tester c.loop-other.made.items part c.other-item.result) (λ longer. join_with_part first_tester longer part rest)
-    (join_pair_tells c.loop-other.made.items part c.other-item.result)
-    (left_as (ap (λ qs. join_with_part first_tester c.loop-other.made.items part qs) (drop_item c.args.others.now c.loop-other.other-index c.other-item.result c.loop-other-test.true c.other-item.is)) c.loop-other.invariant)
-    c.in_ok-join_pair.ensures
+    let rest = drop (c.loop-other.other-index + 1) c.args.others.now in (
+      c.in_ok-join_pair.ensures.same ∙ c.loop-other.invariant.0,
+      next_left (join_pair first_tester c.loop-other.made.items part c.other-item.result) (λ longer. join_with_part first_tester longer part rest)
+          (join_pair_tells c.loop-other.made.items part c.other-item.result)
+          (left_as (ap (λ qs. join_with_part first_tester c.loop-other.made.items part qs) (drop_item c.args.others.now c.loop-other.other-index c.other-item.result c.loop-other-test.true c.other-item.is)) c.loop-other.invariant.1)
+          (c.in_ok-join_pair.ensures.makes part (sym c.loop-other.invariant.0)),
+    )

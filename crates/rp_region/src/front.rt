@@ -1,0 +1,79 @@
+//! A cell that stays while others are made of it.
+ghost use Rattle.std.specs.Prelude.{◌≡◌, ◌+◌, ◌<◌, ◌≤◌, [], ◌∷◌, ◌++◌, length, IfOk};
+ghost use Rattle.rp_geometry.specs.parts.Parts.{IsPart};
+ghost use Rattle.rp_walks.specs.FormLaws.{IsMadeOf};
+ghost use Rattle.rp_walks.specs.Walk.{part_test};
+ghost use Rattle.rp_region.specs.Makes.{Makes};
+
+use crate::fault::OpFault;
+use crate::part::Part;
+use crate::work::Work;
+use rp_cell::Held;
+use rp_space::Half;
+use std::alloc::Global;
+use std::marker::Model;
+
+/// A cell that is held with its vertices, to be tested with further half-spaces behind its own: what it shares with these
+/// cells is held once. A contract sees its half-spaces. Takes no memory.
+#[derive(Drop)]
+pub(crate) struct Front {
+    cell: Held,
+    /// Room for the cell with further half-spaces.
+    longer: Held,
+}
+
+impl Model for Front {
+    ghost use Rattle.std.specs.Prelude.{List};
+    ghost use Rattle.rp_geometry.specs.Geometry.{HalfSpace};
+
+    ghost Value = { List HalfSpace };
+
+    ghost view = { λ f. f.cell };
+}
+
+impl Front {
+    /// The cell without half-spaces.
+    pub(crate) fn new() -> Front
+        ensures { result ≡ [] }
+    {
+        Front {
+            cell: Held::new(&[]),
+            longer: Held::new(&[]),
+        }
+    }
+
+    /// Holds another cell, which has at most 64 half-spaces.
+    pub(crate) fn hold(&mut self, cell: &[Half])
+        requires { length cell.now ≤ 64 }
+        ensures { self.new ≡ cell.now }
+    {
+        self.cell.hold(cell);
+    }
+
+    /// Puts a half-space behind those of the cell, of which there are fewer than 64.
+    pub(crate) fn push(&mut self, half: Half)
+        requires { length self.old < 64 }
+        ensures { self.new ≡ self.old ++ half ∷ [] }
+    {
+        self.cell.push(half);
+    }
+
+    /// A part test of the cell with further half-spaces behind its own: at most 64 together. The part of its slim cell, and
+    /// `None` exactly where it has no point. Its lines are appended; it isn't counted. `Limit` exactly where the slim cell has
+    /// more than 32 half-spaces.
+    pub(crate) fn part_with(
+        &mut self,
+        alloc: Global,
+        more: &[Half],
+        work: &mut Work,
+    ) -> Result<Option<Part>, OpFault>
+        requires { length self.old + length more.now ≤ 64 }
+        ensures same { self.new ≡ self.old }
+        ensures makes { Makes (λ o. o) result work.old work.new (part_test (self.old ++ more.now)) }
+        ensures made { IfOk result (λ o. IsMadeOf IsPart (self.old ++ more.now) o) }
+    {
+        self.longer.copy_from(&self.cell);
+        self.longer.extend(more);
+        work.held_part(alloc, &self.longer)
+    }
+}
