@@ -12,6 +12,18 @@ use crate::flat::flat_at;
 use crate::search::{Wanted, Way, first_vertex, vertex_on_first};
 use rp_space::{Half, Inside, Point, with_cube};
 
+/// With fewer half-spaces in a cell a search over triples is faster than one along lines.
+const FEW_HALVES: usize = 9;
+
+/// How a cell is searched. Either way finds the same.
+fn way_of(cell: &[Half]) -> Way {
+    if cell.len() < FEW_HALVES {
+        Way::Triples
+    } else {
+        Way::Lines
+    }
+}
+
 /// The first inside certificate of a cell: the first vertex of the cell with the domain cube, and then, as long as a
 /// half-space of the list is zero at all points taken, the first vertex that is positive on one of these. By
 /// Carathéodory's theorem there are at most four points. At each of them no half-space of the cell and of the cube is
@@ -24,7 +36,7 @@ pub fn first_inside(cell: &[Half]) -> Option<Inside>
     ensures none { IsNone result ↔ IsEmpty (shape_of_cell cell.now) }
 {
     let system = with_cube(cell);
-    first_points(Way::Lines, system.as_slice())
+    first_points(way_of(cell), system.as_slice())
 }
 
 /// The same, by a search over all triples of planes: to compare the times.
@@ -48,7 +60,7 @@ pub fn first_weak(cell: &[Half]) -> Option<Point>
     ensures none { IsNone result ↔ ((p : RationalPoint) → ¬ IsSolution false cell.now p) }
 {
     let system = with_cube(cell);
-    first_vertex(Way::Lines, Wanted::Any, system.as_slice())
+    first_vertex(way_of(cell), Wanted::Any, system.as_slice())
 }
 
 /// The first inside certificate of a cell, if its first point is on one of the first few lines on the plane of the first
