@@ -53,7 +53,9 @@ fn want_of_memory(fault: IndexFault) -> AllocError
 impl LiveBoxes {
     /// No boxes. Takes no memory.
     pub fn new(alloc: Global) -> LiveBoxes
-        ensures { result.index ≡ map.empty }
+        ensures value { result.index ≡ map.empty }
+        ensures packed { ArePacked result.index }
+        ensures none { NoneBehind result.index 0 }
     {
         LiveBoxes {
             index: Index::new(alloc),
@@ -74,6 +76,7 @@ impl LiveBoxes {
         requires free { NoneBehind self.old.index first }
         ensures ok { OnOk result ((k : ℕ) → AreUnder self.new.index (first + k) (get_or (lists_in lists.now) k [])) }
         ensures packed { ArePacked self.new.index }
+        ensures behind { NoneBehind self.new.index (first + length lists.now) }
         ensures err { OnErr result (NoneBehind self.new.index first) }
         ensures rest { (k : ℕ) → k < first → StayUnder self.old.index self.new.index k }
     {

@@ -6,3 +6,6 @@ mod near;
 
 pub use boxes::LiveBoxes;
 pub use near::Reach;
+
+#[cfg(test)]
+mod tests;
