@@ -16,46 +16,14 @@ use Rattle.rp_states.proofs.Labels.{label_is}
 use Rattle.rp_states.proofs.Listing.{all_passed}
 use Rattle.rp_algebra.proofs.Listed.{all_map}
 use Rattle.rp_history.proofs.Found.{first_alone, rest_distinct}
+use Rattle.rp_nearby.proofs.Behind.{live_first}
 use Rattle.rp_parcels.specs.Kept.{AreSound}
-use Rattle.rp_parcels.specs.declared.near.Reach.TheVariants.{Overlap}
-use Rattle.rp_parcels.specs.Near.{others_in, is_near}
-use Rattle.rp_parcels.proofs.Stepped.{drop_item}
+use Rattle.rp_nearby.specs.declared.near.Reach.TheVariants.{Overlap}
+use Rattle.rp_nearby.specs.Near.{others_in, is_near}
+use Rattle.rp_nearby.proofs.Places.{drop_item}
 use Rattle.rp_parcels.proofs.Found.{ids_distinct, line_at}
-use Rattle.rp_parcels.proofs.Skipped.{others_all, apart_near}
+use Rattle.rp_nearby.proofs.Skipped.{others_all, apart_near}
 use Rattle.rp_parcels.proofs.Alone.{ApartLots, live_apart}
-
--- what follows where a call has a result
-pub if_ok_then : {A E : Type 0} (P Q : A → Type 0) (r : Result A E) → ((x : A) → P x → Q x) → IfOk r P → IfOk r Q
-if_ok_then P Q (Ok x) f h = f x h
-if_ok_then P Q (Err e) f h = tt
-
--- ---- the lots behind a place
-
--- what is left of a list begins with the lot at the place
-pub left_at : (lots : List (Lot (Unit {0}))) (k : ℕ) (l : Lot (Unit {0})) → k < length lots → slice_get lots k ≡ Some l → drop k lots ≡ l ∷ drop (k + 1) lots
-left_at lots k l within at = drop_item lots k l within (sym (get_or_from_slice_get lots k l l at))
-
--- ids stay distinct
-distinct_left : (k : ℕ) (lots : List (Lot (Unit {0}))) → IsTrue (are_distinct (ids_of lots)) → IsTrue (are_distinct (ids_of (drop k lots)))
-distinct_left zero lots d = d
-distinct_left (suc k) [] d = d
-distinct_left (suc k) (l ∷ lots) d = distinct_left k lots (rest_distinct l lots d)
-
--- the others behind a lot are all lots of its layer there
-pub others_behind : (lots : List (Lot (Unit {0}))) → AreSound lots → (k : ℕ) (l : Lot (Unit {0})) → k < length lots → slice_get lots k ≡ Some l → others_in l.layer l.id (drop (k + 1) lots) ≡ lots_of_layer l.layer (live_lots (drop (k + 1) lots))
-others_behind lots sound k l within at =
-    others_all l.layer l.id (drop (k + 1) lots)
-    (first_alone l (drop (k + 1) lots) (subst (λ (ls : List (Lot (Unit {0}))). IsTrue (are_distinct (ids_of ls))) (left_at lots k l within at) (distinct_left k lots (ids_distinct lots sound))))
-
--- live lots that are left begin with a live lot
-pub live_first : (lots : List (Lot (Unit {0}))) (k : ℕ) (l : Lot (Unit {0})) → k < length lots → slice_get lots k ≡ Some l → is_live l ≡ true → live_lots (drop k lots) ≡ l ∷ live_lots (drop (k + 1) lots)
-live_first lots k l within at live =
-    ap (λ (ls : List (Lot (Unit {0}))). live_lots ls) (left_at lots k l within at) ∙ ap (λ (b : Bool). cond b (l ∷ live_lots (drop (k + 1) lots)) (live_lots (drop (k + 1) lots))) live
-
--- and not with an ended one
-pub live_next : (lots : List (Lot (Unit {0}))) (k : ℕ) (l : Lot (Unit {0})) → k < length lots → slice_get lots k ≡ Some l → is_live l ≡ false → live_lots (drop k lots) ≡ live_lots (drop (k + 1) lots)
-live_next lots k l within at ended =
-    ap (λ (ls : List (Lot (Unit {0}))). live_lots ls) (left_at lots k l within at) ∙ ap (λ (b : Bool). cond b (l ∷ live_lots (drop (k + 1) lots)) (live_lots (drop (k + 1) lots))) ended
 
 -- ---- apart
 
@@ -114,4 +82,4 @@ shown_next lots k l w o within at live left = sym (ap (λ (ls : List (Lot (Unit 
 -- the tests of the near lots are those of all
 pub near_alone : (near : List (Lot (Unit {0}))) (ps : List Part) (qs : List Part) (ls : List (Lot (Unit {0}))) (w : Work) → qs ≡ ps → near ≡ filter (is_near Overlap ps) ls → all_apart_from first_tester qs (lot_parts near) w ≡ all_apart_from first_tester ps (lot_parts ls) w
 near_alone near ps qs ls w e f =
-    ap (λ (rs : List Part). all_apart_from first_tester rs (lot_parts near) w) e ∙ ap (λ (ms : List (Lot (Unit {0}))). all_apart_from first_tester ps (lot_parts ms) w) f ∙ apart_near ps ls w
+    ap (λ (rs : List Part). all_apart_from first_tester rs (lot_parts near) w) e ∙ ap (λ (ms : List (Lot (Unit {0}))). all_apart_from first_tester ps (lot_parts ms) w) f ∙ apart_near first_tester ps ls w

@@ -8,7 +8,8 @@ use Rattle.rp_model.specs.commands.Checks.{refuse_if, and_then, check_new, check
 use Rattle.rp_history.specs.Lots.{lots_in}
 use Rattle.rp_history.proofs.Found.{there_if_found, not_there}
 use Rattle.rp_parcels.specs.Rows.{Cause, refuses, limited, wanting, FailsBy}
-use Rattle.rp_parcels.proofs.Found.{item_at, none_here}
+use Rattle.rp_nearby.proofs.Places.{item_at}
+use Rattle.rp_parcels.proofs.Found.{none_here}
 use Rattle.rp_parcels.proofs.Together.{bare_ids}
 
 -- ---- one check and then more

@@ -10,13 +10,14 @@ use Rattle.rp_walks.specs.Walk.{done, Work, after_first, first_tester}
 use Rattle.rp_model.specs.states.State.{Lot, is_live, live_lots, lots_of_layer}
 use Rattle.rp_model.specs.commands.Row.{all_apart}
 use Rattle.rp_states.proofs.Listing.{all_kept}
-use Rattle.rp_parcels.specs.declared.near.Reach.TheVariants.{Overlap}
+use Rattle.rp_nearby.specs.declared.near.Reach.TheVariants.{Overlap}
 use Rattle.rp_parcels.specs.declared.pairs.Pair.{Pair}
 use Rattle.rp_parcels.specs.Kept.{AreSound}
-use Rattle.rp_parcels.specs.Near.{is_near, lots_at, AreWithin}
+use Rattle.rp_nearby.specs.Near.{is_near, lots_at, AreWithin}
 use Rattle.rp_parcels.specs.Judged.{pair_of, parts_at, judged, with_all_lines, IsPairWithin}
 use Rattle.rp_parcels.proofs.Sizes.{region_each}
-use Rattle.rp_parcels.proofs.Audited.{live_next, apart_behind, shown_next, near_alone}
+use Rattle.rp_nearby.proofs.Behind.{live_next}
+use Rattle.rp_parcels.proofs.Audited.{apart_behind, shown_next, near_alone}
 use Rattle.rp_parcels.proofs.Shown.{second_parts, pairs_within, lines_append, judged_with, apart_shown}
 
 -- the pairs of the lots before a place: what their tests show comes first of what is shown of all live lots

@@ -13,11 +13,11 @@ use Rattle.rp_model.specs.commands.Row.{Reply, accepted, reply_lines, check, che
 use Rattle.rp_history.specs.Lots.{lots_in, lots_after}
 use Rattle.rp_parcels.specs.declared.fault.ParcelFault.{ParcelFault}
 use Rattle.rp_parcels.specs.Rows.{Cause, wanting, cause_of, EndsBy, Changes}
-use Rattle.rp_parcels.specs.declared.near.Reach.TheVariants.{Touch}
-use Rattle.rp_parcels.specs.Near.{others_in, pairs_with, is_near, lots_at}
+use Rattle.rp_nearby.specs.declared.near.Reach.TheVariants.{Touch}
+use Rattle.rp_nearby.specs.Near.{others_in, pairs_with, is_near, lots_at}
 use Rattle.rp_parcels.specs.Judged.{parts_at}
 use Rattle.rp_parcels.specs.Walks.{overlap_counted, touch_counted}
-use Rattle.rp_parcels.proofs.Skipped.{touch_near}
+use Rattle.rp_nearby.proofs.Skipped.{touch_near}
 use Rattle.rp_parcels.proofs.Walked.{check_passes}
 
 -- what comes behind two walks comes behind both together
@@ -73,7 +73,7 @@ touch_rest y x lots ps w v pairs places at ids counted made none same found =
     ap (λ (xs : List Label). touched_lots first_tester xs ps (lots_at lots at) v) none
     ∙ ap (λ (ks : List ℕ). touched_lots first_tester [] ps (lots_at lots ks) v) same
     ∙ ap (λ (ls : List (Lot (Unit {0}))). touched_lots first_tester [] ps ls v) found
-    ∙ touch_near [] ps (others_in y x lots) v
+    ∙ touch_near first_tester [] ps (others_in y x lots) v
     ∙ sym (ap (after_first (λ _. touched_lots first_tester [] ps (others_in y x lots))) (sym (ap (λ (n : ℕ). count_tests n w) counted) ∙ made))
 
 -- a list that is not too long, once as a list and once as a size

@@ -14,6 +14,7 @@ use Rattle.rp_states.proofs.Plain.{images_twice}
 use Rattle.rp_history.specs.declared.lot.LotLine.{LotLine}
 use Rattle.rp_history.specs.Lots.{lot_of}
 use Rattle.rp_history.proofs.Found.{first_alone, rest_distinct, found_has_id, found_is_live, picked_lot, if_passed}
+use Rattle.rp_nearby.proofs.Places.{item_at, own_place}
 use Rattle.rp_parcels.specs.Kept.{AreSound}
 use Rattle.rp_parcels.proofs.Together.{bare_found, bare_live_found}
 
@@ -21,40 +22,10 @@ use Rattle.rp_parcels.proofs.Together.{bare_found, bare_live_found}
 pub ids_distinct : (lots : List (Lot (Unit {0}))) → AreSound lots → IsTrue (are_distinct (ids_of lots))
 ids_distinct lots h = subst (λ (xs : List Label). IsTrue (are_distinct xs)) (images_twice lot_of_parts (λ (l : Lot Shape). l.id) lots) h.ids_distinct
 
--- a place has an item
-pub item_at : {A : Type 0} (xs : List A) (j : ℕ) → j < length xs → (x : A) × (slice_get xs j ≡ Some x)
-item_at [] j f = absurd (omega arith)
-item_at (x ∷ xs) zero f = (x, refl)
-item_at (x ∷ xs) (suc j) f = item_at xs j (omega arith)
-
-module _ {S : Type 0} where
-  -- the id of an item is there
-  pub there : (ls : List (Lot S)) (k : ℕ) (l : Lot S) → slice_get ls k ≡ Some l → is_among l.id (ids_of ls) ≡ true
-  there [] k l e = absurd (cc)
-  there (h ∷ ls) zero l e = let same : h ≡ l = cc in or_left (label_eq l.id h.id) (is_among l.id (ids_of ls)) (subst (λ (m : Lot S). label_eq l.id m.id ≡ true) (sym same) (label_itself l.id))
-  there (h ∷ ls) (suc k) l e = or_right (label_eq l.id h.id) (is_among l.id (ids_of ls)) (there ls k l e)
-
-  -- an item is the lot with its id
-  pub own_place : (ls : List (Lot S)) → IsTrue (are_distinct (ids_of ls)) → (k : ℕ) (l : Lot S) → slice_get ls k ≡ Some l → lot_with_id l.id ls ≡ Some l
-  own_place [] d k l e = absurd (cc)
-  own_place (h ∷ ls) d zero l e = let same : h ≡ l = cc in by (label_eq l.id h.id) (subst (λ (m : Lot S). label_eq l.id m.id ≡ true) (sym same) (label_itself l.id)) same
-    where
-      by : (b : Bool) → b ≡ true → h ≡ l → pick b (Some h) (lot_with_id l.id ls) ≡ Some l
-      by true f same = ap Some same
-      by false f same = absurd (cc)
-  own_place (h ∷ ls) d (suc k) l e = by (label_eq l.id h.id) refl (own_place ls (rest_distinct h ls d) k l e) (there ls k l e)
-    where
-      by : (b : Bool) → label_eq l.id h.id ≡ b → lot_with_id l.id ls ≡ Some l → is_among l.id (ids_of ls) ≡ true → pick b (Some h) (lot_with_id l.id ls) ≡ Some l
-      by true f later t =
-          let twice : is_among h.id (ids_of ls) ≡ true = subst (λ (y : Label). is_among y (ids_of ls) ≡ true) (label_is l.id h.id f) t in
-          let alone = first_alone h ls d in
-          absurd (cc)
-      by false f later t = later
-
-  -- what is found without its parts is there with them
-  mapped_back : (o : Option (Lot S)) (l : Lot S) → option_map bare_lot o ≡ Some (bare_lot l) → (k : Lot S) × (o ≡ Some k) × (bare_lot k ≡ bare_lot l)
-  mapped_back None l e = absurd (cc)
-  mapped_back (Some k) l e = let f : bare_lot k ≡ bare_lot l = cc in (k, refl, f)
+-- what is found without its parts is there with them
+mapped_back : {S : Type 0} (o : Option (Lot S)) (l : Lot S) → option_map bare_lot o ≡ Some (bare_lot l) → (k : Lot S) × (o ≡ Some k) × (bare_lot k ≡ bare_lot l)
+mapped_back None l e = absurd (cc)
+mapped_back (Some k) l e = let f : bare_lot k ≡ bare_lot l = cc in (k, refl, f)
 
 -- no lot without its parts, and so none with them
 none_mapped : {A B : Type 0} (f : A → B) (o : Option A) → None ≡ option_map f o → o ≡ None
@@ -102,3 +73,7 @@ line_at lots history lines e f k line within is =
   where
     some_same : {A : Type 0} {x y : A} → Some x ≡ Some y → x ≡ y
     some_same h = cc
+
+-- the parts of an item
+pub item_parts : (lots : List (Lot (Unit {0}))) (k : ℕ) (l : Lot (Unit {0})) (ps : List Part) → slice_get lots k ≡ Some l → option_map (λ m. m.parts) (slice_get lots k) ≡ Some ps → l.parts ≡ ps
+item_parts lots k l ps at e = let f : Some l.parts ≡ Some ps = sym (ap (option_map (λ (m : Lot (Unit {0})). m.parts)) at) ∙ e in cc

@@ -8,8 +8,8 @@ use Rattle.rp_walks.specs.Walk.{Outcome, done, Walk, Work, no_work, with_lines, 
 use Rattle.rp_walks.specs.Form.{near_pair, touching_pair, test_pair_if, first_with_part, first_pair}
 use Rattle.rp_region.specs.declared.fault.OpFault.TheVariants.{Limit}
 use Rattle.rp_region.specs.Makes.{work_after, IsFaultOf}
-use Rattle.rp_parcels.specs.declared.near.Reach.{Reach}
-use Rattle.rp_parcels.specs.declared.near.Reach.TheVariants.{Overlap, Touch}
+use Rattle.rp_nearby.specs.declared.near.Reach.{Reach}
+use Rattle.rp_nearby.specs.declared.near.Reach.TheVariants.{Overlap, Touch}
 use Rattle.rp_parcels.specs.Judged.{pair_test, is_passed}
 
 -- a walk counts nothing and is never stopped: whatever the work, it comes to the same and appends the same lines

@@ -14,8 +14,8 @@ use Rattle.rp_history.specs.Lots.{lot_of}
 use Rattle.rp_parcels.specs.declared.points.Moment.{Moment}
 use Rattle.rp_parcels.specs.declared.points.Moment.TheVariants.{Now, After}
 use Rattle.rp_parcels.specs.Points.{is_there}
-use Rattle.rp_parcels.proofs.Nearby.{item_parts}
-use Rattle.rp_parcels.proofs.Stepped.{drop_item}
+use Rattle.rp_parcels.proofs.Found.{item_parts}
+use Rattle.rp_nearby.proofs.Places.{drop_item}
 
 module _ (test : Lot (Unit {0}) → Bool) (y : Label) (p : RationalPoint) where
   -- the owner among the lots of a layer that pass a test

@@ -15,17 +15,17 @@ use Rattle.rp_model.specs.states.State.{Lot}
 use Rattle.rp_model.specs.commands.Row.{lot_parts, touched_lots, all_apart_from}
 use Rattle.rp_region.specs.Makes.{work_after}
 use Rattle.rp_crew.specs.Meanings.{meanings_from, meanings_of}
-use Rattle.rp_parcels.specs.declared.near.Reach.{Reach}
-use Rattle.rp_parcels.specs.declared.near.Reach.TheVariants.{Overlap, Touch}
+use Rattle.rp_nearby.specs.declared.near.Reach.{Reach}
+use Rattle.rp_nearby.specs.declared.near.Reach.TheVariants.{Overlap, Touch}
 use Rattle.rp_parcels.specs.declared.pairs.Pair.{Pair}
 use Rattle.rp_parcels.specs.declared.pairs.Judged.{Judged}
-use Rattle.rp_parcels.specs.Near.{lots_at, AreWithin}
+use Rattle.rp_nearby.specs.Near.{lots_at, AreWithin}
 use Rattle.rp_parcels.specs.Judged.{pair_of, parts_at, id_at, pair_test, is_passed, pair_outcome, judged, ids_that_meet, with_all_lines, IsPairWithin, CountsNothing}
 use Rattle.rp_parcels.specs.Kept.{AreSound}
 use Rattle.rp_parcels.proofs.Sizes.{region_each}
-use Rattle.rp_parcels.proofs.Found.{item_at}
-use Rattle.rp_parcels.proofs.Searched.{touched_by}
-use Rattle.rp_parcels.proofs.Skipped.{apart_on}
+use Rattle.rp_nearby.proofs.Places.{item_at}
+use Rattle.rp_nearby.proofs.Skipped.{touched_by}
+use Rattle.rp_nearby.proofs.Skipped.{apart_on}
 use Rattle.rp_parcels.proofs.Framed.{shown_behind, none_counted}
 
 -- ---- items of a list by their numbers
@@ -150,6 +150,6 @@ module _ (lots : List (Lot (Unit {0}))) (j : ℕ) where
       let made = tested lots j k l item.1 Overlap w in
       let others = subst (AllByRecursion (λ (m : Lot (Unit {0})). ¬ Overlaps (shape_of_parts (parts_at lots j)) (shape_of_parts m.parts))) (first_at lots j k l item.1 ks) apart in
       ap (λ (ls : List (Lot (Unit {0}))). all_apart_from first_tester (parts_at lots j) (lot_parts ls) w) (first_at lots j k l item.1 ks)
-      ∙ ap (after_first (apart_on (parts_at lots j) (lot_parts (lots_at lots ks)))) made
-      ∙ ap (λ (b : Bool). apart_on (parts_at lots j) (lot_parts (lots_at lots ks)) b behind) (not_met l one.meets w behind own (region_each lots sound k l item.1) others.0 made)
+      ∙ ap (after_first (apart_on first_tester (parts_at lots j) (lot_parts (lots_at lots ks)))) made
+      ∙ ap (λ (b : Bool). apart_on first_tester (parts_at lots j) (lot_parts (lots_at lots ks)) b behind) (not_met l one.meets w behind own (region_each lots sound k l item.1) others.0 made)
       ∙ apart_shown sound own ks h.1 others.1 behind

@@ -19,7 +19,7 @@ use Rattle.rp_region.specs.Pairs.{IsLast}
 use Rattle.rp_parcels.specs.declared.child.Child.{Child}
 use Rattle.rp_parcels.specs.Register.{child_of}
 use Rattle.rp_parcels.specs.Rows.{Cause, refuses, limited, wanting, EndsBy, RefusesBy}
-use Rattle.rp_parcels.proofs.Stepped.{drop_item}
+use Rattle.rp_nearby.proofs.Places.{drop_item}
 use Rattle.rp_parcels.proofs.Walked.{check_passes, step_made}
 
 -- ---- several lists are taken away one after the other

@@ -14,7 +14,7 @@ use Rattle.rp_states.proofs.Replaced.{ended_parts, born_parts}
 use Rattle.rp_history.specs.declared.lot.Birth.{Birth}
 use Rattle.rp_history.specs.Lots.{new_lot_of, lots_after, AreBornBefore, AreNew}
 use Rattle.rp_boxindex.specs.Boxes.{Boxes}
-use Rattle.rp_parcels.specs.Indexed.{IsIndexed}
+use Rattle.rp_nearby.specs.Indexed.{IsIndexed}
 use Rattle.rp_parcels.specs.Kept.{with_parts, lots_with_parts, AreSound, IsRegister}
 use Rattle.rp_parcels.specs.Register.{IsLater, IsFitChange, new_lots}
 

@@ -8,10 +8,10 @@ use Rattle.rp_language.specs.Name.{Label}
 use Rattle.rp_walks.specs.Walk.{Outcome, done, stopped, limit_met, Work, most_tests, count_tests, first_tester}
 use Rattle.rp_model.specs.states.State.{Lot}
 use Rattle.rp_model.specs.commands.Row.{touched_lots}
-use Rattle.rp_parcels.specs.declared.near.Reach.TheVariants.{Touch}
+use Rattle.rp_nearby.specs.declared.near.Reach.TheVariants.{Touch}
 use Rattle.rp_parcels.specs.declared.pairs.Pair.{Pair}
 use Rattle.rp_parcels.specs.declared.pairs.Judged.{Judged}
-use Rattle.rp_parcels.specs.Near.{others_in, pairs_with, is_near, lots_at, AreWithin}
+use Rattle.rp_nearby.specs.Near.{others_in, pairs_with, is_near, lots_at, AreWithin}
 use Rattle.rp_parcels.specs.Judged.{pair_of, parts_at, judged, ids_that_meet, with_all_lines, IsPairWithin}
 use Rattle.rp_parcels.specs.Walks.{touch_counted}
 use Rattle.rp_parcels.proofs.Composed.{touch_rest}

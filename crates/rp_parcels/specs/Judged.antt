@@ -6,8 +6,8 @@ use Rattle.rp_walks.specs.Walk.{Outcome, done, stopped, Walk, Work, no_work, wit
 use Rattle.rp_walks.specs.Form.{common_nearby, touch_nearby}
 use Rattle.rp_model.specs.states.State.{Lot}
 use Rattle.rp_region.specs.Makes.{work_after}
-use Rattle.rp_parcels.specs.declared.near.Reach.{Reach}
-use Rattle.rp_parcels.specs.declared.near.Reach.TheVariants.{Overlap, Touch}
+use Rattle.rp_nearby.specs.declared.near.Reach.{Reach}
+use Rattle.rp_nearby.specs.declared.near.Reach.TheVariants.{Overlap, Touch}
 use Rattle.rp_parcels.specs.declared.pairs.Pair.{Pair}
 use Rattle.rp_parcels.specs.declared.pairs.Judged.{Judged}
 

@@ -5,7 +5,7 @@ use Rattle.rp_model.specs.states.State.{Lot, bare_lot, state_of_parts, parts_und
 use Rattle.rp_model.specs.states.Sound.{IsSound}
 use Rattle.rp_history.specs.Lots.{lots_in}
 use Rattle.rp_boxindex.specs.Boxes.{Boxes}
-use Rattle.rp_parcels.specs.Indexed.{IsIndexed}
+use Rattle.rp_nearby.specs.Indexed.{IsIndexed}
 
 -- a lot with the parts
 abbrev pub with_parts : {S : Type 0} → Lot S → List Part → Lot S

@@ -7,8 +7,8 @@ use Rattle.rp_model.specs.states.State.{Lot}
 use Rattle.rp_walks.specs.Form.{near_pair}
 use Rattle.rp_model.specs.commands.Verdict.{Refusal}
 use Rattle.rp_model.specs.commands.Row.{FormedChild, child_parts, count_among, first_overlapped, first_overlapping_children, touched_lots}
-use Rattle.rp_parcels.specs.declared.near.Reach.TheVariants.{Overlap, Touch}
-use Rattle.rp_parcels.specs.Near.{pairs_with}
+use Rattle.rp_nearby.specs.declared.near.Reach.TheVariants.{Overlap, Touch}
+use Rattle.rp_nearby.specs.Near.{pairs_with}
 
 -- the pairs of parts whose boxes share more than boundary are counted, and then the first lot that shares a member is looked for
 abbrev pub overlap_counted : {S : Type 0} → List Part → List (Lot S) → Walk Work (Option Label)

@@ -3,7 +3,6 @@
 #![tactic(auto)]
 
 mod audit;
-mod boxes;
 mod checks;
 mod child;
 mod fault;

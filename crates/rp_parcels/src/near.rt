@@ -1,30 +1,19 @@
 //! The lots that may meet a region. They are found here alone, by the boxes of their parts.
-ghost use Rattle.std.specs.Prelude.{◌≡◌, ◌+◌, ◌*◌, ◌<◌, ◌≤◌, ◌++◌, [], ◌∷◌, length, drop, filter, slice_get, Some, IfOk, OnOk};
+ghost use Rattle.std.specs.Prelude.{◌≡◌, ◌+◌, ◌*◌, ◌≤◌, drop, filter, length, map, IfOk};
 ghost use Rattle.rp_walks.specs.Walk.{count_tests};
-ghost use Rattle.rp_model.specs.states.State.{Lot, most_kept_parts};
+ghost use Rattle.rp_model.specs.states.State.{most_kept_parts};
 ghost use Rattle.rp_model.specs.commands.Row.{count_pairs};
-ghost use Rattle.rp_history.specs.Lots.{lot_of};
+ghost use Rattle.rp_nearby.specs.Indexed.{bounds_of, boxes_in, lists_in, AreShort};
+ghost use Rattle.rp_nearby.specs.Near.{may_meet, others_in, pairs_with, is_near, lots_at, AreWithin};
+ghost use Rattle.rp_geometry.specs.parts.Parts.{most_parts};
 ghost use Rattle.rp_parcels.specs.Rows.{Walks};
-ghost use Rattle.rp_parcels.specs.Near.{may_meet, others_in, pairs_with, is_near, is_other_in, lots_at, AreWithin, AreReached};
 
-use crate::boxes::places_from;
 use crate::parcels::Parcels;
-use rp_boxindex::{Steps, Watch};
-use rp_history::LotLine;
+use rp_boxindex::Watch;
+use rp_nearby::Reach;
 use rp_region::{OpFault, Region, Work};
-use rp_space::{Listed, Name};
+use rp_space::{IntBox, Listed, Name};
 use std::alloc::{AllocError, Global};
-use std::marker::Brand;
-use std::sync::ledger::{Blank, Ledger};
-
-/// Which boxes let two parts meet.
-#[derive(Clone, Copy, Debug)]
-pub(crate) enum Reach {
-    /// Those that share more than boundary.
-    Overlap,
-    /// Those that share a point, the boundary included.
-    Touch,
-}
 
 /// The lots that may meet a region: their places among all lots, and how many pairs of parts may meet.
 #[derive(Debug, Drop)]
@@ -33,11 +22,31 @@ pub(crate) struct Near {
     pub places: Listed<usize>,
 }
 
-/// Whether a lot is live, of the layer and has another id.
-fn is_other(lot: &LotLine, layer: &Name, id: &Name) -> bool
-    ensures { result ≡ is_other_in layer.now id.now (lot_of lot.now) }
+/// The boxes of a region's parts, in order. Answers `AllocError` only for want of memory.
+fn boxes_of(alloc: Global, region: &Region) -> Result<Listed<IntBox>, AllocError>
+    ensures value { IfOk result (λ boxes. boxes_in boxes.items ≡ bounds_of region.now) }
+    ensures few { IfOk result (λ boxes. length boxes.items ≤ most_parts) }
 {
-    lot.ended.is_none() && lot.layer == *layer && *id != lot.id
+    let mut boxes = Listed::new(alloc);
+    for part in region.parts() {
+        boxes.push(*part.bounds())?;
+    }
+    Ok(boxes)
+}
+
+/// The boxes of the parts of each of some regions, in order. Answers `AllocError` only for want of memory.
+pub(crate) fn boxes_of_each(
+    alloc: Global,
+    regions: &[Region],
+) -> Result<Listed<Listed<IntBox>>, AllocError>
+    ensures value { IfOk result (λ lists. lists_in lists.items ≡ map bounds_of regions.now) }
+    ensures short { IfOk result (λ lists. AreShort lists.items) }
+{
+    let mut lists = Listed::new(alloc);
+    for region in regions {
+        lists.push(boxes_of(alloc, region)?)?;
+    }
+    Ok(lists)
 }
 
 /// How many pairs of parts of two regions may meet.
@@ -70,68 +79,34 @@ impl Parcels {
         ensures within { IfOk result (λ near. AreWithin self.now near.places.items) }
         ensures few { IfOk result (λ near. near.pairs ≤ 1048576 * length self.now) }
     {
-        let places = self.reached::<W, Brand>(alloc, watch, region, from, reach, Blank::new(1))?;
-        let mut near = Near {
-            pairs: 0,
-            places: Listed::new(alloc),
-        };
-        let lots = self.history().lots();
-        for place in &places {
-            if is_other(&lots[*place], layer, id) {
-                self.add_if_near(&mut near, region, *place, reach)?;
-            }
-        }
-        Ok(near)
+        let boxes = boxes_of(alloc, region)?;
+        let history = self.history();
+        let places = self.boxes().near(
+            alloc,
+            watch,
+            history,
+            boxes.items(),
+            layer,
+            id,
+            from,
+            reach,
+        )?;
+        let pairs = self.count_at(region, places.items(), reach);
+        Ok(Near { pairs, places })
     }
 
-    /// The places from one on, in rising order, among which are those of all live lots that have a part that may meet one of
-    /// the region's. Answers `AllocError` only for want of memory.
-    fn reached<W: Watch, L: Ledger>(
-        &self,
-        alloc: Global,
-        watch: &W,
-        region: &Region,
-        from: usize,
-        reach: Reach,
-        blank: Blank,
-    ) -> Result<Vec<usize>, AllocError>
-        requires name { blank.name ≡ L.name }
-        requires parts { blank.parts ≡ L.parts }
-        requires some { 0 < L.parts }
-        ensures { IfOk result (λ places. AreReached reach region.now self.now from places.items) }
+    /// How many pairs of a part of a region and one of the lots at some places may meet.
+    fn count_at(&self, region: &Region, places: &[usize], reach: Reach) -> u64
+        requires within { AreWithin self.now places.now }
+        requires few { length places.now ≤ most_kept_parts }
+        ensures value { result ≡ pairs_with reach region.now (lots_at self.now places.now) }
+        ensures few { result ≤ 1048576 * length places.now }
     {
-        let mut steps = Steps::<L>::new(blank);
-        let numbers = self
-            .boxes()
-            .meeting(alloc, watch, region, reach, &mut steps)?;
-        let mut places = places_from(alloc, &numbers, from)?;
-        places.sort_unstable();
-        places.dedup();
-        Ok(places)
-    }
-
-    /// Adds the lot at a place, if it has a part that may meet one of the region's.
-    fn add_if_near(
-        &self,
-        near: &mut Near,
-        region: &Region,
-        place: usize,
-        reach: Reach,
-    ) -> Result<(), AllocError>
-        requires within { place < length self.now }
-        requires small { place < most_kept_parts }
-        requires few { near.old.pairs ≤ 1048576 * place }
-        ensures pairs { OnOk result ((l : Lot (Unit {0})) → slice_get self.now place ≡ Some l → near.new.pairs ≡ near.old.pairs + count_pairs (may_meet reach) region.now l.parts) }
-        ensures lots { OnOk result ((l : Lot (Unit {0})) → slice_get self.now place ≡ Some l → lots_at self.now near.new.places.items ≡ lots_at self.now near.old.places.items ++ filter (is_near reach region.now) (l ∷ [])) }
-        ensures within { OnOk result (AreWithin self.now near.old.places.items → AreWithin self.now near.new.places.items) }
-        ensures few { OnOk result (near.new.pairs ≤ 1048576 * (place + 1)) }
-    {
-        let pairs = count_pairs(region, self.region_at(place), reach);
-        if pairs > 0 {
-            near.places.push(place)?;
-            near.pairs += pairs;
+        let mut pairs = 0;
+        for place in places {
+            pairs += count_pairs(region, self.region_at(*place), reach);
         }
-        Ok(())
+        pairs
     }
 }
 

@@ -5,10 +5,10 @@ ghost use Rattle.rp_walks.specs.Walk.{most_tests};
 ghost use Rattle.rp_region.specs.Makes.{Makes};
 ghost use Rattle.rp_parcels.specs.Judged.{pair_of, ids_that_meet, pair_test, judged, judged_at, with_all_lines, IsPairWithin, ArePairsWithin, CountsNothing};
 
-use crate::near::Reach;
 use crate::parcels::Parcels;
 use rp_boxindex::Watch;
 use rp_crew::{Judge, judge_all};
+use rp_nearby::Reach;
 use rp_region::{OpFault, Region, Work};
 use rp_space::{Name, Names};
 use std::alloc::{AllocError, Global};

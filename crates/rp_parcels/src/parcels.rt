@@ -4,14 +4,15 @@ ghost use Rattle.rp_walks.specs.Walk.{no_work};
 ghost use Rattle.rp_model.specs.states.State.{Lot, live_lot, parts_of_lot, bare_lot, lots_replaced, parts_under_lots, most_kept_parts};
 ghost use Rattle.rp_model.specs.commands.Row.{row_retire};
 ghost use Rattle.rp_history.specs.Lots.{lots_in, lots_after};
-ghost use Rattle.rp_parcels.specs.Indexed.{IsIndexed};
+ghost use Rattle.rp_nearby.specs.Indexed.{IsIndexed};
 ghost use Rattle.rp_parcels.specs.Kept.{AreSound};
 ghost use Rattle.rp_parcels.specs.Register.{IsLater, IsFitChange, new_lots};
 ghost use Rattle.rp_parcels.specs.Rows.{Changes};
 
-use crate::boxes::LiveBoxes;
 use crate::fault::ParcelFault;
+use crate::near::boxes_of_each;
 use rp_history::{Birth, History};
+use rp_nearby::LiveBoxes;
 use rp_region::Region;
 use rp_space::{Listed, Name};
 use std::alloc::{AllocError, Global};
@@ -131,14 +132,14 @@ impl Parcels {
         let added = regions.items();
         let parts = count_parts(added);
         let first = self.regions.items().len();
+        let lists = boxes_of_each(alloc, added)?;
         self.regions.reserve(added.len())?;
-        self.boxes.add_all(alloc, first, added)?;
+        self.boxes.add_all(alloc, first, lists.items())?;
         if let Err(error) = self.history.note(alloc, line, births, ends) {
-            self.boxes.remove_all(first, added);
+            self.boxes.remove_all(first, added.len());
             return Err(error);
         }
-        self.boxes
-            .remove_ended(&self.history, self.regions.items(), ends);
+        self.boxes.remove_ended(&self.history, first, ends);
         self.regions.append(regions).unwrap();
         self.parts += parts;
         Ok(())
@@ -154,8 +155,8 @@ impl Parcels {
     {
         self.live_place(id)?;
         self.history.end(line, id);
-        self.boxes
-            .remove_ended(&self.history, self.regions.items(), &[id]);
+        let count = self.regions.items().len();
+        self.boxes.remove_ended(&self.history, count, &[id]);
         Ok(())
     }
 }

@@ -12,14 +12,15 @@ ghost use Rattle.rp_history.specs.Lots.{lots_in};
 ghost use Rattle.rp_parcels.specs.Kept.{AreSound};
 ghost use Rattle.rp_parcels.specs.Register.{IsLater};
 ghost use Rattle.rp_parcels.specs.Rows.{Walks, Changes, Checks, IsTold};
-ghost use Rattle.rp_parcels.specs.Near.{lots_at, AreWithin};
+ghost use Rattle.rp_nearby.specs.Near.{lots_at, AreWithin};
 ghost use Rattle.rp_parcels.specs.Walks.{overlap_counted};
 
 use crate::fault::ParcelFault;
-use crate::near::{Reach, count_tests};
+use crate::near::count_tests;
 use crate::parcels::Parcels;
 use rp_boxindex::Watch;
 use rp_history::Birth;
+use rp_nearby::Reach;
 use rp_region::{OpFault, Region, Work};
 use rp_space::{Inside, Listed, Name, Names};
 use std::alloc::Global;

@@ -6,7 +6,7 @@ use Rattle.rp_model.specs.commands.Checks.{refuse_if, check_live, check_layer, c
 use Rattle.rp_history.specs.Lots.{lots_in}
 use Rattle.rp_parcels.specs.Rows.{refuses}
 use Rattle.rp_parcels.proofs.Checked.{each_fails, each_passes, first_passes}
-use Rattle.rp_parcels.proofs.Stepped.{drop_item}
+use Rattle.rp_nearby.proofs.Places.{drop_item}
 use Rattle.rp_parcels.proofs.parcels.Parcels.check_layers.Goals as goal
 
 pub layer_of-requires : goal.layer_of-requires

@@ -5,7 +5,8 @@ use Rattle.rp_model.specs.states.State.{Lot, bare_lot}
 use Rattle.rp_model.specs.commands.Row.{count_in_layers}
 use Rattle.rp_history.specs.Lots.{lot_of}
 use Rattle.rp_parcels.proofs.Found.{line_at}
-use Rattle.rp_parcels.proofs.Audited.{live_first, live_next, line_is_live}
+use Rattle.rp_nearby.proofs.Behind.{live_first, live_next}
+use Rattle.rp_parcels.proofs.Audited.{line_is_live}
 use Rattle.rp_parcels.proofs.parcels.Parcels.count_near.Goals as goal
 use Rattle.rp_parcels.proofs.parcels.Parcels.count_near.Goals.{then-is_none+in_ok-pairs, else-is_none}
 

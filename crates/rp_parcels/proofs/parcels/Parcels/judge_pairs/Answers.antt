@@ -1,6 +1,6 @@
 use Rattle.std.proofs.Common.{◌∙◌}
 use Rattle.rp_parcels.specs.Judged.{pair_of, judged}
-use Rattle.rp_parcels.proofs.Audited.{if_ok_then}
+use Rattle.rp_nearby.proofs.Places.{if_ok_then}
 use Rattle.rp_parcels.proofs.Shown.{all_meanings}
 use Rattle.rp_parcels.proofs.parcels.Parcels.judge_pairs.Goals as goal
 

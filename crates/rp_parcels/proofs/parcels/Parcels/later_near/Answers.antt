@@ -1,10 +1,12 @@
 use Rattle.std.proofs.Common.{◌+◌, List, drop, filter, ap, sym, ◌∙◌}
 use Rattle.rp_geometry.specs.sets.Shape.{Part}
 use Rattle.rp_model.specs.states.State.{Lot}
-use Rattle.rp_parcels.specs.declared.near.Reach.TheVariants.{Overlap}
-use Rattle.rp_parcels.specs.Near.{pairs_with, is_near, others_in}
-use Rattle.rp_parcels.proofs.Nearby.{item_parts}
-use Rattle.rp_parcels.proofs.Audited.{if_ok_then, others_behind, own_line}
+use Rattle.rp_nearby.specs.declared.near.Reach.TheVariants.{Overlap}
+use Rattle.rp_nearby.specs.Near.{pairs_with, is_near, others_in}
+use Rattle.rp_parcels.proofs.Found.{ids_distinct, item_parts}
+use Rattle.rp_nearby.proofs.Behind.{others_behind}
+use Rattle.rp_nearby.proofs.Places.{if_ok_then}
+use Rattle.rp_parcels.proofs.Audited.{own_line}
 use Rattle.rp_parcels.proofs.parcels.Parcels.later_near.Goals as goal
 
 pub returns-clause-pairs : goal.returns-clause-pairs
@@ -18,7 +20,7 @@ returns-clause-pairs g c =
     e
     ∙ ap (λ (ps : List Part). pairs_with Overlap ps (others_in c.index-lots-place.result.layer c.index-lots-place.result.id (drop (k + 1) lots))) (sym parts)
     ∙ ap (λ (m : Lot (Unit {0})). pairs_with Overlap l.parts (others_in m.layer m.id (drop (k + 1) lots))) (sym own)
-    ∙ ap (pairs_with Overlap l.parts) (others_behind lots c.history.ensures.sound k l c.requires at))
+    ∙ ap (pairs_with Overlap l.parts) (others_behind lots (ids_distinct lots c.history.ensures.sound) k l c.requires at))
     c.near.ensures.pairs
 
 pub returns-clause-lots : goal.returns-clause-lots
@@ -32,5 +34,5 @@ returns-clause-lots g c =
     e
     ∙ ap (λ (ps : List Part). filter (is_near Overlap ps) (others_in c.index-lots-place.result.layer c.index-lots-place.result.id (drop (k + 1) lots))) (sym parts)
     ∙ ap (λ (m : Lot (Unit {0})). filter (is_near Overlap l.parts) (others_in m.layer m.id (drop (k + 1) lots))) (sym own)
-    ∙ ap (λ (ls : List (Lot (Unit {0}))). filter (is_near Overlap l.parts) ls) (others_behind lots c.history.ensures.sound k l c.requires at))
+    ∙ ap (λ (ls : List (Lot (Unit {0}))). filter (is_near Overlap l.parts) ls) (others_behind lots (ids_distinct lots c.history.ensures.sound) k l c.requires at))
     c.near.ensures.lots

@@ -8,6 +8,6 @@ use Rattle.rp_parcels.proofs.parcels.Parcels.new.Goals as goal
 
 pub invariant_of-result : goal.invariant_of-result
 invariant_of-result c =
-    subst (λ (m : Boxes). IsRegister c.new.result c.new-2.result.items 0 m) (sym c.new-3.ensures)
+    subst (λ (m : Boxes). IsRegister c.new.result c.new-2.result.items 0 m) (sym c.new-3.ensures.value)
     (subst (λ (lists : List (List Part)). IsRegister c.new.result lists 0 _) (sym c.new-2.ensures)
     (subst (λ (history : List (Lot (Unit {0}))). IsRegister history _ 0 _) (sym c.new.ensures) register_none))

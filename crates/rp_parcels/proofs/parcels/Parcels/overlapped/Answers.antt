@@ -4,10 +4,10 @@ use Rattle.std.proofs.lemmas.Result.{err_from_is_err_and}
 use Rattle.rp_walks.specs.Walk.{after_first, count_tests, first_tester}
 use Rattle.rp_model.specs.states.State.{Lot, live_lots, lots_of_layer}
 use Rattle.rp_model.specs.commands.Row.{first_overlapped}
-use Rattle.rp_parcels.specs.declared.near.Reach.TheVariants.{Overlap}
-use Rattle.rp_parcels.specs.Near.{lots_at, pairs_with}
+use Rattle.rp_nearby.specs.declared.near.Reach.TheVariants.{Overlap}
+use Rattle.rp_nearby.specs.Near.{lots_at, pairs_with}
 use Rattle.rp_parcels.proofs.Walked.{fails_first, walks_after, walks_as}
-use Rattle.rp_parcels.proofs.Skipped.{search_near, others_all}
+use Rattle.rp_nearby.proofs.Skipped.{search_near, others_all}
 use Rattle.rp_parcels.proofs.parcels.Parcels.overlapped.Goals as goal
 
 pub returns-in_err-count_tests-clause-makes : goal.returns-in_err-count_tests-clause-makes
@@ -31,6 +31,6 @@ returns-clause-makes g c =
     (walks_as (option_map (λ f. f.0)) c.first_overlapped.result c.count_tests.new.work c.first_overlapped.new.work (first_overlapped first_tester ps (lots_at c.args.self.now c.items.result.now)) (first_overlapped first_tester ps lots)
     (ap (λ (ks : List ℕ). first_overlapped first_tester ps (lots_at c.args.self.now ks) c.count_tests.new.work) c.items.ensures
     ∙ ap (λ (ls : List (Lot (Unit {0}))). first_overlapped first_tester ps ls c.count_tests.new.work) (c.in_ok-near.ensures.lots)
-    ∙ search_near ps _ c.count_tests.new.work
+    ∙ search_near first_tester ps _ c.count_tests.new.work
     ∙ ap (λ (ls : List (Lot (Unit {0}))). first_overlapped first_tester ps ls c.count_tests.new.work) others)
     c.first_overlapped.ensures.makes)

@@ -1,6 +1,6 @@
 use Rattle.std.proofs.Common.{sym, subst}
 use Rattle.std.specs.List.{AllByRecursion}
-use Rattle.rp_parcels.specs.declared.near.Reach.TheVariants.{Overlap}
+use Rattle.rp_nearby.specs.declared.near.Reach.TheVariants.{Overlap}
 use Rattle.rp_parcels.specs.Judged.{CountsNothing}
 use Rattle.rp_parcels.proofs.Shown.{count_nothing}
 use Rattle.rp_parcels.proofs.parcels.Parcels.show_all_apart.Goals as goal

@@ -1,6 +1,6 @@
 use Rattle.std.proofs.Common.{ap, sym, ◌∙◌, subst}
 use Rattle.std.specs.List.{AllByRecursion}
-use Rattle.rp_parcels.specs.declared.near.Reach.TheVariants.{Touch}
+use Rattle.rp_nearby.specs.declared.near.Reach.TheVariants.{Touch}
 use Rattle.rp_parcels.specs.Judged.{ids_that_meet, CountsNothing}
 use Rattle.rp_parcels.proofs.Shown.{count_nothing}
 use Rattle.rp_parcels.proofs.Touched.{counted_few, pairs_are_within, touch_judged}
