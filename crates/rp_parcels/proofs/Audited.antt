@@ -1,28 +1,25 @@
 -- Live lots that are behind another one, counted and shown to be apart.
 use Rattle.std.proofs.Common.{◌≡◌, ℕ, zero, suc, ◌+◌, ◌<◌, ◌≤◌, Bool, true, false, not, cond, List, [], ◌∷◌, map, filter, length, drop, get_or, Option, Some, None, slice_get, refl, sym, ap, ◌∙◌, subst, arith}
-use Rattle.std.specs.Prelude.{IsTrue, Result, Ok, Err, IfOk, is_some, is_none}
+use Rattle.std.specs.Prelude.{is_some, is_none}
 use Rattle.std.specs.List.{AllByRecursion}
-use Rattle.std.proofs.lemmas.Option.{get_or_from_slice_get}
 use Rattle.rp_geometry.specs.sets.Shape.{Part, shape_of_parts}
 use Rattle.rp_geometry.specs.sets.Sets.{Overlaps}
 use Rattle.rp_language.specs.Name.{label_eq}
 use Rattle.rp_walks.specs.Walk.{Outcome, Work, after_first, first_tester}
 use Rattle.rp_history.specs.declared.lot.LotLine.{LotLine}
 use Rattle.rp_history.specs.Lots.{lot_of}
-use Rattle.rp_model.specs.states.State.{Lot, bare_lot, is_live, live_lots, lots_of_layer, ids_of}
-use Rattle.rp_model.specs.states.Sound.{are_distinct, Pairwise}
+use Rattle.rp_model.specs.states.State.{Lot, bare_lot, is_live, live_lots, lots_of_layer}
+use Rattle.rp_model.specs.states.Sound.{Pairwise}
 use Rattle.rp_model.specs.commands.Row.{lot_parts, all_apart, all_apart_from}
 use Rattle.rp_states.proofs.Labels.{label_is}
 use Rattle.rp_states.proofs.Listing.{all_passed}
 use Rattle.rp_algebra.proofs.Listed.{all_map}
-use Rattle.rp_history.proofs.Found.{first_alone, rest_distinct}
 use Rattle.rp_nearby.proofs.Behind.{live_first}
 use Rattle.rp_parcels.specs.Kept.{AreSound}
 use Rattle.rp_nearby.specs.declared.near.Reach.TheVariants.{Overlap}
-use Rattle.rp_nearby.specs.Near.{others_in, is_near}
-use Rattle.rp_nearby.proofs.Places.{drop_item}
-use Rattle.rp_parcels.proofs.Found.{ids_distinct, line_at}
-use Rattle.rp_nearby.proofs.Skipped.{others_all, apart_near}
+use Rattle.rp_nearby.specs.Near.{is_near}
+use Rattle.rp_parcels.proofs.Found.{line_at}
+use Rattle.rp_nearby.proofs.Skipped.{apart_near}
 use Rattle.rp_parcels.proofs.Alone.{ApartLots, live_apart}
 
 -- ---- apart

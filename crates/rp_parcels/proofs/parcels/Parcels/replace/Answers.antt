@@ -2,10 +2,9 @@ use Rattle.std.proofs.Common.{ℕ, ◌+◌, ◌≤◌, List, [], ◌++◌, map, 
 use Rattle.std.proofs.lemmas.List.{length-map}
 use Rattle.rp_geometry.specs.Geometry.{IntegerBox}
 use Rattle.rp_geometry.specs.sets.Shape.{Part}
-use Rattle.rp_language.specs.Name.{is_among}
 use Rattle.rp_model.specs.states.State.{Lot, lots_replaced, most_kept_parts}
 use Rattle.rp_history.specs.Lots.{lots_after, AreNew}
-use Rattle.rp_nearby.specs.Indexed.{bounds_of, boxes_in, lists_in, AreShort, AreUnder, NoneBehind, AreEmptied}
+use Rattle.rp_nearby.specs.Indexed.{bounds_of, boxes_in, lists_in, AreShort, AreUnder, NoneBehind}
 use Rattle.rp_parcels.specs.Kept.{lots_with_parts, AreSound, IsRegister}
 use Rattle.rp_parcels.specs.Register.{IsLater, IsFitChange, new_lots}
 use Rattle.rp_parcels.proofs.Together.{born_before, new_to_history, after_with_parts, register_after, lots_counted, lots_sound, lots_parts}

@@ -1,4 +1,4 @@
-use Rattle.std.proofs.Common.{◌+◌, List, ◌∷◌, [], length, get_or, refl, sym, ap, subst, arith}
+use Rattle.std.proofs.Common.{◌+◌, List, ◌∷◌, [], length, refl, sym, ap, subst, arith}
 use Rattle.rp_geometry.specs.sets.Shape.{Part}
 use Rattle.rp_language.specs.Name.{is_among}
 use Rattle.rp_walks.specs.Walk.{no_work}
