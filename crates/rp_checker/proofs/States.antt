@@ -23,10 +23,10 @@ use Rattle.rp_states.proofs.Parted.{parts_are_sound}
 use Rattle.rp_states.proofs.Plain.{images_twice}
 use Rattle.rp_states.proofs.PlainRows.{row_same}
 use Rattle.rp_states.proofs.Replies.{plain_new, plain_change, IsFitReply, row_fit}
-use Rattle.rp_checker.specs.declared.reply.Reply.{Reply as CodeReply}
-use Rattle.rp_checker.specs.declared.reply.RowEnd.{RowEnd}
-use Rattle.rp_checker.specs.Kept.{IsSoundOnLines, ComesFromKnown}
-use Rattle.rp_checker.specs.Replies.{reply_of, Replies}
+use Rattle.rp_register.specs.declared.reply.Reply.{Reply as CodeReply}
+use Rattle.rp_register.specs.declared.reply.RowEnd.{RowEnd}
+use Rattle.rp_register.specs.Kept.{IsSoundOnLines, ComesFromKnown}
+use Rattle.rp_register.specs.Replies.{reply_of, Replies}
 
 -- ---- states of parts and of sets
 

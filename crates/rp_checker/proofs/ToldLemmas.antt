@@ -7,9 +7,9 @@ use Rattle.rp_model.specs.commands.Row.{Reply as ModelReply, row}
 use Rattle.rp_reports.specs.Check.{Trail, line_tester}
 use Rattle.rp_report.specs.declared.answer.Verdict.{Verdict as CodeVerdict}
 use Rattle.rp_space.specs.Listed.{Listed}
-use Rattle.rp_checker.specs.declared.reply.Reply.{Reply}
-use Rattle.rp_checker.specs.declared.reply.RowEnd.{RowEnd}
-use Rattle.rp_checker.specs.Replies.{Replies, Tells, reply_told}
+use Rattle.rp_register.specs.declared.reply.Reply.{Reply}
+use Rattle.rp_register.specs.declared.reply.RowEnd.{RowEnd}
+use Rattle.rp_register.specs.Replies.{Replies, Tells, reply_told}
 
 -- the reply to a question
 told_replies : (q : Result (Listed CodeVerdict) RowEnd) (t : Trail) (o : Outcome Trail ModelReply) → Tells q t o → Replies (reply_told q) t o

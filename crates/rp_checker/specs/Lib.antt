@@ -1,11 +1,3 @@
 pub mod Answers
-pub mod Asked
-pub mod Checks
 pub mod Children
-pub mod Compare
 pub mod Found
-pub mod Kept
-pub mod Near
-pub mod Operands
-pub mod Replies
-pub mod There

@@ -12,14 +12,13 @@ ghost use Rattle.rp_syntax.specs.Views.{child_of, command_of, expression_of, fau
 ghost use Rattle.rp_follow.specs.Follows.{StopsBy};
 ghost use Rattle.rp_checker.specs.Answers.{Answers, echo_with};
 ghost use Rattle.rp_checker.specs.Children.{HasFewChildren};
-ghost use Rattle.rp_checker.specs.Kept.{IsSoundOnLines, ComesFromKnown};
-ghost use Rattle.rp_checker.specs.Replies.{reply_of, Replies};
+ghost use Rattle.rp_register.specs.Kept.{IsSoundOnLines, ComesFromKnown};
+ghost use Rattle.rp_register.specs.Replies.{reply_of, Replies};
 
 use crate::halt::Halt;
 use crate::lines::{follow_limit, follow_verdict, follow_verdicts};
-use crate::register::Register;
-use crate::reply::{Reply, RowEnd, one_line};
 use rp_follow::{Lost, Trail};
+use rp_register::{Register, Reply, RowEnd, one_line};
 use rp_report::{Refusal, Verdict, read_echo};
 use rp_space::Name;
 use rp_syntax::{Command, Expr, Line, Why, read_line};
@@ -80,199 +79,197 @@ fn next_echo<'a>(trail: &Trail<'a>) -> Option<(u32, Option<&'a [u8]>)>
     }
 }
 
-impl Register {
-    /// Whether all names and lots of an expression are there.
-    fn knows(&self, region: &Expr) -> bool
-        ensures { result ≡ is_none (first_unknown_among (parts_in self.now) (expression_of region.now ∷ [])) }
-    {
-        self.first_unknown(region).is_none()
-    }
+/// Whether all names and lots of an expression are there.
+fn knows(register: &Register, region: &Expr) -> bool
+    ensures { result ≡ is_none (first_unknown_among (parts_in register.now) (expression_of region.now ∷ [])) }
+{
+    register.first_unknown(region).is_none()
+}
 
-    /// Whether all names and lots of two expressions are there.
-    fn knows_both(&self, a: &Expr, b: &Expr) -> bool
-        ensures { result ≡ is_none (first_unknown_among (parts_in self.now) (expression_of a.now ∷ expression_of b.now ∷ [])) }
-    {
-        self.knows(a) && self.knows(b)
-    }
+/// Whether all names and lots of two expressions are there.
+fn knows_both(register: &Register, a: &Expr, b: &Expr) -> bool
+    ensures { result ≡ is_none (first_unknown_among (parts_in register.now) (expression_of a.now ∷ expression_of b.now ∷ [])) }
+{
+    knows(register, a) && knows(register, b)
+}
 
-    /// Whether all names and lots of the children of a subdivision are there.
-    fn knows_children(&self, entries: &[(Name, Expr)]) -> bool
-        ensures { result ≡ is_none (first_unknown_among (parts_in self.now) (map (λ c. c.shape) (map child_of entries.now))) }
-    {
-        for (_, region) in entries {
-            if !self.knows(region) {
-                return false;
-            }
-        }
-        true
-    }
-
-    /// Whether the report may tell of a limit in place of the first verdict line of a command: the command can meet one,
-    /// and all names and lots of its expressions are there.
-    fn limit_allowed(&self, command: &Command) -> bool
-        ensures { result ≡ limit_allowed self.now (command_of command.now) }
-    {
-        match command {
-            Command::Let(_, region)
-            | Command::Empty(region)
-            | Command::Pieces(region)
-            | Command::Show(region)
-            | Command::Register(_, region)
-            | Command::Cut(_, region, _, _) => self.knows(region),
-            Command::Equal(a, b)
-            | Command::Within(a, b)
-            | Command::Overlap(a, b)
-            | Command::Contact(a, b)
-            | Command::Rcc(a, b) => self.knows_both(a, b),
-            Command::Subdivide(_, entries) => self.knows_children(entries.items()),
-            Command::Consolidate(_, _) | Command::Neighbours(_) | Command::Audit => true,
-            Command::Member(_, _)
-            | Command::Retire(_)
-            | Command::History(_)
-            | Command::At(_)
-            | Command::Asof(_, _)
-            | Command::List
-            | Command::Layer(_) => false,
+/// Whether all names and lots of the children of a subdivision are there.
+fn knows_children(register: &Register, entries: &[(Name, Expr)]) -> bool
+    ensures { result ≡ is_none (first_unknown_among (parts_in register.now) (map (λ c. c.shape) (map child_of entries.now))) }
+{
+    for (_, region) in entries {
+        if !knows(register, region) {
+            return false;
         }
     }
+    true
+}
 
-    /// Takes the verdict lines of a reply, and then makes its change; or takes a line that tells of a limit in their place,
-    /// which changes nothing.
-    fn follow_reply(
-        &mut self,
-        alloc: Global,
-        n: u32,
-        allowed: bool,
-        reply: Reply,
-        trail: &mut Trail<'_>,
-    ) -> Result<(), Halt>
-        requires later { IsLaterThan n (state_of_parts self.old) }
-        requires known { ComesFromKnown self.old (reply_of reply).change }
-        requires sound { IsSoundOnLines (changed n self.old (reply_of reply).change) }
-        ensures { Answers (λ _. self.new) result trail.new (follow_verdicts n self.old allowed (reply_of reply) trail.old) }
-    {
-        if allowed && trail.tells_limit() {
-            return follow_limit(trail);
-        }
-        match reply {
-            Reply::Told(lines) => follow_verdicts(alloc, lines.items(), trail),
-            Reply::Changed(change) => {
-                follow_verdict(alloc, &Verdict::Ok, trail)?;
-                self.apply(alloc, n, change)?;
-                Ok(())
-            }
-        }
+/// Whether the report may tell of a limit in place of the first verdict line of a command: the command can meet one,
+/// and all names and lots of its expressions are there.
+fn limit_allowed(register: &Register, command: &Command) -> bool
+    ensures { result ≡ limit_allowed register.now (command_of command.now) }
+{
+    match command {
+        Command::Let(_, region)
+        | Command::Empty(region)
+        | Command::Pieces(region)
+        | Command::Show(region)
+        | Command::Register(_, region)
+        | Command::Cut(_, region, _, _) => knows(register, region),
+        Command::Equal(a, b)
+        | Command::Within(a, b)
+        | Command::Overlap(a, b)
+        | Command::Contact(a, b)
+        | Command::Rcc(a, b) => knows_both(register, a, b),
+        Command::Subdivide(_, entries) => knows_children(register, entries.items()),
+        Command::Consolidate(_, _) | Command::Neighbours(_) | Command::Audit => true,
+        Command::Member(_, _)
+        | Command::Retire(_)
+        | Command::History(_)
+        | Command::At(_)
+        | Command::Asof(_, _)
+        | Command::List
+        | Command::Layer(_) => false,
     }
+}
 
-    /// The rest of an answer, once the row of its command was followed.
-    fn follow_row(
-        &mut self,
-        alloc: Global,
-        n: u32,
-        allowed: bool,
-        row: Result<Reply, RowEnd>,
-        trail: &mut Trail<'_>,
-    ) -> Result<(), Halt>
-        requires later { IsLaterThan n (state_of_parts self.old) }
-        requires known { IfOk row (λ reply. ComesFromKnown self.old (reply_of reply).change) }
-        requires sound { IfOk row (λ reply. IsSoundOnLines (changed n self.old (reply_of reply).change)) }
-        ensures { (o : Outcome ModelTrail ModelReply) → Replies row trail.old o → Answers (λ _. self.new) result trail.new (follow_walk n self.old allowed o) }
-    {
-        match row {
-            Ok(reply) => self.follow_reply(alloc, n, allowed, reply, trail),
-            Err(RowEnd::Refused(refusal)) => {
-                self.keep_sound();
-                let lines = one_line(alloc, Verdict::Refused(refusal))?;
-                self.follow_reply(alloc, n, allowed, Reply::Told(lines), trail)
-            }
-            Err(RowEnd::Shared) => Err(Halt::Wrong(trail.number().saturating_sub(1))),
-            Err(RowEnd::Lost(lost)) => follow_lost(allowed, lost, trail),
-        }
+/// Takes the verdict lines of a reply, and then makes its change; or takes a line that tells of a limit in their place,
+/// which changes nothing.
+fn follow_reply(
+    alloc: Global,
+    register: &mut Register,
+    n: u32,
+    allowed: bool,
+    reply: Reply,
+    trail: &mut Trail<'_>,
+) -> Result<(), Halt>
+    requires later { IsLaterThan n (state_of_parts register.old) }
+    requires known { ComesFromKnown register.old (reply_of reply).change }
+    requires sound { IsSoundOnLines (changed n register.old (reply_of reply).change) }
+    ensures { Answers (λ _. register.new) result trail.new (follow_verdicts n register.old allowed (reply_of reply) trail.old) }
+{
+    if allowed && trail.tells_limit() {
+        return follow_limit(trail);
     }
-
-    /// The answer to a command, behind its echo.
-    fn follow_command(
-        &mut self,
-        alloc: Global,
-        n: u32,
-        command: &Command,
-        trail: &mut Trail<'_>,
-    ) -> Result<(), Halt>
-        requires later { IsLaterThan n (state_of_parts self.old) }
-        requires kept { AllByRecursion IsKeptExpression (expressions_of (command_of command.now)) }
-        requires few { HasFewChildren (command_of command.now) }
-        ensures { Answers (λ _. self.new) result trail.new (follow_command n self.old (command_of command.now) trail.old) }
-    {
-        self.keep_sound();
-        let allowed = self.limit_allowed(command);
-        let row = self.carry_out(alloc, command, trail);
-        self.follow_row(alloc, n, allowed, row, trail)
-    }
-
-    /// The answer to an echo with a text, which is the next line. A text that is blank or too long is wrong there.
-    fn follow_text(
-        &mut self,
-        alloc: Global,
-        n: u32,
-        text: &[u8],
-        trail: &mut Trail<'_>,
-    ) -> Result<(), Halt>
-        requires later { IsLaterThan n (state_of_parts self.old) }
-        requires left { 0 < length trail.old.lines }
-        ensures { Answers (λ _. self.new) result trail.new (follow_text n self.old (reading text.now) trail.old) }
-    {
-        let line = read_line(alloc, text)?;
-        match line {
-            Line::Blank => Err(Halt::Wrong(trail.number())),
-            Line::Bad(why) => follow_bad(alloc, why, trail),
-            Line::Cmd(command) => {
-                trail.take();
-                self.follow_command(alloc, n, &command, trail)
-            }
+    match reply {
+        Reply::Told(lines) => follow_verdicts(alloc, lines.items(), trail),
+        Reply::Changed(change) => {
+            follow_verdict(alloc, &Verdict::Ok, trail)?;
+            register.apply(alloc, n, change)?;
+            Ok(())
         }
     }
+}
 
-    /// The answer to an echo, which is the next line, with its text or without one.
-    fn follow_echo(
-        &mut self,
-        alloc: Global,
-        n: u32,
-        text: Option<&[u8]>,
-        trail: &mut Trail<'_>,
-    ) -> Result<(), Halt>
-        requires later { IsLaterThan n (state_of_parts self.old) }
-        requires left { 0 < length trail.old.lines }
-        ensures { Answers (λ _. self.new) result trail.new (follow_echo n self.old (option_map (λ t. t.now) text.entry) trail.old) }
-    {
-        match text {
-            Some(text) => self.follow_text(alloc, n, text, trail),
-            None => {
-                trail.take();
-                follow_fault(alloc, Why::Long, trail)
-            }
+/// The rest of an answer, once the row of its command was followed.
+fn follow_row(
+    alloc: Global,
+    register: &mut Register,
+    n: u32,
+    allowed: bool,
+    row: Result<Reply, RowEnd>,
+    trail: &mut Trail<'_>,
+) -> Result<(), Halt>
+    requires later { IsLaterThan n (state_of_parts register.old) }
+    requires known { IfOk row (λ reply. ComesFromKnown register.old (reply_of reply).change) }
+    requires sound { IfOk row (λ reply. IsSoundOnLines (changed n register.old (reply_of reply).change)) }
+    ensures { (o : Outcome ModelTrail ModelReply) → Replies row trail.old o → Answers (λ _. register.new) result trail.new (follow_walk n register.old allowed o) }
+{
+    match row {
+        Ok(reply) => follow_reply(alloc, register, n, allowed, reply, trail),
+        Err(RowEnd::Refused(refusal)) => {
+            register.keep_sound();
+            let lines = one_line(alloc, Verdict::Refused(refusal))?;
+            follow_reply(alloc, register, n, allowed, Reply::Told(lines), trail)
+        }
+        Err(RowEnd::Shared) => Err(Halt::Wrong(trail.number().saturating_sub(1))),
+        Err(RowEnd::Lost(lost)) => follow_lost(allowed, lost, trail),
+    }
+}
+
+/// The answer to a command, behind its echo.
+fn follow_command(
+    alloc: Global,
+    register: &mut Register,
+    n: u32,
+    command: &Command,
+    trail: &mut Trail<'_>,
+) -> Result<(), Halt>
+    requires later { IsLaterThan n (state_of_parts register.old) }
+    requires kept { AllByRecursion IsKeptExpression (expressions_of (command_of command.now)) }
+    requires few { HasFewChildren (command_of command.now) }
+    ensures { Answers (λ _. register.new) result trail.new (follow_command n register.old (command_of command.now) trail.old) }
+{
+    register.keep_sound();
+    let allowed = limit_allowed(register, command);
+    let row = carry_out(alloc, register, command, trail);
+    follow_row(alloc, register, n, allowed, row, trail)
+}
+
+/// The answer to an echo with a text, which is the next line. A text that is blank or too long is wrong there.
+fn follow_text(
+    alloc: Global,
+    register: &mut Register,
+    n: u32,
+    text: &[u8],
+    trail: &mut Trail<'_>,
+) -> Result<(), Halt>
+    requires later { IsLaterThan n (state_of_parts register.old) }
+    requires left { 0 < length trail.old.lines }
+    ensures { Answers (λ _. register.new) result trail.new (follow_text n register.old (reading text.now) trail.old) }
+{
+    let line = read_line(alloc, text)?;
+    match line {
+        Line::Blank => Err(Halt::Wrong(trail.number())),
+        Line::Bad(why) => follow_bad(alloc, why, trail),
+        Line::Cmd(command) => {
+            trail.take();
+            follow_command(alloc, register, n, &command, trail)
         }
     }
+}
 
-    /// Takes the lines of the next answer, whose number must be above `last`, and makes its change. Answers its number.
-    /// `Wrong` with the number of the first line that doesn't fit.
-    pub(crate) fn follow_answer(
-        &mut self,
-        alloc: Global,
-        last: u32,
-        trail: &mut Trail<'_>,
-    ) -> Result<u32, Halt>
-        requires { IsLaterThan (last + 1) (state_of_parts self.old) }
-        ensures { Answers (λ n. record { last = n; state = self.new }) result trail.new (follow_answer (record { last = last; state = self.old }) trail.old) }
-    {
-        let wrong = Halt::Wrong(trail.number());
-        let Some((n, text)) = next_echo(trail) else {
-            return Err(wrong);
-        };
-        if n <= last {
-            return Err(wrong);
+/// The answer to an echo, which is the next line, with its text or without one.
+fn follow_echo(
+    alloc: Global,
+    register: &mut Register,
+    n: u32,
+    text: Option<&[u8]>,
+    trail: &mut Trail<'_>,
+) -> Result<(), Halt>
+    requires later { IsLaterThan n (state_of_parts register.old) }
+    requires left { 0 < length trail.old.lines }
+    ensures { Answers (λ _. register.new) result trail.new (follow_echo n register.old (option_map (λ t. t.now) text.entry) trail.old) }
+{
+    match text {
+        Some(text) => follow_text(alloc, register, n, text, trail),
+        None => {
+            trail.take();
+            follow_fault(alloc, Why::Long, trail)
         }
-        trail.begin();
-        self.follow_echo(alloc, n, text, trail)?;
-        Ok(n)
     }
+}
+
+/// Takes the lines of the next answer, whose number must be above `last`, and makes its change. Answers its number.
+/// `Wrong` with the number of the first line that doesn't fit.
+pub(crate) fn follow_answer(
+    alloc: Global,
+    register: &mut Register,
+    last: u32,
+    trail: &mut Trail<'_>,
+) -> Result<u32, Halt>
+    requires { IsLaterThan (last + 1) (state_of_parts register.old) }
+    ensures { Answers (λ n. record { last = n; state = register.new }) result trail.new (follow_answer (record { last = last; state = register.old }) trail.old) }
+{
+    let wrong = Halt::Wrong(trail.number());
+    let Some((n, text)) = next_echo(trail) else {
+        return Err(wrong);
+    };
+    if n <= last {
+        return Err(wrong);
+    }
+    trail.begin();
+    follow_echo(alloc, register, n, text, trail)?;
+    Ok(n)
 }

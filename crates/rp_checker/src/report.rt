@@ -7,8 +7,8 @@ ghost use Rattle.rp_reports.specs.Text.{text_of_lines};
 ghost use Rattle.rp_checker.specs.Found.{found_of, TellsRight};
 
 use crate::halt::Halt;
-use crate::register::Register;
 use rp_follow::Trail;
+use rp_register::Register;
 use rp_true_report::every_report_is_accepted;
 use std::alloc::{AllocError, Global};
 

@@ -6,12 +6,15 @@ ghost use Rattle.rp_model.specs.commands.Row.{row};
 ghost use Rattle.rp_reports.specs.Check.{Trail, line_tester};
 ghost use Rattle.rp_syntax.specs.Views.{command_of};
 ghost use Rattle.rp_checker.specs.Children.{HasFewChildren};
-ghost use Rattle.rp_checker.specs.Replies.{Replies, reply_told};
+ghost use Rattle.rp_register.specs.Replies.{Replies, reply_told};
 
-use crate::questions::Question;
-use crate::register::Register;
-use crate::reply::{Change, Reply, RowEnd};
+use rp_changes::{consolidate, cutting, definition, registration, retire, subdivision};
 use rp_follow::Trail;
+use rp_questions::{
+    Question, audit, comparison, emptiness, lineage, list, membership, neighbours, owner,
+    owner_then, piece_numbers, related, shown_parts,
+};
+use rp_register::{Change, Register, Reply, RowEnd};
 use rp_report::Verdicts;
 use rp_syntax::Command;
 use std::alloc::Global;
@@ -26,43 +29,47 @@ fn told(asked: Result<Verdicts, RowEnd>) -> Result<Reply, RowEnd>
     }
 }
 
-impl Register {
-    /// Follows the row of a command on the next lines: its reply, or why there is none. Nothing is changed yet.
-    pub(crate) fn carry_out(
-        &self,
-        alloc: Global,
-        command: &Command,
-        trail: &mut Trail<'_>,
-    ) -> Result<Reply, RowEnd>
-        requires kept { AllByRecursion IsKeptExpression (expressions_of (command_of command.now)) }
-        requires few { HasFewChildren (command_of command.now) }
-        ensures { Replies result trail.new (row line_tester self.now (command_of command.now) trail.old) }
-    {
-        match command {
-            Command::Let(name, region) => self.definition(alloc, *name, region, trail),
-            Command::Member(region, point) => told(self.membership(alloc, region, point)),
-            Command::Empty(region) => told(self.emptiness(alloc, region, trail)),
-            Command::Pieces(region) => told(self.piece_numbers(alloc, region, trail)),
-            Command::Show(region) => told(self.shown_parts(alloc, region, trail)),
-            Command::Equal(a, b) => told(self.comparison(alloc, Question::Equal, a, b, trail)),
-            Command::Within(a, b) => told(self.comparison(alloc, Question::Within, a, b, trail)),
-            Command::Overlap(a, b) => told(self.comparison(alloc, Question::Overlap, a, b, trail)),
-            Command::Contact(a, b) => told(self.comparison(alloc, Question::Contact, a, b, trail)),
-            Command::Rcc(a, b) => told(self.relation(alloc, a, b, trail)),
-            Command::Register(id, region) => self.registration(alloc, *id, region, trail),
-            Command::Cut(id, by, first, second) => {
-                self.cutting(alloc, *id, by, *first, *second, trail)
-            }
-            Command::Subdivide(id, entries) => self.subdivision(alloc, *id, entries.items(), trail),
-            Command::Consolidate(new, ids) => self.consolidate(alloc, *new, ids.items()),
-            Command::Retire(id) => self.retire(alloc, *id),
-            Command::Neighbours(id) => told(self.neighbours(alloc, *id, trail)),
-            Command::History(id) => told(self.lineage(alloc, *id)),
-            Command::At(point) => told(self.owner(alloc, point)),
-            Command::Asof(line, point) => told(self.owner_then(alloc, *line, point)),
-            Command::Audit => told(self.audit(alloc, trail)),
-            Command::List => told(self.list(alloc)),
-            Command::Layer(layer) => Ok(Reply::Changed(Change::Layer(*layer))),
+/// Follows the row of a command on the next lines: its reply, or why there is none. Nothing is changed yet.
+pub(crate) fn carry_out(
+    alloc: Global,
+    register: &Register,
+    command: &Command,
+    trail: &mut Trail<'_>,
+) -> Result<Reply, RowEnd>
+    requires kept { AllByRecursion IsKeptExpression (expressions_of (command_of command.now)) }
+    requires few { HasFewChildren (command_of command.now) }
+    ensures { Replies result trail.new (row line_tester register.now (command_of command.now) trail.old) }
+{
+    match command {
+        Command::Let(name, region) => definition(alloc, register, *name, region, trail),
+        Command::Member(region, point) => told(membership(alloc, register, region, point)),
+        Command::Empty(region) => told(emptiness(alloc, register, region, trail)),
+        Command::Pieces(region) => told(piece_numbers(alloc, register, region, trail)),
+        Command::Show(region) => told(shown_parts(alloc, register, region, trail)),
+        Command::Equal(a, b) => told(comparison(alloc, register, Question::Equal, a, b, trail)),
+        Command::Within(a, b) => told(comparison(alloc, register, Question::Within, a, b, trail)),
+        Command::Overlap(a, b) => told(comparison(alloc, register, Question::Overlap, a, b, trail)),
+        Command::Contact(a, b) => told(comparison(alloc, register, Question::Contact, a, b, trail)),
+        Command::Rcc(a, b) => told(related(alloc, register, a, b, trail)),
+        Command::Register(id, region) => registration(alloc, register, *id, region, trail),
+        Command::Cut(id, by, first, second) => {
+            cutting(alloc, register, *id, by, *first, *second, trail)
         }
+        Command::Subdivide(id, entries) => subdivision(
+            alloc,
+            register,
+            *id,
+            entries.items(),
+            trail,
+        ),
+        Command::Consolidate(new, ids) => consolidate(alloc, register, *new, ids.items()),
+        Command::Retire(id) => retire(alloc, register, *id),
+        Command::Neighbours(id) => told(neighbours(alloc, register, *id, trail)),
+        Command::History(id) => told(lineage(alloc, register, *id)),
+        Command::At(point) => told(owner(alloc, register, point)),
+        Command::Asof(line, point) => told(owner_then(alloc, register, *line, point)),
+        Command::Audit => told(audit(alloc, register, trail)),
+        Command::List => told(list(alloc, register)),
+        Command::Layer(layer) => Ok(Reply::Changed(Change::Layer(*layer))),
     }
 }

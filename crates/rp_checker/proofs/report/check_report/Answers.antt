@@ -18,12 +18,12 @@ follow_answer-requires c = going_late (report_lines c.args.report.now) c.loop-tr
 pub loop-trail-smaller : goal.loop-trail-smaller
 loop-trail-smaller c =
     let left = seen c.peek.result c.loop-trail.trail.lines c.is_some.result true c.peek.ensures c.is_some.ensures c.loop-trail-test.true in
-    (goes_on (report_lines c.args.report.now) c.loop-trail.last c.in-Ok.n c.loop-trail.register c.follow_answer.new.self c.loop-trail.trail c.follow_answer.new.trail left c.loop-trail.invariant c.in-Ok.ensures).1
+    (goes_on (report_lines c.args.report.now) c.loop-trail.last c.in-Ok.n c.loop-trail.register c.follow_answer.new.register c.loop-trail.trail c.follow_answer.new.trail left c.loop-trail.invariant c.in-Ok.ensures).1
 
 pub loop-trail-preserved : goal.loop-trail-preserved
 loop-trail-preserved c =
     let left = seen c.peek.result c.loop-trail.trail.lines c.is_some.result true c.peek.ensures c.is_some.ensures c.loop-trail-test.true in
-    (goes_on (report_lines c.args.report.now) c.loop-trail.last c.in-Ok.n c.loop-trail.register c.follow_answer.new.self c.loop-trail.trail c.follow_answer.new.trail left c.loop-trail.invariant c.in-Ok.ensures).0
+    (goes_on (report_lines c.args.report.now) c.loop-trail.last c.in-Ok.n c.loop-trail.register c.follow_answer.new.register c.loop-trail.trail c.follow_answer.new.trail left c.loop-trail.invariant c.in-Ok.ensures).0
 
 pub returns-in-Err-Wrong-clause-found : goal.returns-in-Err-Wrong-clause-found
 returns-in-Err-Wrong-clause-found c =

@@ -1,0 +1,7 @@
+pub mod Checked
+pub mod ChildLemmas
+pub mod Defined
+pub mod Divided
+pub mod Registered
+pub mod Repeated
+pub mod United

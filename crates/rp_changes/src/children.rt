@@ -1,0 +1,158 @@
+//! The children of a subdivision: what is asked of them.
+ghost use Rattle.std.specs.Prelude.{◌≡◌, ◌+◌, ◌*◌, ◌≤◌, ◌++◌, length, map, option_map, IfOk, OnOk};
+ghost use Rattle.rp_geometry.specs.parts.Parts.{most_parts};
+ghost use Rattle.rp_walks.specs.Form.{near_pair};
+ghost use Rattle.rp_model.specs.commands.Verdict.{empty_child, outside_lot, children_overlap};
+ghost use Rattle.rp_model.specs.commands.Row.{child_parts, joined_parts, count_with_each, count_among, first_empty_child, first_outside_child, first_overlapping_child, first_overlapping_children};
+ghost use Rattle.rp_reports.specs.Check.{line_tester};
+ghost use Rattle.rp_follow.specs.Follows.{Follows};
+ghost use Rattle.rp_changes.specs.Children.{formed_child};
+
+use crate::child::Child;
+use rp_follow::{Form, Lost, Trail, common};
+use rp_register::{Reach, count_pairs, within};
+use rp_space::Names;
+use std::alloc::{AllocError, Global};
+
+/// The ids of children, in order. Answers `AllocError` only for want of memory.
+pub(crate) fn child_ids(alloc: Global, children: &[Child]) -> Result<Names, AllocError>
+    ensures { IfOk result (λ ids. ids.items ≡ map (λ c. c.id) (map formed_child children.now)) }
+{
+    let mut ids = Names::new(alloc);
+    for child in children {
+        ids.push(child.id)?;
+    }
+    Ok(ids)
+}
+
+/// The number of the first child that has no part.
+pub(crate) fn first_empty(children: &[Child]) -> Option<u32>
+    requires { length children.now ≤ 1024 }
+    ensures { option_map empty_child result ≡ first_empty_child 1 (map formed_child children.now) }
+{
+    let mut number = 1;
+    for child in children {
+        if child.form.items().is_empty() {
+            return Some(number);
+        }
+        number += 1;
+    }
+    None
+}
+
+/// How many parts children have together.
+pub(crate) fn count_parts(children: &[Child]) -> usize
+    requires { length children.now ≤ 1024 }
+    ensures { result ≡ length (joined_parts (child_parts (map formed_child children.now))) }
+{
+    let mut count = 0;
+    for child in children {
+        count += child.form.items().len();
+    }
+    count
+}
+
+/// The number of the first child that has a point outside a form, on the next lines.
+pub(crate) fn first_outside(
+    alloc: Global,
+    whole: &Form,
+    children: &[Child],
+    trail: &mut Trail<'_>,
+) -> Result<Option<u32>, Lost>
+    requires { length children.now ≤ 1024 }
+    ensures { Follows (option_map outside_lot) result trail.old trail.new (first_outside_child line_tester whole.now.items 1 (map formed_child children.now)) }
+{
+    let mut number = 1;
+    for child in children {
+        if !within(alloc, &child.form, whole, trail)? {
+            return Ok(Some(number));
+        }
+        number += 1;
+    }
+    Ok(None)
+}
+
+/// How many pairs of parts of two children have boxes that share more than boundary.
+pub(crate) fn count_near(children: &[Child]) -> u64
+    requires { length children.now ≤ 1024 }
+    ensures { result ≡ count_among near_pair (child_parts (map formed_child children.now)) }
+{
+    let mut pairs = 0;
+    for place in 0..children.len() {
+        pairs += count_near_with(&children[place], &children[place + 1..]);
+    }
+    pairs
+}
+
+/// How many pairs of a part of a child and one of some others have boxes that share more than boundary.
+fn count_near_with(child: &Child, others: &[Child]) -> u64
+    requires { length others.now ≤ 1024 }
+    ensures value { result ≡ count_with_each near_pair child.now.form.items (child_parts (map formed_child others.now)) }
+    ensures few { result ≤ 1048576 * 1024 }
+{
+    let mut pairs = 0;
+    for other in others {
+        pairs += count_pairs(&child.form, &other.form, Reach::Overlap);
+    }
+    pairs
+}
+
+/// The numbers of the first two children that share a point, on the next lines. Only pairs of parts are tested whose boxes
+/// share more than boundary, and nothing is counted.
+pub(crate) fn first_overlapping(
+    children: &[Child],
+    trail: &mut Trail<'_>,
+) -> Result<Option<(u32, u32)>, Lost>
+    requires { length children.now ≤ 1024 }
+    ensures { Follows (option_map (λ p. children_overlap p.0 p.1)) result trail.old trail.new (first_overlapping_children line_tester 1 (map formed_child children.now)) }
+{
+    for place in 0..children.len() {
+        let first = place as u32 + 1;
+        let behind = &children[place + 1..];
+        if let Some(second) = first_overlapping_with(first, &children[place], behind, trail)? {
+            return Ok(Some((first, second)));
+        }
+    }
+    Ok(None)
+}
+
+/// The number of the first of the children behind one, of this number, that shares a point with it, on the next lines.
+fn first_overlapping_with(
+    first: u32,
+    child: &Child,
+    behind: &[Child],
+    trail: &mut Trail<'_>,
+) -> Result<Option<u32>, Lost>
+    requires { first + length behind.now ≤ 1024 }
+    ensures { Follows (option_map (λ n. children_overlap first n)) result trail.old trail.new (first_overlapping_child line_tester first child.now.form.items (first + 1) (map formed_child behind.now)) }
+{
+    let mut number = first + 1;
+    for other in behind {
+        if common(&child.form, &other.form, true, trail)? {
+            return Ok(Some(number));
+        }
+        number += 1;
+    }
+    Ok(None)
+}
+
+/// The parts of all children, one after the other. Answers `AllocError` only for want of memory.
+pub(crate) fn all_parts(alloc: Global, children: &[Child]) -> Result<Form, AllocError>
+    ensures { IfOk result (λ form. form.items ≡ joined_parts (child_parts (map formed_child children.now))) }
+{
+    let mut form = Form::new(alloc);
+    for child in children {
+        append_parts(alloc, &mut form, &child.form)?;
+    }
+    Ok(form)
+}
+
+/// Puts copies of the parts of a form behind those of another. Answers `AllocError` only for want of memory.
+pub(crate) fn append_parts(alloc: Global, form: &mut Form, more: &Form) -> Result<(), AllocError>
+    ensures { OnOk result (form.new.items ≡ form.old.items ++ more.now.items) }
+{
+    for part in more.items() {
+        form.push(part.copy(alloc)?)?;
+    }
+    Ok(())
+}

@@ -1,0 +1,124 @@
+//! Lots are cut in two and subdivided: the rest of each row, behind its forms.
+ghost use Rattle.std.specs.Prelude.{◌≡◌, ◌≤◌, ◌∷◌, [], length, map, IfOk};
+ghost use Rattle.rp_model.specs.states.State.{lots_replaced};
+ghost use Rattle.rp_model.specs.commands.Row.{row_cut, row_subdivide, new_lot, accepted};
+ghost use Rattle.rp_reports.specs.Check.{line_tester};
+ghost use Rattle.rp_changes.specs.Children.{formed_children};
+ghost use Rattle.rp_register.specs.Replies.{Replies, new_lot_of, reply_of};
+
+use crate::checks::{check_cut, check_room, check_subdivide, layer_of};
+use crate::child::Child;
+use crate::children::{
+    all_parts, child_ids, count_near, count_parts, first_empty, first_outside, first_overlapping,
+};
+use rp_follow::{Form, Trail, differed, joined};
+use rp_history::Birth;
+use rp_register::{Born, Change, Register, Reply, RowEnd, count_tests, within};
+use rp_report::Refusal;
+use rp_space::{Listed, Name, Names};
+use std::alloc::{AllocError, Global};
+
+/// A live lot is to be cut in two: `first` gets its points in the form, `second` the others.
+pub(crate) fn cut(
+    alloc: Global,
+    register: &Register,
+    id: Name,
+    form: &Form,
+    first: Name,
+    second: Name,
+    trail: &mut Trail<'_>,
+) -> Result<Reply, RowEnd>
+    ensures { Replies result trail.new (row_cut line_tester register.now id form.now.items first second trail.old) }
+{
+    let place = check_cut(register, id, first, second)?;
+    let whole = register.form_at(place);
+    let inner = joined(alloc, whole, form, trail)?;
+    if inner.items().is_empty() {
+        return Err(RowEnd::Refused(Refusal::EmptySide(1)));
+    }
+    let outer = differed(alloc, whole, form, trail)?;
+    if outer.items().is_empty() {
+        return Err(RowEnd::Refused(Refusal::EmptySide(2)));
+    }
+    check_room(register, inner.items().len() + outer.items().len())?;
+    let layer = layer_of(register, &id);
+    let mut born = Listed::new(alloc);
+    born.push(born_of(alloc, layer, id, first, inner)?)?;
+    born.push(born_of(alloc, layer, id, second, outer)?)?;
+    Ok(replaced(alloc, id, born)?)
+}
+
+/// A live lot is to be divided into children, which lie in it, share no point and leave no gap. As many tests are
+/// counted as there are pairs of parts of two children whose boxes share more than boundary.
+pub(crate) fn subdivide(
+    alloc: Global,
+    register: &Register,
+    id: Name,
+    children: Listed<Child>,
+    trail: &mut Trail<'_>,
+) -> Result<Reply, RowEnd>
+    requires { length children.items ≤ 1024 }
+    ensures { Replies result trail.new (row_subdivide line_tester register.now id (formed_children children) trail.old) }
+{
+    let ids = child_ids(alloc, children.items())?;
+    let place = check_subdivide(alloc, register, id, ids.items())?;
+    if let Some(number) = first_empty(children.items()) {
+        return Err(RowEnd::Refused(Refusal::EmptyChild(number)));
+    }
+    check_room(register, count_parts(children.items()))?;
+    let whole = register.form_at(place);
+    if let Some(number) = first_outside(alloc, whole, children.items(), trail)? {
+        return Err(RowEnd::Refused(Refusal::Outside(number)));
+    }
+    count_tests(trail, count_near(children.items()))?;
+    if let Some((first, second)) = first_overlapping(children.items(), trail)? {
+        return Err(RowEnd::Refused(Refusal::ChildrenOverlap(first, second)));
+    }
+    let all = all_parts(alloc, children.items())?;
+    if !within(alloc, whole, &all, trail)? {
+        return Err(RowEnd::Refused(Refusal::Gap));
+    }
+    let born = children_born(alloc, layer_of(register, &id), id, children)?;
+    Ok(replaced(alloc, id, born)?)
+}
+
+/// One lot is to end, and others are to be born in its place. Answers `AllocError` only for want of memory.
+fn replaced(alloc: Global, id: Name, born: Listed<Born>) -> Result<Reply, AllocError>
+    ensures { IfOk result (λ reply. reply_of reply ≡ accepted (lots_replaced (id ∷ []) (map new_lot_of born.items))) }
+{
+    Ok(Reply::Changed(Change::Replaced {
+        ends: Names::copy_of(alloc, &[id])?,
+        born,
+    }))
+}
+
+/// A lot that is born of another one, in a layer, with its form. Answers `AllocError` only for want of memory.
+fn born_of(
+    alloc: Global,
+    layer: Name,
+    origin: Name,
+    id: Name,
+    form: Form,
+) -> Result<Born, AllocError>
+    ensures { IfOk result (λ born. new_lot_of born ≡ new_lot layer id form.items (origin ∷ [])) }
+{
+    let origins = Names::copy_of(alloc, &[origin])?;
+    let birth = Birth { id, layer, origins };
+    Ok(Born { birth, form })
+}
+
+/// Children that are born of a lot, in a layer, in order. Answers `AllocError` only for want of memory.
+fn children_born(
+    alloc: Global,
+    layer: Name,
+    origin: Name,
+    children: Listed<Child>,
+) -> Result<Listed<Born>, AllocError>
+    ensures { IfOk result (λ list. map new_lot_of list.items ≡ map (λ c. new_lot layer c.id c.parts (origin ∷ [])) (formed_children children)) }
+{
+    let mut list = Listed::new(alloc);
+    for Child { id, form } in children.into_items() {
+        list.push(born_of(alloc, layer, origin, id, form)?)?;
+    }
+    Ok(list)
+}

@@ -1,0 +1,4 @@
+pub mod Ancestors
+pub mod Linked
+pub mod PieceLemmas
+pub mod Touching

@@ -1,0 +1,98 @@
+//! Commands that ask something about lots.
+ghost use Rattle.rp_language.specs.Expression.{ask_history, ask_at, ask_as_of, ask_list};
+ghost use Rattle.rp_model.specs.commands.Row.{row, row_neighbours, row_audit};
+ghost use Rattle.rp_reports.specs.Check.{Trail, line_tester};
+ghost use Rattle.rp_register.specs.Replies.{Tells};
+
+use crate::apart::are_apart;
+use crate::lot_lines::{add_each, add_lots, neighbour_lines, owner_verdict};
+use crate::touched::touched;
+use rp_follow::Trail;
+use rp_register::{
+    Moment, Reach, Register, RowEnd, count_tests, near_lots, of_layer, one_line, pairs_in_layers,
+    pairs_with, with_id,
+};
+use rp_report::{Refusal, Verdict, Verdicts};
+use rp_space::{Name, Point};
+use std::alloc::Global;
+
+/// `neighbours`: the other live lots of the lot's layer in contact with it.
+pub fn neighbours(
+    alloc: Global,
+    register: &Register,
+    id: Name,
+    trail: &mut Trail<'_>,
+) -> Result<Verdicts, RowEnd>
+    ensures { Tells result trail.new (row_neighbours line_tester register.now id trail.old) }
+{
+    let live = register.lots_there(alloc, Moment::Now)?;
+    let Some(lot) = with_id(live.items(), &id) else {
+        return Err(RowEnd::Refused(Refusal::Unknown(id)));
+    };
+    let near = near_lots(alloc, live.items(), &lot.line.layer, &id)?;
+    let pairs = pairs_with(lot.form, near.items(), Reach::Touch);
+    count_tests(trail, pairs)?;
+    let ids = touched(alloc, lot.form, near.items(), trail)?;
+    Ok(neighbour_lines(alloc, ids.items())?)
+}
+
+/// `audit`: how many live lots there are, of which no two of one layer share a point. `Shared` where a line shows that
+/// two do.
+pub fn audit(alloc: Global, register: &Register, trail: &mut Trail<'_>) -> Result<Verdicts, RowEnd>
+    ensures { Tells result trail.new (row_audit line_tester register.now trail.old) }
+{
+    let live = register.lots_there(alloc, Moment::Now)?;
+    let pairs = pairs_in_layers(live.items());
+    count_tests(trail, pairs)?;
+    if !are_apart(live.items(), trail)? {
+        return Err(RowEnd::Shared);
+    }
+    Ok(one_line(alloc, Verdict::Clear(live.items().len() as u32))?)
+}
+
+/// `at`: the live lot of the present layer that has the point. It makes no test.
+pub fn owner(alloc: Global, register: &Register, point: &Point) -> Result<Verdicts, RowEnd>
+    ensures { (t : Trail) → Tells result t (row line_tester register.now (ask_at point.now) t) }
+{
+    let live = register.lots_there(alloc, Moment::Now)?;
+    let present = of_layer(alloc, live.items(), &register.layer())?;
+    Ok(one_line(alloc, owner_verdict(present.items(), point))?)
+}
+
+/// `asof`: the lot of the present layer that had the point after a line. It makes no test.
+pub fn owner_then(
+    alloc: Global,
+    register: &Register,
+    line: u32,
+    point: &Point,
+) -> Result<Verdicts, RowEnd>
+    ensures { (t : Trail) → Tells result t (row line_tester register.now (ask_as_of line point.now) t) }
+{
+    let alive = register.lots_there(alloc, Moment::After(line))?;
+    let present = of_layer(alloc, alive.items(), &register.layer())?;
+    Ok(one_line(alloc, owner_verdict(present.items(), point))?)
+}
+
+/// `list`: the live lots. It makes no test.
+pub fn list(alloc: Global, register: &Register) -> Result<Verdicts, RowEnd>
+    ensures { (t : Trail) → Tells result t (row line_tester register.now ask_list t) }
+{
+    let live = register.lots_there(alloc, Moment::Now)?;
+    let mut lines = one_line(alloc, Verdict::Parcels(live.items().len() as u32))?;
+    add_lots(alloc, live.items(), &mut lines)?;
+    Ok(lines)
+}
+
+/// `history`: the lot and all lots that it was made from. It makes no test.
+pub fn lineage(alloc: Global, register: &Register, id: Name) -> Result<Verdicts, RowEnd>
+    ensures { (t : Trail) → Tells result t (row line_tester register.now (ask_history id) t) }
+{
+    let history = register.history();
+    if history.place_of(&id).is_none() {
+        return Err(RowEnd::Refused(Refusal::Unknown(id)));
+    }
+    let ids = history.lineage(alloc, id)?;
+    let mut lines = one_line(alloc, Verdict::Lots(ids.items().len() as u32))?;
+    add_each(alloc, history, ids.items(), &mut lines)?;
+    Ok(lines)
+}

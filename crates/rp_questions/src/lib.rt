@@ -1,0 +1,15 @@
+//! The rows of the commands that ask something, followed on the next lines of a report.
+#![tactic(auto)]
+
+mod apart;
+mod asked;
+mod compare;
+mod lot_lines;
+mod pieces;
+mod questions;
+mod touched;
+
+pub use asked::{audit, lineage, list, neighbours, owner, owner_then};
+pub use questions::{
+    Question, comparison, emptiness, membership, piece_numbers, related, shown_parts,
+};

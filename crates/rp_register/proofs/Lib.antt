@@ -1,0 +1,8 @@
+pub mod Applied
+pub mod Gone
+pub mod KeptLots
+pub mod KeptNames
+pub mod Known
+pub mod Members
+pub mod Placed
+pub mod Present

@@ -1,0 +1,27 @@
+//! What the check of a report keeps between two answers, and what the row of every command needs of it: the form of an
+//! expression, the lots that are there, and how many pairs of parts may meet.
+#![tactic(auto)]
+
+mod cover;
+mod form;
+mod lots;
+mod member;
+mod names;
+mod near;
+mod operand;
+mod pairs;
+mod parcel;
+mod register;
+mod reply;
+mod there;
+
+pub use cover::{is_empty, within};
+pub use form::outside;
+pub use member::holds;
+pub use near::{Reach, count_pairs};
+pub use operand::Operand;
+pub use pairs::{count_tests, pairs_in_layers, pairs_with};
+pub use parcel::Parcel;
+pub use register::Register;
+pub use reply::{Born, Change, Reply, RowEnd, one_line, yes_or_no};
+pub use there::{Moment, near_lots, of_layer, with_id};

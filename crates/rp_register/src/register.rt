@@ -1,0 +1,134 @@
+//! What the check keeps between two answers: the present layer, what names stand for, and the lots.
+ghost use Rattle.std.specs.Prelude.{◌≡◌, ◌+◌, ◌<◌, ◌≤◌, ◌&&◌, Some, length, map, nat_le, slice_get, option_copied, option_map, OnOk};
+ghost use Rattle.rp_model.specs.states.State.{opening, base_layer, parts_in, state_of_parts, bare_lot, changed, parts_under_names, parts_under_lots, most_names, most_kept_parts};
+ghost use Rattle.rp_model.specs.states.Sound.{IsLaterThan};
+ghost use Rattle.rp_register.specs.Kept.{IsSoundOnLines, ComesFromKnown};
+ghost use Rattle.rp_register.specs.Replies.{change_of};
+
+use crate::lots::Lots;
+use crate::names::NamedForms;
+use crate::reply::Change;
+use rp_follow::Form;
+use rp_history::History;
+use rp_space::Name;
+use std::alloc::{AllocError, Global};
+use std::marker::Model;
+
+/// What the check keeps between two answers. A contract sees it as a sound state of parts, as the lines of the report show
+/// them: names and ids are distinct, live lots of one layer share no point, and the limits of numbers and parts are kept.
+#[derive(Debug, Drop)]
+pub struct Register {
+    layer: Name,
+    names: NamedForms,
+    lots: Lots,
+}
+
+impl Model for Register {
+    ghost use Rattle.rp_model.specs.states.State.{PlainState};
+    ghost use Rattle.rp_register.specs.Kept.{state_with, IsSoundOnLines};
+
+    ghost Value = { PlainState };
+
+    ghost view = { λ a. state_with a.layer a.names a.lots };
+
+    ghost invariant = { λ a. IsSoundOnLines (state_with a.layer a.names a.lots) };
+}
+
+/// The layer that a script begins with.
+fn base_layer() -> Name
+    ensures { result ≡ base_layer }
+{
+    Name::new(b"base").unwrap()
+}
+
+impl Register {
+    /// Nothing is kept yet, and the layer is the one that a script begins with. Takes no memory.
+    pub fn new(alloc: Global) -> Register
+        ensures { result ≡ opening }
+    {
+        Register {
+            layer: base_layer(),
+            names: NamedForms::new(alloc),
+            lots: Lots::new(alloc),
+        }
+    }
+
+    /// Does nothing: what is kept is a sound state, and this makes it known.
+    pub fn keep_sound(&self)
+        ensures { IsSoundOnLines self.now }
+    {
+        let _ = &self.names;
+    }
+
+    /// The present layer.
+    pub fn layer(&self) -> Name
+        ensures { result ≡ self.now.layer }
+    {
+        self.layer
+    }
+
+    /// The form that a name stands for, found without a walk over all names.
+    pub fn form_named(&self, name: &Name) -> Option<&Form>
+        ensures { option_map (λ f. f.items) (option_copied result) ≡ (parts_in self.now).of_name name.now }
+    {
+        self.names.find(name)
+    }
+
+    /// The form of a live lot, found without a walk over all lots.
+    pub fn form_of_lot(&self, id: &Name) -> Option<&Form>
+        ensures { option_map (λ f. f.items) (option_copied result) ≡ (parts_in self.now).of_lot id.now }
+    {
+        self.lots.find(id)
+    }
+
+    /// The births and ends of all lots, ended ones included.
+    pub fn history(&self) -> &History
+        ensures value { result.now ≡ map bare_lot self.now.lots }
+        ensures few { length self.now.lots ≤ most_kept_parts }
+        ensures sound { IsSoundOnLines self.now }
+    {
+        // Only so that what holds of all that is kept is known of the lots.
+        let _ = &self.names;
+        self.lots.history()
+    }
+
+    /// The form of the lot at a place, ended or not.
+    pub fn form_at(&self, place: usize) -> &Form
+        requires { place < length self.now.lots }
+        ensures { option_map (λ l. l.parts) (slice_get self.now.lots place) ≡ Some result.now.items }
+    {
+        self.lots.form_at(place)
+    }
+
+    /// Whether one more name may stand for the form.
+    pub fn has_room_for_name(&self, form: &Form) -> bool
+        ensures { result ≡ (nat_le (length self.now.names + 1) most_names && nat_le (parts_under_names self.now.names + length form.now.items) most_kept_parts) }
+    {
+        self.names.have_room_for(form)
+    }
+
+    /// Whether all lots together may keep so many more parts.
+    pub fn has_room_for_parts(&self, parts: usize) -> bool
+        ensures { result ≡ nat_le (parts_under_lots self.now.lots + parts) most_kept_parts }
+    {
+        self.lots.have_room_for(parts)
+    }
+
+    /// Makes a change at the line with the number n, which is above every birth and every end; a sound state comes of it.
+    /// Answers `AllocError` only for want of memory; the register isn't used further then.
+    pub fn apply(&mut self, alloc: Global, n: u32, change: Change) -> Result<(), AllocError>
+        requires later { IsLaterThan n (state_of_parts self.old) }
+        requires known { ComesFromKnown self.old (change_of change) }
+        requires sound { IsSoundOnLines (changed n self.old (change_of change)) }
+        ensures { OnOk result (self.new ≡ changed n self.old (change_of change)) }
+    {
+        match change {
+            Change::Named(name, form) => self.names.keep(name, form),
+            Change::Replaced { ends, born } => self.lots.replace(alloc, n, ends.items(), born),
+            Change::Layer(layer) => {
+                self.layer = layer;
+                Ok(())
+            }
+        }
+    }
+}
