@@ -17,6 +17,7 @@ ghost use Rattle.rp_register.specs.Replies.{reply_of, Replies};
 
 use crate::halt::Halt;
 use crate::lines::{follow_limit, follow_verdict, follow_verdicts};
+use crate::rows::carry_out;
 use rp_follow::{Lost, Trail};
 use rp_register::{Register, Reply, RowEnd, one_line};
 use rp_report::{Refusal, Verdict, read_echo};

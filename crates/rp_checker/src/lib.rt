@@ -2,35 +2,10 @@
 #![tactic(auto)]
 
 mod answer;
-mod apart;
-mod asked;
-mod changes;
-mod checks;
-mod child;
-mod children;
-mod compare;
-mod divide;
-mod form;
 mod halt;
 mod lines;
-mod lot_lines;
-mod lots;
-mod member;
-mod names;
-mod near;
-mod operand;
-mod orders;
-mod overlaps;
-mod pairs;
-mod parcel;
-mod pieces;
-mod questions;
-mod register;
-mod reply;
 mod report;
 mod rows;
-mod there;
-mod touched;
 
 pub use report::{Found, check_report};
 

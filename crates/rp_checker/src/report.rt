@@ -6,6 +6,7 @@ ghost use Rattle.rp_reports.specs.Report.{IsReport};
 ghost use Rattle.rp_reports.specs.Text.{text_of_lines};
 ghost use Rattle.rp_checker.specs.Found.{found_of, TellsRight};
 
+use crate::answer::follow_answer;
 use crate::halt::Halt;
 use rp_follow::Trail;
 use rp_register::Register;
@@ -39,7 +40,7 @@ pub fn check_report(alloc: Global, report: &[u8]) -> Result<Found, AllocError>
     let mut register = Register::new(alloc);
     let mut last = 0;
     while trail.peek().is_some() {
-        match register.follow_answer(alloc, last, &mut trail) {
+        match follow_answer(alloc, &mut register, last, &mut trail) {
             Ok(n) => last = n,
             Err(Halt::Wrong(n)) => return Ok(Found::Wrong(n)),
             Err(Halt::Memory(fault)) => return Err(fault),
