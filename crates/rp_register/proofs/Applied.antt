@@ -8,6 +8,7 @@ use Rattle.std.proofs.lemmas.List.Sums.{sum_by-cons, sum_by_push}
 use Rattle.rp_algebra.proofs.Tests.{and_first, and_second, false_not_true, false_unless}
 use Rattle.rp_geometry.specs.sets.Shape.{Shape, Part, shape_of_parts}
 use Rattle.rp_geometry.specs.sets.Sets.{IsNonempty}
+use Rattle.rp_geometry.specs.parts.Parts.{AreOf, IsCheckedPart, most_parts}
 use Rattle.rp_geometry.proofs.Members.{not_in_nothing}
 use Rattle.rp_language.specs.Name.{Label, label_eq, is_among}
 use Rattle.rp_model.specs.states.State.{Kept, Lot, NewLot, PlainState, kept_of_parts, lot_of_parts, state_of_parts, names_of, ids_of, changed, lots_replaced, parts_under_lots, most_names, most_kept_parts}
@@ -73,12 +74,17 @@ as_many_parts (l ∷ lots) h =
     let all = sum_by-cons (λ (k : Lot (Unit {0})). length k.parts) l lots in
     omega (arith, more, one, all)
 
+-- each lot of a sound state has few parts
+few_each : (lots : List (Lot (Unit {0}))) → AllByRecursion (λ l. AreOf IsCheckedPart l.set l.parts) (map lot_of_parts lots) → AllByRecursion (λ (l : Lot (Unit {0})). length l.parts ≤ most_parts) lots
+few_each [] h = tt
+few_each (l ∷ lots) h = (h.0.all.few, few_each lots h.1)
+
 -- the lots of a sound state are few, and so are their parts
 pub sound_are_few : (s : PlainState) → IsSoundOnLines s → AreFew s.lots
 sound_are_few s h =
     let few : parts_under_lots s.lots ≤ most_kept_parts = subst (λ (n : ℕ). n ≤ most_kept_parts) (image_sums lot_of_parts (λ (l : Lot Shape). length l.parts) s.lots) h.few_parts_under_lots in
     let many = as_many_parts s.lots (all_unmapped (λ (l : Lot Shape). IsNonempty l.set) lot_of_parts s.lots h.lots_nonempty) in
-    record { few_lots = omega (arith, few, many); few_parts = few }
+    record { few_lots = omega (arith, few, many); few_parts = few; each_few = few_each s.lots h.lots_keep_parts }
 
 -- their ids are distinct
 pub sound_ids : (s : PlainState) → IsSoundOnLines s → IsTrue (are_distinct (ids_of s.lots))

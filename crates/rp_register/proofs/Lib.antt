@@ -1,5 +1,5 @@
 pub mod Applied
-pub mod Gone
+pub mod Boxed
 pub mod KeptLots
 pub mod KeptNames
 pub mod Known

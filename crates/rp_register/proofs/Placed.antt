@@ -13,36 +13,8 @@ use Rattle.rp_states.proofs.Labels.{label_is, label_itself}
 use Rattle.rp_history.specs.declared.lot.LotLine.{LotLine}
 use Rattle.rp_history.specs.Lots.{lot_of}
 use Rattle.rp_history.proofs.Found.{first_alone, rest_distinct, found_has_id, found_is_live, picked_lot, if_passed}
+use Rattle.rp_nearby.proofs.Places.{item_at, own_place}
 use Rattle.rp_register.proofs.KeptLots.{bare_found, bare_live_found}
-
--- a place has an item
-pub item_at : {A : Type 0} (xs : List A) (j : ℕ) → j < length xs → (x : A) × (slice_get xs j ≡ Some x)
-item_at [] j f = absurd (omega arith)
-item_at (x ∷ xs) zero f = (x, refl)
-item_at (x ∷ xs) (suc j) f = item_at xs j (omega arith)
-
--- the id of an item is there
-pub there : (ls : List (Lot (Unit {0}))) (k : ℕ) (l : Lot (Unit {0})) → slice_get ls k ≡ Some l → is_among l.id (ids_of ls) ≡ true
-there [] k l e = absurd (cc)
-there (h ∷ ls) zero l e = let same : h ≡ l = cc in or_left (label_eq l.id h.id) (is_among l.id (ids_of ls)) (subst (λ (m : Lot (Unit {0})). label_eq l.id m.id ≡ true) (sym same) (label_itself l.id))
-there (h ∷ ls) (suc k) l e = or_right (label_eq l.id h.id) (is_among l.id (ids_of ls)) (there ls k l e)
-
--- an item is the lot with its id
-pub own_place : (ls : List (Lot (Unit {0}))) → IsTrue (are_distinct (ids_of ls)) → (k : ℕ) (l : Lot (Unit {0})) → slice_get ls k ≡ Some l → lot_with_id l.id ls ≡ Some l
-own_place [] d k l e = absurd (cc)
-own_place (h ∷ ls) d zero l e = let same : h ≡ l = cc in by (label_eq l.id h.id) (subst (λ (m : Lot (Unit {0})). label_eq l.id m.id ≡ true) (sym same) (label_itself l.id)) same
-  where
-    by : (b : Bool) → b ≡ true → h ≡ l → pick b (Some h) (lot_with_id l.id ls) ≡ Some l
-    by true f same = ap Some same
-    by false f same = absurd (cc)
-own_place (h ∷ ls) d (suc k) l e = by (label_eq l.id h.id) refl (own_place ls (rest_distinct h ls d) k l e) (there ls k l e)
-  where
-    by : (b : Bool) → label_eq l.id h.id ≡ b → lot_with_id l.id ls ≡ Some l → is_among l.id (ids_of ls) ≡ true → pick b (Some h) (lot_with_id l.id ls) ≡ Some l
-    by true f later t =
-        let twice : is_among h.id (ids_of ls) ≡ true = subst (λ (y : Label). is_among y (ids_of ls) ≡ true) (label_is l.id h.id f) t in
-        let alone = first_alone h ls d in
-        absurd (cc)
-    by false f later t = later
 
 -- what is found without its parts is there with them
 mapped_back : (o : Option (Lot (Unit {0}))) (l : Lot (Unit {0})) → option_map bare_lot o ≡ Some (bare_lot l) → (k : Lot (Unit {0})) × (o ≡ Some k) × (bare_lot k ≡ bare_lot l)

@@ -1,21 +1,21 @@
--- The lots that are there at a moment, one after the other, with their forms.
-use Rattle.std.proofs.Common.{◌≡◌, ℕ, zero, suc, ◌+◌, ◌<◌, ◌≤◌, Bool, true, false, cond, List, [], ◌∷◌, ◌++◌, map, filter, length, drop, get_or, Some, slice_get, refl, sym, ap, ◌∙◌, subst, append_assoc}
-use Rattle.std.specs.Prelude.{option_map}
+-- Lots at their places, with their forms.
+use Rattle.std.proofs.Common.{◌≡◌, ℕ, zero, suc, ◌+◌, ◌<◌, ◌≤◌, List, [], ◌∷◌, ◌++◌, map, length, drop, get_or, Some, slice_get, sym, ap, ◌∙◌, subst, append_assoc}
+use Rattle.std.specs.Prelude.{IsTrue, option_map}
 use Rattle.std.specs.List.{AllByRecursion}
 use Rattle.std.proofs.lemmas.List.{map-append}
-use Rattle.std.proofs.lemmas.Option.{get_or_from_slice_get}
 use Rattle.rp_geometry.specs.sets.Shape.{Part}
 use Rattle.rp_geometry.specs.parts.Parts.{AreOf, IsCheckedPart, most_parts}
-use Rattle.rp_model.specs.states.State.{Lot, PlainState, bare_lot, lot_of_parts}
+use Rattle.rp_language.specs.Name.{Label}
+use Rattle.rp_model.specs.states.State.{Lot, PlainState, live_lot, ids_of, bare_lot, lot_of_parts}
+use Rattle.rp_model.specs.states.Sound.{are_distinct}
 use Rattle.rp_history.specs.declared.lot.LotLine.{LotLine}
 use Rattle.rp_history.specs.Lots.{lot_of}
-use Rattle.rp_follow.proofs.Left.{drop_item}
-use Rattle.rp_register.specs.declared.there.Moment.{Moment}
-use Rattle.rp_register.specs.declared.there.Moment.TheVariants.{Now, After}
+use Rattle.rp_nearby.specs.Near.{lots_at}
+use Rattle.rp_nearby.proofs.Places.{lots_left}
 use Rattle.rp_register.specs.declared.parcel.Parcel.{Parcel}
 use Rattle.rp_register.specs.Kept.{IsSoundOnLines, with_parts}
-use Rattle.rp_register.specs.There.{is_there, lot_here, lots_here}
-use Rattle.rp_register.proofs.Placed.{line_at}
+use Rattle.rp_register.specs.There.{lot_here, lots_here}
+use Rattle.rp_register.proofs.Placed.{live_here, line_at}
 
 -- ---- sizes
 
@@ -31,51 +31,31 @@ few_parts s h k ps e = few_at s.lots h.lots_keep_parts k ps e
 
 -- ---- one lot
 
--- a lot is its line, with the parts of its form
-line_with_form : (l : Lot (Unit {0})) (p : Parcel) → bare_lot l ≡ lot_of p.line.now → l.parts ≡ p.form.now.items → l ≡ lot_here p
-line_with_form l p e f = λ i. with_parts (e i) (f i)
+-- a lot is its line, with its parts
+line_with_parts : (l : Lot (Unit {0})) (line : LotLine) (ps : List Part) → bare_lot l ≡ lot_of line → l.parts ≡ ps → l ≡ with_parts (lot_of line) ps
+line_with_parts l line ps e f = λ i. with_parts (e i) (f i)
 
--- it is there when its line is
-there_by_line : (m : Moment) (p : Parcel) → is_there m (lot_here p) ≡ is_there m (lot_of p.line.now)
-there_by_line Now p = refl
-there_by_line (After n) p = refl
+-- the lot at a place is its line, with its parts
+pub lot_at_place : (lots history : List (Lot (Unit {0}))) (lines : List LotLine) (k : ℕ) (line : LotLine) (ps : List Part) → history ≡ map bare_lot lots → map lot_of lines ≡ history → k < length lots → line ≡ get_or lines k line → option_map (λ l. l.parts) (slice_get lots k) ≡ Some ps
+    → slice_get lots k ≡ Some (with_parts (lot_of line) ps)
+lot_at_place lots history lines k line ps e f within is parts =
+    let item = line_at lots history lines e f k line within is in
+    let same : Some item.0.parts ≡ Some ps = sym (ap (option_map (λ (m : Lot (Unit {0})). m.parts)) item.1) ∙ parts in
+    let own : item.0.parts ≡ ps = cc in
+    item.1 ∙ ap Some (line_with_parts item.0 line ps item.2 own)
 
--- the lots from a place on begin with it
-lots_from : (lots history : List (Lot (Unit {0}))) (lines : List LotLine) (k : ℕ) (p : Parcel) → history ≡ map bare_lot lots → map lot_of lines ≡ history → k < length lots → p.line.now ≡ get_or lines k p.line.now
-    → option_map (λ l. l.parts) (slice_get lots k) ≡ Some p.form.now.items → drop k lots ≡ lot_here p ∷ drop (k + 1) lots
-lots_from lots history lines k p e f within is parts =
-    let item = line_at lots history lines e f k p.line.now within is in
-    let l = item.0 in
-    let same : Some l.parts ≡ Some p.form.now.items = sym (ap (option_map (λ (m : Lot (Unit {0})). m.parts)) item.1) ∙ parts in
-    let own : l.parts ≡ p.form.now.items = cc in
-    drop_item lots k l within (sym (get_or_from_slice_get lots k l l item.1))
-    ∙ ap (λ (m : Lot (Unit {0})). m ∷ drop (k + 1) lots) (line_with_form l p item.2 own)
+-- so is the live lot of an id
+pub live_lot_at : (x : Label) (lots history : List (Lot (Unit {0}))) (k : ℕ) (p : Parcel) → IsTrue (are_distinct (ids_of lots)) → history ≡ map bare_lot lots → k < length lots → slice_get history k ≡ live_lot x history → slice_get lots k ≡ Some (lot_here p) → Some (lot_here p) ≡ live_lot x lots
+live_lot_at x lots history k p d e within found at = sym at ∙ live_here x lots history d e k within found
 
--- ---- the next lot
+-- ---- lots at places
 
--- a lot that is there comes behind those that were found
-pub there_added : (m : Moment) (lots history : List (Lot (Unit {0}))) (lines : List LotLine) (k : ℕ) (p : Parcel) (found items : List Parcel) → items ≡ found ++ p ∷ [] → history ≡ map bare_lot lots → map lot_of lines ≡ history → k < length lots → p.line.now ≡ get_or lines k p.line.now
-    → option_map (λ l. l.parts) (slice_get lots k) ≡ Some p.form.now.items → is_there m (lot_of p.line.now) ≡ true
-    → lots_here items ++ filter (is_there m) (drop (k + 1) lots) ≡ lots_here found ++ filter (is_there m) (drop k lots)
-there_added m lots history lines k p found items add e f within is parts there =
-    let rest = filter (is_there m) (drop (k + 1) lots) in
+-- the lots at the places so far, and one more
+pub lots_added : (lots : List (Lot (Unit {0}))) (places : List ℕ) (i k : ℕ) (p : Parcel) (found items : List Parcel) → i < length places → k ≡ get_or places i 0 → slice_get lots k ≡ Some (lot_here p) → items ≡ found ++ p ∷ []
+    → lots_here items ++ lots_at lots (drop (i + 1) places) ≡ lots_here found ++ lots_at lots (drop i places)
+lots_added lots places i k p found items h e at add =
+    let rest = lots_at lots (drop (i + 1) places) in
     ap (λ (ps : List Parcel). lots_here ps ++ rest) add
     ∙ ap (λ (ls : List (Lot (Unit {0}))). ls ++ rest) (map-append lot_here found (p ∷ []))
     ∙ append_assoc (lots_here found) (lot_here p ∷ []) rest
-    ∙ ap (λ (ls : List (Lot (Unit {0}))). lots_here found ++ ls)
-    (sym (ap (filter (is_there m)) (lots_from lots history lines k p e f within is parts) ∙ ap (λ (b : Bool). cond b (lot_here p ∷ rest) rest) (there_by_line m p ∙ there)))
-
--- a lot without its parts is there when it is
-there_bare : (m : Moment) (l : Lot (Unit {0})) → is_there m l ≡ is_there m (bare_lot l)
-there_bare Now l = refl
-there_bare (After n) l = refl
-
--- a lot that is not there is passed over
-pub line_skipped : (m : Moment) (lots history : List (Lot (Unit {0}))) (lines : List LotLine) (k : ℕ) (line : LotLine) → history ≡ map bare_lot lots → map lot_of lines ≡ history → k < length lots → line ≡ get_or lines k line
-    → is_there m (lot_of line) ≡ false → filter (is_there m) (drop k lots) ≡ filter (is_there m) (drop (k + 1) lots)
-line_skipped m lots history lines k line e f within is gone =
-    let item = line_at lots history lines e f k line within is in
-    let l = item.0 in
-    let rest = filter (is_there m) (drop (k + 1) lots) in
-    ap (filter (is_there m)) (drop_item lots k l within (sym (get_or_from_slice_get lots k l l item.1)))
-    ∙ ap (λ (b : Bool). cond b (l ∷ rest) rest) (there_bare m l ∙ ap (is_there m) item.2 ∙ gone)
+    ∙ ap (λ (ls : List (Lot (Unit {0}))). lots_here found ++ ls) (sym (lots_left lots places i k (lot_here p) h e at))

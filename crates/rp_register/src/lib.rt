@@ -2,6 +2,7 @@
 //! expression, the lots that are there, and how many pairs of parts may meet.
 #![tactic(auto)]
 
+mod boxes;
 mod cover;
 mod form;
 mod lots;
@@ -18,10 +19,10 @@ mod there;
 pub use cover::{is_empty, within};
 pub use form::outside;
 pub use member::holds;
-pub use near::{Reach, count_pairs};
+pub use near::count_pairs;
 pub use operand::Operand;
-pub use pairs::{count_tests, pairs_in_layers, pairs_with};
+pub use pairs::{count_tests, pairs_with};
 pub use parcel::Parcel;
 pub use register::Register;
 pub use reply::{Born, Change, Reply, RowEnd, one_line, yes_or_no};
-pub use there::{Moment, near_lots, of_layer, with_id};
+pub use there::{Moment, is_there};

@@ -1,14 +1,18 @@
 //! All lots that were ever registered, with their forms.
-ghost use Rattle.std.specs.Prelude.{◌≡◌, ◌+◌, ◌<◌, ◌≤◌, [], length, map, nat_le, slice_get, sum_by, option_copied, option_map, Some, IsTrue, IfOk, OnOk, OnErr};
+ghost use Rattle.std.specs.Prelude.{◌≡◌, ◌+◌, ◌<◌, ◌≤◌, [], length, map, filter, drop, nat_le, slice_get, sum_by, option_copied, option_map, Some, IsTrue, IfOk, OnOk, OnErr};
 ghost use Rattle.rp_model.specs.states.State.{live_lot, parts_of_lot, bare_lot, ids_of, lots_replaced, parts_under_lots, most_kept_parts};
 ghost use Rattle.rp_model.specs.states.Sound.{are_distinct};
 ghost use Rattle.rp_history.specs.Lots.{lots_after, AreBornBefore, AreNew};
+ghost use Rattle.rp_nearby.specs.Near.{others_in, is_near, lots_at, AreWithin};
 ghost use Rattle.rp_register.specs.Kept.{AreFew};
 ghost use Rattle.rp_register.specs.Replies.{new_lot_of};
 
+use crate::boxes::{boxes_of, boxes_of_each};
 use crate::reply::Born;
+use rp_boxindex::Quiet;
 use rp_follow::Form;
 use rp_history::{Birth, History};
+use rp_nearby::{LiveBoxes, Reach};
 use rp_space::{Listed, Name};
 use std::alloc::{AllocError, Global};
 use std::marker::Model;
@@ -17,7 +21,7 @@ use std::marker::Model;
 const MAX_PARTS: usize = 65536;
 
 /// All lots that were ever registered, in the order of registration, with their forms: at most 65,536 lots, with at most
-/// 65,536 parts together.
+/// 65,536 parts together and 1,024 of each. The boxes of the parts of live ones stand in an index.
 #[derive(Debug, Drop)]
 pub(crate) struct Lots {
     history: History,
@@ -25,6 +29,8 @@ pub(crate) struct Lots {
     forms: Listed<Form>,
     // How many parts the forms have together.
     parts: usize,
+    // The boxes of the parts of live lots.
+    boxes: LiveBoxes,
 }
 
 impl Model for Lots {
@@ -36,7 +42,7 @@ impl Model for Lots {
 
     ghost view = { λ a. lots_with_forms a.history a.forms.items };
 
-    ghost invariant = { λ a. AreLots a.history a.forms.items a.parts };
+    ghost invariant = { λ a. AreLots a.history a.forms.items a.parts a.boxes.index };
 }
 
 impl Lots {
@@ -48,6 +54,7 @@ impl Lots {
             history: History::new(alloc),
             forms: Listed::new(alloc),
             parts: 0,
+            boxes: LiveBoxes::new(alloc),
         }
     }
 
@@ -78,6 +85,35 @@ impl Lots {
         &self.forms.items()[place]
     }
 
+    /// The places, in rising order, of the live lots of a layer, from a place on, that have another id and a part that may
+    /// meet one of a form's. Answers `AllocError` only for want of memory.
+    pub(crate) fn near(
+        &self,
+        alloc: Global,
+        form: &Form,
+        layer: &Name,
+        id: &Name,
+        from: usize,
+        reach: Reach,
+    ) -> Result<Listed<usize>, AllocError>
+        requires { from ≤ length self.now }
+        ensures near { IfOk result (λ places. lots_at self.now places.items ≡ filter (is_near reach form.now.items) (others_in layer.now id.now (drop from self.now))) }
+        ensures within { IfOk result (λ places. AreWithin self.now places.items) }
+        ensures few { IfOk result (λ places. length places.items ≤ most_kept_parts) }
+    {
+        let boxes = boxes_of(alloc, form.items())?;
+        self.boxes.near(
+            alloc,
+            &Quiet,
+            &self.history,
+            boxes.items(),
+            layer,
+            id,
+            from,
+            reach,
+        )
+    }
+
     /// Whether all lots together may keep so many more parts.
     pub(crate) fn have_room_for(&self, parts: usize) -> bool
         ensures { result ≡ nat_le (parts_under_lots self.now + parts) most_kept_parts }
@@ -102,9 +138,17 @@ impl Lots {
         ensures err { OnErr result (self.new ≡ self.old) }
     {
         let (births, forms) = split(alloc, born)?;
-        let parts = count_parts(forms.items());
-        self.forms.reserve(forms.items().len())?;
-        self.history.note(alloc, line, births.items(), ends)?;
+        let added = forms.items();
+        let parts = count_parts(added);
+        let first = self.forms.items().len();
+        let lists = boxes_of_each(alloc, added)?;
+        self.forms.reserve(added.len())?;
+        self.boxes.add_all(alloc, first, lists.items())?;
+        if let Err(error) = self.history.note(alloc, line, births.items(), ends) {
+            self.boxes.remove_all(first, added.len());
+            return Err(error);
+        }
+        self.boxes.remove_ended(&self.history, first, ends);
         self.forms.append(forms).unwrap();
         self.parts += parts;
         Ok(())

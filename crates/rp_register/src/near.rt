@@ -4,19 +4,11 @@ ghost use Rattle.rp_geometry.specs.Geometry.{boxes_meet, closed_boxes_meet};
 ghost use Rattle.rp_geometry.specs.parts.Parts.{most_parts};
 ghost use Rattle.rp_model.specs.commands.Row.{count_pairs};
 ghost use Rattle.rp_space.specs.Boxes.{integer_box};
-ghost use Rattle.rp_register.specs.Near.{may_meet};
+ghost use Rattle.rp_nearby.specs.Near.{may_meet};
 
 use rp_follow::{Form, Kept};
+use rp_nearby::Reach;
 use rp_space::IntBox;
-
-/// Which boxes let two parts meet.
-#[derive(Clone, Copy, Debug)]
-pub enum Reach {
-    /// Those that share more than boundary.
-    Overlap,
-    /// Those that share a point, the boundary included.
-    Touch,
-}
 
 /// How many pairs of a part of a form and one of a second form may meet.
 pub fn count_pairs(form: &Form, other: &Form, reach: Reach) -> u64

@@ -1,7 +1,8 @@
 //! What the check keeps between two answers: the present layer, what names stand for, and the lots.
-ghost use Rattle.std.specs.Prelude.{◌≡◌, ◌+◌, ◌<◌, ◌≤◌, ◌&&◌, Some, length, map, nat_le, slice_get, option_copied, option_map, OnOk};
+ghost use Rattle.std.specs.Prelude.{◌≡◌, ◌+◌, ◌<◌, ◌≤◌, ◌&&◌, Some, length, map, filter, drop, nat_le, slice_get, option_copied, option_map, IfOk, OnOk};
 ghost use Rattle.rp_model.specs.states.State.{opening, base_layer, parts_in, state_of_parts, bare_lot, changed, parts_under_names, parts_under_lots, most_names, most_kept_parts};
 ghost use Rattle.rp_model.specs.states.Sound.{IsLaterThan};
+ghost use Rattle.rp_nearby.specs.Near.{others_in, is_near, lots_at, AreWithin};
 ghost use Rattle.rp_register.specs.Kept.{IsSoundOnLines, ComesFromKnown};
 ghost use Rattle.rp_register.specs.Replies.{change_of};
 
@@ -10,7 +11,8 @@ use crate::names::NamedForms;
 use crate::reply::Change;
 use rp_follow::Form;
 use rp_history::History;
-use rp_space::Name;
+use rp_nearby::Reach;
+use rp_space::{Listed, Name};
 use std::alloc::{AllocError, Global};
 use std::marker::Model;
 
@@ -98,6 +100,25 @@ impl Register {
         ensures { option_map (λ l. l.parts) (slice_get self.now.lots place) ≡ Some result.now.items }
     {
         self.lots.form_at(place)
+    }
+
+    /// The places, in rising order, of the live lots of a layer, from a place on, that have another id and a part that may
+    /// meet one of a form's. Answers `AllocError` only for want of memory.
+    pub(crate) fn places_near(
+        &self,
+        alloc: Global,
+        form: &Form,
+        layer: &Name,
+        id: &Name,
+        from: usize,
+        reach: Reach,
+    ) -> Result<Listed<usize>, AllocError>
+        requires { from ≤ length self.now.lots }
+        ensures near { IfOk result (λ places. lots_at self.now.lots places.items ≡ filter (is_near reach form.now.items) (others_in layer.now id.now (drop from self.now.lots))) }
+        ensures within { IfOk result (λ places. AreWithin self.now.lots places.items) }
+        ensures few { IfOk result (λ places. length places.items ≤ most_kept_parts) }
+    {
+        self.lots.near(alloc, form, layer, id, from, reach)
     }
 
     /// Whether one more name may stand for the form.

@@ -1,12 +1,15 @@
-//! The lots that are there at a moment, with their forms.
-ghost use Rattle.std.specs.Prelude.{◌≡◌, ◌≤◌, IfOk, filter, length, option_map};
-ghost use Rattle.rp_model.specs.states.State.{lot_with_id, lots_of_layer, other_lots, most_kept_parts};
+//! The lots that are there at a moment, and those that are near a form, beside their forms.
+ghost use Rattle.std.specs.Prelude.{◌≡◌, ◌<◌, ◌≤◌, Some, IfOk, filter, length, drop, slice_get, option_map};
+ghost use Rattle.rp_model.specs.states.State.{live_lot, most_kept_parts};
 ghost use Rattle.rp_history.specs.Lots.{lot_of};
+ghost use Rattle.rp_nearby.specs.Near.{others_in, is_near};
 ghost use Rattle.rp_register.specs.There.{is_there, lot_here, lots_here};
 
 use crate::parcel::Parcel;
 use crate::register::Register;
+use rp_follow::Form;
 use rp_history::LotLine;
+use rp_nearby::Reach;
 use rp_space::{Listed, Name};
 use std::alloc::{AllocError, Global};
 
@@ -20,7 +23,7 @@ pub enum Moment {
 }
 
 /// Whether a lot is there at a moment.
-fn is_there(lot: &LotLine, moment: Moment) -> bool
+pub fn is_there(lot: &LotLine, moment: Moment) -> bool
     ensures { result ≡ is_there moment (lot_of lot.now) }
 {
     match moment {
@@ -30,87 +33,52 @@ fn is_there(lot: &LotLine, moment: Moment) -> bool
 }
 
 impl Register {
-    /// The lots of all layers that are there at a moment, in the order of registration. Answers `AllocError` only for want
-    /// of memory.
-    pub fn lots_there(
+    /// How many lots were ever registered.
+    pub fn count_lots(&self) -> usize
+        ensures value { result ≡ length self.now.lots }
+        ensures few { result ≤ most_kept_parts }
+    {
+        self.history().lots().len()
+    }
+
+    /// The lot at a place, ended or not.
+    pub fn parcel_at(&self, place: usize) -> Parcel<'_>
+        requires { place < length self.now.lots }
+        ensures { slice_get self.now.lots place ≡ Some (lot_here result) }
+    {
+        let line = &self.history().lots()[place];
+        let form = self.form_at(place);
+        Parcel { line, form }
+    }
+
+    /// The live lot of an id, found without a walk over all lots. `None` exactly where the id isn't live.
+    pub fn live_parcel(&self, id: &Name) -> Option<Parcel<'_>>
+        ensures { option_map lot_here result ≡ live_lot id.now self.now.lots }
+    {
+        let place = self.history().live_place(id)?;
+        Some(self.parcel_at(place))
+    }
+
+    /// The live lots of a layer, from a place on, that have another id and a part that may meet one of a form's, in the order
+    /// of registration. Answers `AllocError` only for want of memory.
+    pub fn near(
         &self,
         alloc: Global,
-        moment: Moment,
+        form: &Form,
+        layer: &Name,
+        id: &Name,
+        from: usize,
+        reach: Reach,
     ) -> Result<Listed<Parcel<'_>>, AllocError>
-        ensures value { IfOk result (λ list. lots_here list.items ≡ filter (is_there moment) self.now.lots) }
+        requires { from ≤ length self.now.lots }
+        ensures value { IfOk result (λ list. lots_here list.items ≡ filter (is_near reach form.now.items) (others_in layer.now id.now (drop from self.now.lots))) }
         ensures few { IfOk result (λ list. length list.items ≤ most_kept_parts) }
     {
+        let places = self.places_near(alloc, form, layer, id, from, reach)?;
         let mut list = Listed::new(alloc);
-        let lines = self.history().lots();
-        for place in 0..lines.len() {
-            let line = &lines[place];
-            if is_there(line, moment) {
-                let form = self.form_at(place);
-                list.push(Parcel { line, form })?;
-            }
+        for place in places.items() {
+            list.push(self.parcel_at(*place))?;
         }
         Ok(list)
     }
-}
-
-/// Those of some lots that are of the layer. Answers `AllocError` only for want of memory.
-pub fn of_layer<'a>(
-    alloc: Global,
-    lots: &[Parcel<'a>],
-    layer: &Name,
-) -> Result<Listed<Parcel<'a>>, AllocError>
-    ensures value { IfOk result (λ list. lots_here list.items ≡ lots_of_layer layer.now (lots_here lots.now)) }
-    ensures few { IfOk result (λ list. length list.items ≤ length lots.now) }
-{
-    let mut list = Listed::new(alloc);
-    for lot in lots {
-        if lot.line.layer == *layer {
-            list.push(*lot)?;
-        }
-    }
-    Ok(list)
-}
-
-/// Those of some lots that have another id. Answers `AllocError` only for want of memory.
-pub(crate) fn others<'a>(
-    alloc: Global,
-    lots: &[Parcel<'a>],
-    id: &Name,
-) -> Result<Listed<Parcel<'a>>, AllocError>
-    ensures value { IfOk result (λ list. lots_here list.items ≡ other_lots id.now (lots_here lots.now)) }
-    ensures few { IfOk result (λ list. length list.items ≤ length lots.now) }
-{
-    let mut list = Listed::new(alloc);
-    for lot in lots {
-        if *id != lot.line.id {
-            list.push(*lot)?;
-        }
-    }
-    Ok(list)
-}
-
-/// The others of some lots that are of the layer of the lot with the id. Answers `AllocError` only for want of memory.
-pub fn near_lots<'a>(
-    alloc: Global,
-    lots: &[Parcel<'a>],
-    layer: &Name,
-    id: &Name,
-) -> Result<Listed<Parcel<'a>>, AllocError>
-    ensures value { IfOk result (λ list. lots_here list.items ≡ other_lots id.now (lots_of_layer layer.now (lots_here lots.now))) }
-    ensures few { IfOk result (λ list. length list.items ≤ length lots.now) }
-{
-    let same = of_layer(alloc, lots, layer)?;
-    others(alloc, same.items(), id)
-}
-
-/// The first of some lots that has the id.
-pub fn with_id<'a>(lots: &[Parcel<'a>], id: &Name) -> Option<Parcel<'a>>
-    ensures { option_map lot_here result ≡ lot_with_id id.now (lots_here lots.now) }
-{
-    for lot in lots {
-        if *id == lot.line.id {
-            return Some(*lot);
-        }
-    }
-    None
 }

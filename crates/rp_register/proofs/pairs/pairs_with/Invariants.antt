@@ -1,7 +1,7 @@
 use Rattle.std.proofs.Common.{◌≡◌, ◌+◌, ◌*◌, ◌≤◌, drop}
 use Rattle.rp_geometry.specs.parts.Parts.{most_parts}
 use Rattle.rp_model.specs.commands.Row.{count_with_each, lot_parts}
-use Rattle.rp_register.specs.Near.{may_meet}
+use Rattle.rp_nearby.specs.Near.{may_meet}
 use Rattle.rp_register.specs.There.{lots_here}
 use Rattle.rp_register.proofs.pairs.pairs_with.Given as goal
 

@@ -1,0 +1,14 @@
+use Rattle.std.proofs.Common.{List, sym, subst}
+use Rattle.rp_geometry.specs.sets.Shape.{Part}
+use Rattle.rp_model.specs.states.State.{Lot}
+use Rattle.rp_space.specs.Listed.{Listed}
+use Rattle.rp_boxindex.specs.Boxes.{Boxes}
+use Rattle.rp_register.specs.Kept.{AreLots}
+use Rattle.rp_register.proofs.Boxed.{no_lots}
+use Rattle.rp_register.proofs.lots.Lots.new.Goals as goal
+
+pub invariant_of-result : goal.invariant_of-result
+invariant_of-result c =
+    subst (λ (m : Boxes). AreLots c.new.result c.new-2.result.items 0 m) (sym c.new-3.ensures.value)
+    (subst (λ (forms : List (Listed Part)). AreLots c.new.result forms 0 _) (sym c.new-2.ensures)
+    (subst (λ (history : List (Lot (Unit {0}))). AreLots history _ 0 _) (sym c.new.ensures) no_lots))
