@@ -7,7 +7,7 @@ use Rattle.rp_model.specs.states.State.{Lot, PlainState, live_lots, live_lot, lo
 use Rattle.rp_model.specs.commands.Verdict.{Refusal, unknown}
 use Rattle.rp_model.specs.commands.Checks.{refuse_if, and_then, check_live, check_each}
 use Rattle.rp_history.proofs.Found.{there_if_found, not_there}
-use Rattle.rp_register.proofs.Placed.{item_at}
+use Rattle.rp_nearby.proofs.Places.{item_at}
 use Rattle.rp_register.proofs.KeptLots.{bare_ids, bare_live}
 
 -- ---- ids

@@ -10,7 +10,8 @@ ghost use Rattle.rp_changes.specs.Children.{formed_child};
 
 use crate::child::Child;
 use rp_follow::{Form, Lost, Trail, common};
-use rp_register::{Reach, count_pairs, within};
+use rp_nearby::Reach;
+use rp_register::{count_pairs, within};
 use rp_space::Names;
 use std::alloc::{AllocError, Global};
 

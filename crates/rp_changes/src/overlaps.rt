@@ -11,9 +11,8 @@ use crate::changes::one_born;
 use crate::checks::{check_registration, check_room};
 use rp_follow::{Form, Lost, Trail, common};
 use rp_history::Birth;
-use rp_register::{
-    Change, Moment, Parcel, Reach, Register, Reply, RowEnd, count_tests, of_layer, pairs_with,
-};
+use rp_nearby::Reach;
+use rp_register::{Change, Parcel, Register, Reply, RowEnd, count_tests, pairs_with};
 use rp_report::Refusal;
 use rp_space::{Name, Names};
 use std::alloc::Global;
@@ -32,11 +31,10 @@ pub(crate) fn make_lot(
 {
     check_registration(register, id, &form)?;
     check_room(register, form.items().len())?;
-    let live = register.lots_there(alloc, Moment::Now)?;
-    let present = of_layer(alloc, live.items(), &register.layer())?;
-    let pairs = pairs_with(&form, present.items(), Reach::Overlap);
+    let near = register.near(alloc, &form, &register.layer(), &id, 0, Reach::Overlap)?;
+    let pairs = pairs_with(&form, near.items(), Reach::Overlap);
     count_tests(trail, pairs)?;
-    if let Some(other) = first_overlapped(&form, present.items(), trail)? {
+    if let Some(other) = first_overlapped(&form, near.items(), trail)? {
         return Err(RowEnd::Refused(Refusal::Overlaps(other)));
     }
     let birth = Birth {

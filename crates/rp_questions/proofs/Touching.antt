@@ -1,8 +1,8 @@
 -- The row of neighbours, step by step.
-use Rattle.std.proofs.Common.{◌≡◌, ℕ, Bool, not, List, [], Option, Some, None, is_some, refl, sym, ap, ◌∙◌, subst}
+use Rattle.std.proofs.Common.{◌≡◌, ℕ, Bool, not, List, [], filter, Option, Some, None, is_some, refl, sym, ap, ◌∙◌, subst}
 use Rattle.rp_geometry.specs.sets.Shape.{Part}
 use Rattle.rp_language.specs.Name.{Label}
-use Rattle.rp_walks.specs.Walk.{done, Walk, pass, ◌>>=◌}
+use Rattle.rp_walks.specs.Walk.{Outcome, done, Walk, pass, ◌>>=◌}
 use Rattle.rp_walks.specs.Form.{touching_pair, parts_or_none}
 use Rattle.rp_model.specs.states.State.{Lot, PlainState, live_lots, live_lot, lots_of_layer, other_lots, layer_of_lot, parts_of_lot}
 use Rattle.rp_model.specs.commands.Verdict.{Refusal, unknown, neighbour_lines}
@@ -12,6 +12,10 @@ use Rattle.rp_reports.specs.Check.{Trail, follow_count, line_tester}
 use Rattle.rp_follow.specs.declared.lost.Lost.{Lost}
 use Rattle.rp_follow.specs.Follows.{StopsBy}
 use Rattle.rp_follow.proofs.Left.{IsLeft, next_left, stop_left, end_left}
+use Rattle.rp_nearby.specs.declared.near.Reach.TheVariants.{Touch}
+use Rattle.rp_nearby.specs.Near.{others_in, is_near}
+use Rattle.rp_nearby.proofs.Passed.{pairs_near}
+use Rattle.rp_nearby.proofs.Skipped.{touch_near}
 use Rattle.rp_register.specs.declared.parcel.Parcel.{Parcel}
 use Rattle.rp_register.specs.There.{lot_here, lots_here}
 use Rattle.rp_questions.proofs.Ancestors.{among_found}
@@ -48,34 +52,45 @@ count_left s x l near t e n = record {
       ∙ sym (ap (λ (o : Option Refusal). check o (count_by s x (live_lot x s.lots)) t) (check_found s x (Some l) e) ∙ ap (λ (o : Option (Lot (Unit {0}))). count_by s x o t) e);
 }
 
-module _ (s : PlainState) (x : Label) (p : Parcel) (near : List Parcel) (t : Trail) (live : live_lot x s.lots ≡ Some (lot_here p)) (all : lots_here near ≡ other_lots x (lots_of_layer (lot_here p).layer (live_lots s.lots))) (pairs : ℕ) (counted : pairs ≡ count_with_each touching_pair p.form.now.items (lot_parts (lots_here near))) where
+module _ (s : PlainState) (x : Label) (p : Parcel) (near : List Parcel) (t : Trail) (live : live_lot x s.lots ≡ Some (lot_here p)) (all : lots_here near ≡ filter (is_near Touch (lot_here p).parts) (others_in (lot_here p).layer x s.lots)) (pairs : ℕ) (counted : pairs ≡ count_with_each touching_pair p.form.now.items (lot_parts (lots_here near))) where
+  -- the others of its layer
+  abbrev others : List (Lot (Unit {0}))
+  others = others_in (lot_here p).layer x s.lots
+
   -- the count is left
-  counting : IsLeft t (row_neighbours line_tester s x) t (count_and_touch p.form.now.items (lots_here near))
-  counting = count_left s x (lot_here p) (lots_here near) t live all
+  counting : IsLeft t (row_neighbours line_tester s x) t (count_and_touch p.form.now.items others)
+  counting = count_left s x (lot_here p) others t live refl
+
+  -- pairs with all others are those with the near ones
+  all_counted : pairs ≡ count_with_each touching_pair p.form.now.items (lot_parts others)
+  all_counted = counted ∙ ap (λ (ls : List (Lot (Unit {0}))). count_with_each touching_pair p.form.now.items (lot_parts ls)) all ∙ sym (pairs_near Touch p.form.now.items others)
+
+  -- tests of all others are those of the near ones
+  all_touched : (tested : List Parcel) (u : Trail) → tested ≡ near → touched_lots line_tester [] p.form.now.items (lots_here tested) u ≡ touched_lots line_tester [] p.form.now.items others u
+  all_touched tested u same = ap (λ (ls : List (Lot (Unit {0}))). touched_lots line_tester [] p.form.now.items ls u) (ap lots_here same ∙ all) ∙ touch_near line_tester [] p.form.now.items others u
 
   -- the pairs are too many
   pub count_stops : (e : Lost) (u : Trail) → StopsBy e u (follow_count pairs t) → StopsBy e u (row_neighbours line_tester s x t)
   count_stops e u m =
-      stop_left (follow_count (count_with_each touching_pair p.form.now.items (lot_parts (lots_here near)))) (λ _. touch_and_tell p.form.now.items (lots_here near)) counting e u
-      (subst (λ (n : ℕ). StopsBy e u (follow_count n t)) counted m)
+      stop_left (follow_count (count_with_each touching_pair p.form.now.items (lot_parts others))) (λ _. touch_and_tell p.form.now.items others) counting e u
+      (subst (λ (n : ℕ). StopsBy e u (follow_count n t)) all_counted m)
 
   -- they are counted: the tests are left
-  touching : {u : Trail} → follow_count pairs t ≡ done tt u → IsLeft t (row_neighbours line_tester s x) u (touch_and_tell p.form.now.items (lots_here near))
+  touching : {u : Trail} → follow_count pairs t ≡ done tt u → IsLeft t (row_neighbours line_tester s x) u (touch_and_tell p.form.now.items others)
   touching {u = u} m =
-      next_left (follow_count (count_with_each touching_pair p.form.now.items (lot_parts (lots_here near)))) (λ _. touch_and_tell p.form.now.items (lots_here near)) counting
-      (subst (λ (n : ℕ). follow_count n t ≡ done tt u) counted m)
+      next_left (follow_count (count_with_each touching_pair p.form.now.items (lot_parts others))) (λ _. touch_and_tell p.form.now.items others) counting
+      (subst (λ (n : ℕ). follow_count n t ≡ done tt u) all_counted m)
 
   -- a test stops
   pub touch_stops : (tested : List Parcel) (e : Lost) (u v : Trail) → tested ≡ near → follow_count pairs t ≡ done tt u → StopsBy e v (touched_lots line_tester [] p.form.now.items (lots_here tested) u) → StopsBy e v (row_neighbours line_tester s x t)
   touch_stops tested e u v same m h =
-      stop_left (touched_lots line_tester [] p.form.now.items (lots_here near)) told_neighbours (touching m) e v
-      (subst (λ (ps : List Parcel). StopsBy e v (touched_lots line_tester [] p.form.now.items (lots_here ps) u)) same h)
+      stop_left (touched_lots line_tester [] p.form.now.items others) told_neighbours (touching m) e v
+      (subst (λ (o : Outcome Trail (List Label)). StopsBy e v o) (all_touched tested u same) h)
 
   -- all are told
   pub touch_told : (tested : List Parcel) (ids : List Label) (u v : Trail) → tested ≡ near → follow_count pairs t ≡ done tt u → touched_lots line_tester [] p.form.now.items (lots_here tested) u ≡ done ids v
       → row_neighbours line_tester s x t ≡ done (reply_lines (neighbour_lines ids)) v
   touch_told tested ids u v same m h =
       end_left (done (reply_lines (neighbour_lines ids)) v)
-      (next_left (touched_lots line_tester [] p.form.now.items (lots_here near)) told_neighbours (touching m)
-      (subst (λ (ps : List Parcel). touched_lots line_tester [] p.form.now.items (lots_here ps) u ≡ done ids v) same h))
+      (next_left (touched_lots line_tester [] p.form.now.items others) told_neighbours (touching m) (sym (all_touched tested u same) ∙ h))
       refl

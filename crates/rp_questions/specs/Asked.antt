@@ -1,19 +1,16 @@
--- Walks over lots that are to be apart, and lots under their ids.
-use Rattle.std.specs.Prelude.{◌≡◌, Bool, true, false, List, [], ◌∷◌, ◌++◌, Result, Ok, Err}
+-- What an audit has come to, and lots behind a place or under their ids.
+use Rattle.std.specs.Prelude.{◌≡◌, ℕ, ◌+◌, true, false, Bool, List, [], ◌∷◌, ◌++◌, drop, Result, Ok, Err}
 use Rattle.std.specs.Option.{option_to_list}
-use Rattle.rp_geometry.specs.sets.Shape.{Part}
 use Rattle.rp_language.specs.Name.{Label}
-use Rattle.rp_walks.specs.Walk.{Outcome, done, stopped, taken_wrong, Walk, pass}
-use Rattle.rp_walks.specs.Form.{common_nearby}
-use Rattle.rp_model.specs.states.State.{Lot, lot_with_id}
-use Rattle.rp_reports.specs.Check.{Trail, line_tester}
+use Rattle.rp_walks.specs.Walk.{Outcome, done, stopped, taken_wrong}
+use Rattle.rp_model.specs.states.State.{Lot, live_lots, lots_of_layer, lot_with_id}
+use Rattle.rp_reports.specs.Check.{Trail}
 use Rattle.rp_follow.specs.declared.lost.Lost.{Lost}
 use Rattle.rp_follow.specs.Follows.{StopsBy}
 
--- whether two lists of parts share a member, where they are to be tested at all
-abbrev pub common_if : Bool → List Part → List Part → Walk Trail Bool
-common_if true ps qs = common_nearby line_tester ps qs
-common_if false ps qs = pass false
+-- the live lots behind a place, of the layer of a lot
+abbrev pub lots_behind : {S : Type 0} → Lot S → ℕ → List (Lot S) → List (Lot S)
+lots_behind l k lots = lots_of_layer l.layer (live_lots (drop (k + 1) lots))
 
 -- the walk of an audit was followed, and the trail is this: all are apart, or the line taken last shows a common point, or it ends so
 abbrev pub ShowsApart : Result Bool Lost → Trail → Outcome Trail (Unit {0}) → Type 0

@@ -1,46 +1,59 @@
 //! Whether lots of one layer are shown to be apart, on the next lines of a report.
-ghost use Rattle.rp_language.specs.Name.{label_eq};
-ghost use Rattle.rp_model.specs.states.State.{lots_of_layer};
+ghost use Rattle.std.specs.Prelude.{◌≡◌, ◌<◌, Some, length, slice_get};
+ghost use Rattle.rp_model.specs.states.State.{live_lots};
 ghost use Rattle.rp_model.specs.commands.Row.{lot_parts, all_apart, all_apart_from};
 ghost use Rattle.rp_reports.specs.Check.{line_tester};
-ghost use Rattle.rp_follow.specs.Follows.{Follows};
-ghost use Rattle.rp_questions.specs.Asked.{common_if, ShowsApart};
 ghost use Rattle.rp_register.specs.There.{lot_here, lots_here};
+ghost use Rattle.rp_questions.specs.Asked.{lots_behind, ShowsApart};
 
+use crate::behind::near_behind;
 use rp_follow::{Lost, Trail, common};
-use rp_register::Parcel;
+use rp_register::{Moment, Parcel, Register, is_there};
+use std::alloc::Global;
 
-/// Whether each two of some lots that are of one layer share no point. The first line that shows a common point ends it.
-pub(crate) fn are_apart(lots: &[Parcel<'_>], trail: &mut Trail<'_>) -> Result<bool, Lost>
-    ensures { ShowsApart result trail.new (all_apart line_tester (lots_here lots.now) trail.old) }
+/// Whether each two live lots of one layer share no point. The first line that shows a common point ends it.
+pub(crate) fn are_apart(
+    alloc: Global,
+    register: &Register,
+    trail: &mut Trail<'_>,
+) -> Result<bool, Lost>
+    ensures { ShowsApart result trail.new (all_apart line_tester (live_lots register.now.lots) trail.old) }
 {
-    for place in 0..lots.len() {
-        if !is_apart_from(&lots[place], &lots[place + 1..], trail)? {
-            return Ok(false);
+    for place in 0..register.count_lots() {
+        let lot = register.parcel_at(place);
+        if is_there(lot.line, Moment::Now) {
+            if !is_apart_behind(alloc, register, place, &lot, trail)? {
+                return Ok(false);
+            }
         }
     }
     Ok(true)
 }
 
-/// Whether a lot shares no point with those of some lots that are of its layer.
+/// Whether the lot at a place shares no point with the live lots of its layer behind it.
+fn is_apart_behind(
+    alloc: Global,
+    register: &Register,
+    place: usize,
+    lot: &Parcel<'_>,
+    trail: &mut Trail<'_>,
+) -> Result<bool, Lost>
+    requires within { place < length register.now.lots }
+    requires at { slice_get register.now.lots place ≡ Some (lot_here lot.now) }
+    ensures { ShowsApart result trail.new (all_apart_from line_tester (lot_here lot.now).parts (lot_parts (lots_behind (lot_here lot.now) place register.now.lots)) trail.old) }
+{
+    let near = near_behind(alloc, register, place, lot)?;
+    is_apart_from(lot, near.items(), trail)
+}
+
+/// Whether a lot shares no point with any of some lots. Only pairs of parts are tested whose boxes share more than boundary.
 fn is_apart_from(lot: &Parcel<'_>, lots: &[Parcel<'_>], trail: &mut Trail<'_>) -> Result<bool, Lost>
-    ensures { ShowsApart result trail.new (all_apart_from line_tester (lot_here lot.now).parts (lot_parts (lots_of_layer (lot_here lot.now).layer (lots_here lots.now))) trail.old) }
+    ensures { ShowsApart result trail.new (all_apart_from line_tester (lot_here lot.now).parts (lot_parts (lots_here lots.now)) trail.old) }
 {
     for other in lots {
-        if shares_point(lot, other, trail)? {
+        if common(lot.form, other.form, true, trail)? {
             return Ok(false);
         }
     }
     Ok(true)
-}
-
-/// Whether two lots are of one layer and share a point. Lots of two layers aren't tested.
-fn shares_point(lot: &Parcel<'_>, other: &Parcel<'_>, trail: &mut Trail<'_>) -> Result<bool, Lost>
-    ensures { Follows (λ found. found) result trail.old trail.new (common_if (label_eq (lot_here other.now).layer (lot_here lot.now).layer) (lot_here lot.now).parts (lot_here other.now).parts) }
-{
-    if other.line.layer == lot.line.layer {
-        common(lot.form, other.form, true, trail)
-    } else {
-        Ok(false)
-    }
 }

@@ -5,13 +5,14 @@ ghost use Rattle.rp_reports.specs.Check.{Trail, line_tester};
 ghost use Rattle.rp_register.specs.Replies.{Tells};
 
 use crate::apart::are_apart;
-use crate::lot_lines::{add_each, add_lots, neighbour_lines, owner_verdict};
+use crate::behind::pairs_in_layers;
+use crate::live::{add_live, count_live};
+use crate::lot_lines::{add_each, neighbour_lines};
+use crate::points::owner_verdict;
 use crate::touched::touched;
 use rp_follow::Trail;
-use rp_register::{
-    Moment, Reach, Register, RowEnd, count_tests, near_lots, of_layer, one_line, pairs_in_layers,
-    pairs_with, with_id,
-};
+use rp_nearby::Reach;
+use rp_register::{Moment, Register, RowEnd, count_tests, one_line, pairs_with};
 use rp_report::{Refusal, Verdict, Verdicts};
 use rp_space::{Name, Point};
 use std::alloc::Global;
@@ -25,11 +26,10 @@ pub fn neighbours(
 ) -> Result<Verdicts, RowEnd>
     ensures { Tells result trail.new (row_neighbours line_tester register.now id trail.old) }
 {
-    let live = register.lots_there(alloc, Moment::Now)?;
-    let Some(lot) = with_id(live.items(), &id) else {
+    let Some(lot) = register.live_parcel(&id) else {
         return Err(RowEnd::Refused(Refusal::Unknown(id)));
     };
-    let near = near_lots(alloc, live.items(), &lot.line.layer, &id)?;
+    let near = register.near(alloc, lot.form, &lot.line.layer, &id, 0, Reach::Touch)?;
     let pairs = pairs_with(lot.form, near.items(), Reach::Touch);
     count_tests(trail, pairs)?;
     let ids = touched(alloc, lot.form, near.items(), trail)?;
@@ -41,22 +41,19 @@ pub fn neighbours(
 pub fn audit(alloc: Global, register: &Register, trail: &mut Trail<'_>) -> Result<Verdicts, RowEnd>
     ensures { Tells result trail.new (row_audit line_tester register.now trail.old) }
 {
-    let live = register.lots_there(alloc, Moment::Now)?;
-    let pairs = pairs_in_layers(live.items());
+    let pairs = pairs_in_layers(alloc, register)?;
     count_tests(trail, pairs)?;
-    if !are_apart(live.items(), trail)? {
+    if !are_apart(alloc, register, trail)? {
         return Err(RowEnd::Shared);
     }
-    Ok(one_line(alloc, Verdict::Clear(live.items().len() as u32))?)
+    Ok(one_line(alloc, Verdict::Clear(count_live(register)))?)
 }
 
 /// `at`: the live lot of the present layer that has the point. It makes no test.
 pub fn owner(alloc: Global, register: &Register, point: &Point) -> Result<Verdicts, RowEnd>
     ensures { (t : Trail) → Tells result t (row line_tester register.now (ask_at point.now) t) }
 {
-    let live = register.lots_there(alloc, Moment::Now)?;
-    let present = of_layer(alloc, live.items(), &register.layer())?;
-    Ok(one_line(alloc, owner_verdict(present.items(), point))?)
+    Ok(one_line(alloc, owner_verdict(register, Moment::Now, point))?)
 }
 
 /// `asof`: the lot of the present layer that had the point after a line. It makes no test.
@@ -68,18 +65,15 @@ pub fn owner_then(
 ) -> Result<Verdicts, RowEnd>
     ensures { (t : Trail) → Tells result t (row line_tester register.now (ask_as_of line point.now) t) }
 {
-    let alive = register.lots_there(alloc, Moment::After(line))?;
-    let present = of_layer(alloc, alive.items(), &register.layer())?;
-    Ok(one_line(alloc, owner_verdict(present.items(), point))?)
+    Ok(one_line(alloc, owner_verdict(register, Moment::After(line), point))?)
 }
 
 /// `list`: the live lots. It makes no test.
 pub fn list(alloc: Global, register: &Register) -> Result<Verdicts, RowEnd>
     ensures { (t : Trail) → Tells result t (row line_tester register.now ask_list t) }
 {
-    let live = register.lots_there(alloc, Moment::Now)?;
-    let mut lines = one_line(alloc, Verdict::Parcels(live.items().len() as u32))?;
-    add_lots(alloc, live.items(), &mut lines)?;
+    let mut lines = one_line(alloc, Verdict::Parcels(count_live(register)))?;
+    add_live(alloc, register, &mut lines)?;
     Ok(lines)
 }
 

@@ -3,9 +3,12 @@
 
 mod apart;
 mod asked;
+mod behind;
 mod compare;
+mod live;
 mod lot_lines;
 mod pieces;
+mod points;
 mod questions;
 mod touched;
 

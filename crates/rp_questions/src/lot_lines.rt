@@ -2,16 +2,14 @@
 ghost use Rattle.std.specs.Prelude.{◌≡◌, ◌≤◌, ◌∷◌, ◌++◌, [], IfOk, OnOk, length, map, option_map, option_copied};
 ghost use Rattle.rp_model.specs.states.State.{lot_with_id, most_kept_parts};
 ghost use Rattle.rp_model.specs.commands.Verdict.{neighbour_lines, lot_lines};
-ghost use Rattle.rp_model.specs.commands.Row.{owner_line};
 ghost use Rattle.rp_history.specs.Lots.{lot_of};
 ghost use Rattle.rp_report.specs.Views.{verdict_of};
 ghost use Rattle.rp_questions.specs.Asked.{lots_under};
-ghost use Rattle.rp_register.specs.There.{lots_here};
 
 use rp_history::{History, LotLine};
-use rp_register::{Parcel, holds, one_line};
+use rp_register::one_line;
 use rp_report::{Verdict, Verdicts};
-use rp_space::{Name, Names, Point};
+use rp_space::{Name, Names};
 use std::alloc::{AllocError, Global};
 
 /// The verdict lines of neighbours. Answers `AllocError` only for want of memory.
@@ -26,20 +24,8 @@ pub(crate) fn neighbour_lines(alloc: Global, ids: &[Name]) -> Result<Verdicts, A
     Ok(lines)
 }
 
-/// The verdict that tells the first of some lots that has the point.
-pub(crate) fn owner_verdict(lots: &[Parcel<'_>], point: &Point) -> Verdict
-    ensures { verdict_of result ≡ owner_line (lots_here lots.now) point.now }
-{
-    for lot in lots {
-        if holds(lot.form, point) {
-            return Verdict::Parcel(lot.line.id);
-        }
-    }
-    Verdict::Nobody
-}
-
 /// The verdict line of a lot. Answers `AllocError` only for want of memory.
-fn lot_line(alloc: Global, lot: &LotLine) -> Result<Verdict, AllocError>
+pub(crate) fn lot_line(alloc: Global, lot: &LotLine) -> Result<Verdict, AllocError>
     ensures { IfOk result (λ line. verdict_of line ∷ [] ≡ lot_lines (lot_of lot.now ∷ [])) }
 {
     Ok(Verdict::Lot(LotLine {
@@ -49,20 +35,6 @@ fn lot_line(alloc: Global, lot: &LotLine) -> Result<Verdict, AllocError>
         ended: lot.ended,
         origins: Names::copy_of(alloc, lot.origins.items())?,
     }))
-}
-
-/// Appends the lines of some lots. Answers `AllocError` only for want of memory.
-pub(crate) fn add_lots(
-    alloc: Global,
-    lots: &[Parcel<'_>],
-    lines: &mut Verdicts,
-) -> Result<(), AllocError>
-    ensures { OnOk result (map verdict_of lines.new.items ≡ map verdict_of lines.old.items ++ lot_lines (lots_here lots.now)) }
-{
-    for lot in lots {
-        lines.push(lot_line(alloc, lot.line)?)?;
-    }
-    Ok(())
 }
 
 /// The lot of an id.

@@ -1,10 +1,10 @@
 use Rattle.std.proofs.Common.{drop}
+use Rattle.rp_model.specs.states.State.{live_lots}
 use Rattle.rp_model.specs.commands.Row.{all_apart}
 use Rattle.rp_reports.specs.Check.{line_tester}
 use Rattle.rp_follow.proofs.Left.{IsLeft}
-use Rattle.rp_register.specs.There.{lots_here}
 use Rattle.rp_questions.proofs.apart.are_apart.Given as goal
 
--- the lots still to come are left
+-- the live lots still to come are left
 abbrev pub invariant-loop-place : goal.invariant-loop-place
-invariant-loop-place l = IsLeft l.initial.trail (all_apart line_tester (lots_here l.lots)) l.trail (all_apart line_tester (lots_here (drop l.place l.lots)))
+invariant-loop-place l = IsLeft l.initial.trail (all_apart line_tester (live_lots l.register.lots)) l.trail (all_apart line_tester (live_lots (drop l.place l.register.lots)))

@@ -1,0 +1,23 @@
+use Rattle.std.proofs.Common.{List, filter, ap, ◌∙◌, arith}
+use Rattle.rp_model.specs.states.State.{Lot}
+use Rattle.rp_nearby.specs.declared.near.Reach.TheVariants.{Overlap}
+use Rattle.rp_nearby.specs.Near.{is_near}
+use Rattle.rp_nearby.proofs.Places.{if_ok_then}
+use Rattle.rp_nearby.proofs.Behind.{others_behind}
+use Rattle.rp_register.specs.There.{lot_here}
+use Rattle.rp_register.proofs.Applied.{sound_are_few, sound_ids}
+use Rattle.rp_questions.proofs.behind.near_behind.Goals as goal
+
+pub overflow_add-place : goal.overflow_add-place
+overflow_add-place c =
+    let few = (sound_are_few c.args.register.now c.keep_sound.ensures).few_lots in
+    let within = c.requires.within in
+    omega (arith, few, within)
+
+pub returns-clause-value : goal.returns-clause-value
+returns-clause-value c =
+    let s = c.args.register.now in
+    let l = lot_here c.args.lot.now in
+    if_ok_then _ _ c.near.result
+    (λ list h. h ∙ ap (λ (ls : List (Lot (Unit {0}))). filter (is_near Overlap l.parts) ls) (others_behind s.lots (sound_ids s c.keep_sound.ensures) c.args.place l c.requires.within c.requires.at))
+    c.near.ensures.value
