@@ -207,6 +207,200 @@ fn names_stand_for_what_was_made(rt: HostRuntime) -> Result<(), Fail> {
     Ok(())
 }
 
+/// A report of every command that makes, changes or asks for lots.
+const LOTS: &[u8] = b"> 1 register a box 0 0 0 4 2 2
+  in (0 0 0 1) (0 0 2 1) (0 2 0 1) (4 0 0 1)
+  box 0 0 0 4 2 2
+= ok
+> 2 register b box 4 0 0 6 2 2
+  in (4 0 0 1) (4 0 2 1) (4 2 0 1) (6 0 0 1)
+  box 4 0 0 6 2 2
+= ok
+> 3 register c box 5 0 0 8 2 2
+  in (5 0 0 1) (5 0 2 1) (5 2 0 1) (8 0 0 1)
+  box 5 0 0 8 2 2
+  in (5 0 0 1) (5 0 2 1) (5 2 0 1) (6 0 0 1)
+= refused overlaps b
+> 4 neighbours a
+  at (4 0 0 1)
+= neighbours 1
+= parcel b
+> 5 cut a half 1 0 0 -2 e w
+  in (2 -16777216 -16777216 1) (2 -16777216 16777216 1) (2 16777216 -16777216 1) (16777216 -16777216 -16777216 1)
+  box 2 -16777216 -16777216 16777216 16777216 16777216
+  in (4 0 0 1) (4 0 2 1) (4 2 0 1) (2 0 0 1)
+  drop (1 0 0 0) 1*(1 0 0 -2) 1*(-1 0 0 0)
+  box 2 0 0 4 2 2
+  in (4 0 0 1) (4 0 2 1) (4 2 0 1) (2 0 0 1)
+  in (0 0 0 1) (0 0 2 1) (0 2 0 1) (2 0 0 1)
+  drop (-1 0 0 4) 1*(-1 0 0 2) 1*(1 0 0 -4)
+  box 0 0 0 2 2 2
+= ok
+> 6 subdivide e 2 n box 2 0 0 4 1 2 s box 2 1 0 4 2 2
+  in (2 0 0 1) (2 0 2 1) (2 1 0 1) (4 0 0 1)
+  box 2 0 0 4 1 2
+  in (2 1 0 1) (2 1 2 1) (2 2 0 1) (4 1 0 1)
+  box 2 1 0 4 2 2
+  in (2 0 0 1) (2 0 2 1) (2 1 0 1) (4 0 0 1)
+  out 1*(-1 0 0 4) 1*(1 0 0 -4)
+  out 1*(0 1 0 0) 1*(0 -1 0 0)
+  out 1*(0 -1 0 1) 1*(0 1 0 -2)
+  out 1*(0 0 1 0) 1*(0 0 -1 0)
+  out 1*(0 0 -1 2) 1*(0 0 1 -2)
+  out 1*(1 0 0 -2) 1*(-1 0 0 2)
+  in (2 1 0 1) (2 1 2 1) (2 2 0 1) (4 1 0 1)
+  out 1*(-1 0 0 4) 1*(1 0 0 -4)
+  out 1*(0 1 0 -1) 1*(0 -1 0 0)
+  out 1*(0 -1 0 2) 1*(0 1 0 -2)
+  out 1*(0 0 1 0) 1*(0 0 -1 0)
+  out 1*(0 0 -1 2) 1*(0 0 1 -2)
+  out 1*(1 0 0 -2) 1*(-1 0 0 2)
+  in (4 0 0 1) (4 0 2 1) (4 1 0 1) (2 0 0 1)
+  out 1*(1 0 0 -2) 1*(-1 0 0 2)
+  out 1*(-1 0 0 4) 1*(1 0 0 -4)
+  out 1*(0 1 0 0) 1*(0 -1 0 0)
+  in (4 2 0 1) (4 2 2 1) (4 1 0 1) (2 2 0 1)
+  drop (-1 0 0 4) 1*(-1 0 0 4) 1*(1 0 0 -4)
+  drop (0 1 0 0) 1*(0 1 0 0) 1*(0 -1 0 0)
+  drop (1 0 0 -2) 1*(1 0 0 -2) 1*(-1 0 0 2)
+  drop (0 1 0 0) 1*(0 1 0 -1) 1*(0 -1 0 0)
+  box 2 1 0 4 2 2
+  out 1*(0 0 1 0) 1*(0 0 -1 0)
+  out 1*(0 0 -1 2) 1*(0 0 1 -2)
+  in (2 2 0 1) (4 2 0 1) (2 2 2 1) (2 1 0 1)
+  out 1*(1 0 0 -2) 1*(-1 0 0 2)
+  out 1*(-1 0 0 4) 1*(1 0 0 -4)
+  out 1*(0 1 0 -1) 1*(0 -1 0 1)
+  out 1*(0 -1 0 2) 1*(0 1 0 -2)
+  out 1*(0 0 1 0) 1*(0 0 -1 0)
+  out 1*(0 0 -1 2) 1*(0 0 1 -2)
+= ok
+> 7 consolidate u 2 w n
+= ok
+> 8 retire b
+= ok
+> 9 layer rights
+= ok
+> 10 register b2 box 0 0 0 9 9 9
+  in (0 0 0 1) (0 0 9 1) (0 9 0 1) (9 0 0 1)
+  box 0 0 0 9 9 9
+= ok
+> 11 at 1 1 1 1
+= parcel b2
+> 12 asof 1 1 1 1 1
+= nobody
+> 13 layer base
+= ok
+> 14 asof 2 1 1 1 1
+= parcel a
+> 15 at 3 1 1 2
+= parcel u
+> 16 history u
+= lots 5
+= lot a born 1 ended 5
+= lot e born 5 ended 6 from a
+= lot w born 5 ended 7 from a
+= lot n born 6 ended 7 from e
+= lot u born 7 live from w n
+> 17 audit
+= clear 3
+> 18 list
+= parcels 3
+= lot s born 6 live from e
+= lot u born 7 live from w n
+= lot b2 born 10 live layer rights
+";
+
+/// A report of questions about forms.
+const FORMS: &[u8] = b"> 1 let a = box 0 0 0 2 2 2
+  in (0 0 0 1) (0 0 2 1) (0 2 0 1) (2 0 0 1)
+  box 0 0 0 2 2 2
+= ok
+> 2 let b = or box 0 0 0 1 1 1 box 3 0 0 4 1 1
+  in (0 0 0 1) (0 0 1 1) (0 1 0 1) (1 0 0 1)
+  box 0 0 0 1 1 1
+  in (3 0 0 1) (3 0 1 1) (3 1 0 1) (4 0 0 1)
+  box 3 0 0 4 1 1
+= ok
+> 3 equal name a name b
+  in (0 0 0 1) (0 0 1 1) (0 1 0 1) (1 0 0 1)
+  out 1*(1 0 0 0) 1*(-1 0 0 0)
+  in (2 0 0 1) (2 0 2 1) (2 2 0 1) (1 0 0 1)
+  drop (1 0 0 0) 1*(1 0 0 0) 1*(-1 0 0 0)
+  drop (1 0 0 0) 1*(1 0 0 -1) 1*(-1 0 0 0)
+  box 1 0 0 2 2 2
+  out 1*(0 1 0 0) 1*(0 -1 0 0)
+  in (0 2 0 1) (0 2 2 1) (0 1 0 1) (1 2 0 1)
+  drop (1 0 0 0) 1*(1 0 0 0) 1*(-1 0 0 0)
+  drop (-1 0 0 2) 1*(-1 0 0 1) 1*(1 0 0 -2)
+  drop (0 1 0 0) 1*(0 1 0 0) 1*(0 -1 0 0)
+  drop (0 1 0 0) 1*(0 1 0 -1) 1*(0 -1 0 0)
+  box 0 1 0 1 2 2
+  out 1*(0 0 1 0) 1*(0 0 -1 0)
+  in (0 0 2 1) (0 0 1 1) (0 1 2 1) (1 0 2 1)
+  drop (1 0 0 0) 1*(1 0 0 0) 1*(-1 0 0 0)
+  drop (-1 0 0 2) 1*(-1 0 0 1) 1*(1 0 0 -2)
+  drop (0 1 0 0) 1*(0 1 0 0) 1*(0 -1 0 0)
+  drop (0 -1 0 2) 1*(0 -1 0 1) 1*(0 1 0 -2)
+  drop (0 0 1 0) 1*(0 0 1 0) 1*(0 0 -1 0)
+  drop (0 0 1 0) 1*(0 0 1 -1) 1*(0 0 -1 0)
+  box 0 0 1 1 1 2
+  in (2 0 0 1) (2 0 2 1) (2 2 0 1) (1 0 0 1)
+= no
+> 4 contact name a name b
+  at (0 0 0 1)
+= yes
+> 5 rcc name a box 5 0 0 6 1 1
+  in (5 0 0 1) (5 0 1 1) (5 1 0 1) (6 0 0 1)
+  box 5 0 0 6 1 1
+  out 1*(-1 0 0 2) 1*(1 0 0 -5)
+  apart 1*(-1 0 0 2) 1*(1 0 0 -5)
+= DC
+> 6 pieces name b
+  apart 1*(-1 0 0 1) 1*(1 0 0 -3)
+= pieces 2
+= piece 1
+= piece 2
+> 7 show name b
+= parts 2
+= part (1 0 0 0) (-1 0 0 1) (0 1 0 0) (0 -1 0 1) (0 0 1 0) (0 0 -1 1)
+= part (1 0 0 -3) (-1 0 0 4) (0 1 0 0) (0 -1 0 1) (0 0 1 0) (0 0 -1 1)
+";
+
+#[test]
+fn reports_of_lots_and_forms_are_accepted(rt: HostRuntime) -> Result<(), Fail> {
+    for report in [LOTS, FORMS] {
+        expect_made(&rt, rt.alloc(), report, Found::Accepted)?;
+    }
+    Ok(())
+}
+
+#[test]
+fn a_wrong_verdict_on_lots_is_wrong(rt: HostRuntime) -> Result<(), Fail> {
+    let table: [(&[u8], u32); 4] = [
+        (
+            b"> 1 register a box 0 0 0 4 2 2\n  in (1 1 1 1)\n  box 0 0 0 4 2 2\n= ok\n> 2 audit\n= clear 2\n",
+            6,
+        ),
+        (
+            b"> 1 register a box 0 0 0 4 2 2\n  in (1 1 1 1)\n  box 0 0 0 4 2 2\n= ok\n> 2 neighbours a\n= neighbours 1\n= parcel a\n",
+            6,
+        ),
+        (
+            b"> 1 register a box 0 0 0 4 2 2\n  in (1 1 1 1)\n  box 0 0 0 4 2 2\n= ok\n> 2 retire a\n= ok\n> 3 at 1 1 1 1\n= parcel a\n",
+            8,
+        ),
+        (
+            b"> 1 register a box 0 0 0 4 2 2\n  in (1 1 1 1)\n  box 0 0 0 4 2 2\n= ok\n> 2 register b box 3 0 0 5 2 2\n  in (4 1 1 1)\n  box 3 0 0 5 2 2\n= ok\n",
+            8,
+        ),
+    ];
+    for (report, number) in table {
+        expect(&rt, rt.alloc(), report, Found::Wrong(number))?;
+    }
+    Ok(())
+}
+
 /// The lines of a report in which no line may be left out, and none may stand twice.
 const LINES: [&[u8]; 17] = [
     b"> 1 let a = box 0 0 0 10 10 10",
