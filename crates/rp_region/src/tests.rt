@@ -1,11 +1,11 @@
-ghost use Rattle.std.specs.Prelude.{◌≡◌, true};
+ghost use Rattle.std.specs.Prelude.{◌≡◌, ◌≤◌, length, true};
 ghost use Rattle.rp_geometry.specs.Geometry.{is_box_in_bounds};
 ghost use Rattle.rp_space.specs.Boxes.{integer_box};
 
 use crate::{OpFault, Part, Region, Work};
 use rp_cert::Proof;
 use rp_space::{Half, HalfFault, Inside, IntBox, Outside, Point, PointFault, box_halves};
-use std::alloc::Global;
+use std::alloc::{AllocError, Global};
 use std::process::Abort;
 use std::test::Fail;
 
@@ -80,6 +80,21 @@ fn box_region(alloc: Global, bounds: &IntBox, work: &mut Work) -> Result<Region,
     Region::of_cell(alloc, &box_halves(bounds), work)
 }
 
+/// The regions of two boxes.
+fn regions_of(
+    alloc: Global,
+    first: &IntBox,
+    second: &IntBox,
+    work: &mut Work,
+) -> Result<(Region, Region), OpFault>
+    requires first { is_box_in_bounds (integer_box first.now) ≡ true }
+    requires second { is_box_in_bounds (integer_box second.now) ≡ true }
+{
+    let first = box_region(alloc, first, work)?;
+    let second = box_region(alloc, second, work)?;
+    Ok((first, second))
+}
+
 /// Shows that a type may be sent to other threads and shared with them.
 fn needs_send_sync<T: Send + Sync>() {}
 
@@ -91,9 +106,8 @@ fn types_cross_threads() {
     needs_send_sync::<OpFault>();
 }
 
-#[test]
-fn a_difference_is_carved(rt: HostRuntime) -> Result<(), Fail> {
-    let mut work = Work::new(rt.alloc());
+/// Two boxes of no test, and what the second leaves of the first.
+fn carved(rt: &impl Abort, alloc: Global, work: &mut Work) -> Result<Region, OpFault> {
     let whole = IntBox {
         lo: [0, 0, 0],
         hi: [10, 10, 10],
@@ -102,46 +116,61 @@ fn a_difference_is_carved(rt: HostRuntime) -> Result<(), Fail> {
         lo: [0, 0, 0],
         hi: [4, 10, 10],
     };
-    let whole = box_region(rt.alloc(), &whole, &mut work)?;
-    let west = box_region(rt.alloc(), &west, &mut work)?;
+    let (whole, west) = regions_of(alloc, &whole, &west, work)?;
     assert_eq!(rt; work.tests(), 0);
-    let east = whole.minus(rt.alloc(), &west, &mut work)?;
+    whole.minus(alloc, &west, work)
+}
+
+/// Compares the one part of a region.
+fn expect_part(
+    rt: &impl Abort,
+    region: &Region,
+    halves: &[HalfNumbers],
+    lo: [i32; 3],
+    hi: [i32; 3],
+) {
+    assert_eq!(rt; region.parts().len(), 1);
+    for part in region.parts() {
+        expect_halves(rt, part, halves);
+        assert_eq!(rt; part.bounds().lo, lo);
+        assert_eq!(rt; part.bounds().hi, hi);
+    }
+}
+
+/// The proof lines of the carved box.
+const CARVED_LINES: &[Line] = &[
+    Line::In(&[(0, 0, 0, 1), (0, 0, 10, 1), (0, 10, 0, 1), (10, 0, 0, 1)]),
+    Line::Bounds([0, 0, 0], [10, 10, 10]),
+    Line::In(&[(0, 0, 0, 1), (0, 0, 10, 1), (0, 10, 0, 1), (4, 0, 0, 1)]),
+    Line::Bounds([0, 0, 0], [4, 10, 10]),
+    Line::In(&[(0, 0, 0, 1), (0, 0, 10, 1), (0, 10, 0, 1), (4, 0, 0, 1)]),
+    Line::Out(&[(1, (1, 0, 0, 0)), (1, (-1, 0, 0, 0))]),
+    Line::In(&[(10, 0, 0, 1), (10, 0, 10, 1), (10, 10, 0, 1), (4, 0, 0, 1)]),
+    Line::Dropped((1, 0, 0, 0), &[(1, (1, 0, 0, 0)), (1, (-1, 0, 0, 0))]),
+    Line::Dropped((1, 0, 0, 0), &[(1, (1, 0, 0, -4)), (1, (-1, 0, 0, 0))]),
+    Line::Bounds([4, 0, 0], [10, 10, 10]),
+    Line::Out(&[(1, (0, 1, 0, 0)), (1, (0, -1, 0, 0))]),
+    Line::Out(&[(1, (0, -1, 0, 10)), (1, (0, 1, 0, -10))]),
+    Line::Out(&[(1, (0, 0, 1, 0)), (1, (0, 0, -1, 0))]),
+    Line::Out(&[(1, (0, 0, -1, 10)), (1, (0, 0, 1, -10))]),
+];
+
+#[test]
+fn a_difference_is_carved(rt: HostRuntime) -> Result<(), Fail> {
+    let mut work = Work::new(rt.alloc());
+    let east = carved(&rt, rt.alloc(), &mut work)?;
     assert_eq!(rt; work.tests(), 7);
-    let [part] = east.parts() else {
-        return Err("not one part".into());
-    };
-    expect_halves(
-        &rt,
-        part,
-        &[
-            (-1, 0, 0, 10),
-            (0, 1, 0, 0),
-            (0, -1, 0, 10),
-            (0, 0, 1, 0),
-            (0, 0, -1, 10),
-            (1, 0, 0, -4),
-        ],
-    );
-    assert_eq!(rt; part.bounds().lo, [4, 0, 0]);
-    assert_eq!(rt; part.bounds().hi, [10, 10, 10]);
-    let lines = [
-        Line::In(&[(0, 0, 0, 1), (0, 0, 10, 1), (0, 10, 0, 1), (10, 0, 0, 1)]),
-        Line::Bounds([0, 0, 0], [10, 10, 10]),
-        Line::In(&[(0, 0, 0, 1), (0, 0, 10, 1), (0, 10, 0, 1), (4, 0, 0, 1)]),
-        Line::Bounds([0, 0, 0], [4, 10, 10]),
-        Line::In(&[(0, 0, 0, 1), (0, 0, 10, 1), (0, 10, 0, 1), (4, 0, 0, 1)]),
-        Line::Out(&[(1, (1, 0, 0, 0)), (1, (-1, 0, 0, 0))]),
-        Line::In(&[(10, 0, 0, 1), (10, 0, 10, 1), (10, 10, 0, 1), (4, 0, 0, 1)]),
-        Line::Dropped((1, 0, 0, 0), &[(1, (1, 0, 0, 0)), (1, (-1, 0, 0, 0))]),
-        Line::Dropped((1, 0, 0, 0), &[(1, (1, 0, 0, -4)), (1, (-1, 0, 0, 0))]),
-        Line::Bounds([4, 0, 0], [10, 10, 10]),
-        Line::Out(&[(1, (0, 1, 0, 0)), (1, (0, -1, 0, 0))]),
-        Line::Out(&[(1, (0, -1, 0, 10)), (1, (0, 1, 0, -10))]),
-        Line::Out(&[(1, (0, 0, 1, 0)), (1, (0, 0, -1, 0))]),
-        Line::Out(&[(1, (0, 0, -1, 10)), (1, (0, 0, 1, -10))]),
+    let halves = [
+        (-1, 0, 0, 10),
+        (0, 1, 0, 0),
+        (0, -1, 0, 10),
+        (0, 0, 1, 0),
+        (0, 0, -1, 10),
+        (1, 0, 0, -4),
     ];
-    expect_lines(&rt, work.proofs(), &lines);
-    expect_lines(&rt, work.into_proofs().items(), &lines);
+    expect_part(&rt, &east, &halves, [4, 0, 0], [10, 10, 10]);
+    expect_lines(&rt, work.proofs(), CARVED_LINES);
+    expect_lines(&rt, work.into_proofs().items(), CARVED_LINES);
     Ok(())
 }
 
@@ -168,9 +197,7 @@ fn two_boxes(alloc: Global, work: &mut Work) -> Result<(Region, Region), OpFault
         lo: [5, 5, 5],
         hi: [12, 8, 8],
     };
-    let large = box_region(alloc, &large, work)?;
-    let small = box_region(alloc, &small, work)?;
-    Ok((large, small))
+    regions_of(alloc, &large, &small, work)
 }
 
 /// A point of both boxes.
@@ -188,52 +215,100 @@ const IN_NEITHER: PointNumbers = (20, 6, 6, 1);
 /// A point on a side that the cube leaves out.
 const OUTSIDE: PointNumbers = (16777216, 0, 0, 1);
 
+/// What both boxes have.
+fn both_boxes(alloc: Global, work: &mut Work) -> Result<Region, OpFault> {
+    let (large, small) = two_boxes(alloc, work)?;
+    large.both(alloc, &small, work)
+}
+
+/// What one of the boxes has.
+fn either_box(alloc: Global, work: &mut Work) -> Result<Region, OpFault> {
+    let (large, small) = two_boxes(alloc, work)?;
+    large.either(alloc, &small, work)
+}
+
+/// The same, with the parts moved.
+fn joined_boxes(alloc: Global, work: &mut Work) -> Result<Region, OpFault> {
+    let (large, small) = two_boxes(alloc, work)?;
+    large.into_either(small.copy(alloc)?, work)
+}
+
+/// What the larger box alone has.
+fn rest_of_box(alloc: Global, work: &mut Work) -> Result<Region, OpFault> {
+    let (large, small) = two_boxes(alloc, work)?;
+    large.minus(alloc, &small, work)
+}
+
+/// The same, with the parts moved.
+fn left_of_box(alloc: Global, work: &mut Work) -> Result<Region, OpFault> {
+    let (large, small) = two_boxes(alloc, work)?;
+    large.into_minus(alloc, &small, work)
+}
+
+/// What the larger box leaves of the cube.
+fn outside_of_box(alloc: Global, work: &mut Work) -> Result<Region, OpFault> {
+    let (large, _) = two_boxes(alloc, work)?;
+    large.outside(alloc, work)
+}
+
 #[test]
 fn both_have_the_common_points(rt: HostRuntime) -> Result<(), Fail> {
     let mut work = Work::new(rt.alloc());
-    let (large, small) = two_boxes(rt.alloc(), &mut work)?;
-    let both = large.both(rt.alloc(), &small, &mut work)?;
+    let both = both_boxes(rt.alloc(), &mut work)?;
     assert_eq!(rt; work.tests(), 1);
     let table = [(IN_BOTH, true), (IN_LARGE, false), (IN_SMALL, false)];
     expect_points(&rt, &both, &table)?;
     Ok(())
 }
 
+/// The points of one of the boxes.
+const EITHER_POINTS: [(PointNumbers, bool); 4] = [
+    (IN_BOTH, true),
+    (IN_LARGE, true),
+    (IN_SMALL, true),
+    (IN_NEITHER, false),
+];
+
 #[test]
 fn either_has_the_points_of_each(rt: HostRuntime) -> Result<(), Fail> {
     let mut work = Work::new(rt.alloc());
-    let (large, small) = two_boxes(rt.alloc(), &mut work)?;
-    let either = large.either(rt.alloc(), &small, &mut work)?;
+    let either = either_box(rt.alloc(), &mut work)?;
     assert_eq!(rt; either.parts().len(), 2);
-    let table = [
-        (IN_BOTH, true),
-        (IN_LARGE, true),
-        (IN_SMALL, true),
-        (IN_NEITHER, false),
-    ];
-    expect_points(&rt, &either, &table)?;
-    let moved = large.into_either(small.copy(rt.alloc())?, &mut work)?;
-    expect_points(&rt, &moved, &table)?;
+    expect_points(&rt, &either, &EITHER_POINTS)?;
     Ok(())
 }
 
 #[test]
+fn either_has_the_points_of_each_that_is_moved(rt: HostRuntime) -> Result<(), Fail> {
+    let moved = joined_boxes(rt.alloc(), &mut Work::new(rt.alloc()))?;
+    expect_points(&rt, &moved, &EITHER_POINTS)?;
+    Ok(())
+}
+
+/// The points of the larger box alone.
+const REST_POINTS: [(PointNumbers, bool); 3] = [
+    (IN_BOTH, false),
+    (IN_LARGE, true),
+    (IN_SMALL, false),
+];
+
+#[test]
 fn minus_leaves_the_points_of_the_first_alone(rt: HostRuntime) -> Result<(), Fail> {
-    let mut work = Work::new(rt.alloc());
-    let (large, small) = two_boxes(rt.alloc(), &mut work)?;
-    let minus = large.minus(rt.alloc(), &small, &mut work)?;
-    let table = [(IN_BOTH, false), (IN_LARGE, true), (IN_SMALL, false)];
-    expect_points(&rt, &minus, &table)?;
-    let moved = large.into_minus(rt.alloc(), &small, &mut work)?;
-    expect_points(&rt, &moved, &table)?;
+    let minus = rest_of_box(rt.alloc(), &mut Work::new(rt.alloc()))?;
+    expect_points(&rt, &minus, &REST_POINTS)?;
+    Ok(())
+}
+
+#[test]
+fn minus_leaves_the_points_of_one_that_is_moved(rt: HostRuntime) -> Result<(), Fail> {
+    let moved = left_of_box(rt.alloc(), &mut Work::new(rt.alloc()))?;
+    expect_points(&rt, &moved, &REST_POINTS)?;
     Ok(())
 }
 
 #[test]
 fn outside_has_the_other_points_of_the_cube(rt: HostRuntime) -> Result<(), Fail> {
-    let mut work = Work::new(rt.alloc());
-    let (large, _) = two_boxes(rt.alloc(), &mut work)?;
-    let rest = large.outside(rt.alloc(), &mut work)?;
+    let rest = outside_of_box(rt.alloc(), &mut Work::new(rt.alloc()))?;
     let table = [(IN_LARGE, false), (IN_SMALL, true), (OUTSIDE, false)];
     expect_points(&rt, &rest, &table)?;
     Ok(())
@@ -241,61 +316,58 @@ fn outside_has_the_other_points_of_the_cube(rt: HostRuntime) -> Result<(), Fail>
 
 #[test]
 fn the_whole_cube_has_no_half_spaces(rt: HostRuntime) -> Result<(), Fail> {
-    let mut work = Work::new(rt.alloc());
     let all = Region::all(rt.alloc())?;
-    let [part] = all.parts() else {
-        return Err("not one part".into());
-    };
-    expect_halves(&rt, part, &[]);
-    assert_eq!(rt; part.bounds().hi, [16777216; 3]);
-    let none = all.outside(rt.alloc(), &mut work)?;
-    assert!(rt; none.parts().is_empty());
+    expect_part(&rt, &all, &[], [-16777216; 3], [16777216; 3]);
     assert!(rt; Region::none(rt.alloc()).parts().is_empty());
+    Ok(())
+}
+
+/// What the whole cube leaves of itself.
+fn outside_of_all(alloc: Global, work: &mut Work) -> Result<Region, OpFault> {
+    let all = Region::all(alloc)?;
+    all.outside(alloc, work)
+}
+
+#[test]
+fn the_whole_cube_leaves_nothing(rt: HostRuntime) -> Result<(), Fail> {
+    let mut work = Work::new(rt.alloc());
+    let none = outside_of_all(rt.alloc(), &mut work)?;
+    assert!(rt; none.parts().is_empty());
     assert_eq!(rt; work.tests(), 1);
     Ok(())
 }
 
-#[test]
-fn boxes_apart_are_not_tested(rt: HostRuntime) -> Result<(), Fail> {
-    let mut work = Work::new(rt.alloc());
-    let west = IntBox {
-        lo: [0, 0, 0],
-        hi: [10, 10, 10],
-    };
-    let east = IntBox {
-        lo: [10, 0, 0],
-        hi: [20, 10, 10],
-    };
-    let west = box_region(rt.alloc(), &west, &mut work)?;
-    let east = box_region(rt.alloc(), &east, &mut work)?;
-    let rest = west.minus(rt.alloc(), &east, &mut work)?;
+/// Takes the second of two boxes apart from the first, which makes no test.
+fn expect_rest(
+    rt: &impl Abort,
+    alloc: Global,
+    west: &Region,
+    east: &Region,
+    work: &mut Work,
+) -> Result<(), OpFault> {
+    let rest = west.minus(alloc, east, work)?;
     assert_eq!(rt; rest.parts().len(), 1);
     assert_eq!(rt; work.tests(), 0);
     assert_eq!(rt; work.proofs().len(), 4);
-    let common = west.both(rt.alloc(), &east, &mut work)?;
+    Ok(())
+}
+
+/// Joins two boxes apart, which makes one test.
+fn expect_no_join(
+    rt: &impl Abort,
+    alloc: Global,
+    west: &Region,
+    east: &Region,
+    work: &mut Work,
+) -> Result<(), OpFault> {
+    let common = west.both(alloc, east, work)?;
     assert!(rt; common.parts().is_empty());
     assert_eq!(rt; work.tests(), 1);
     Ok(())
 }
 
-/// The regions of two boxes.
-fn regions_of(
-    alloc: Global,
-    first: &IntBox,
-    second: &IntBox,
-    work: &mut Work,
-) -> Result<(Region, Region), OpFault>
-    requires first { is_box_in_bounds (integer_box first.now) ≡ true }
-    requires second { is_box_in_bounds (integer_box second.now) ≡ true }
-{
-    let first = box_region(alloc, first, work)?;
-    let second = box_region(alloc, second, work)?;
-    Ok((first, second))
-}
-
-#[test]
-fn boxes_that_share_a_face_touch_and_have_no_common_point(rt: HostRuntime) -> Result<(), Fail> {
-    let mut making = Work::new(rt.alloc());
+/// Two boxes that share a face.
+fn boxes_with_a_face(alloc: Global, work: &mut Work) -> Result<(Region, Region), OpFault> {
     let west = IntBox {
         lo: [0, 0, 0],
         hi: [10, 10, 10],
@@ -304,15 +376,66 @@ fn boxes_that_share_a_face_touch_and_have_no_common_point(rt: HostRuntime) -> Re
         lo: [10, 0, 0],
         hi: [20, 10, 10],
     };
-    let (west, east) = regions_of(rt.alloc(), &west, &east, &mut making)?;
-    let mut work = Work::new(rt.alloc());
+    regions_of(alloc, &west, &east, work)
+}
+
+/// What is tested of two boxes that share a face.
+fn expect_few_tests(rt: &impl Abort, alloc: Global, work: &mut Work) -> Result<(), OpFault> {
+    let (west, east) = boxes_with_a_face(alloc, work)?;
+    expect_rest(rt, alloc, &west, &east, work)?;
+    expect_no_join(rt, alloc, &west, &east, work)
+}
+
+#[test]
+fn boxes_apart_are_not_tested(rt: HostRuntime) -> Result<(), Fail> {
+    expect_few_tests(&rt, rt.alloc(), &mut Work::new(rt.alloc()))?;
+    Ok(())
+}
+
+/// Compares how many points show that two regions share one, over all pairs of parts or over those that are near.
+fn expect_common(
+    rt: &impl Abort,
+    alloc: Global,
+    regions: &(Region, Region),
+    near: bool,
+    points: Option<usize>,
+    work: &mut Work,
+) -> Result<(), OpFault> {
+    let (first, second) = regions;
+    let common = first.first_common(alloc, second, near, work)?;
+    assert_eq!(rt; common.map(|shown| shown.items().len()), points);
+    Ok(())
+}
+
+/// Compares the first point at which two regions touch, over all pairs of parts or over those that are near.
+fn expect_touch(
+    rt: &impl Abort,
+    alloc: Global,
+    regions: &(Region, Region),
+    near: bool,
+    point: Option<PointNumbers>,
+    work: &mut Work,
+) -> Result<(), OpFault> {
+    let (first, second) = regions;
+    let touch = first.first_touch(alloc, second, near, work)?;
+    assert_eq!(rt; touch.map(|shown| shown.numbers()), point);
+    Ok(())
+}
+
+/// What is found of two boxes that share a face.
+fn expect_face(rt: &impl Abort, alloc: Global, work: &mut Work) -> Result<(), OpFault> {
+    let boxes = boxes_with_a_face(alloc, &mut Work::new(alloc))?;
     for near in [false, true] {
-        let common = west.first_common(rt.alloc(), &east, near, &mut work)?;
-        assert!(rt; common.is_none());
-        let touch = west.first_touch(rt.alloc(), &east, near, &mut work)?;
-        let point = touch.ok_or("no contact")?;
-        assert_eq!(rt; point.numbers(), (10, 0, 0, 1));
+        expect_common(rt, alloc, &boxes, near, None, work)?;
+        expect_touch(rt, alloc, &boxes, near, Some((10, 0, 0, 1)), work)?;
     }
+    Ok(())
+}
+
+#[test]
+fn boxes_that_share_a_face_touch_and_have_no_common_point(rt: HostRuntime) -> Result<(), Fail> {
+    let mut work = Work::new(rt.alloc());
+    expect_face(&rt, rt.alloc(), &mut work)?;
     // Near, no pair of these boxes is tested for a common point, and nothing is counted.
     assert_eq!(rt; work.tests(), 2);
     let lines = [
@@ -324,9 +447,8 @@ fn boxes_that_share_a_face_touch_and_have_no_common_point(rt: HostRuntime) -> Re
     Ok(())
 }
 
-#[test]
-fn boxes_apart_neither_overlap_nor_touch(rt: HostRuntime) -> Result<(), Fail> {
-    let mut making = Work::new(rt.alloc());
+/// Two boxes with a gap between them.
+fn boxes_with_a_gap(alloc: Global, work: &mut Work) -> Result<(Region, Region), OpFault> {
     let west = IntBox {
         lo: [0, 0, 0],
         hi: [10, 10, 10],
@@ -335,38 +457,66 @@ fn boxes_apart_neither_overlap_nor_touch(rt: HostRuntime) -> Result<(), Fail> {
         lo: [11, 0, 0],
         hi: [21, 10, 10],
     };
-    let (west, east) = regions_of(rt.alloc(), &west, &east, &mut making)?;
-    let mut work = Work::new(rt.alloc());
+    regions_of(alloc, &west, &east, work)
+}
+
+/// What is found of two boxes with a gap between them.
+fn expect_gap(rt: &impl Abort, alloc: Global, work: &mut Work) -> Result<(), OpFault> {
+    let boxes = boxes_with_a_gap(alloc, &mut Work::new(alloc))?;
     for near in [false, true] {
-        let touch = west.first_touch(rt.alloc(), &east, near, &mut work)?;
-        assert!(rt; touch.is_none());
+        expect_touch(rt, alloc, &boxes, near, None, work)?;
     }
+    Ok(())
+}
+
+#[test]
+fn boxes_apart_neither_overlap_nor_touch(rt: HostRuntime) -> Result<(), Fail> {
+    let mut work = Work::new(rt.alloc());
+    expect_gap(&rt, rt.alloc(), &mut work)?;
     assert_eq!(rt; work.tests(), 1);
     let lines = [Line::Apart(&[(1, (-1, 0, 0, 10)), (1, (1, 0, 0, -11))])];
     expect_lines(&rt, work.proofs(), &lines);
     Ok(())
 }
 
-#[test]
-fn the_first_pair_with_a_common_point_is_found(rt: HostRuntime) -> Result<(), Fail> {
-    let mut making = Work::new(rt.alloc());
-    let (large, small) = two_boxes(rt.alloc(), &mut making)?;
+/// The larger box, and a union of one far away and the smaller one.
+fn box_and_others(alloc: Global, work: &mut Work) -> Result<(Region, Region), OpFault> {
+    let (large, small) = two_boxes(alloc, work)?;
     let far = IntBox {
         lo: [20, 20, 20],
         hi: [30, 30, 30],
     };
-    let far = box_region(rt.alloc(), &far, &mut making)?;
-    let others = far.into_either(small, &mut making)?;
+    let others = box_region(alloc, &far, work)?.into_either(small, work)?;
+    Ok((large, others))
+}
+
+/// What is found of them.
+fn expect_second_pair(rt: &impl Abort, alloc: Global, work: &mut Work) -> Result<(), OpFault> {
+    let regions = box_and_others(alloc, &mut Work::new(alloc))?;
+    expect_common(rt, alloc, &regions, false, Some(4), work)
+}
+
+#[test]
+fn the_first_pair_with_a_common_point_is_found(rt: HostRuntime) -> Result<(), Fail> {
     let mut work = Work::new(rt.alloc());
-    let common = large.first_common(rt.alloc(), &others, false, &mut work)?;
-    let points = common.ok_or("no common point")?;
-    assert_eq!(rt; points.items().len(), 4);
+    expect_second_pair(&rt, rt.alloc(), &mut work)?;
     assert_eq!(rt; work.tests(), 2);
     let lines = [
         Line::Out(&[(1, (-1, 0, 0, 9)), (1, (1, 0, 0, -20))]),
         Line::In(&[(9, 5, 5, 1), (9, 5, 8, 1), (9, 8, 5, 1), (5, 5, 5, 1)]),
     ];
     expect_lines(&rt, work.proofs(), &lines);
+    Ok(())
+}
+
+/// Makes the last test, and no further one.
+fn expect_last_test(rt: &impl Abort, alloc: Global, work: &mut Work) -> Result<(), AllocError> {
+    let all = Region::all(alloc)?;
+    assert!(rt; all.both(alloc, &all, work).is_ok());
+    assert_eq!(rt; work.tests(), 65536);
+    assert!(rt; matches!(all.both(alloc, &all, work), Err(OpFault::Limit)));
+    assert!(rt; matches!(all.minus(alloc, &all, work), Err(OpFault::Limit)));
+    assert_eq!(rt; work.tests(), 65536);
     Ok(())
 }
 
@@ -377,30 +527,32 @@ fn tests_are_counted_up_to_their_limit(rt: HostRuntime) -> Result<(), Fail> {
     assert!(rt; !work.count(2));
     assert!(rt; !work.count(u64::MAX));
     assert_eq!(rt; work.tests(), 65535);
-    let all = Region::all(rt.alloc())?;
-    assert!(rt; all.both(rt.alloc(), &all, &mut work).is_ok());
-    assert_eq!(rt; work.tests(), 65536);
-    assert!(rt; matches!(all.both(rt.alloc(), &all, &mut work), Err(OpFault::Limit)));
-    assert!(rt; matches!(all.minus(rt.alloc(), &all, &mut work), Err(OpFault::Limit)));
-    assert_eq!(rt; work.tests(), 65536);
+    expect_last_test(&rt, rt.alloc(), &mut work)?;
+    Ok(())
+}
+
+/// The whole cube, 1,024 times.
+fn cubes(alloc: Global, work: &mut Work) -> Result<Region, OpFault> {
+    let mut region = Region::all(alloc)?;
+    for _ in 0..10 {
+        region = region.either(alloc, &region, work)?;
+    }
+    Ok(region)
+}
+
+/// A region of as many parts as there may be, and one more.
+fn expect_no_more_parts(rt: &impl Abort, alloc: Global, region: &Region) -> Result<(), AllocError> {
+    assert_eq!(rt; region.parts().len(), 1024);
+    let one = Region::all(alloc)?;
+    let more = region.either(alloc, &one, &mut Work::new(alloc));
+    assert!(rt; matches!(more, Err(OpFault::Limit)));
     Ok(())
 }
 
 #[test]
 fn regions_have_at_most_1024_parts(rt: HostRuntime) -> Result<(), Fail> {
-    let mut work = Work::new(rt.alloc());
-    let mut region = Region::all(rt.alloc())?;
-    for _ in 0..10 {
-        region = region.either(rt.alloc(), &region, &mut work)?;
-    }
-    assert_eq!(rt; region.parts().len(), 1024);
-    let one = Region::all(rt.alloc())?;
-    assert!(rt;
-        matches!(
-            region.either(rt.alloc(), &one, &mut work),
-            Err(OpFault::Limit)
-        )
-    );
+    let region = cubes(rt.alloc(), &mut Work::new(rt.alloc()))?;
+    expect_no_more_parts(&rt, rt.alloc(), &region)?;
     Ok(())
 }
 
@@ -411,44 +563,85 @@ fn tangent(k: i64) -> Result<Half, HalfFault> {
     Half::new(double, 1, 0, square)
 }
 
-#[test]
-fn parts_have_at_most_32_half_spaces(rt: HostRuntime) -> Result<(), Fail> {
-    let mut work = Work::new(rt.alloc());
+/// The half-spaces above 33 tangents of a parabola.
+fn tangents() -> Result<[Half; 33], HalfFault> {
     let mut cell = [Half::default(); 33];
     for (k, half) in cell.iter_mut().enumerate() {
         *half = tangent(k as i64)?;
     }
-    let few = Region::of_cell(rt.alloc(), &cell[..32], &mut work)?;
-    let [part] = few.parts() else {
-        return Err("not one part".into());
-    };
-    assert_eq!(rt; part.halves().len(), 32);
-    let told = work.proofs().len();
-    assert!(rt;
-        matches!(
-            Region::of_cell(rt.alloc(), &cell, &mut work),
-            Err(OpFault::Limit)
-        )
-    );
-    assert_eq!(rt; work.proofs().len(), told);
+    Ok(cell)
+}
+
+/// Makes one part of a cell, which keeps all its half-spaces.
+fn expect_kept(
+    rt: &impl Abort,
+    alloc: Global,
+    cell: &[Half],
+    work: &mut Work,
+) -> Result<(), OpFault>
+    requires { length cell.now ≤ 64 }
+{
+    let few = Region::of_cell(alloc, cell, work)?;
+    assert_eq!(rt; few.parts().len(), 1);
+    for part in few.parts() {
+        assert_eq!(rt; part.halves().len(), cell.len());
+    }
     Ok(())
 }
 
 #[test]
-fn tests_tell_their_certificates(rt: HostRuntime) -> Result<(), Fail> {
-    let east = [Half::new(1, 0, 0, 0)?];
-    let west = [Half::new(-1, 0, 0, 0)?];
-    let far = [Half::new(-1, 0, 0, -1)?];
+fn parts_have_at_most_32_half_spaces(rt: HostRuntime) -> Result<(), Fail> {
+    let cell = tangents()?;
     let mut work = Work::new(rt.alloc());
-    assert!(rt; work.strict(rt.alloc(), &east, &west)?.is_none());
-    assert!(rt; work.weak(rt.alloc(), &east, &west)?.is_some());
-    assert!(rt; work.weak(rt.alloc(), &east, &far)?.is_none());
+    expect_kept(&rt, rt.alloc(), &cell[..32], &mut work)?;
+    let told = work.proofs().len();
+    let many = Region::of_cell(rt.alloc(), &cell, &mut work);
+    assert!(rt; matches!(many, Err(OpFault::Limit)));
+    assert_eq!(rt; work.proofs().len(), told);
+    Ok(())
+}
+
+/// Three half-spaces along the axis of x.
+fn along_x() -> Result<[Half; 3], HalfFault> {
+    Ok([
+        Half::new(1, 0, 0, 0)?,
+        Half::new(-1, 0, 0, 0)?,
+        Half::new(-1, 0, 0, -1)?,
+    ])
+}
+
+/// Makes tests of one half-space and another, and counts them.
+fn tested(
+    rt: &impl Abort,
+    alloc: Global,
+    first: Half,
+    second: Half,
+    third: Half,
+) -> Result<Work, AllocError> {
+    let mut work = Work::new(alloc);
+    assert!(rt; work.strict(alloc, &[first], &[second])?.is_none());
+    assert!(rt; work.weak(alloc, &[first], &[second])?.is_some());
+    assert!(rt; work.weak(alloc, &[first], &[third])?.is_none());
     assert!(rt; work.count(3));
-    let mut later = Work::new(rt.alloc());
-    let found = later.strict(rt.alloc(), &east, &[])?.ok_or("no points")?;
-    assert_eq!(rt; found.items().len(), 4);
-    assert!(rt; later.count(4));
-    assert!(rt; work.tests() + later.tests() <= 65536);
+    Ok(work)
+}
+
+/// Makes one test of a half-space, and counts as four.
+fn tested_alone(rt: &impl Abort, alloc: Global, half: Half) -> Result<Work, AllocError> {
+    let mut work = Work::new(alloc);
+    let found = work.strict(alloc, &[half], &[])?;
+    assert_eq!(rt; found.map(|shown| shown.items().len()), Some(4));
+    assert!(rt; work.count(4));
+    Ok(work)
+}
+
+#[test]
+fn tests_tell_their_certificates(rt: HostRuntime) -> Result<(), Fail> {
+    let [east, west, far] = along_x()?;
+    let mut work = tested(&rt, rt.alloc(), east, west, far)?;
+    let later = tested_alone(&rt, rt.alloc(), east)?;
+    assert!(rt; work.tests() <= 3);
+    assert!(rt; later.tests() <= 4);
     work.append(rt.alloc(), later)?;
     assert_eq!(rt; work.tests(), 7);
     expect_lines(
@@ -469,9 +662,38 @@ fn tests_tell_their_certificates(rt: HostRuntime) -> Result<(), Fail> {
     Ok(())
 }
 
+/// Whether the one part of a region is in contact with that of another.
+fn are_in_contact(
+    rt: &impl Abort,
+    first: &Region,
+    second: &Region,
+    work: &mut Work,
+) -> Result<bool, AllocError> {
+    let ([first], [second]) = (first.parts(), second.parts()) else {
+        panic!(rt; "not one part each");
+    };
+    work.are_in_contact(first, second)
+}
+
+/// Compares whether two boxes are in contact.
+fn expect_contact(
+    rt: &impl Abort,
+    alloc: Global,
+    first: &IntBox,
+    second: &IntBox,
+    wanted: bool,
+    work: &mut Work,
+) -> Result<(), OpFault>
+    requires first { is_box_in_bounds (integer_box first.now) ≡ true }
+    requires second { is_box_in_bounds (integer_box second.now) ≡ true }
+{
+    let (first, second) = regions_of(alloc, first, second, &mut Work::new(alloc))?;
+    assert_eq!(rt; are_in_contact(rt, &first, &second, work)?, wanted);
+    Ok(())
+}
+
 #[test]
 fn parts_touch_at_a_corner(rt: HostRuntime) -> Result<(), Fail> {
-    let mut work = Work::new(rt.alloc());
     let first = IntBox {
         lo: [0, 0, 0],
         hi: [10, 10, 10],
@@ -484,15 +706,9 @@ fn parts_touch_at_a_corner(rt: HostRuntime) -> Result<(), Fail> {
         lo: [11, 11, 11],
         hi: [21, 21, 21],
     };
-    let first = box_region(rt.alloc(), &first, &mut work)?;
-    let corner = box_region(rt.alloc(), &corner, &mut work)?;
-    let apart = box_region(rt.alloc(), &apart, &mut work)?;
-    let ([first], [corner], [apart]) = (first.parts(), corner.parts(), apart.parts()) else {
-        return Err("not one part each".into());
-    };
     let mut work = Work::new(rt.alloc());
-    assert!(rt; work.are_in_contact(first, corner)?);
-    assert!(rt; !work.are_in_contact(first, apart)?);
+    expect_contact(&rt, rt.alloc(), &first, &corner, true, &mut work)?;
+    expect_contact(&rt, rt.alloc(), &first, &apart, false, &mut work)?;
     let wanted = [
         Line::At((10, 10, 10, 1)),
         Line::Apart(&[(1, (-1, 0, 0, 10)), (1, (1, 0, 0, -11))]),
