@@ -2,13 +2,13 @@
 use Rattle.std.proofs.Common.{◌≡◌, ℕ, zero, suc, ◌+◌, ◌*◌, ◌-◌, ◌<◌, List, [], ◌∷◌, ◌++◌, length, Option, refl, sym, ap, ◌∙◌, subst, append_assoc, arith}
 use Rattle.std.proofs.lemmas.List.{append-nil}
 use Rattle.std.proofs.lemmas.List.Concat.{flat_map-append}
-use Rattle.rp_io.specs.Bytes.{Appends}
+use Rattle.rp_io.specs.Bytes.{Appends, AppendsPrefix}
 use Rattle.rp_reports.specs.Made.{building_lines, made_script, next_seed}
 use Rattle.rp_reports.specs.Text.{text_of_lines, line_end}
 use Rattle.rp_tool.specs.declared.made.MadeLine.TheVariants.{Register, Audit}
 use Rattle.rp_tool.specs.declared.made.Stage.TheVariants.{Registered, Audited}
 use Rattle.rp_tool.specs.Made.{made_line, lines_to_come}
-use Rattle.rp_tool.proofs.SinkLemmas.{Appends-append, Appends-nothing}
+use Rattle.rp_tool.proofs.SinkLemmas.{Appends-append, Appends-nothing, AppendsPrefix-line, AppendsPrefix-lines}
 
 -- behind the last storey all are shown to be apart
 pub building_lines-none : (n i seed : ℕ) → n ≡ 0 → building_lines n i seed ≡ made_line Audit ∷ lines_to_come Audited i n seed
@@ -58,3 +58,9 @@ pub HasMade-end : (all : List (List ℕ)) (old now : Option (List ℕ)) (left : 
 HasMade-end all old now left h e =
     let whole : h.told ≡ all = sym (append-nil h.told) ∙ ap (λ (ls : List (List ℕ)). h.told ++ ls) (sym e) ∙ h.goes_on in
     subst (λ (ls : List (List ℕ)). Appends old now (text_of_lines ls)) whole h.text
+
+-- where a line was not put whole, a front of all was put
+pub HasMade-front : (all : List (List ℕ)) (old now new : Option (List ℕ)) (left behind : List (List ℕ)) (line : List ℕ) → HasMade all old now left → left ≡ line ∷ behind
+    → AppendsPrefix now new (line ++ line_end ∷ []) → AppendsPrefix old new (text_of_lines all)
+HasMade-front all old now new left behind line h e put =
+    AppendsPrefix-lines old now new h.told (line ∷ []) behind all h.text (AppendsPrefix-line now new line put) (ap (λ (ls : List (List ℕ)). h.told ++ ls) (sym e) ∙ h.goes_on)

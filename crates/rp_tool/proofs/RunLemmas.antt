@@ -3,7 +3,7 @@ use Rattle.std.proofs.Common.{◌≡◌, ℕ, ◌+◌, Bool, true, false, ◌||�
 use Rattle.std.specs.List.{list_any}
 use Rattle.std.proofs.lemmas.List.{append-nil}
 use Rattle.std.proofs.lemmas.List.Concat.{flat_map-append}
-use Rattle.rp_io.specs.Bytes.{Appends}
+use Rattle.rp_io.specs.Bytes.{Appends, AppendsPrefix}
 use Rattle.rp_model.specs.states.State.{PlainState, opening}
 use Rattle.rp_reports.specs.Text.{answer_lines, text_of_lines, line_end}
 use Rattle.rp_reports.specs.Report.{script_lines}
@@ -11,9 +11,9 @@ use Rattle.rp_reports.specs.Machine.{step_answer, step_state, lines_from, report
 use Rattle.rp_reports.specs.Output.{IsOutput, IsRefused, is_refused_line}
 use Rattle.rp_states.proofs.Computed.{report_is_computed_spec}
 use Rattle.rp_runs.proofs.Rows.{first_rows, meets_rule}
-use Rattle.rp_tool.specs.Output.{PutsAnswer, PutsOutput, report_task}
+use Rattle.rp_tool.specs.Output.{PutsAnswer, PutsFront, PutsOutput, report_task}
 use Rattle.rp_tool.proofs.RefusalLemmas.{list_any-append}
-use Rattle.rp_tool.proofs.SinkLemmas.{Appends-append, Appends-nothing}
+use Rattle.rp_tool.proofs.SinkLemmas.{Appends-append, Appends-nothing, AppendsPrefix-lines, AppendsPrefix-nothing}
 
 -- what a report, full or brief, told of the script before the rest, whose first line has the number and meets the state
 pub record HasTold (brief : Bool) (script : List ℕ) (old now : Option (List ℕ)) (state : PlainState) (number : ℕ) (rest : List ℕ) (refused : Bool) : Type 0 where
@@ -75,4 +75,28 @@ PutsOutput-run brief script old now state number rest refused h e =
       output = output-computed brief script h.told all;
       text = h.text;
       mark = refused-lines brief refused script h.told h.mark;
+    }
+
+-- where nothing was told, that is a front
+pub PutsFront-nothing : (brief : Bool) (script : List ℕ) (said : Option (List ℕ)) → PutsFront (report_task brief) script said said
+PutsFront-nothing brief script said =
+    record {
+      lines = report brief script;
+      output = output-computed brief script (report brief script) refl;
+      text = AppendsPrefix-nothing said (text_of_lines (report brief script));
+    }
+
+-- where the answer to a line was not told whole, a front of the report was told
+pub PutsFront-run : (brief : Bool) (script : List ℕ) (old now new : Option (List ℕ)) (state : PlainState) (number : ℕ) (rest line behind : List ℕ) (refused : Bool)
+    → HasTold brief script old now state number rest refused → script_lines rest ≡ line ∷ script_lines behind
+    → AppendsPrefix now new (text_of_lines (answer_lines brief (step_answer state number line))) → PutsFront (report_task brief) script old new
+PutsFront-run brief script old now new state number rest line behind refused h e put =
+    let lines = answer_lines brief (step_answer state number line) in
+    let next = step_state state number line in
+    let more = lines_from brief next (number + 1) (script_lines behind) in
+    let all = ap (λ (tail : List (List ℕ)). h.told ++ tail) (report-cons brief state next number rest line (script_lines behind) e refl) ∙ h.goes_on in
+    record {
+      lines = report brief script;
+      output = output-computed brief script (report brief script) refl;
+      text = AppendsPrefix-lines old now new h.told lines more (report brief script) h.text put all;
     }

@@ -1,17 +1,17 @@
 -- The spellings so far: what was put, and what is left.
-use Rattle.std.proofs.Common.{◌≡◌, ℕ, Bool, false, ◌||◌, List, [], ◌∷◌, ◌++◌, Option, sym, ap, ◌∙◌, subst, append_assoc}
+use Rattle.std.proofs.Common.{◌≡◌, ℕ, Bool, false, ◌||◌, List, [], ◌∷◌, ◌++◌, Option, refl, sym, ap, ◌∙◌, subst, append_assoc}
 use Rattle.std.proofs.Math.Bool.{or_assoc, or-false}
 use Rattle.std.specs.List.{list_any, flat_map}
 use Rattle.std.proofs.lemmas.List.{append-nil}
 use Rattle.std.proofs.lemmas.List.Concat.{flat_map-append}
-use Rattle.rp_io.specs.Bytes.{Appends}
+use Rattle.rp_io.specs.Bytes.{Appends, AppendsPrefix}
 use Rattle.rp_language.specs.Grammar.{reading}
 use Rattle.rp_reports.specs.Report.{script_lines}
 use Rattle.rp_reports.specs.Output.{has_bad_line, is_bad_reading, spell_script, spelled_lines, spelled_script}
 use Rattle.rp_reports.specs.Text.{text_of_lines, line_end}
-use Rattle.rp_tool.specs.Output.{PutsSpelling, PutsOutput}
+use Rattle.rp_tool.specs.Output.{PutsFront, PutsSpelling, PutsOutput}
 use Rattle.rp_tool.proofs.RunLemmas.{IsTrue-both}
-use Rattle.rp_tool.proofs.SinkLemmas.{Appends-append}
+use Rattle.rp_tool.proofs.SinkLemmas.{Appends-append, AppendsPrefix-lines}
 
 -- what was put of the commands of the script before the rest, and whether some line before it is bad
 pub record HasSpelled (script : List ℕ) (old now : Option (List ℕ)) (rest : List ℕ) (has_bad : Bool) : Type 0 where
@@ -45,4 +45,16 @@ PutsOutput-spell script old now rest has_bad h e =
       output = sym (h.goes_on ∙ ap (λ ls. h.told ++ ls) none ∙ append-nil h.told);
       text = h.text;
       mark = IsTrue-both has_bad (has_bad_line script) (sym (h.mark ∙ ap (λ b. has_bad || b) good ∙ or-false has_bad));
+    }
+
+-- where the command of a line was not put whole, a front of all was put
+pub PutsFront-spell : (script : List ℕ) (old now new : Option (List ℕ)) (rest line behind : List ℕ) (has_bad : Bool) → HasSpelled script old now rest has_bad → script_lines rest ≡ line ∷ script_lines behind
+    → AppendsPrefix now new (text_of_lines (spelled_lines (reading line))) → PutsFront spell_script script old new
+PutsFront-spell script old now new rest line behind has_bad h e put =
+    let lines = spelled_lines (reading line) in
+    let next : spelled_script rest ≡ lines ++ spelled_script behind = ap (flat_map (λ l. spelled_lines (reading l))) e in
+    record {
+      lines = spelled_script script;
+      output = refl;
+      text = AppendsPrefix-lines old now new h.told lines (spelled_script behind) (spelled_script script) h.text put (sym (h.goes_on ∙ ap (λ ls. h.told ++ ls) next));
     }

@@ -1,7 +1,7 @@
 -- What is put for one line of a script, and for a whole one.
 use Rattle.std.specs.Prelude.{◌≡◌, ◌↔◌, ℕ, Bool, true, false, IsTrue, List, Option}
 use Rattle.std.specs.List.{list_any}
-use Rattle.rp_io.specs.Bytes.{Appends}
+use Rattle.rp_io.specs.Bytes.{Appends, AppendsPrefix}
 use Rattle.rp_io.specs.Faults.{HasRisen}
 use Rattle.rp_language.specs.Grammar.{Reading}
 use Rattle.rp_reports.specs.Output.{Task, run_script, run_brief, IsOutput, IsRefused, is_refused_line, is_bad_reading, spelled_lines}
@@ -32,6 +32,12 @@ pub record PutsOutput (task : Task) (input : List ℕ) (old new : Option (List �
   pub output : IsOutput task input lines
   pub text : Appends old new (text_of_lines lines)
   pub mark : IsTrue refused ↔ IsRefused task input lines
+
+-- a front of the whole output of a task came to the end of what a sink said
+pub record PutsFront (task : Task) (input : List ℕ) (old new : Option (List ℕ)) : Type 0 where
+  pub lines : List (List ℕ)
+  pub output : IsOutput task input lines
+  pub text : AppendsPrefix old new (text_of_lines lines)
 
 -- why an output was not put whole; nothing is claimed where memory ran out
 abbrev pub HasOutputCause : ℕ → ℕ → OutputFault → Type 0

@@ -1,6 +1,6 @@
 -- What the tool is asked to do, and what a status says of its output.
 use Rattle.std.specs.Prelude.{◌≡◌, ◌↔◌, ℕ, Bool, true, false, List, ◌++◌, Option, Some, None, Result, Ok, Err}
-use Rattle.rp_io.specs.Bytes.{Appends}
+use Rattle.rp_io.specs.Bytes.{Appends, AppendsPrefix}
 use Rattle.rp_reports.specs.Text.{text_of_lines}
 use Rattle.rp_reports.specs.Output.{Task as ModelTask, run_script, run_brief, check_report, spell_script, make_script, try_script, task_of, most_script_bytes, most_report_bytes, IsOutput, IsRefused}
 use Rattle.rp_tool.specs.declared.status.TheConstants.{DONE, REFUSED, READ_FAILED, PUT_FAILED, OUT_OF_MEMORY, TOO_LONG}
@@ -86,6 +86,14 @@ pub record HasWritten (words : List (List ℕ)) (input old new : List ℕ) (stat
   pub output : IsOutput task input lines
   pub written : new ≡ old ++ text_of_lines lines
   pub refused : (status ≡ 1) ↔ IsRefused task input lines
+
+-- the words name a task, and a front of the whole output of that task on the input came to the end of what the sink said
+pub record IsFrontOf (words : List (List ℕ)) (input : List ℕ) (old new : Option (List ℕ)) : Type 0 where
+  pub task : ModelTask
+  pub lines : List (List ℕ)
+  pub listed : task_of words ≡ Some task
+  pub output : IsOutput task input lines
+  pub written : AppendsPrefix old new (text_of_lines lines)
 
 -- the status where the input was not read whole
 abbrev pub status_of_intake : IntakeFault → ℕ

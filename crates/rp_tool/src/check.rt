@@ -1,9 +1,9 @@
-ghost use Rattle.std.specs.Prelude.{◌≡◌, ◌≤◌, ◌∷◌, ◌++◌, [], length, IfErr, IfOk, OnOk};
-ghost use Rattle.rp_io.specs.Bytes.{Appends};
+ghost use Rattle.std.specs.Prelude.{◌≡◌, ◌⊎◌, ◌≤◌, ◌∷◌, ◌++◌, [], length, IfErr, IfOk, OnErr, OnOk};
+ghost use Rattle.rp_io.specs.Bytes.{Appends, AppendsPrefix};
 ghost use Rattle.rp_reports.specs.Output.{check_report, most_report_bytes};
 ghost use Rattle.rp_reports.specs.Text.{line_end};
 ghost use Rattle.rp_tool.specs.Check.{found_line, is_wrong, JudgesReport};
-ghost use Rattle.rp_tool.specs.Output.{PutsOutput, HasOutputCause};
+ghost use Rattle.rp_tool.specs.Output.{PutsFront, PutsOutput, HasOutputCause};
 
 use super::fault::OutputFault;
 use super::summary::write_count;
@@ -32,6 +32,7 @@ fn write_found(found: Found, text: &mut Vec<u8>) -> Result<(), AllocError>
 fn put_found<K: Sink>(alloc: Global, found: Found, sink: &mut K) -> Result<(), OutputFault>
     ensures counts { K.faults sink.old ≤ K.faults sink.new }
     ensures text { OnOk result (Appends (K.said sink.old) (K.said sink.new) (found_line found ++ line_end ∷ [])) }
+    ensures front { OnErr result (AppendsPrefix (K.said sink.old) (K.said sink.new) (found_line found ++ line_end ∷ [])) }
     ensures cause { IfErr result (HasOutputCause (K.faults sink.old) (K.faults sink.new)) }
 {
     let mut text = Vec::new(alloc);
@@ -47,6 +48,8 @@ pub fn check<K: Sink>(alloc: Global, report: &[u8], sink: &mut K) -> Result<bool
     ensures counts { K.faults sink.old ≤ K.faults sink.new }
     ensures finding { IfOk result (λ refused.
         PutsOutput check_report report.now (K.said sink.old) (K.said sink.new) refused) }
+    ensures front { OnErr result (Appends (K.said sink.old) (K.said sink.new) []
+        ⊎ PutsFront check_report report.now (K.said sink.old) (K.said sink.new)) }
     ensures judges { IfOk result (λ refused. JudgesReport report.now refused) }
     ensures cause { IfErr result (HasOutputCause (K.faults sink.old) (K.faults sink.new)) }
 {

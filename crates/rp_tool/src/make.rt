@@ -1,5 +1,5 @@
-ghost use Rattle.std.specs.Prelude.{◌≤◌, IfErr, OnOk};
-ghost use Rattle.rp_io.specs.Bytes.{Appends};
+ghost use Rattle.std.specs.Prelude.{◌≤◌, IfErr, OnErr, OnOk};
+ghost use Rattle.rp_io.specs.Bytes.{Appends, AppendsPrefix};
 ghost use Rattle.rp_reports.specs.Made.{made_script};
 ghost use Rattle.rp_reports.specs.Text.{text_of_lines};
 ghost use Rattle.rp_tool.specs.Output.{HasOutputCause};
@@ -14,6 +14,8 @@ use std::alloc::Global;
 pub fn make<K: Sink>(alloc: Global, building: Building, sink: &mut K) -> Result<(), OutputFault>
     ensures counts { K.faults sink.old ≤ K.faults sink.new }
     ensures script { OnOk result (Appends (K.said sink.old) (K.said sink.new)
+        (text_of_lines (made_script building.storeys building.seed))) }
+    ensures front { OnErr result (AppendsPrefix (K.said sink.old) (K.said sink.new)
         (text_of_lines (made_script building.storeys building.seed))) }
     ensures cause { IfErr result (HasOutputCause (K.faults sink.old) (K.faults sink.new)) }
 {

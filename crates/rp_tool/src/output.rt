@@ -1,5 +1,5 @@
 ghost use Rattle.std.specs.Prelude.{◌≤◌, OnErr, OnOk};
-ghost use Rattle.rp_io.specs.Bytes.{Appends};
+ghost use Rattle.rp_io.specs.Bytes.{Appends, AppendsPrefix};
 ghost use Rattle.rp_io.specs.Faults.{HasRisen};
 
 use super::lines::split_line;
@@ -7,11 +7,12 @@ use rp_io::{Failed, Sink};
 
 /// Puts a text line by line, one put for each line with its line end.
 ///
-/// Answers [`Failed`] where a put did. Lines before it were put then.
+/// Answers [`Failed`] where a put did. A front of the text was put then.
 pub fn put_lines<K: Sink>(sink: &mut K, text: &[u8]) -> Result<(), Failed>
     ensures counts { K.faults sink.old ≤ K.faults sink.new }
     ensures failed { OnErr result (HasRisen (K.faults sink.old) (K.faults sink.new)) }
     ensures ok { OnOk result (Appends (K.said sink.old) (K.said sink.new) text.now) }
+    ensures front { OnErr result (AppendsPrefix (K.said sink.old) (K.said sink.new) text.now) }
 {
     let mut rest = text;
     while !rest.is_empty() {

@@ -1,9 +1,11 @@
-ghost use Rattle.std.specs.Prelude.{◌≡◌, ◌+◌, ◌≤◌, length, IfErr, IfOk, OnOk};
+ghost use Rattle.std.specs.Prelude.{◌≡◌, ◌+◌, ◌≤◌, length, IfErr, IfOk, OnErr, OnOk};
+ghost use Rattle.rp_io.specs.Bytes.{AppendsPrefix};
 ghost use Rattle.rp_reports.specs.Output.{most_script_bytes};
 ghost use Rattle.rp_model.specs.states.State.{state_of_parts};
 ghost use Rattle.rp_model.specs.states.Sound.{IsLaterThan};
-ghost use Rattle.rp_reports.specs.Machine.{step_state};
-ghost use Rattle.rp_tool.specs.Output.{PutsAnswer, PutsOutput, HasOutputCause, report_task};
+ghost use Rattle.rp_reports.specs.Machine.{step_answer, step_state};
+ghost use Rattle.rp_reports.specs.Text.{answer_lines, text_of_lines};
+ghost use Rattle.rp_tool.specs.Output.{PutsAnswer, PutsFront, PutsOutput, HasOutputCause, report_task};
 
 use super::fault::OutputFault;
 use super::lines::next_line;
@@ -31,6 +33,8 @@ fn run_line<R: Threads + Sync, K: Sink>(
     ensures counts { K.faults sink.old ≤ K.faults sink.new }
     ensures answer { IfOk result (λ refused.
         PutsAnswer brief machine.old number line.now (K.said sink.old) (K.said sink.new) refused) }
+    ensures front { OnErr result (AppendsPrefix (K.said sink.old) (K.said sink.new)
+        (text_of_lines (answer_lines brief (step_answer machine.old number line.now)))) }
     ensures state { OnOk result (machine.new ≡ step_state machine.old number line.now) }
     ensures later { OnOk result (IsLaterThan (number + 1) (state_of_parts machine.new)) }
     ensures cause { IfErr result (HasOutputCause (K.faults sink.old) (K.faults sink.new)) }
@@ -55,6 +59,7 @@ pub fn run<R: Threads + Sync, K: Sink>(
     ensures counts { K.faults sink.old ≤ K.faults sink.new }
     ensures report { IfOk result (λ refused.
         PutsOutput (report_task brief) script.now (K.said sink.old) (K.said sink.new) refused) }
+    ensures front { OnErr result (PutsFront (report_task brief) script.now (K.said sink.old) (K.said sink.new)) }
     ensures cause { IfErr result (HasOutputCause (K.faults sink.old) (K.faults sink.new)) }
 {
     let mut machine = Machine::new(alloc)?;

@@ -1,10 +1,10 @@
-ghost use Rattle.std.specs.Prelude.{◌≡◌, ◌≤◌, ◌∷◌, ◌++◌, [], length, IfErr, IfOk, OnOk};
-ghost use Rattle.rp_io.specs.Bytes.{Appends};
+ghost use Rattle.std.specs.Prelude.{◌≡◌, ◌≤◌, ◌∷◌, ◌++◌, [], length, IfErr, IfOk, OnErr, OnOk};
+ghost use Rattle.rp_io.specs.Bytes.{Appends, AppendsPrefix};
 ghost use Rattle.rp_language.specs.Grammar.{reading, spelling};
-ghost use Rattle.rp_reports.specs.Output.{spell_script};
-ghost use Rattle.rp_reports.specs.Text.{line_end};
+ghost use Rattle.rp_reports.specs.Output.{spell_script, spelled_lines};
+ghost use Rattle.rp_reports.specs.Text.{line_end, text_of_lines};
 ghost use Rattle.rp_syntax.specs.Views.{command_of};
-ghost use Rattle.rp_tool.specs.Output.{PutsSpelling, PutsOutput, HasOutputCause};
+ghost use Rattle.rp_tool.specs.Output.{PutsFront, PutsSpelling, PutsOutput, HasOutputCause};
 
 use super::fault::OutputFault;
 use super::lines::next_line;
@@ -16,6 +16,8 @@ use std::alloc::Global;
 fn put_command<K: Sink>(alloc: Global, command: &Command, sink: &mut K) -> Result<(), OutputFault>
     ensures counts { K.faults sink.old ≤ K.faults sink.new }
     ensures text { OnOk result (Appends (K.said sink.old) (K.said sink.new)
+        (spelling (command_of command.now) ++ line_end ∷ [])) }
+    ensures front { OnErr result (AppendsPrefix (K.said sink.old) (K.said sink.new)
         (spelling (command_of command.now) ++ line_end ∷ [])) }
     ensures cause { IfErr result (HasOutputCause (K.faults sink.old) (K.faults sink.new)) }
 {
@@ -31,6 +33,8 @@ fn put_command<K: Sink>(alloc: Global, command: &Command, sink: &mut K) -> Resul
 fn spell_line<K: Sink>(alloc: Global, line: &[u8], sink: &mut K) -> Result<bool, OutputFault>
     ensures counts { K.faults sink.old ≤ K.faults sink.new }
     ensures text { IfOk result (λ bad. PutsSpelling (reading line.now) (K.said sink.old) (K.said sink.new) bad) }
+    ensures front { OnErr result (AppendsPrefix (K.said sink.old) (K.said sink.new)
+        (text_of_lines (spelled_lines (reading line.now)))) }
     ensures cause { IfErr result (HasOutputCause (K.faults sink.old) (K.faults sink.new)) }
 {
     let read = read_line(alloc, line)?;
@@ -49,6 +53,7 @@ pub fn spell<K: Sink>(alloc: Global, script: &[u8], sink: &mut K) -> Result<bool
     ensures counts { K.faults sink.old ≤ K.faults sink.new }
     ensures spellings { IfOk result (λ bad.
         PutsOutput spell_script script.now (K.said sink.old) (K.said sink.new) bad) }
+    ensures front { OnErr result (PutsFront spell_script script.now (K.said sink.old) (K.said sink.new)) }
     ensures cause { IfErr result (HasOutputCause (K.faults sink.old) (K.faults sink.new)) }
 {
     let mut rest = script;

@@ -12,10 +12,10 @@ pub const UNLISTED: u8 = 2;
 /// A read failed. Nothing was written.
 pub const READ_FAILED: u8 = 3;
 
-/// A put failed. Lines of the output may have been written before.
+/// A put failed. Nothing was written, or a front of the output.
 pub const PUT_FAILED: u8 = 4;
 
-/// Memory ran out. Lines of the output may have been written before.
+/// Memory ran out. Nothing was written, or a front of the output.
 pub const OUT_OF_MEMORY: u8 = 5;
 
 /// The source gave a byte past the limit: 16,777,216 for a script, 67,108,864 for a report that is checked. Nothing was

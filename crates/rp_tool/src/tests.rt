@@ -346,29 +346,40 @@ fn numbers_of_words_have_one_spelling_and_bounds(rt: HostRuntime) -> Result<(), 
 }
 
 #[test]
-fn writes_nothing_where_a_read_fails(rt: HostRuntime) -> Result<(), Fail> {
+fn stops_where_a_read_or_a_put_fails(rt: HostRuntime) -> Result<(), Fail> {
     let alloc = rt.alloc();
     let words = words_of(alloc, &["run"])?;
-    let mut source = MemorySource::new(b"empty box 0 0 0 0 10 10\n", 10, &[2]);
-    let mut sink = MemorySink::new(alloc, 1000, &[])?;
-    let status = tool(&rt, alloc, &words, &mut source, &mut sink);
-    assert_eq!(rt; status, READ_FAILED);
-    assert_eq!(rt; sink.bytes(), b"".as_slice());
-    Ok(())
-}
-
-#[test]
-fn stops_where_a_put_fails(rt: HostRuntime) -> Result<(), Fail> {
-    let alloc = rt.alloc();
-    let words = words_of(alloc, &["run"])?;
-    let mut source = MemorySource::new(b"empty box 0 0 0 0 10 10\n", 10, &[]);
-    let mut sink = MemorySink::new(alloc, 1000, &[(3, 3)])?;
-    let status = tool(&rt, alloc, &words, &mut source, &mut sink);
-    assert_eq!(rt; status, PUT_FAILED);
-    assert_eq!(rt;
-        sink.bytes(),
-        b"> 1 empty box 0 0 0 0 10 10\n  out 1*(1 0 0 0) 1*(-1 0 0 0)\n= y".as_slice()
-    );
+    // The number of the read that fails; that of the put that fails, and the bytes that it appends. No call has number 0.
+    let rows = [
+        ([1], [(0, 0)], READ_FAILED, ""),
+        ([2], [(0, 0)], READ_FAILED, ""),
+        ([0], [(1, 0)], PUT_FAILED, ""),
+        (
+            [0],
+            [(2, 5)],
+            PUT_FAILED,
+            "> 1 empty box 0 0 0 0 10 10\n  out",
+        ),
+        (
+            [0],
+            [(3, 3)],
+            PUT_FAILED,
+            "> 1 empty box 0 0 0 0 10 10\n  out 1*(1 0 0 0) 1*(-1 0 0 0)\n= y",
+        ),
+        (
+            [0],
+            [(0, 0)],
+            DONE,
+            "> 1 empty box 0 0 0 0 10 10\n  out 1*(1 0 0 0) 1*(-1 0 0 0)\n= yes\n",
+        ),
+    ];
+    for (reads, puts, want, written) in rows {
+        let mut source = MemorySource::new(b"empty box 0 0 0 0 10 10\n", 10, &reads);
+        let mut sink = MemorySink::new(alloc, 1000, &puts)?;
+        let status = memory_status(&rt, alloc, &words, &mut source, &mut sink);
+        assert_eq!(rt; status, want, "on {reads:?} {puts:?}");
+        assert_eq!(rt; sink.bytes(), written.as_bytes(), "on {reads:?} {puts:?}");
+    }
     Ok(())
 }
 

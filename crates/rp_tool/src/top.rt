@@ -1,11 +1,12 @@
-ghost use Rattle.std.specs.Prelude.{◌≡◌, ◌≢◌, ◌⊎◌, ◌↔◌, ◌<◌, ◌≤◌, [], false, length, map, string_bytes, IfErr, IfOk, IfSome, IsTrue, List, OnOk, ℕ};
+ghost use Rattle.std.specs.Prelude.{◌≡◌, ◌≢◌, ◌⊎◌, ◌↔◌, ◌<◌, ◌≤◌, [], false, length, map, string_bytes, IfErr, IfOk, IfSome, IsTrue, List, OnErr, OnOk, ℕ};
+ghost use Rattle.rp_io.specs.Bytes.{Appends};
 ghost use Rattle.rp_io.specs.Faults.{HasRisen};
 ghost use Rattle.rp_reports.specs.Output.{check_report, most_report_bytes, most_script_bytes, report_lines, task_of};
 ghost use Rattle.rp_reports.specs.TrueReport.{IsTrueReport};
 ghost use Rattle.rp_tool.specs.Check.{IsWrittenReport};
 ghost use Rattle.rp_tool.specs.Intake.{IsPastLimit};
-ghost use Rattle.rp_tool.specs.Output.{PutsOutput, HasOutputCause};
-ghost use Rattle.rp_tool.specs.Status.{IsOutputOf, meaning_of_given, meaning_of_made, most_input_bytes, reads_input, status_of_fault, status_of_intake, status_of_made, status_of_output};
+ghost use Rattle.rp_tool.specs.Output.{PutsFront, PutsOutput, HasOutputCause};
+ghost use Rattle.rp_tool.specs.Status.{IsFrontOf, IsOutputOf, meaning_of_given, meaning_of_made, most_input_bytes, reads_input, status_of_fault, status_of_intake, status_of_made, status_of_output};
 
 use super::building::Building;
 use super::check::check;
@@ -66,7 +67,13 @@ pub fn tool<R: Threads + Sync, S: Source, K: Sink>(
     ensures made { result ≤ REFUSED → reads_input (map string_bytes words.now) ≡ false
         → IsOutputOf (map string_bytes words.now) [] (K.said sink.old) (K.said sink.new) result }
     ensures makes { task_of (map string_bytes words.now) ≢ None → reads_input (map string_bytes words.now) ≡ false
-        → (¬ HasRisen (K.faults sink.old) (K.faults sink.new)) → (result ≡ DONE) ⊎ (result ≡ OUT_OF_MEMORY) }
+        → (result ≡ DONE) ⊎ (result ≡ PUT_FAILED) ⊎ (result ≡ OUT_OF_MEMORY) }
+
+    // Where a put failed or memory ran out, nothing was written, or a front of the output.
+    ensures front { (result ≡ PUT_FAILED) ⊎ (result ≡ OUT_OF_MEMORY) → IfSome (S.left source.old) (λ input.
+        Appends (K.said sink.old) (K.said sink.new) [] ⊎ IsFrontOf (map string_bytes words.now) input (K.said sink.old) (K.said sink.new)) }
+    ensures made_front { (result ≡ PUT_FAILED) ⊎ (result ≡ OUT_OF_MEMORY) → reads_input (map string_bytes words.now) ≡ false
+        → IsFrontOf (map string_bytes words.now) [] (K.said sink.old) (K.said sink.new) }
 
     // Nothing is read or written for words that are not listed.
     ensures unlisted { (result ≡ UNLISTED) ↔ (task_of (map string_bytes words.now) ≡ None) }
@@ -121,6 +128,7 @@ fn put_given<R: Threads + Sync, K: Sink>(
     ensures counts { K.faults sink.old ≤ K.faults sink.new }
     ensures output { IfOk result (λ refused.
         PutsOutput (meaning_of_given task) script.now (K.said sink.old) (K.said sink.new) refused) }
+    ensures front { OnErr result (PutsFront (meaning_of_given task) script.now (K.said sink.old) (K.said sink.new)) }
     ensures cause { IfErr result (HasOutputCause (K.faults sink.old) (K.faults sink.new)) }
 {
     match task {
@@ -141,6 +149,8 @@ fn put_made<R: Threads + Sync, K: Sink>(
     ensures counts { K.faults sink.old ≤ K.faults sink.new }
     ensures output { OnOk result ((input : List ℕ) →
         PutsOutput (meaning_of_made task building.storeys building.seed) input (K.said sink.old) (K.said sink.new) false) }
+    ensures front { OnErr result ((input : List ℕ) →
+        PutsFront (meaning_of_made task building.storeys building.seed) input (K.said sink.old) (K.said sink.new)) }
     ensures cause { IfErr result (HasOutputCause (K.faults sink.old) (K.faults sink.new)) }
 {
     match task {

@@ -1,5 +1,5 @@
-ghost use Rattle.std.specs.Prelude.{◌≤◌, IfErr, OnOk};
-ghost use Rattle.rp_io.specs.Bytes.{Appends};
+ghost use Rattle.std.specs.Prelude.{◌≤◌, IfErr, OnErr, OnOk};
+ghost use Rattle.rp_io.specs.Bytes.{Appends, AppendsPrefix};
 ghost use Rattle.rp_reports.specs.Made.{trial_lines};
 ghost use Rattle.rp_reports.specs.Text.{text_of_lines};
 ghost use Rattle.rp_tool.specs.Output.{HasOutputCause};
@@ -21,6 +21,8 @@ pub fn trial<R: Threads + Sync, K: Sink>(
 ) -> Result<(), OutputFault>
     ensures counts { K.faults sink.old ≤ K.faults sink.new }
     ensures summary { OnOk result (Appends (K.said sink.old) (K.said sink.new)
+        (text_of_lines (trial_lines building.storeys building.seed))) }
+    ensures front { OnErr result (AppendsPrefix (K.said sink.old) (K.said sink.new)
         (text_of_lines (trial_lines building.storeys building.seed))) }
     ensures cause { IfErr result (HasOutputCause (K.faults sink.old) (K.faults sink.new)) }
 {

@@ -1,9 +1,10 @@
 use Rattle.std.proofs.Common.{◌≡◌, ℕ, List, [], ◌∷◌, ◌++◌, ap, ◌∙◌, subst, arith}
-use Rattle.rp_io.specs.Bytes.{Appends}
+use Rattle.rp_io.specs.Bytes.{Appends, AppendsPrefix}
 use Rattle.rp_reports.specs.Made.{made_script}
 use Rattle.rp_reports.specs.Text.{line_end}
 use Rattle.rp_tool.specs.Made.{made_line}
-use Rattle.rp_tool.proofs.MadeLemmas.{HasMade-start, HasMade-more, HasMade-end}
+use Rattle.rp_tool.proofs.MadeLemmas.{HasMade-start, HasMade-more, HasMade-end, HasMade-front}
+use Rattle.rp_tool.proofs.SinkLemmas.{AppendsPrefix-nothing, OnErr-holds}
 use Rattle.rp_tool.proofs.make.make.Goals as goal
 
 pub loop-line-init : goal.loop-line-init
@@ -31,3 +32,34 @@ pub returns-clause-script : goal.returns-clause-script
 returns-clause-script g c =
     HasMade-end (made_script c.args.building.storeys c.args.building.seed) (g.K.Sink.said c.args.sink.now) (g.K.Sink.said c.loop-line.sink) c.loop-line.script
     c.loop-line.invariant.made c.in_default.ensures.end
+
+pub returns-in_err-write-clause-front : goal.returns-in_err-write-clause-front
+returns-in_err-write-clause-front g c =
+    let all = made_script c.args.building.storeys c.args.building.seed in
+    let line = made_line c.in-Some.line in
+    let now = g.K.Sink.said c.loop-line.sink in
+    OnErr-holds c.from_residual.result
+    (HasMade-front all (g.K.Sink.said c.args.sink.now) now now c.loop-line.script c.next_line.new.self line c.loop-line.invariant.made c.in-Some.ensures.next
+    (AppendsPrefix-nothing now (line ++ line_end ∷ [])))
+
+pub returns-in_err-extend_from_slice-clause-front : goal.returns-in_err-extend_from_slice-clause-front
+returns-in_err-extend_from_slice-clause-front g c =
+    let all = made_script c.args.building.storeys c.args.building.seed in
+    let line = made_line c.in-Some.line in
+    let now = g.K.Sink.said c.loop-line.sink in
+    OnErr-holds c.from_residual-in_err-extend_from_slice.result
+    (HasMade-front all (g.K.Sink.said c.args.sink.now) now now c.loop-line.script c.next_line.new.self line c.loop-line.invariant.made c.in-Some.ensures.next
+    (AppendsPrefix-nothing now (line ++ line_end ∷ [])))
+
+pub returns-in_err-put-clause-front : goal.returns-in_err-put-clause-front
+returns-in_err-put-clause-front g c =
+    let all = made_script c.args.building.storeys c.args.building.seed in
+    let line = made_line c.in-Some.line in
+    let now = g.K.Sink.said c.loop-line.sink in
+    let new = g.K.Sink.said c.put.new.self in
+    let piece : c.deref.result.now ≡ line ++ line_end ∷ [] =
+    c.deref.ensures.value ∙ c.in_ok-extend_from_slice.ensures.items
+    ∙ ap (λ (text : List ℕ). text ++ line_end ∷ []) (c.in_ok-write.ensures ∙ ap (λ (text : List ℕ). text ++ line) c.clear.ensures.items) in
+    OnErr-holds c.from_residual-in_err-put.result
+    (HasMade-front all (g.K.Sink.said c.args.sink.now) now new c.loop-line.script c.next_line.new.self line c.loop-line.invariant.made c.in-Some.ensures.next
+    (subst (AppendsPrefix now new) piece c.in_err-put.ensures.err))

@@ -1,7 +1,8 @@
 use Rattle.std.proofs.Common.{arith, sym, subst}
 use Rattle.rp_model.specs.states.State.{PlainState, state_of_parts}
 use Rattle.rp_model.specs.states.Sound.{IsLaterThan}
-use Rattle.rp_tool.proofs.RunLemmas.{HasTold-start, HasTold-more, PutsOutput-run}
+use Rattle.rp_tool.proofs.SinkLemmas.{OnErr-holds}
+use Rattle.rp_tool.proofs.RunLemmas.{HasTold-start, HasTold-more, PutsFront-nothing, PutsFront-run, PutsOutput-run}
 use Rattle.rp_tool.proofs.run.run.Goals as goal
 
 pub loop-line-init : goal.loop-line-init
@@ -31,3 +32,13 @@ pub returns-clause-report : goal.returns-clause-report
 returns-clause-report g c =
     PutsOutput-run c.args.brief c.args.script.now (g.K.Sink.said c.args.sink.now) (g.K.Sink.said c.loop-line.sink) c.loop-line.machine c.loop-line.number c.loop-line.rest.now
     c.loop-line.refused c.loop-line.invariant.told c.in_default.ensures.end
+
+pub returns-in_err-machine-clause-front : goal.returns-in_err-machine-clause-front
+returns-in_err-machine-clause-front g c = OnErr-holds c.from_residual.result (PutsFront-nothing c.args.brief c.args.script.now (g.K.Sink.said c.args.sink.now))
+
+pub returns-in_err-refused-clause-front : goal.returns-in_err-refused-clause-front
+returns-in_err-refused-clause-front g c =
+    OnErr-holds c.from_residual-in_err-refused.result
+    (PutsFront-run c.args.brief c.args.script.now (g.K.Sink.said c.args.sink.now) (g.K.Sink.said c.loop-line.sink) (g.K.Sink.said c.run_line.new.sink)
+    c.loop-line.machine c.loop-line.number c.loop-line.rest.now c.in-Some.line.now c.in-Some.behind.now c.loop-line.refused c.loop-line.invariant.told
+    c.in-Some.ensures.next c.in_err-refused.ensures.front)

@@ -1,10 +1,12 @@
-use Rattle.std.proofs.Common.{◌≡◌, ℕ, List, [], Option, Some, None, IfSome, map, string_bytes, sym, ap, ◌∙◌}
+use Rattle.std.proofs.Common.{◌≡◌, ◌⊎◌, ℕ, List, [], Option, Some, None, IfSome, map, string_bytes, inl, inr, sym, ap, ◌∙◌}
+use Rattle.rp_io.specs.Bytes.{Appends}
 use Rattle.std.specs.Option.{option_map}
 use Rattle.rp_reports.specs.Output.{check_report, task_of}
 use Rattle.rp_tool.specs.declared.task.Task.{Task}
-use Rattle.rp_tool.specs.declared.task.Task.TheVariants.{Check, Made}
-use Rattle.rp_tool.specs.Status.{meaning_of, meaning_of_made}
-use Rattle.rp_tool.proofs.TaskLemmas.{IsOutputOf-made, IsOutputOf-read, IsOutputOf-whole}
+use Rattle.rp_tool.specs.declared.task.Task.TheVariants.{Check, Given, Made}
+use Rattle.rp_tool.specs.Status.{IsFrontOf, meaning_of, meaning_of_given, meaning_of_made}
+use Rattle.rp_tool.proofs.SinkLemmas.{Appends-nothing}
+use Rattle.rp_tool.proofs.TaskLemmas.{IsFrontOf-made, IsFrontOf-read, IsFrontOf-whole, IsOutputOf-made, IsOutputOf-read, IsOutputOf-whole, OnErr-front}
 use Rattle.rp_tool.proofs.top.tool.Goals as goal
 
 -- what the words name
@@ -44,3 +46,53 @@ returns-in-Ok-read_whole-clause-whole g c = λ low.
     c.in-Ok-read_whole.ensures.whole c.deref-in-Ok-read_whole.ensures.value
     (IsOutputOf-read c.check.result words check_report status bytes old now c.output_status-in-Ok-read_whole.ensures low
     (listed words c.listed_task.result c.in-Some.task Check c.listed_task.ensures c.in-Some.is c.in-Check.is) c.check.ensures.finding)
+
+pub returns-in-Made-clause-front : goal.returns-in-Made-clause-front
+returns-in-Made-clause-front g c = λ stop.
+    let words = map string_bytes c.args.words.now in
+    let task = meaning_of_made c.in-Made.task c.in-Made.building.storeys c.in-Made.building.seed in
+    let old = g.K.Sink.said c.args.sink.now in
+    let now = g.K.Sink.said c.put_made.new.sink in
+    for_some (λ input. Appends old now [] ⊎ IsFrontOf words input old now) (g.S.Source.left c.args.source.now)
+    (λ input. inr (IsFrontOf-made c.put_made.result words task c.made_status.result input old now c.made_status.ensures stop
+    (listed words c.listed_task.result c.in-Some.task (Made c.in-Made.task c.in-Made.building) c.listed_task.ensures c.in-Some.is c.in-Made.is) c.put_made.ensures.front))
+
+pub returns-in-Made-clause-made_front : goal.returns-in-Made-clause-made_front
+returns-in-Made-clause-made_front g c = λ stop unread.
+    let words = map string_bytes c.args.words.now in
+    let task = meaning_of_made c.in-Made.task c.in-Made.building.storeys c.in-Made.building.seed in
+    IsFrontOf-made c.put_made.result words task c.made_status.result [] (g.K.Sink.said c.args.sink.now) (g.K.Sink.said c.put_made.new.sink) c.made_status.ensures stop
+    (listed words c.listed_task.result c.in-Some.task (Made c.in-Made.task c.in-Made.building) c.listed_task.ensures c.in-Some.is c.in-Made.is) c.put_made.ensures.front
+
+pub returns-in-Ok-clause-front : goal.returns-in-Ok-clause-front
+returns-in-Ok-clause-front g c = λ stop.
+    let words = map string_bytes c.args.words.now in
+    let task = meaning_of_given c.in-Given.task in
+    let bytes = c.deref.result.now in
+    let old = g.K.Sink.said c.args.sink.now in
+    let now = g.K.Sink.said c.put_given.new.sink in
+    IsFrontOf-whole (g.S.Source.left c.args.source.now) (g.S.Source.left c.read_whole.new.source) words bytes c.in-Ok.script.items old now c.in-Ok.ensures.whole c.deref.ensures.value
+    (IsFrontOf-read c.put_given.result words task c.output_status.result bytes old now c.output_status.ensures stop
+    (listed words c.listed_task.result c.in-Some.task (Given c.in-Given.task) c.listed_task.ensures c.in-Some.is c.in-Given.is)
+    (OnErr-front c.put_given.result task bytes old now c.put_given.ensures.front))
+
+pub returns-in-Ok-read_whole-clause-front : goal.returns-in-Ok-read_whole-clause-front
+returns-in-Ok-read_whole-clause-front g c = λ stop.
+    let words = map string_bytes c.args.words.now in
+    let bytes = c.deref-in-Ok-read_whole.result.now in
+    let old = g.K.Sink.said c.args.sink.now in
+    let now = g.K.Sink.said c.check.new.sink in
+    IsFrontOf-whole (g.S.Source.left c.args.source.now) (g.S.Source.left c.read_whole-in-Check.new.source) words bytes c.in-Ok-read_whole.report.items old now
+    c.in-Ok-read_whole.ensures.whole c.deref-in-Ok-read_whole.ensures.value
+    (IsFrontOf-read c.check.result words check_report c.output_status-in-Ok-read_whole.result bytes old now c.output_status-in-Ok-read_whole.ensures stop
+    (listed words c.listed_task.result c.in-Some.task Check c.listed_task.ensures c.in-Some.is c.in-Check.is) c.check.ensures.front)
+
+pub returns-in-Err-clause-front : goal.returns-in-Err-clause-front
+returns-in-Err-clause-front g c = λ stop.
+    let said = g.K.Sink.said c.args.sink.now in
+    for_some (λ input. Appends said said [] ⊎ IsFrontOf (map string_bytes c.args.words.now) input said said) (g.S.Source.left c.args.source.now) (λ input. inl (Appends-nothing said))
+
+pub returns-in-Err-read_whole-clause-front : goal.returns-in-Err-read_whole-clause-front
+returns-in-Err-read_whole-clause-front g c = λ stop.
+    let said = g.K.Sink.said c.args.sink.now in
+    for_some (λ input. Appends said said [] ⊎ IsFrontOf (map string_bytes c.args.words.now) input said said) (g.S.Source.left c.args.source.now) (λ input. inl (Appends-nothing said))
