@@ -72,10 +72,22 @@ fn lots_are_found_by_the_boxes_of_their_parts(rt: HostRuntime) -> Result<(), Fai
     let alloc = rt.alloc();
     let history = with_plot(alloc)?;
     let boxes = boxes_of_plot(alloc)?;
-    assert_eq!(rt; count_near(alloc, &history, &boxes, 15, b"other", Reach::Overlap)?, 1);
-    assert_eq!(rt; count_near(alloc, &history, &boxes, 20, b"other", Reach::Overlap)?, 0);
-    assert_eq!(rt; count_near(alloc, &history, &boxes, 20, b"other", Reach::Touch)?, 1);
-    assert_eq!(rt; count_near(alloc, &history, &boxes, 15, b"plot", Reach::Overlap)?, 0);
+    assert_eq!(rt;
+        count_near(alloc, &history, &boxes, 15, b"other", Reach::Overlap)?,
+        1
+    );
+    assert_eq!(rt;
+        count_near(alloc, &history, &boxes, 20, b"other", Reach::Overlap)?,
+        0
+    );
+    assert_eq!(rt;
+        count_near(alloc, &history, &boxes, 20, b"other", Reach::Touch)?,
+        1
+    );
+    assert_eq!(rt;
+        count_near(alloc, &history, &boxes, 15, b"plot", Reach::Overlap)?,
+        0
+    );
     Ok(())
 }
 
@@ -86,7 +98,10 @@ fn boxes_that_are_taken_out_are_not_found(rt: HostRuntime) -> Result<(), Fail> {
     let mut boxes = boxes_of_plot(alloc)?;
     boxes.remove_ended(&history, 1, &[name(b"plot")?]);
     boxes.remove_all(1, 0);
-    assert_eq!(rt; count_near(alloc, &history, &boxes, 15, b"other", Reach::Touch)?, 0);
+    assert_eq!(rt;
+        count_near(alloc, &history, &boxes, 15, b"other", Reach::Touch)?,
+        0
+    );
     Ok(())
 }
 
@@ -96,6 +111,9 @@ fn boxes_behind_a_place_are_taken_out(rt: HostRuntime) -> Result<(), Fail> {
     let history = with_plot(alloc)?;
     let mut boxes = boxes_of_plot(alloc)?;
     boxes.remove_all(0, 1);
-    assert_eq!(rt; count_near(alloc, &history, &boxes, 15, b"other", Reach::Touch)?, 0);
+    assert_eq!(rt;
+        count_near(alloc, &history, &boxes, 15, b"other", Reach::Touch)?,
+        0
+    );
     Ok(())
 }

@@ -2,11 +2,15 @@ pub mod CheckLemmas
 pub mod IntakeLemmas
 pub mod LineLemmas
 pub mod MadeLemmas
+pub mod MadeTextLemmas
 pub mod NumberLemmas
 pub mod RefusalLemmas
+pub mod ReportCountLemmas
 pub mod RunLemmas
 pub mod SinkLemmas
 pub mod SpellLemmas
+pub mod SpokenLemmas
 pub mod TaskLemmas
 pub mod TextLemmas
 pub mod TrialLemmas
+pub mod TrialReportLemmas

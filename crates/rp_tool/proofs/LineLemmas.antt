@@ -9,7 +9,7 @@ use Rattle.rp_reports.specs.Report.{script_lines, lines_of_pieces, without_retur
 use Rattle.rp_tool.specs.Lines.{is_line_end}
 
 -- each piece but the last loses its carriage return
-lines_of_pieces-cons : (piece : List ℕ) (pieces : List (List ℕ)) → 0 < length pieces → lines_of_pieces (piece ∷ pieces) ≡ without_return piece ∷ lines_of_pieces pieces
+pub lines_of_pieces-cons : (piece : List ℕ) (pieces : List (List ℕ)) → 0 < length pieces → lines_of_pieces (piece ∷ pieces) ≡ without_return piece ∷ lines_of_pieces pieces
 lines_of_pieces-cons piece [] h = absurd (omega arith)
 lines_of_pieces-cons piece (next ∷ pieces) h = refl
 

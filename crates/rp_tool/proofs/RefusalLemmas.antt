@@ -13,12 +13,12 @@ abbrev pub refuses : Verdict → Bool
 refuses v = is_refused_line (verdict_text (verdict_of v))
 
 -- no echo is a refusal
-is_refused_line-echo : (n : ℕ) (echo : List ℕ) → is_refused_line (echo_text n echo) ≡ false
+pub is_refused_line-echo : (n : ℕ) (echo : List ℕ) → is_refused_line (echo_text n echo) ≡ false
 is_refused_line-echo n [] = refl
 is_refused_line-echo n (b ∷ bs) = refl
 
 -- no proof line is a refusal
-is_refused_line-proof : (l : ProofLine) → is_refused_line (proof_text l) ≡ false
+pub is_refused_line-proof : (l : ProofLine) → is_refused_line (proof_text l) ≡ false
 is_refused_line-proof (in_line points) = refl
 is_refused_line-proof (out_line terms) = refl
 is_refused_line-proof (at_line p) = refl

@@ -12,11 +12,11 @@ use Rattle.rp_tool.specs.declared.summary.Summary.{Summary}
 use Rattle.rp_tool.specs.Trial.{counted, summary_lines, summary_of}
 
 -- how many verdicts of a run are refusals
-abbrev count_refused : Run → ℕ
+abbrev pub count_refused : Run → ℕ
 count_refused r = count_by is_refusal (all_verdicts r.answers)
 
 -- how many proof lines a run has
-abbrev count_shown : Run → ℕ
+abbrev pub count_shown : Run → ℕ
 count_shown r = count_proofs r.answers
 
 -- what was counted before the lines that are left, and what the run over those has, is what the whole run has
@@ -27,12 +27,12 @@ pub record HasCounted (all : List (List ℕ)) (state : PlainState) (counts : Cou
   pub ends : (run_from state (counts.lines + 1) left).state ≡ (run_from opening 1 all).state
 
 -- a run begins with its first line
-run_from-next : (s : PlainState) (n : ℕ) (line : List ℕ) (lines : List (List ℕ)) → run_from s n (line ∷ lines) ≡ with_answer (step_answer s n line) (run_from (step_state s n line) (suc n) lines)
+pub run_from-next : (s : PlainState) (n : ℕ) (line : List ℕ) (lines : List (List ℕ)) → run_from s n (line ∷ lines) ≡ with_answer (step_answer s n line) (run_from (step_state s n line) (suc n) lines)
 unfolding run_from
 run_from-next s n line lines = refl
 
 -- over no lines it is over
-run_from-end : (s : PlainState) (n : ℕ) → run_from s n [] ≡ record { answers = []; state = s }
+pub run_from-end : (s : PlainState) (n : ℕ) → run_from s n [] ≡ record { answers = []; state = s }
 unfolding run_from
 run_from-end s n = refl
 
@@ -45,11 +45,11 @@ begins s next n line left behind e after =
     ∙ ap (λ (k : ℕ). with_answer (step_answer s n line) (run_from next k behind)) (sym (add-one n))
 
 -- the refusals of a run with one more answer before it
-refused-before : (a : Answer) (r : Run) → count_refused (with_answer a r) ≡ count_by is_refusal a.verdicts + count_refused r
+pub refused-before : (a : Answer) (r : Run) → count_refused (with_answer a r) ≡ count_by is_refusal a.verdicts + count_refused r
 refused-before a r = sum_by-append (λ (v : Verdict). cond (is_refusal v) 1 0) a.verdicts (all_verdicts r.answers)
 
 -- its proof lines
-shown-before : (a : Answer) (r : Run) → count_shown (with_answer a r) ≡ length a.proofs + count_shown r
+pub shown-before : (a : Answer) (r : Run) → count_shown (with_answer a r) ≡ length a.proofs + count_shown r
 shown-before a r = length-append a.proofs (flat_map (λ (b : Answer). b.proofs) r.answers)
 
 -- one more line

@@ -5,3 +5,4 @@ pub mod Made
 pub mod Output
 pub mod Status
 pub mod Trial
+pub mod TrialReport

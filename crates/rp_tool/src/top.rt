@@ -1,11 +1,12 @@
 ghost use Rattle.std.specs.Prelude.{◌≡◌, ◌≢◌, ◌⊎◌, ◌↔◌, ◌<◌, ◌≤◌, [], false, length, map, string_bytes, IfErr, IfOk, IfSome, IsTrue, List, OnErr, OnOk, ℕ};
 ghost use Rattle.rp_io.specs.Bytes.{Appends};
 ghost use Rattle.rp_io.specs.Faults.{HasRisen};
-ghost use Rattle.rp_reports.specs.Output.{check_report, most_report_bytes, most_script_bytes, report_lines, task_of};
+ghost use Rattle.rp_reports.specs.Output.{check_report, most_report_bytes, most_script_bytes, report_lines, task_of, try_script};
 ghost use Rattle.rp_reports.specs.TrueReport.{IsTrueReport};
 ghost use Rattle.rp_tool.specs.Check.{IsWrittenReport};
 ghost use Rattle.rp_tool.specs.Intake.{IsPastLimit};
 ghost use Rattle.rp_tool.specs.Output.{PutsFront, PutsOutput, HasOutputCause};
+ghost use Rattle.rp_tool.specs.TrialReport.{PutsTrial};
 ghost use Rattle.rp_tool.specs.Status.{IsFrontOf, IsOutputOf, meaning_of_given, meaning_of_made, most_input_bytes, reads_input, status_of_fault, status_of_intake, status_of_made, status_of_output};
 
 use super::building::Building;
@@ -68,6 +69,10 @@ pub fn tool<R: Threads + Sync, S: Source, K: Sink>(
         → IsOutputOf (map string_bytes words.now) [] (K.said sink.old) (K.said sink.new) result }
     ensures makes { task_of (map string_bytes words.now) ≢ None → reads_input (map string_bytes words.now) ≡ false
         → (result ≡ DONE) ⊎ (result ≡ PUT_FAILED) ⊎ (result ≡ OUT_OF_MEMORY) }
+
+    // What `trial` writes are counts over the one report of the made script, and over the last state of its run.
+    ensures trial { (n seed : ℕ) → task_of (map string_bytes words.now) ≡ Some (try_script n seed) → result ≡ DONE
+        → PutsTrial n seed (K.said sink.old) (K.said sink.new) }
 
     // Where a put failed or memory ran out, nothing was written, or a front of the output.
     ensures front { (result ≡ PUT_FAILED) ⊎ (result ≡ OUT_OF_MEMORY) → IfSome (S.left source.old) (λ input.

@@ -1,4 +1,4 @@
-use Rattle.std.proofs.Common.{◌≡◌, ◌⊎◌, ℕ, List, [], Option, Some, None, IfSome, map, string_bytes, inl, inr, sym, ap, ◌∙◌}
+use Rattle.std.proofs.Common.{◌≡◌, ◌⊎◌, ℕ, ◌≤◌, List, [], Option, Some, None, IfSome, map, string_bytes, inl, inr, sym, ap, ◌∙◌, arith}
 use Rattle.rp_io.specs.Bytes.{Appends}
 use Rattle.std.specs.Option.{option_map}
 use Rattle.rp_reports.specs.Output.{check_report, task_of}
@@ -7,6 +7,8 @@ use Rattle.rp_tool.specs.declared.task.Task.TheVariants.{Check, Given, Made}
 use Rattle.rp_tool.specs.Status.{IsFrontOf, meaning_of, meaning_of_given, meaning_of_made}
 use Rattle.rp_tool.proofs.SinkLemmas.{Appends-nothing}
 use Rattle.rp_tool.proofs.TaskLemmas.{IsFrontOf-made, IsFrontOf-read, IsFrontOf-whole, IsOutputOf-made, IsOutputOf-read, IsOutputOf-whole, OnErr-front}
+use Rattle.rp_tool.proofs.TrialReportLemmas.{PutsTrial-output, check_no_trial, given_no_trial}
+use Rattle.rp_tool.specs.declared.status.TheConstants.{REFUSED}
 use Rattle.rp_tool.proofs.top.tool.Goals as goal
 
 -- what the words name
@@ -96,3 +98,34 @@ pub returns-in-Err-read_whole-clause-front : goal.returns-in-Err-read_whole-clau
 returns-in-Err-read_whole-clause-front g c = λ stop.
     let said = g.K.Sink.said c.args.sink.now in
     for_some (λ input. Appends said said [] ⊎ IsFrontOf (map string_bytes c.args.words.now) input said said) (g.S.Source.left c.args.source.now) (λ input. inl (Appends-nothing said))
+
+pub returns-in-Made-clause-trial : goal.returns-in-Made-clause-trial
+returns-in-Made-clause-trial g c = λ n seed named done.
+    let words = map string_bytes c.args.words.now in
+    let task = meaning_of_made c.in-Made.task c.in-Made.building.storeys c.in-Made.building.seed in
+    let old = g.K.Sink.said c.args.sink.now in
+    let now = g.K.Sink.said c.put_made.new.sink in
+    let low : c.made_status.result ≤ REFUSED = omega (arith, done) in
+    PutsTrial-output n seed words [] old now c.made_status.result named
+    (IsOutputOf-made c.put_made.result words task c.made_status.result [] old now c.made_status.ensures low
+    (listed words c.listed_task.result c.in-Some.task (Made c.in-Made.task c.in-Made.building) c.listed_task.ensures c.in-Some.is c.in-Made.is) c.put_made.ensures.output)
+
+pub returns-in-Ok-clause-trial : goal.returns-in-Ok-clause-trial
+returns-in-Ok-clause-trial g c = λ n seed named done.
+    let words = map string_bytes c.args.words.now in
+    absurd (given_no_trial c.in-Given.task n seed words (listed words c.listed_task.result c.in-Some.task (Given c.in-Given.task) c.listed_task.ensures c.in-Some.is c.in-Given.is) named)
+
+pub returns-in-Ok-read_whole-clause-trial : goal.returns-in-Ok-read_whole-clause-trial
+returns-in-Ok-read_whole-clause-trial g c = λ n seed named done.
+    let words = map string_bytes c.args.words.now in
+    absurd (check_no_trial n seed words (listed words c.listed_task.result c.in-Some.task Check c.listed_task.ensures c.in-Some.is c.in-Check.is) named)
+
+pub returns-in-Err-clause-trial : goal.returns-in-Err-clause-trial
+returns-in-Err-clause-trial g c = λ n seed named done.
+    let words = map string_bytes c.args.words.now in
+    absurd (given_no_trial c.in-Given.task n seed words (listed words c.listed_task.result c.in-Some.task (Given c.in-Given.task) c.listed_task.ensures c.in-Some.is c.in-Given.is) named)
+
+pub returns-in-Err-read_whole-clause-trial : goal.returns-in-Err-read_whole-clause-trial
+returns-in-Err-read_whole-clause-trial g c = λ n seed named done.
+    let words = map string_bytes c.args.words.now in
+    absurd (check_no_trial n seed words (listed words c.listed_task.result c.in-Some.task Check c.listed_task.ensures c.in-Some.is c.in-Check.is) named)

@@ -1,0 +1,92 @@
+-- The summary of a made script is counted in its report.
+use Rattle.std.proofs.Common.{◌≡◌, ℕ, true, false, List, [], ◌∷◌, length, Option, Some, count_by, refl, sym, ap, ◌∙◌, subst}
+use Rattle.std.specs.Prelude.{codes}
+use Rattle.std.proofs.lemmas.Bool.{both_ways}
+use Rattle.std.proofs.lemmas.List.{length-map}
+use Rattle.rp_io.specs.Bytes.{Appends}
+use Rattle.rp_model.specs.states.State.{PlainState, opening, live_lots, plain_lot, plain_of}
+use Rattle.rp_reports.specs.Machine.{lines_from, report}
+use Rattle.rp_reports.specs.Made.{made_script, run_from, told_count, trial_of_run, trial_lines}
+use Rattle.rp_reports.specs.Output.{Task, run_script, run_brief, check_report, spell_script, try_script, task_of, IsOutput, is_refused_line}
+use Rattle.rp_reports.specs.Report.{script_lines}
+use Rattle.rp_reports.specs.Text.{text_of_lines}
+use Rattle.rp_reports.specs.laws.RunLaws.{state_of_run}
+use Rattle.rp_runs.proofs.Rows.{first_rows, meets_rule}
+use Rattle.rp_states.proofs.Computed.{opening_sound, report_is_computed_spec, step_is_computed_spec}
+use Rattle.rp_states.proofs.Plain.{live_same}
+use Rattle.rp_states.proofs.Steps.{steps_keep_soundness_spec}
+use Rattle.rp_tool.specs.declared.task.GivenTask.{GivenTask}
+use Rattle.rp_tool.specs.declared.task.GivenTask.TheVariants.{Run, RunBrief, Spell}
+use Rattle.rp_tool.specs.Status.{IsOutputOf, meaning_of_given, reads_task}
+use Rattle.rp_tool.specs.TrialReport.{is_proof_line, PutsTrial, TellsCounts}
+use Rattle.rp_tool.proofs.MadeTextLemmas.{made_lines_again}
+use Rattle.rp_tool.proofs.ReportCountLemmas.{RunIsCounted, run_counted}
+use Rattle.rp_tool.proofs.TrialLemmas.{count_refused, count_shown}
+
+-- the counts over a run of lines from the opening state
+opening_counted : (lines : List (List ℕ)) → RunIsCounted opening 1 lines (plain_of (state_of_run lines))
+opening_counted lines = run_counted (step_is_computed_spec meets_rule) (steps_keep_soundness_spec first_rows) lines opening opening_sound 1 (record { births = tt; ends = tt })
+
+-- the live lots of the last state
+live_counted : (lines : List (List ℕ)) → length (live_lots (run_from opening 1 lines).state.lots) ≡ length (live_lots (state_of_run lines).lots)
+live_counted lines =
+    ap (λ (s : PlainState). length (live_lots s.lots)) (opening_counted lines).ends
+    ∙ ap length (live_same (state_of_run lines).lots) ∙ length-map (live_lots (state_of_run lines).lots) plain_lot
+
+-- the counts of a run in the lines of the report
+run_told : (lines : List (List ℕ)) → trial_of_run lines (run_from opening 1 lines) ≡ told_count (codes "lines") (length lines) ∷ told_count (codes "refused") (count_by is_refused_line (lines_from false opening 1 lines))
+    ∷ told_count (codes "live") (length (live_lots (state_of_run lines).lots)) ∷ told_count (codes "proofs") (count_by is_proof_line (lines_from false opening 1 lines)) ∷ []
+run_told lines =
+    let run = opening_counted lines in
+    let refused : count_refused (run_from opening 1 lines) ≡ count_by is_refused_line (lines_from false opening 1 lines) = sym run.refused in
+    let proofs : count_shown (run_from opening 1 lines) ≡ count_by is_proof_line (lines_from false opening 1 lines) = sym run.proofs in
+    let live = live_counted lines in
+    λ i. told_count (codes "lines") (length lines) ∷ told_count (codes "refused") (refused i) ∷ told_count (codes "live") (live i) ∷ told_count (codes "proofs") (proofs i) ∷ []
+
+-- the summary of a made script is counted in the report that is computed
+made_told : (n seed : ℕ) (script : List ℕ) → script_lines script ≡ made_script n seed → trial_lines n seed ≡ told_count (codes "lines") (length (script_lines script)) ∷ told_count (codes "refused") (count_by is_refused_line (report false script))
+    ∷ told_count (codes "live") (length (live_lots (state_of_run (script_lines script)).lots)) ∷ told_count (codes "proofs") (count_by is_proof_line (report false script)) ∷ []
+unfolding trial_lines report
+made_told n seed script e = ap (λ (lines : List (List ℕ)). trial_of_run lines (run_from opening 1 lines)) (sym e) ∙ run_told (script_lines script)
+
+-- and that is the one report of its text
+pub TellsCounts-trial : (n seed : ℕ) → TellsCounts (text_of_lines (made_script n seed)) (trial_lines n seed)
+TellsCounts-trial n seed =
+    let script = text_of_lines (made_script n seed) in
+    let computed = report_is_computed_spec meets_rule first_rows script in
+    record {
+      report = report false script;
+      is_report = (computed (report false script)).0.1 refl;
+      is_alone = λ other h. (computed other).0.0 h;
+      counts = made_told n seed script (made_lines_again n seed);
+    }
+
+-- where words name a task, they name no other one
+same_task : (task other : Task) → Some task ≡ Some other → task ≡ other
+same_task task other e = cc
+
+-- a task that reads its input is no trial
+no_trial : (task : Task) (n seed : ℕ) → Some task ≡ Some (try_script n seed) → reads_task task ≡ true → ⊥
+no_trial task n seed e reads =
+    let unread : reads_task task ≡ false = ap reads_task (same_task task (try_script n seed) e) in
+    both_ways (reads_task task) unread reads
+
+-- where the output is that of a trial, it is counted in the report
+PutsTrial-lines : (n seed : ℕ) (task : Task) (input : List ℕ) (lines : List (List ℕ)) (old new : Option (List ℕ)) → task ≡ try_script n seed → IsOutput task input lines → Appends old new (text_of_lines lines) → PutsTrial n seed old new
+PutsTrial-lines n seed task input lines old new e output text =
+    let same : lines ≡ trial_lines n seed = subst (λ (t : Task). IsOutput t input lines) e output in
+    record { lines = lines; counts = subst (TellsCounts (text_of_lines (made_script n seed))) (sym same) (TellsCounts-trial n seed); text = text }
+
+-- so is that of words that name a trial
+pub PutsTrial-output : (n seed : ℕ) (words : List (List ℕ)) (input : List ℕ) (old new : Option (List ℕ)) (status : ℕ) → task_of words ≡ Some (try_script n seed) → IsOutputOf words input old new status → PutsTrial n seed old new
+PutsTrial-output n seed words input old new status e h = PutsTrial-lines n seed h.task input h.lines old new (same_task h.task (try_script n seed) (sym h.listed ∙ e)) h.output h.written
+
+-- words that name a task on a script that is read name no trial
+pub given_no_trial : (t : GivenTask) (n seed : ℕ) (words : List (List ℕ)) → task_of words ≡ Some (meaning_of_given t) → task_of words ≡ Some (try_script n seed) → ⊥
+given_no_trial Run n seed words e h = no_trial run_script n seed (sym e ∙ h) refl
+given_no_trial RunBrief n seed words e h = no_trial run_brief n seed (sym e ∙ h) refl
+given_no_trial Spell n seed words e h = no_trial spell_script n seed (sym e ∙ h) refl
+
+-- nor do those that name the check
+pub check_no_trial : (n seed : ℕ) (words : List (List ℕ)) → task_of words ≡ Some check_report → task_of words ≡ Some (try_script n seed) → ⊥
+check_no_trial n seed words e h = no_trial check_report n seed (sym e ∙ h) refl
