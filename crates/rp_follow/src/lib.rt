@@ -4,6 +4,7 @@
 
 mod difference;
 mod drops;
+mod few;
 mod form;
 mod join;
 mod kept;

@@ -12,6 +12,7 @@ ghost use Rattle.rp_cert.specs.Lines.{line_of};
 ghost use Rattle.rp_follow.specs.Follows.{counted, Follows, IsOfLine, IsNotDue};
 ghost use Rattle.rp_follow.specs.Lines.{next_line};
 
+use crate::few::{Few, MOST_FEW, put};
 use crate::kept::keep_halves;
 use crate::lines::split_line;
 use crate::lost::Lost;
@@ -123,7 +124,13 @@ impl<'a> Trail<'a> {
         ensures right { IfOk result (λ found. IsTrue found ↔ IsNonempty (shape_of_cell (first.now ++ second.now))) }
         ensures line { IfErr result IsOfLine }
     {
-        self.strict_test(joined(first, second).as_slice())
+        if first.len() + second.len() > MOST_FEW {
+            return self.strict_test(joined(first, second).as_slice());
+        }
+        let mut cell = Few::new();
+        put(&mut cell, first);
+        put(&mut cell, second);
+        self.strict_test(cell.as_slice())
     }
 
     /// A weak test of the cell of `first` followed by `second`, at most 64 half-spaces together: whether its weak system
@@ -136,7 +143,13 @@ impl<'a> Trail<'a> {
         ensures right { IfOk result (λ found. IsTrue found ↔ ((p : RationalPoint) × IsSolution false (first.now ++ second.now) p)) }
         ensures line { IfErr result IsOfLine }
     {
-        self.weak_test(joined(first, second).as_slice())
+        if first.len() + second.len() > MOST_FEW {
+            return self.weak_test(joined(first, second).as_slice());
+        }
+        let mut cell = Few::new();
+        put(&mut cell, first);
+        put(&mut cell, second);
+        self.weak_test(cell.as_slice())
     }
 
     /// A strict test of a cell.
