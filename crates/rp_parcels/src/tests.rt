@@ -1,12 +1,13 @@
-ghost use Rattle.std.specs.Prelude.{◌≡◌, ◌+◌, ◌<◌, ◌≤◌, true, IfOk, OnOk};
+ghost use Rattle.std.specs.Prelude.{◌≡◌, ◌+◌, ◌<◌, ◌≤◌, true, length, IfOk, OnOk};
 ghost use Rattle.rp_geometry.specs.Geometry.{is_box_in_bounds};
+ghost use Rattle.rp_language.specs.Name.{is_name};
 ghost use Rattle.rp_space.specs.Boxes.{integer_box};
 ghost use Rattle.rp_parcels.specs.Register.{IsLater};
 
 use crate::{Child, ParcelFault, Parcels};
 use rp_boxindex::{Quiet, Watch};
 use rp_region::{Region, Work};
-use rp_space::{Half, IntBox, Name, Names, Point, box_halves};
+use rp_space::{Half, IntBox, Name, Point, box_halves};
 use std::alloc::Global;
 use std::sync::atomic::{AtomicBool, AtomicU32, Ordering};
 use std::test::Fail;
@@ -30,9 +31,29 @@ const HIGH: IntBox = IntBox {
     hi: [10, 10, 10],
 };
 
+/// The box that touches the plot in the east.
+const EAST: IntBox = IntBox {
+    lo: [10, 0, 0],
+    hi: [20, 10, 10],
+};
+
+/// The box that touches the plot in the west.
+const WEST: IntBox = IntBox {
+    lo: [-10, 0, 0],
+    hi: [0, 10, 10],
+};
+
+/// A box that is apart from the plot.
+const FAR: IntBox = IntBox {
+    lo: [20, 0, 0],
+    hi: [30, 10, 10],
+};
+
 /// A name.
-fn name(bytes: &[u8]) -> Result<Name, Fail> {
-    Ok(Name::new(bytes).ok_or("no name")?)
+fn name(bytes: &[u8]) -> Name
+    requires { is_name bytes.now ≡ true }
+{
+    Name::new(bytes).unwrap()
 }
 
 /// The region of a box.
@@ -43,24 +64,62 @@ fn region(alloc: Global, bounds: &IntBox) -> Result<Region, Fail>
     Ok(Region::of_cell(alloc, &box_halves(bounds), &mut work)?)
 }
 
+/// Registers a region at the line, in the layer `land`.
+fn register<W: Watch>(
+    alloc: Global,
+    watch: &W,
+    parcels: &mut Parcels,
+    line: u32,
+    id: Name,
+    region: Region,
+) -> Result<(), Fail>
+    requires { IsLater line parcels.old }
+    ensures { OnOk result (IsLater (line + 1) parcels.new) }
+{
+    let mut work = Work::new(alloc);
+    parcels.register(alloc, watch, line, name(b"land"), id, region, &mut work)?;
+    Ok(())
+}
+
+/// Registers a box at the line.
+fn register_box(
+    alloc: Global,
+    parcels: &mut Parcels,
+    line: u32,
+    id: Name,
+    bounds: &IntBox,
+) -> Result<(), Fail>
+    requires later { IsLater line parcels.old }
+    requires bounds { is_box_in_bounds (integer_box bounds.now) ≡ true }
+    ensures { OnOk result (IsLater (line + 1) parcels.new) }
+{
+    register(alloc, &Quiet, parcels, line, id, region(alloc, bounds)?)
+}
+
 /// A register with one parcel, whose id is `plot`, born at line 1 in the layer `land`.
 fn with_plot(alloc: Global, bounds: &IntBox) -> Result<Parcels, Fail>
     requires { is_box_in_bounds (integer_box bounds.now) ≡ true }
     ensures { IfOk result (IsLater 2) }
 {
     let mut parcels = Parcels::new(alloc)?;
-    let shape = region(alloc, bounds)?;
-    let mut work = Work::new(alloc);
-    parcels.register(
-        alloc,
-        &Quiet,
-        1,
-        name(b"land")?,
-        name(b"plot")?,
-        shape,
-        &mut work,
-    )?;
+    register_box(alloc, &mut parcels, 1, name(b"plot"), bounds)?;
     Ok(parcels)
+}
+
+/// Cuts the parcel of the first id by a region into the other two, at the line.
+fn cut(
+    alloc: Global,
+    parcels: &mut Parcels,
+    line: u32,
+    ids: &[Name; 3],
+    by: &Region,
+) -> Result<(), Fail>
+    requires { IsLater line parcels.old }
+    ensures { OnOk result (IsLater (line + 1) parcels.new) }
+{
+    let mut work = Work::new(alloc);
+    parcels.cut(alloc, line, ids[0], by, ids[1], ids[2], &mut work)?;
+    Ok(())
 }
 
 /// Cuts the plot by its lower half, at line 2.
@@ -68,18 +127,18 @@ fn cut_plot(alloc: Global, parcels: &mut Parcels) -> Result<(), Fail>
     requires { IsLater 2 parcels.old }
     ensures { OnOk result (IsLater 3 parcels.new) }
 {
+    let ids = [name(b"plot"), name(b"low"), name(b"high")];
     let by = region(alloc, &LOW)?;
-    let mut work = Work::new(alloc);
-    parcels.cut(
-        alloc,
-        2,
-        name(b"plot")?,
-        &by,
-        name(b"low")?,
-        name(b"high")?,
-        &mut work,
-    )?;
-    Ok(())
+    cut(alloc, parcels, 2, &ids, &by)
+}
+
+/// The plot, cut in two.
+fn two_sides(alloc: Global) -> Result<Parcels, Fail>
+    ensures { IfOk result (IsLater 3) }
+{
+    let mut parcels = with_plot(alloc, &PLOT)?;
+    cut_plot(alloc, &mut parcels)?;
+    Ok(parcels)
 }
 
 /// How many live parcels an audit clears, and how many proof lines it has.
@@ -97,56 +156,53 @@ fn audited<R: Threads + Sync, W: Watch>(
     Ok((count, work.proofs().len()))
 }
 
-/// The neighbours of a parcel.
-fn neighbours_of<R: Threads + Sync, W: Watch>(
+/// Whether the neighbours of a parcel are these.
+fn are_neighbours<R: Threads + Sync, W: Watch>(
     rt: &R,
     alloc: Global,
     watch: &W,
     grain: usize,
     parcels: &Parcels,
-    id: &[u8],
-) -> Result<Names, Fail>
+    id: Name,
+    ids: &[Name],
+) -> Result<bool, Fail>
     requires { 1 ≤ grain }
 {
     let mut work = Work::new(alloc);
-    Ok(parcels.neighbours(rt, alloc, watch, grain, name(id)?, &mut work)?)
+    let found = parcels.neighbours(rt, alloc, watch, grain, id, &mut work)?;
+    Ok(found.items() == ids)
 }
 
-/// Whose the south-west corner of the plot is, in a layer.
-fn owner_of_corner(parcels: &Parcels, layer: &[u8]) -> Result<Option<Name>, Fail> {
-    let corner = Point::new(0, 0, 0, 1)?;
-    Ok(parcels.at(name(layer)?, &corner))
-}
-
-/// Whose it was after a line, in the layer `land`.
-fn owner_then(parcels: &Parcels, line: u32) -> Result<Option<Name>, Fail> {
-    let corner = Point::new(0, 0, 0, 1)?;
-    Ok(parcels.at_line(name(b"land")?, line, &corner))
+/// The south-west corner of the plot.
+fn corner() -> Point {
+    Point::new(0, 0, 0, 1).unwrap()
 }
 
 #[test]
 fn a_point_has_one_owner_in_each_layer(rt: HostRuntime) -> Result<(), Fail> {
     let parcels = with_plot(rt.alloc(), &PLOT)?;
-    assert_eq!(rt; owner_of_corner(&parcels, b"land")?, Some(name(b"plot")?));
-    assert_eq!(rt; owner_of_corner(&parcels, b"air")?, None);
+    assert_eq!(rt; parcels.at(name(b"land"), &corner()), Some(name(b"plot")));
+    assert_eq!(rt; parcels.at(name(b"air"), &corner()), None);
     Ok(())
 }
 
 #[test]
 fn a_parcel_that_ended_was_there_before(rt: HostRuntime) -> Result<(), Fail> {
     let mut parcels = with_plot(rt.alloc(), &PLOT)?;
-    parcels.retire(2, name(b"plot")?)?;
-    assert_eq!(rt; owner_of_corner(&parcels, b"land")?, None);
-    assert_eq!(rt; owner_then(&parcels, 1)?, Some(name(b"plot")?));
+    parcels.retire(2, name(b"plot"))?;
+    assert_eq!(rt; parcels.at(name(b"land"), &corner()), None);
+    assert_eq!(rt;
+        parcels.at_line(name(b"land"), 1, &corner()),
+        Some(name(b"plot"))
+    );
     Ok(())
 }
 
 #[test]
 fn sides_of_a_cut_touch(rt: HostRuntime) -> Result<(), Fail> {
-    let mut parcels = with_plot(rt.alloc(), &PLOT)?;
-    cut_plot(rt.alloc(), &mut parcels)?;
-    let near = neighbours_of(&rt, rt.alloc(), &Quiet, 16, &parcels, b"low")?;
-    assert_eq!(rt; near.items(), [name(b"high")?].as_slice());
+    let parcels = two_sides(rt.alloc())?;
+    let ids = [name(b"high")];
+    assert!(rt; are_neighbours(&rt, rt.alloc(), &Quiet, 16, &parcels, name(b"low"), &ids)?);
     assert_eq!(rt; audited(&rt, rt.alloc(), &Quiet, 16, &parcels)?, (2, 0));
     assert_eq!(rt; parcels.count_live(), 2);
     Ok(())
@@ -156,47 +212,51 @@ fn sides_of_a_cut_touch(rt: HostRuntime) -> Result<(), Fail> {
 fn join_sides(alloc: Global, parcels: &mut Parcels) -> Result<(), Fail>
     requires { IsLater 3 parcels.old }
 {
-    let sides = [name(b"low")?, name(b"high")?];
+    let sides = [name(b"low"), name(b"high")];
     let mut work = Work::new(alloc);
-    parcels.consolidate(alloc, 3, name(b"whole")?, &sides, &mut work)?;
+    parcels.consolidate(alloc, 3, name(b"whole"), &sides, &mut work)?;
     Ok(())
 }
 
 #[test]
 fn sides_of_a_cut_become_one(rt: HostRuntime) -> Result<(), Fail> {
-    let mut parcels = with_plot(rt.alloc(), &PLOT)?;
-    cut_plot(rt.alloc(), &mut parcels)?;
+    let mut parcels = two_sides(rt.alloc())?;
     join_sides(rt.alloc(), &mut parcels)?;
     assert_eq!(rt; audited(&rt, rt.alloc(), &Quiet, 16, &parcels)?, (1, 0));
     Ok(())
 }
 
 /// A child with the region of a box.
-fn child(alloc: Global, id: &[u8], bounds: &IntBox) -> Result<Child, Fail>
+fn child(alloc: Global, id: Name, bounds: &IntBox) -> Result<Child, Fail>
     requires { is_box_in_bounds (integer_box bounds.now) ≡ true }
 {
-    let id = name(id)?;
     let region = region(alloc, bounds)?;
     Ok(Child { id, region })
 }
 
-/// Whether it is refused at line 2 to divide the lower half of the plot into both, the upper one as a child outside.
-fn is_outside_refused(alloc: Global, parcels: &mut Parcels) -> Result<bool, Fail>
-    requires { IsLater 2 parcels.old }
+/// Whether it is refused at line 2 to divide the plot into these children, the second of which is outside.
+fn is_outside_refused(alloc: Global, parcels: &mut Parcels, children: &[Child]) -> bool
+    requires later { IsLater 2 parcels.old }
+    requires few { length children.now ≤ 1024 }
 {
-    let low = child(alloc, b"low", &LOW)?;
-    let high = child(alloc, b"high", &HIGH)?;
-    let plot = name(b"plot")?;
     let mut work = Work::new(alloc);
-    let answer = parcels.subdivide(alloc, 2, plot, &[low, high], &mut work);
-    Ok(matches!(answer, Err(ParcelFault::Outside(2, _))))
+    let answer = parcels.subdivide(alloc, 2, name(b"plot"), children, &mut work);
+    matches!(answer, Err(ParcelFault::Outside(2, _)))
+}
+
+/// Both halves of the plot, as children.
+fn halves(alloc: Global) -> Result<[Child; 2], Fail> {
+    let low = child(alloc, name(b"low"), &LOW)?;
+    let high = child(alloc, name(b"high"), &HIGH)?;
+    Ok([low, high])
 }
 
 #[test]
 fn a_child_outside_leaves_all_as_it_was(rt: HostRuntime) -> Result<(), Fail> {
+    let children = halves(rt.alloc())?;
     let mut parcels = with_plot(rt.alloc(), &LOW)?;
-    assert!(rt; is_outside_refused(rt.alloc(), &mut parcels)?);
-    assert!(rt; parcels.region(name(b"plot")?).is_some());
+    assert!(rt; is_outside_refused(rt.alloc(), &mut parcels, &children));
+    assert!(rt; parcels.region(name(b"plot")).is_some());
     assert_eq!(rt; parcels.history().lots().len(), 1);
     Ok(())
 }
@@ -252,43 +312,33 @@ fn have_met(meeting: &Meeting) -> bool {
     meeting.met[0].load(Ordering::SeqCst) && meeting.met[1].load(Ordering::SeqCst)
 }
 
-/// The box from x, 0, 0 to the given corner.
-fn plot(alloc: Global, x: i64, corner: [i64; 3]) -> Result<Region, Fail> {
-    let cell = [
-        Half::new(1, 0, 0, x.wrapping_neg())?,
-        Half::new(-1, 0, 0, corner[0])?,
-        Half::new(0, 1, 0, 0)?,
-        Half::new(0, -1, 0, corner[1])?,
-        Half::new(0, 0, 1, 0)?,
-        Half::new(0, 0, -1, corner[2])?,
-    ];
+/// The unit box in a row along x, from x on.
+fn slice(alloc: Global, x: u32) -> Result<Region, Fail> {
+    let [_, _, south, north, bottom, top] = box_halves(&IntBox {
+        lo: [0, 0, 0],
+        hi: [1, 1, 1],
+    });
+    let west = Half::new(1, 0, 0, -(x as i64))?;
+    let east = Half::new(-1, 0, 0, x as i64 + 1)?;
+    let cell = [west, east, south, north, bottom, top];
     let mut work = Work::new(alloc);
     Ok(Region::of_cell(alloc, &cell, &mut work)?)
 }
 
-/// Registers a region at the line, in the layer `land`.
-fn register<W: Watch>(
-    alloc: Global,
-    watch: &W,
-    parcels: &mut Parcels,
-    line: u32,
-    id: &[u8],
-    region: Region,
-) -> Result<(), Fail>
-    requires { IsLater line parcels.old }
-    ensures { OnOk result (IsLater (line + 1) parcels.new) }
+/// The name of a box in a row.
+fn name_in_row(i: u32) -> Result<Name, Fail> {
+    let id = [b'p', b'0' + (i / 10 % 10) as u8, b'0' + (i % 10) as u8];
+    Ok(Name::new(&id).ok_or("no name")?)
+}
+
+/// Registers the next unit box of a row.
+fn add_slice(alloc: Global, parcels: &mut Parcels, i: u32) -> Result<(), Fail>
+    requires small { i < 1000 }
+    requires later { IsLater (i + 1) parcels.old }
+    ensures { OnOk result (IsLater (i + 2) parcels.new) }
 {
-    let mut work = Work::new(alloc);
-    parcels.register(
-        alloc,
-        watch,
-        line,
-        name(b"land")?,
-        name(id)?,
-        region,
-        &mut work,
-    )?;
-    Ok(())
+    let id = name_in_row(i)?;
+    register(alloc, &Quiet, parcels, i + 1, id, slice(alloc, i)?)
 }
 
 /// A row of unit boxes along x, from 0 on, one at each line.
@@ -298,21 +348,19 @@ fn row(alloc: Global, count: u32) -> Result<Parcels, Fail>
 {
     let mut parcels = Parcels::new(alloc)?;
     for i in 0..count {
-        let id = [b'p', b'0' + (i / 10) as u8, b'0' + (i % 10) as u8];
-        let region = plot(alloc, i as i64, [i as i64 + 1, 1, 1])?;
-        register(alloc, &Quiet, &mut parcels, i + 1, &id, region)?;
+        add_slice(alloc, &mut parcels, i)?;
     }
     Ok(parcels)
 }
 
 #[test]
 fn register_reads_few(rt: HostRuntime) -> Result<(), Fail> {
+    let region = slice(rt.alloc(), 100)?;
     let mut parcels = row(rt.alloc(), 100)?;
     let count = NodeCount {
         nodes: AtomicU32::new(0),
     };
-    let region = plot(rt.alloc(), 100, [101, 1, 1])?;
-    register(rt.alloc(), &count, &mut parcels, 101, b"last", region)?;
+    register(rt.alloc(), &count, &mut parcels, 101, name(b"last"), region)?;
     let nodes = count.nodes.load(Ordering::SeqCst);
     assert!(rt; (1..=56).contains(&nodes));
     Ok(())
@@ -320,13 +368,9 @@ fn register_reads_few(rt: HostRuntime) -> Result<(), Fail> {
 
 /// Three plots in a row, of which the first is in the middle.
 fn three_plots(alloc: Global) -> Result<Parcels, Fail> {
-    let mut parcels = Parcels::new(alloc)?;
-    let middle = plot(alloc, 0, [10, 10, 10])?;
-    register(alloc, &Quiet, &mut parcels, 1, b"a", middle)?;
-    let east = plot(alloc, 10, [20, 10, 10])?;
-    register(alloc, &Quiet, &mut parcels, 2, b"b", east)?;
-    let west = plot(alloc, -10, [0, 10, 10])?;
-    register(alloc, &Quiet, &mut parcels, 3, b"c", west)?;
+    let mut parcels = with_plot(alloc, &PLOT)?;
+    register_box(alloc, &mut parcels, 2, name(b"b"), &EAST)?;
+    register_box(alloc, &mut parcels, 3, name(b"c"), &WEST)?;
     Ok(parcels)
 }
 
@@ -334,46 +378,54 @@ fn three_plots(alloc: Global) -> Result<Parcels, Fail> {
 fn parcel_items_meet_in_neighbours(rt: HostRuntime) -> Result<(), Fail> {
     let parcels = three_plots(rt.alloc())?;
     let meeting = apart();
-    let near = neighbours_of(&rt, rt.alloc(), &meeting, 1, &parcels, b"a")?;
-    assert_eq!(rt; near.items(), [name(b"b")?, name(b"c")?].as_slice());
+    let ids = [name(b"b"), name(b"c")];
+    assert!(rt; are_neighbours(&rt, rt.alloc(), &meeting, 1, &parcels, name(b"plot"), &ids)?);
     assert!(rt; have_met(&meeting));
     Ok(())
 }
 
-/// Registers a plot from x on at the line, and cuts it askew at the next one.
+/// The half-space askew of the points whose x and y together are at least so much.
+fn askew(alloc: Global, least: i32) -> Result<Region, Fail> {
+    let half = Half::new(1, 1, 0, -(least as i64))?;
+    let mut work = Work::new(alloc);
+    Ok(Region::of_cell(alloc, &[half], &mut work)?)
+}
+
+/// Registers a box at the line, and cuts it askew at the next one.
 fn register_and_cut(
     alloc: Global,
     parcels: &mut Parcels,
     line: u32,
-    x: i64,
-    ids: [&[u8]; 3],
+    bounds: &IntBox,
+    ids: &[Name; 3],
+    by: &Region,
 ) -> Result<(), Fail>
     requires small { line < 1000 }
     requires later { IsLater line parcels.old }
+    requires bounds { is_box_in_bounds (integer_box bounds.now) ≡ true }
     ensures { OnOk result (IsLater (line + 2) parcels.new) }
 {
-    let region = plot(alloc, x, [x.wrapping_add(10), 10, 10])?;
-    register(alloc, &Quiet, parcels, line, ids[0], region)?;
-    let askew = [Half::new(1, 1, 0, x.wrapping_add(10).wrapping_neg())?];
-    let mut work = Work::new(alloc);
-    let by = Region::of_cell(alloc, &askew, &mut work)?;
-    parcels.cut(
-        alloc,
-        line + 1,
-        name(ids[0])?,
-        &by,
-        name(ids[1])?,
-        name(ids[2])?,
-        &mut work,
-    )?;
-    Ok(())
+    register_box(alloc, parcels, line, ids[0], bounds)?;
+    cut(alloc, parcels, line + 1, ids, by)
+}
+
+/// The first of two plots, cut askew at line 2.
+fn first_cut(alloc: Global) -> Result<Parcels, Fail>
+    ensures { IfOk result (IsLater 3) }
+{
+    let by = askew(alloc, 10)?;
+    let ids = [name(b"a"), name(b"a1"), name(b"a2")];
+    let mut parcels = Parcels::new(alloc)?;
+    register_and_cut(alloc, &mut parcels, 1, &PLOT, &ids, &by)?;
+    Ok(parcels)
 }
 
 /// Two plots that are cut askew: the boxes of the two sides of each meet.
 fn cut_plots(alloc: Global) -> Result<Parcels, Fail> {
-    let mut parcels = Parcels::new(alloc)?;
-    register_and_cut(alloc, &mut parcels, 1, 0, [b"a", b"a1", b"a2"])?;
-    register_and_cut(alloc, &mut parcels, 3, 20, [b"b", b"b1", b"b2"])?;
+    let by = askew(alloc, 30)?;
+    let ids = [name(b"b"), name(b"b1"), name(b"b2")];
+    let mut parcels = first_cut(alloc)?;
+    register_and_cut(alloc, &mut parcels, 3, &FAR, &ids, &by)?;
     Ok(parcels)
 }
 
