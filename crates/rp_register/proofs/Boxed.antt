@@ -1,5 +1,5 @@
 -- The index of the boxes of lots, through a change.
-use Rattle.std.proofs.Common.{◌≡◌, ℕ, zero, suc, ◌+◌, ◌<◌, ◌≤◌, List, [], ◌∷◌, ◌++◌, map, length, get_or, refl, sym, ap, ap₂, ◌∙◌, subst, arith}
+use Rattle.std.proofs.Common.{◌≡◌, ℕ, ◌+◌, ◌<◌, ◌≤◌, List, [], ◌∷◌, ◌++◌, map, length, get_or, refl, sym, ap, ◌∙◌, subst, arith}
 use Rattle.std.specs.FinMap.{empty}
 use Rattle.std.specs.List.{AllByRecursion}
 use Rattle.std.proofs.lemmas.List.{length-append, length-map}
@@ -7,12 +7,12 @@ use Rattle.rp_geometry.specs.Geometry.{IntegerBox}
 use Rattle.rp_geometry.specs.sets.Shape.{Part}
 use Rattle.rp_geometry.specs.parts.Parts.{most_parts}
 use Rattle.rp_language.specs.Name.{Label, is_among}
-use Rattle.rp_model.specs.states.State.{Lot, NewLot, bare_lot, ended_at, born_at, lots_replaced, most_kept_parts}
+use Rattle.rp_model.specs.states.State.{Lot, ended_at, born_at, lots_replaced, most_kept_parts}
 use Rattle.rp_history.specs.Lots.{lots_after, new_lot_of as bare_new_lot}
 use Rattle.rp_space.specs.Listed.{Listed}
 use Rattle.rp_boxindex.specs.Boxes.{Boxes}
 use Rattle.rp_nearby.specs.Indexed.{bounds_of, AreUnder, StayUnder, NoneBehind, ArePacked, IsIndexed, AreEmptied}
-use Rattle.rp_nearby.proofs.Boxed.{indexed_none, none_behind_lots, indexed_packed, indexed_again, AreMoved, indexed_after}
+use Rattle.rp_nearby.proofs.Boxed.{indexed_none, none_behind_lots, indexed_packed, indexed_again, indexed_after}
 use Rattle.rp_register.specs.declared.reply.Born.{Born}
 use Rattle.rp_register.specs.Kept.{lots_with_forms, AreFew, AreLots}
 use Rattle.rp_register.specs.Replies.{new_lot_of}

@@ -1,18 +1,17 @@
 -- Lots are found by their ids, in their history.
-use Rattle.std.proofs.Common.{◌≡◌, ℕ, zero, suc, ◌<◌, Bool, true, false, List, [], ◌∷◌, map, length, get_or, Option, Some, None, slice_get, refl, sym, ap, ◌∙◌, subst, arith}
+use Rattle.std.proofs.Common.{◌≡◌, ℕ, ◌<◌, Bool, true, List, map, length, get_or, Option, Some, None, slice_get, refl, sym, ap, ◌∙◌, subst}
 use Rattle.std.specs.Prelude.{IsTrue, option_map}
-use Rattle.std.proofs.lemmas.Bool.{or_left, or_right}
 use Rattle.std.proofs.lemmas.List.{length-map}
 use Rattle.std.proofs.lemmas.Option.{slice_get-map, slice_get_read}
 use Rattle.rp_geometry.specs.sets.Shape.{Part}
-use Rattle.rp_language.specs.Name.{Label, label_eq, is_among}
+use Rattle.rp_language.specs.Name.{Label}
 use Rattle.rp_model.specs.states.State.{Lot, is_live, live_lots, live_lot, lot_with_id, ids_of, bare_lot, parts_of_lot}
 use Rattle.rp_model.specs.states.Sound.{are_distinct}
 use Rattle.rp_states.proofs.Picked.{pick}
-use Rattle.rp_states.proofs.Labels.{label_is, label_itself}
+use Rattle.rp_states.proofs.Labels.{label_is}
 use Rattle.rp_history.specs.declared.lot.LotLine.{LotLine}
 use Rattle.rp_history.specs.Lots.{lot_of}
-use Rattle.rp_history.proofs.Found.{first_alone, rest_distinct, found_has_id, found_is_live, picked_lot, if_passed}
+use Rattle.rp_history.proofs.Found.{found_has_id, found_is_live, picked_lot, if_passed}
 use Rattle.rp_nearby.proofs.Places.{item_at, own_place}
 use Rattle.rp_register.proofs.KeptLots.{bare_found, bare_live_found}
 

@@ -1,5 +1,4 @@
-use Rattle.std.proofs.Common.{◌<◌, ◌≤◌, length, ap, sym, arith}
-use Rattle.rp_model.specs.states.State.{is_live, live_lots}
+use Rattle.std.proofs.Common.{◌<◌, length, ap, sym, arith}
 use Rattle.rp_nearby.proofs.Behind.{live_first, live_next}
 use Rattle.rp_register.specs.There.{lot_here}
 use Rattle.rp_questions.proofs.Counted.{live_few}

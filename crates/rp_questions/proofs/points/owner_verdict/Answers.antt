@@ -1,4 +1,4 @@
-use Rattle.std.proofs.Common.{◌<◌, Bool, true, false, ◌&&◌, length, sym, ap, ◌∙◌, arith}
+use Rattle.std.proofs.Common.{◌<◌, true, false, ◌&&◌, length, sym, ap, ◌∙◌, arith}
 use Rattle.rp_language.specs.Name.{Label, label_eq}
 use Rattle.rp_model.specs.commands.Row.{is_in_parts}
 use Rattle.rp_register.specs.There.{is_there, lot_here}

@@ -1,9 +1,8 @@
-use Rattle.std.proofs.Common.{◌≡◌, ◌≤◌, ◌<◌, ℕ, List, length, ap, sym, ◌∙◌, subst, arith}
+use Rattle.std.proofs.Common.{◌≤◌, ◌<◌, ℕ, length, ap, sym, ◌∙◌, subst, arith}
 use Rattle.std.specs.List.{AllByRecursion}
 use Rattle.std.proofs.lemmas.List.{length-map}
-use Rattle.rp_model.specs.states.State.{Lot, bare_lot}
-use Rattle.rp_nearby.specs.Indexed.{bounds_of, boxes_in, NoneBehind}
-use Rattle.rp_nearby.specs.Near.{AreNear, AreWithin}
+use Rattle.rp_model.specs.states.State.{bare_lot}
+use Rattle.rp_nearby.specs.Indexed.{bounds_of, boxes_in}
 use Rattle.rp_nearby.proofs.Places.{if_ok_then}
 use Rattle.rp_register.proofs.KeptLots.{lots_bare, lots_few, lots_kept_in}
 use Rattle.rp_register.proofs.Boxed.{free_behind}

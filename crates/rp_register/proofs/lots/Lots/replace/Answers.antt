@@ -1,15 +1,13 @@
-use Rattle.std.proofs.Common.{◌≡◌, ◌+◌, ◌<◌, ◌≤◌, ℕ, [], ◌++◌, List, map, length, get_or, sum_by, sym, ap, ap₂, ◌∙◌, subst, arith}
+use Rattle.std.proofs.Common.{◌≡◌, ◌+◌, ◌≤◌, ℕ, [], ◌++◌, List, map, length, get_or, sum_by, sym, ap, ap₂, ◌∙◌, subst, arith}
 use Rattle.std.specs.List.{AllByRecursion}
-use Rattle.rp_geometry.specs.Geometry.{IntegerBox}
 use Rattle.rp_geometry.specs.sets.Shape.{Part}
 use Rattle.rp_geometry.specs.parts.Parts.{most_parts}
-use Rattle.rp_language.specs.Name.{is_among}
-use Rattle.rp_model.specs.states.State.{Lot, lots_replaced, most_kept_parts}
+use Rattle.rp_model.specs.states.State.{Lot, lots_replaced}
 use Rattle.rp_space.specs.declared.bounds.IntBox.{IntBox}
 use Rattle.rp_space.specs.Listed.{Listed}
 use Rattle.rp_history.specs.Lots.{lots_after, AreBornBefore, AreNew, new_lot_of as bare_new_lot}
 use Rattle.rp_history.specs.declared.lot.Birth.{Birth}
-use Rattle.rp_nearby.specs.Indexed.{bounds_of, lists_in, AreShort, AreUnder, NoneBehind, AreEmptied}
+use Rattle.rp_nearby.specs.Indexed.{bounds_of, lists_in, AreShort, AreUnder, NoneBehind}
 use Rattle.rp_nearby.proofs.Numbers.{stay_twice}
 use Rattle.rp_register.specs.Kept.{lots_with_forms, AreFew, AreLots}
 use Rattle.rp_register.specs.Replies.{new_lot_of}
