@@ -1,4 +1,7 @@
-use crate::{box_of_vertices, first_inside, first_weak};
+use crate::{
+    box_of_vertices, first_inside, first_inside_over_triples, first_weak, inside_on_first,
+    weak_on_first,
+};
 use rp_space::{Half, IntBox};
 use std::process::Abort;
 use std::test::Fail;
@@ -26,6 +29,25 @@ fn a_tetrahedron_has_its_four_corners(rt: HostRuntime) -> Result<(), Fail> {
     assert_eq!(rt; points[3].numbers(), (7, 0, 0, 2));
     let weak = first_weak(&cell).ok_or("no weak point")?;
     assert_eq!(rt; weak.numbers(), (0, 0, 0, 1));
+    Ok(())
+}
+
+#[test]
+fn a_few_lines_of_the_first_plane_tell_the_same(rt: HostRuntime) -> Result<(), Fail> {
+    let cell = [
+        half(&rt, (1, 0, 0, 0)),
+        half(&rt, (0, 1, 0, 0)),
+        half(&rt, (0, 0, 1, 0)),
+        half(&rt, (-2, -3, -5, 7)),
+    ];
+    let inside = inside_on_first(&cell).ok_or("no certificate")?;
+    let points = inside.items();
+    assert_eq!(rt; points.len(), 4);
+    assert_eq!(rt; points[1].numbers(), (0, 0, 7, 5));
+    assert_eq!(rt; points[3].numbers(), (7, 0, 0, 2));
+    let weak = weak_on_first(&cell).ok_or("no weak point")?;
+    assert_eq!(rt; weak.numbers(), (0, 0, 0, 1));
+    assert!(rt; first_inside_over_triples(&cell).is_some());
     Ok(())
 }
 
