@@ -3,6 +3,7 @@ pub mod Changes
 pub mod Counts
 pub mod Exact
 pub mod Few
+pub mod Hulls
 pub mod Ints
 pub mod Known
 pub mod Maps

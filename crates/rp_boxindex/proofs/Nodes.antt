@@ -1,8 +1,9 @@
 -- What holds at the nodes of a tree.
 use Rattle.std.proofs.Common.{◌≡◌, ℕ, ◌+◌, ◌<◌, max, ℤ, Bool, true, false, cond, ◌⊎◌, inl, inr, int_lt, int_le, List, ◌∷◌, ◌++◌, length, ap, ◌∙◌, arith, length-append}
+use Rattle.rp_space.specs.Boxes.{integer_box}
 use Rattle.rp_boxindex.specs.Counts.{count}
 use Rattle.rp_boxindex.specs.Boxes.{Entry}
-use Rattle.rp_boxindex.specs.tree.Nodes.{high, IsTop, IsSlender, DifferByAtMost, IsSettled, entries_of}
+use Rattle.rp_boxindex.specs.tree.Nodes.{high, IsTop, AreWithin, IsSlender, DifferByAtMost, IsSettled, entries_of}
 use Rattle.rp_boxindex.specs.tree.Order.{IsBetween}
 use Rattle.rp_boxindex.specs.declared.tree.Node.{Node}
 use Rattle.rp_boxindex.proofs.Counts.{count-round, count-none, when}
@@ -51,13 +52,14 @@ top_of_node s x left e right low up =
     (none, one_of s x left e right low.one up.one)
 
 -- what holds at a node of two slender sides
-pub settled_node : (n : Node) → IsBetween n.left.entries n.entry n.right.entries → DifferByAtMost 1 n.left.height n.right.height → n.height ≡ max n.left.height n.right.height + 1 → IsTop n.top (entries_of n) → IsSlender (length n.left.entries) n.left.height → IsSlender (length n.right.entries) n.right.height → IsSettled n
-settled_node n between level height top left right =
+pub settled_node : (n : Node) → IsBetween n.left.entries n.entry n.right.entries → DifferByAtMost 1 n.left.height n.right.height → n.height ≡ max n.left.height n.right.height + 1 → IsTop n.top (entries_of n) → AreWithin (integer_box n.hull) (entries_of n) → IsSlender (length n.left.entries) n.left.height → IsSlender (length n.right.entries) n.right.height → IsSettled n
+settled_node n between level height top hull left right =
     let size : length (entries_of n) ≡ length n.left.entries + (1 + length n.right.entries) = length-append n.left.entries (n.entry ∷ n.right.entries) ∙ omega arith in
     record {
       between = between;
       level = level;
       height = height;
       top = top;
+      hull = hull;
       slender = rw height (slender_node (length n.left.entries) (length n.right.entries) n.left.height n.right.height (length (entries_of n)) left right level.0 level.1 size);
     }

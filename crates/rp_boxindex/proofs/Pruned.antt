@@ -19,15 +19,15 @@ use Rattle.std.proofs.lemmas.Bool.{or_right}
 use Rattle.rp_boxindex.proofs.Order.{or_cases, and_parts, int_eq_is}
 
 -- bounds farther apart
-below_farther : (c : Bool) (a b t : ℤ) → is_below c a b ≡ true → int_le b t ≡ true → is_below c a t ≡ true
+pub below_farther : (c : Bool) (a b t : ℤ) → is_below c a b ≡ true → int_le b t ≡ true → is_below c a t ≡ true
 below_farther true a b t h k = le_then_le a b t h k
 below_farther false a b t h k = lt_then_le a b t h k
 
-below_nearer : (c : Bool) (s a b : ℤ) → int_le s a ≡ true → is_below c a b ≡ true → is_below c s b ≡ true
+pub below_nearer : (c : Bool) (s a b : ℤ) → int_le s a ≡ true → is_below c a b ≡ true → is_below c s b ≡ true
 below_nearer true s a b k h = le_then_le s a b k h
 below_nearer false s a b k h = le_then_lt s a b k h
 
-contradict : {b : Bool} → b ≡ false → b ≡ true → ⊥
+pub contradict : {b : Bool} → b ≡ false → b ≡ true → ⊥
 contradict f t = false_not_true (sym f ∙ t)
 
 higher : (a t h : ℤ) (c : Bool) → is_below c a t ≡ false → is_below c a h ≡ true → (b : Bool) → int_lt t h ≡ b → b ≡ true
@@ -50,7 +50,7 @@ before_is_lower x y h =
 pub none_after : (c : Bool) (b : IntegerBox) (e : Entry) (es : List Entry) → AllAfter e es → is_below c (low e) b.x2 ≡ false → count (meets_on_x c b) es ≡ 0
 none_after c b e es after f = count-none (meets_on_x c b) (λ (x : Entry). not (is_before e x)) (λ x m. is_not (is_before e x) (λ k. absurd (contradict f (below_nearer c (low e) (low x) b.x2 (before_is_lower e x k) (and_parts (is_below c b.x1 (high x)) (is_below c (low x) b.x2) m).1)))) es after
 
-not_is : (b : Bool) → not b ≡ true → b ≡ false
+pub not_is : (b : Bool) → not b ≡ true → b ≡ false
 not_is true h = absurd (false_not_true h)
 not_is false h = refl
 
@@ -90,8 +90,11 @@ filter-none p (x ∷ xs) h =
     let rest : count p xs ≡ 0 = omega arith in
     rw here (filter-none p xs rest)
 
+pub ids-unmet : (c : Bool) (b : IntegerBox) (es : List Entry) → count (meets c b) es ≡ 0 → ids_that_meet c b es ≡ []
+ids-unmet c b es none = ap (map (λ (e : Entry). e.0)) (filter-none (meets c b) es none)
+
 pub ids-none : (c : Bool) (b : IntegerBox) (es : List Entry) → count (meets_on_x c b) es ≡ 0 → ids_that_meet c b es ≡ []
-ids-none c b es none = ap (map (λ (e : Entry). e.0)) (filter-none (meets c b) es (none_meets c b es none))
+ids-none c b es none = ids-unmet c b es (none_meets c b es none)
 
 pub ids-append : (c : Bool) (b : IntegerBox) (xs ys : List Entry) → ids_that_meet c b (xs ++ ys) ≡ ids_that_meet c b xs ++ ids_that_meet c b ys
 ids-append c b xs ys = ap (map (λ (e : Entry). e.0)) (filter-append (meets c b) xs ys) ∙ map-append (λ (e : Entry). e.0) (filter (meets c b) xs) (filter (meets c b) ys)

@@ -4,14 +4,15 @@ use Rattle.rp_geometry.specs.Geometry.{IntegerBox}
 use Rattle.rp_boxindex.specs.Counts.{count}
 use Rattle.rp_boxindex.specs.Bound.{meets_on_x}
 use Rattle.rp_boxindex.specs.Boxes.{Entry}
-use Rattle.rp_boxindex.specs.Meeting.{is_below, ids_that_meet}
+use Rattle.rp_boxindex.specs.Meeting.{is_below, do_meet, ids_that_meet}
 use Rattle.rp_boxindex.specs.tree.Cost.{AllLow, most_steps, most_steps_low}
-use Rattle.rp_boxindex.specs.tree.Nodes.{high, IsTop, AreParts}
+use Rattle.rp_boxindex.specs.tree.Nodes.{high, IsTop, AreWithin, AreParts}
 use Rattle.rp_boxindex.specs.tree.Order.{low}
 use Rattle.rp_boxindex.specs.tree.Views.{TreeView}
 use Rattle.rp_boxindex.proofs.Bounds.{one_side, one_side_low, two_sides, two_sides_low}
 use Rattle.rp_boxindex.proofs.Changes.{count_parts}
-use Rattle.rp_boxindex.proofs.Pruned.{none_reaches, none_after, low_before, some_meets, ids-none, ids-append}
+use Rattle.rp_boxindex.proofs.Pruned.{none_reaches, none_after, low_before, some_meets, ids-none, ids-unmet, ids-append}
+use Rattle.rp_boxindex.proofs.Hulls.{none_in_hull}
 use Rattle.rp_boxindex.proofs.Counts.{when}
 
 -- the steps where the left side alone is visited, of any tree and then of a low one
@@ -88,6 +89,10 @@ both_sides_low c b {tree} {left} {right} {e} top parts is reach s t u v step le 
 -- nothing is found where no box reaches far enough
 pub found_none : (c : Bool) (b : IntegerBox) (top : ℤ) (es : List Entry) (out : List ℕ) → IsTop top es → is_below c b.x1 top ≡ false → out ≡ out ++ ids_that_meet c b es
 found_none c b top es out is short = sym (ap (λ ids. out ++ ids) (ids-none c b es (none_reaches c b top es is short)) ∙ append-nil out)
+
+-- nor where the hull does not meet the box
+pub found_none_in_hull : (c : Bool) (b hull : IntegerBox) (es : List Entry) (out : List ℕ) → AreWithin hull es → do_meet c b hull ≡ false → out ≡ out ++ ids_that_meet c b es
+found_none_in_hull c b hull es out within apart = sym (ap (λ ids. out ++ ids) (ids-unmet c b es (none_in_hull c b hull es within apart)) ∙ append-nil out)
 
 and_fails : (p q : Bool) → q ≡ false → (p && q) ≡ false
 and_fails true q h = h

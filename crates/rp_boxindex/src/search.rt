@@ -1,5 +1,6 @@
 //! The search of a tree for the boxes that meet a box, which leaves out the subtrees in which none can: those that end before
-//! the box begins on the x axis, and what stands behind a box that begins after its end.
+//! the box begins on the x axis, those around which the hull does not meet it, and what stands behind a box that begins after
+//! its end.
 ghost use Rattle.std.specs.Prelude.{◌≡◌, ◌+◌, ◌≤◌, ◌++◌, ◌∷◌, [], length, OnOk};
 ghost use Rattle.rp_space.specs.Boxes.{integer_box};
 ghost use Rattle.rp_boxindex.specs.Bound.{meets_on_x};
@@ -36,6 +37,9 @@ pub(crate) fn collect<W: Watch, L: Ledger>(
     }
     let node = tree.visit(watch, steps);
     if !query.is_reached_from(node.top) {
+        return Ok(());
+    }
+    if !query.is_met_by(&node.hull) {
         return Ok(());
     }
     collect(node.left, query, watch, steps, out)?;

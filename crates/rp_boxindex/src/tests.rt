@@ -106,3 +106,27 @@ fn few_of_many_nodes_are_visited(rt: HostRuntime) -> Result<(), Fail> {
     assert!(rt; (1..=168).contains(&visits.0.load(Ordering::SeqCst)));
     Ok(())
 }
+
+/// The box from z to z + 1, and from 0 to 1 on the other axes.
+fn storey(z: u16) -> IntBox {
+    let z = z as i32;
+    IntBox {
+        lo: [0, 0, z],
+        hi: [1, 1, z + 1],
+    }
+}
+
+#[test]
+fn few_nodes_are_visited_where_all_boxes_meet_on_x(rt: HostRuntime) -> Result<(), Fail> {
+    let alloc = rt.alloc();
+    let mut index = Index::new(alloc);
+    for i in 0..1023u16 {
+        index.insert(alloc, i as u32, storey(i))?;
+    }
+    let visits = Visits(AtomicU64::new(0));
+    let open = search::<_, Brand>(&index, alloc, &storey(500), false, &visits, Blank::new(1))?;
+    assert_eq!(rt; open.as_slice(), [500].as_slice());
+    // At each of the ten levels at most two nodes.
+    assert!(rt; (1..=20).contains(&visits.0.load(Ordering::SeqCst)));
+    Ok(())
+}

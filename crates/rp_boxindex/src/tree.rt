@@ -1,8 +1,10 @@
 //! A search tree over boxes by their least x, balanced after Adelson-Velsky and Landis (An algorithm for the organization of
 //! information, 1962). Each node has the greatest x of the boxes there and below, as in the interval trees of Cormen,
-//! Leiserson, Rivest and Stein (Introduction to Algorithms, Augmenting Data Structures).
+//! Leiserson, Rivest and Stein (Introduction to Algorithms, Augmenting Data Structures), and a box around them, the hull, as in
+//! the R-trees of Guttman (A dynamic index structure for spatial searching, 1984).
 ghost use Rattle.std.specs.Prelude.{◌≡◌, ◌+◌, ◌<◌, length, MatchOption, true, false};
-ghost use Rattle.rp_boxindex.specs.tree.Nodes.{IsTop, IsSlender, AreParts};
+ghost use Rattle.rp_space.specs.Boxes.{integer_box};
+ghost use Rattle.rp_boxindex.specs.tree.Nodes.{IsTop, AreWithin, IsSlender, AreParts};
 ghost use Rattle.rp_boxindex.specs.tree.Views.{TreeView, empty_tree};
 
 mod balance;
@@ -11,6 +13,7 @@ mod change;
 use crate::place::Entry;
 use crate::steps::Steps;
 use crate::watch::Watch;
+use rp_space::IntBox;
 use std::marker::Model;
 use std::mem;
 use std::sync::ledger::Ledger;
@@ -22,7 +25,8 @@ pub(crate) struct Tree {
     root: Option<Box<Node>>,
 }
 
-/// An entry with the two sides below it, the height from here down, and the greatest x of the boxes here and below.
+/// An entry with the two sides below it, the height from here down, and of the boxes here and below the greatest x and a box
+/// around them.
 #[cycle(tree)]
 #[derive(Drop)]
 pub(crate) struct Node {
@@ -30,6 +34,7 @@ pub(crate) struct Node {
     entry: Entry,
     height: u8,
     top: i32,
+    hull: IntBox,
     right: Tree,
 }
 
@@ -52,12 +57,13 @@ impl Model for Tree {
     ghost size_decreases = { λ a h. Prim.grind (arith, length-append) };
 }
 
-/// What a node shows: its sides, its entry, and the greatest x of the boxes there and below.
+/// What a node shows: its sides, its entry, and of the boxes there and below the greatest x and a box around them.
 #[derive(Clone, Copy)]
 pub(crate) struct Visit<'a> {
     pub(crate) left: &'a Tree,
     pub(crate) entry: Entry,
     pub(crate) top: i32,
+    pub(crate) hull: IntBox,
     pub(crate) right: &'a Tree,
 }
 
@@ -102,12 +108,23 @@ impl Tree {
         }
     }
 
+    /// A box around all boxes, where there is a box.
+    fn hull(&self) -> Option<IntBox>
+        ensures { MatchOption result (self.now ≡ empty_tree) (λ hull. AreWithin (integer_box hull) self.now.entries) }
+    {
+        match &self.root {
+            None => None,
+            Some(node) => Some(node.hull),
+        }
+    }
+
     /// Visits the node at the root. This is the one call that shows a node outside this module.
     pub(crate) fn visit<W: Watch, L: Ledger>(&self, watch: &W, steps: &mut Steps<L>) -> Visit<'_>
         requires nonempty { 0 < length self.now.entries }
         ensures step { steps.new ≡ steps.old + 1 }
         ensures parts { AreParts self.now result.left.now result.entry result.right.now }
         ensures top { IsTop result.top self.now.entries }
+        ensures hull { AreWithin (integer_box result.hull) self.now.entries }
     {
         let Some(node) = &self.root else {
             unreachable!()
@@ -118,6 +135,7 @@ impl Tree {
             left: &node.left,
             entry: node.entry,
             top: node.top,
+            hull: node.hull,
             right: &node.right,
         }
     }

@@ -1,6 +1,7 @@
 -- What a tree is seen as, and what holds at each of its nodes.
-use Rattle.std.specs.Prelude.{◌≡◌, ℕ, ◌+◌, ◌*◌, ◌^◌, ◌<◌, ◌≤◌, max, ℤ, int_lt, int_le, List, ◌∷◌, ◌++◌, length, Option, Some, None, Box}
+use Rattle.std.specs.Prelude.{◌≡◌, ℕ, ◌+◌, ◌*◌, ◌^◌, ◌<◌, ◌≤◌, max, ℤ, Bool, not, ◌&&◌, int_lt, int_le, List, ◌∷◌, ◌++◌, length, Option, Some, None, Box}
 use Rattle.std.specs.declared.alloc.Global.{Global}
+use Rattle.rp_geometry.specs.Geometry.{IntegerBox}
 use Rattle.rp_space.specs.Boxes.{integer_box}
 use Rattle.rp_boxindex.specs.Boxes.{Entry}
 use Rattle.rp_boxindex.specs.Counts.{count}
@@ -24,6 +25,14 @@ high e = (integer_box e.1).x2
 -- the greatest x of all boxes: none has a greater one, and one has it
 abbrev pub IsTop : ℤ → List Entry → Type 0
 IsTop top es = (count (λ x. int_lt top (high x)) es ≡ 0) × (0 < count (λ x. int_le top (high x)) es)
+
+-- the second box lies in the first, on each axis
+abbrev pub is_within : IntegerBox → IntegerBox → Bool
+is_within hull b = int_le hull.x1 b.x1 && int_le b.x2 hull.x2 && int_le hull.y1 b.y1 && int_le b.y2 hull.y2 && int_le hull.z1 b.z1 && int_le b.z2 hull.z2
+
+-- all boxes of a list lie in a box
+abbrev pub AreWithin : IntegerBox → List Entry → Type 0
+AreWithin hull es = count (λ e. not (is_within hull (integer_box e.1))) es ≡ 0
 
 -- a tree of n entries is not too high
 abbrev pub IsSlender : ℕ → ℕ → Type 0
@@ -53,6 +62,7 @@ pub record IsSettled (n : Node) : Type 0 where
   pub level : DifferByAtMost 1 n.left.height n.right.height
   pub height : n.height ≡ max n.left.height n.right.height + 1
   pub top : IsTop n.top (entries_of n)
+  pub hull : AreWithin (integer_box n.hull) (entries_of n)
   pub slender : IsSlender (length (entries_of n)) n.height
 
 -- what holds at the root of a tree, where it has a node

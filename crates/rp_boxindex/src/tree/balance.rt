@@ -1,10 +1,13 @@
 //! Two sides and a node between them, put together by rotations.
 ghost use Rattle.std.specs.Prelude.{◌≡◌, ◌+◌, ◌<◌, ◌≤◌, max, ◌∷◌, ◌++◌, ◌⊎◌, int_lt, int_le, true};
+ghost use Rattle.rp_geometry.specs.parts.LeastBox.{box_union};
+ghost use Rattle.rp_space.specs.Boxes.{integer_box};
 ghost use Rattle.rp_boxindex.specs.Counts.{count};
-ghost use Rattle.rp_boxindex.specs.tree.Nodes.{high, DifferByAtMost, IsSettled, entries_of};
+ghost use Rattle.rp_boxindex.specs.tree.Nodes.{high, is_within, AreWithin, DifferByAtMost, IsSettled, entries_of};
 ghost use Rattle.rp_boxindex.specs.tree.Order.{IsBetween};
 
 use super::{Node, Tree};
+use rp_space::IntBox;
 
 /// The tree of two sides that differ by at most two in height, and of a node between them.
 pub(super) fn balance(left: Tree, node: Box<Node>, right: Tree) -> Tree
@@ -91,6 +94,8 @@ fn fill(node: &mut Node, left: Tree, right: Tree)
 {
     node.height = left.height().max(right.height()) + 1;
     node.top = top_with(top_with(node.entry.1.hi[0], &left), &right);
+    let hull = hull_with(&node.entry.1, &left);
+    node.hull = hull_with(&hull, &right);
     node.left = left;
     node.right = right;
 }
@@ -104,5 +109,30 @@ fn top_with(top: i32, tree: &Tree) -> i32
     match tree.top() {
         None => top,
         Some(x) => { if x < top { top } else { x } }
+    }
+}
+
+/// A box around a box and the boxes of a tree.
+fn hull_with(hull: &IntBox, tree: &Tree) -> IntBox
+    ensures first { is_within (integer_box result) (integer_box hull.now) ≡ true }
+    ensures all { AreWithin (integer_box result) tree.now.entries }
+{
+    match tree.hull() {
+        None => *hull,
+        Some(other) => union(hull, &other),
+    }
+}
+
+/// The least box that holds both boxes.
+fn union(b: &IntBox, e: &IntBox) -> IntBox
+    ensures { integer_box result ≡ box_union (integer_box b.now) (integer_box e.now) }
+{
+    let [bx1, by1, bz1] = b.lo;
+    let [bx2, by2, bz2] = b.hi;
+    let [ex1, ey1, ez1] = e.lo;
+    let [ex2, ey2, ez2] = e.hi;
+    IntBox {
+        lo: [bx1.min(ex1), by1.min(ey1), bz1.min(ez1)],
+        hi: [bx2.max(ex2), by2.max(ey2), bz2.max(ez2)],
     }
 }

@@ -13,7 +13,7 @@ use crate::place::{Entry, Place};
 use std::alloc::{AllocError, Global};
 
 impl Node {
-    /// A node for an entry, with nothing below it; its height and top are set where it is put into a tree. Answers
+    /// A node for an entry, with nothing below it; its height, top and hull are set where it is put into a tree. Answers
     /// `AllocError` only for want of memory.
     pub(crate) fn alone(alloc: Global, entry: Entry) -> Result<Box<Node>, AllocError>
         ensures { IfOk result (λ node. node.value.entry ≡ entry) }
@@ -26,6 +26,7 @@ impl Node {
                 entry,
                 height: 1,
                 top,
+                hull: entry.1,
                 right: Tree::new(),
             },
         )?;

@@ -1,9 +1,9 @@
 use Rattle.std.proofs.Common.{◌≡◌, Bool, true, false, rules, ℤ}
 use Rattle.rp_geometry.specs.Geometry.{IntegerBox}
 use Rattle.rp_space.specs.Boxes.{integer_box}
-use Rattle.rp_boxindex.specs.Meeting.{is_below}
+use Rattle.rp_boxindex.specs.Meeting.{is_below, do_meet}
 use Rattle.rp_boxindex.specs.tree.Order.{low}
-use Rattle.rp_boxindex.proofs.Visits.{only_left, only_left_low, both_sides, both_sides_low, found_none, found_left, found_all}
+use Rattle.rp_boxindex.proofs.Visits.{only_left, only_left_low, both_sides, both_sides_low, found_none, found_none_in_hull, found_left, found_all}
 use Rattle.std.proofs.lemmas.Result.{on_ok_weaker}
 use Rattle.rp_boxindex.proofs.search.+collect.Goals as goal
 
@@ -14,6 +14,14 @@ returns-then-not-is_reached_from-clause-found g t c =
     let top : ℤ = c.visit-node.result.top in
     let short : is_below closed b.x1 top ≡ false = search rules in
     found_none closed b top c.args.tree.now.entries c.args.out.now.items c.visit-node.ensures.top short
+
+pub returns-then-not-is_met_by-clause-found : goal.returns-then-not-is_met_by-clause-found
+returns-then-not-is_met_by-clause-found g t c =
+    let closed : Bool = c.args.query.now.closed in
+    let b : IntegerBox = integer_box c.args.query.now.bounds in
+    let hull : IntegerBox = integer_box c.visit-node.result.hull in
+    let apart : do_meet closed b hull ≡ false = search rules in
+    found_none_in_hull closed b hull c.args.tree.now.entries c.args.out.now.items c.visit-node.ensures.hull apart
 
 pub returns-in_err-collect-clause-most : goal.returns-in_err-collect-clause-most
 returns-in_err-collect-clause-most g t c =
