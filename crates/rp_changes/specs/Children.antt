@@ -1,7 +1,7 @@
 -- The children of a subdivision.
-use Rattle.std.specs.Prelude.{◌≤◌, List, length, map}
+use Rattle.std.specs.Prelude.{List, map}
 use Rattle.rp_language.specs.Name.{Label}
-use Rattle.rp_language.specs.Expression.{Expression, Command, subdivide}
+use Rattle.rp_language.specs.Expression.{Expression}
 use Rattle.rp_model.specs.commands.Row.{FormedChild}
 use Rattle.rp_space.specs.Listed.{Listed}
 use Rattle.rp_syntax.specs.declared.command.Expr.{Expr}

@@ -1,6 +1,5 @@
 //! The children of a subdivision: what is asked of them.
 ghost use Rattle.std.specs.Prelude.{◌≡◌, ◌+◌, ◌*◌, ◌≤◌, ◌++◌, length, map, option_map, IfOk, OnOk};
-ghost use Rattle.rp_geometry.specs.parts.Parts.{most_parts};
 ghost use Rattle.rp_walks.specs.Form.{near_pair};
 ghost use Rattle.rp_model.specs.commands.Verdict.{empty_child, outside_lot, children_overlap};
 ghost use Rattle.rp_model.specs.commands.Row.{child_parts, joined_parts, count_with_each, count_among, first_empty_child, first_outside_child, first_overlapping_child, first_overlapping_children};

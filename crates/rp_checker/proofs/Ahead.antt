@@ -1,11 +1,11 @@
 -- What is left of a walk over whole answers while it is followed step by step.
-use Rattle.std.proofs.Common.{◌≡◌, Result, Ok, Err, refl, ap, subst}
+use Rattle.std.proofs.Common.{ap, subst}
 use Rattle.rp_walks.specs.Walk.{Outcome, Walk, after_first, ◌>>=◌}
 use Rattle.rp_reports.specs.Check.{Trail}
 use Rattle.rp_follow.proofs.Left.{IsLeft}
 use Rattle.rp_checker.specs.declared.halt.Halt.{Halt}
 use Rattle.rp_checker.specs.declared.halt.Halt.TheVariants.{Wrong, Memory}
-use Rattle.rp_checker.specs.Answers.{HaltsBy, Answers}
+use Rattle.rp_checker.specs.Answers.{HaltsBy}
 
 -- where the first walk halts, so do both
 pub halts_on : {A B : Type 0} (next : B → Walk Trail A) (e : Halt) (o : Outcome Trail B) → HaltsBy e o → HaltsBy e (after_first next o)

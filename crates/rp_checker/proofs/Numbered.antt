@@ -1,17 +1,16 @@
 -- An answer by its echo: the number and the text.
-use Rattle.std.proofs.Common.{◌≡◌, ℕ, suc, ◌+◌, ◌<◌, ◌≤◌, Bool, true, false, nat_lt, ◌&&◌, List, [], ◌∷◌, Option, Some, None, refl, sym, ap, ◌∙◌, subst, arith}
+use Rattle.std.proofs.Common.{◌≡◌, ℕ, ◌+◌, ◌<◌, ◌≤◌, Bool, true, false, nat_lt, Option, Some, None, refl, sym, ap, ◌∙◌, subst, arith}
 use Rattle.std.specs.Prelude.{IfSome, is_none}
 use Rattle.rp_algebra.proofs.Listed.{all_map}
 use Rattle.rp_geometry.specs.sets.Shape.{Shape}
-use Rattle.rp_language.specs.Expression.{Expression, Meaning, first_of_two, first_unknown, first_unknown_among}
+use Rattle.rp_language.specs.Expression.{first_of_two}
 use Rattle.rp_language.specs.Name.{Label}
-use Rattle.rp_walks.specs.Walk.{Outcome, done, stopped, line_wrong, Walk, after_first, pass, stop}
+use Rattle.rp_walks.specs.Walk.{done, line_wrong, Walk, after_first, pass, stop}
 use Rattle.rp_model.specs.states.State.{Lot, State, PlainState}
 use Rattle.rp_model.specs.states.Sound.{IsLaterThan}
 use Rattle.rp_reports.specs.ProofText.{Echo}
 use Rattle.rp_reports.specs.Check.{Trail, Progress, with_no_tests, follow_echo, follow_numbered, next_echo, follow_answer}
 use Rattle.rp_checker.specs.declared.halt.Halt.{Halt}
-use Rattle.rp_checker.specs.declared.halt.Halt.TheVariants.{Wrong, Memory}
 use Rattle.rp_checker.specs.Answers.{IsWrongAt, HaltsBy}
 use Rattle.rp_checker.proofs.Ahead.{halts_on}
 

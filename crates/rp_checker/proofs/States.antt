@@ -2,7 +2,6 @@
 use Rattle.std.proofs.Common.{◌≡◌, ℕ, ◌<◌, List, [], ◌∷◌, map, refl, sym, ap, ◌∙◌, subst}
 use Rattle.std.specs.Prelude.{IsTrue, IfSome, IfOk, Result, Ok, Err}
 use Rattle.std.specs.List.{AllByRecursion}
-use Rattle.rp_algebra.proofs.Listed.{all_map}
 use Rattle.rp_geometry.specs.sets.Shape.{Shape}
 use Rattle.rp_geometry.specs.parts.Parts.{IsCheckedPart}
 use Rattle.rp_language.specs.Name.{Label, is_among}
@@ -12,7 +11,7 @@ use Rattle.rp_walks.specs.FormLaws.{IfDone}
 use Rattle.rp_model.specs.states.State.{Kept, Lot, NewLot, State, PlainState, plain_kept, plain_lot, plain_of, kept_of_parts, lot_of_parts, state_of_parts, ids_of, Change, nothing_changes, name_added, lots_replaced, layer_changed, changed}
 use Rattle.rp_model.specs.states.Sound.{IsSoundWith, IsLaterThan}
 use Rattle.rp_model.specs.commands.Row.{Reply, row}
-use Rattle.rp_model.specs.commands.Rule.{Rule, rule_without_limits, change_of, with_parts}
+use Rattle.rp_model.specs.commands.Rule.{rule_without_limits, change_of, with_parts}
 use Rattle.rp_reports.specs.Check.{Trail, line_tester}
 use Rattle.rp_reports.specs.laws.CheckLaws.{TellsTruth}
 use Rattle.rp_reports.specs.laws.RowLaws.{IsSoundChange, IsRightReply, first_form_by}

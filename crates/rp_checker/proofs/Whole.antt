@@ -1,12 +1,11 @@
 -- Whole reports: what is found from now on is what is found at all.
-use Rattle.std.proofs.Common.{◌≡◌, ℕ, zero, suc, ◌+◌, ◌-◌, ◌<◌, ◌≤◌, Bool, true, false, ◌==◌, List, [], ◌∷◌, drop, length, Option, Some, None, refl, sym, ap, ◌∙◌, subst, arith, add-one}
-use Rattle.std.specs.Prelude.{IsTrue, is_some, option_map}
-use Rattle.std.specs.List.{AllByRecursion}
+use Rattle.std.proofs.Common.{◌≡◌, ℕ, zero, suc, ◌+◌, ◌-◌, ◌<◌, ◌≤◌, Bool, true, false, ◌==◌, List, [], ◌∷◌, length, Option, Some, None, refl, sym, ap, ◌∙◌, subst, arith, add-one}
+use Rattle.std.specs.Prelude.{is_some, option_map}
 use denote.Ref.{Bor}
-use Rattle.rp_walks.specs.Walk.{Outcome, done, stopped, line_wrong}
+use Rattle.rp_walks.specs.Walk.{Outcome, done}
 use Rattle.rp_model.specs.states.State.{State, PlainState, opening, state_of_parts}
 use Rattle.rp_model.specs.states.Sound.{IsLaterThan}
-use Rattle.rp_reports.specs.Check.{Trail, Progress, follow_answer, Finding, all_accepted, wrong_at, find_wrong, finding, is_accepting, is_accepted}
+use Rattle.rp_reports.specs.Check.{Trail, Progress, follow_answer, Finding, all_accepted, wrong_at, find_wrong, finding, is_accepting}
 use Rattle.rp_reports.specs.Output.{most_script_bytes, report_lines}
 use Rattle.rp_reports.specs.Report.{IsReport}
 use Rattle.rp_reports.specs.Text.{text_of_lines}

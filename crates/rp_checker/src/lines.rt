@@ -1,7 +1,7 @@
 //! Lines of a report that must be those of verdicts.
-ghost use Rattle.std.specs.Prelude.{◌≡◌, ◌∷◌, [], true, map};
+ghost use Rattle.std.specs.Prelude.{◌∷◌, [], map};
 ghost use Rattle.rp_model.specs.states.State.{PlainState};
-ghost use Rattle.rp_reports.specs.Check.{tells_limit, taken, follow_line, follow_lines, follow_limit};
+ghost use Rattle.rp_reports.specs.Check.{tells_limit, follow_line, follow_lines, follow_limit};
 ghost use Rattle.rp_reports.specs.Text.{verdict_text};
 ghost use Rattle.rp_report.specs.Views.{verdict_of};
 ghost use Rattle.rp_checker.specs.Answers.{Answers};

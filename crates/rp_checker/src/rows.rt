@@ -1,7 +1,7 @@
 //! The row of each command, followed on the next lines of a report: its checks and tests in order.
 ghost use Rattle.std.specs.Prelude.{◌≡◌};
 ghost use Rattle.std.specs.List.{AllByRecursion};
-ghost use Rattle.rp_language.specs.Expression.{IsKeptExpression, expressions_of, set_layer};
+ghost use Rattle.rp_language.specs.Expression.{IsKeptExpression, expressions_of};
 ghost use Rattle.rp_model.specs.commands.Row.{row};
 ghost use Rattle.rp_reports.specs.Check.{Trail, line_tester};
 ghost use Rattle.rp_syntax.specs.Views.{command_of};

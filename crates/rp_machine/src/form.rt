@@ -3,12 +3,12 @@ ghost use Rattle.std.specs.Prelude.{◌≡◌, Err, IfSome, IfOk, IsNone, option
 ghost use Rattle.rp_geometry.specs.sets.Shape.{shape_of_parts};
 ghost use Rattle.rp_geometry.specs.sets.Sets.{SameMembers};
 ghost use Rattle.rp_language.specs.Expression.{IsKeptExpression, closed, first_unknown, if_missing};
-ghost use Rattle.rp_walks.specs.Walk.{first_tester, pass};
+ghost use Rattle.rp_walks.specs.Walk.{first_tester};
 ghost use Rattle.rp_walks.specs.Form.{form, parts_or_none};
 ghost use Rattle.rp_model.specs.states.State.{parts_in, state_of_parts};
 ghost use Rattle.rp_model.specs.states.Sound.{IsSound};
 ghost use Rattle.rp_model.specs.commands.Row.{shapes_of_parts};
-ghost use Rattle.rp_region.specs.Makes.{op_result, Makes};
+ghost use Rattle.rp_region.specs.Makes.{Makes};
 ghost use Rattle.rp_syntax.specs.Views.{expression_of};
 ghost use Rattle.rp_machine.specs.Forms.{MakesForm};
 

@@ -2,7 +2,7 @@
 ghost use Rattle.std.specs.Prelude.{◌≡◌, ◌<◌, ◌≤◌, filter, length, IfOk};
 ghost use Rattle.rp_history.specs.Lots.{lot_of};
 ghost use Rattle.rp_nearby.specs.Indexed.{boxes_in, NoneBehind};
-ghost use Rattle.rp_nearby.specs.Near.{is_other_in, is_other_at, numbers_near, places_from, AreWithin, AreReached, AreNear};
+ghost use Rattle.rp_nearby.specs.Near.{is_other_in, is_other_at, places_from, AreWithin, AreReached, AreNear};
 
 use crate::boxes::{LiveBoxes, MAX_PARTS};
 use rp_boxindex::{Steps, Watch};

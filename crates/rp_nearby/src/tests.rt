@@ -1,4 +1,4 @@
-ghost use Rattle.std.specs.Prelude.{◌≡◌, ◌≤◌, length, IfOk};
+ghost use Rattle.std.specs.Prelude.{◌≡◌, length, IfOk};
 ghost use Rattle.rp_nearby.specs.Indexed.{NoneBehind, ArePacked};
 
 use crate::{LiveBoxes, Reach};

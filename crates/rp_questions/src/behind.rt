@@ -1,5 +1,5 @@
 //! The live lots behind a lot, of its layer, that are near it, and how many pairs of parts of two live lots may meet.
-ghost use Rattle.std.specs.Prelude.{◌≡◌, ◌+◌, ◌*◌, ◌<◌, ◌≤◌, Some, IfOk, drop, filter, length, slice_get};
+ghost use Rattle.std.specs.Prelude.{◌≡◌, ◌+◌, ◌*◌, ◌<◌, ◌≤◌, Some, IfOk, filter, length, slice_get};
 ghost use Rattle.rp_geometry.specs.parts.Parts.{most_parts};
 ghost use Rattle.rp_walks.specs.Form.{near_pair};
 ghost use Rattle.rp_model.specs.states.State.{live_lots, most_kept_parts};

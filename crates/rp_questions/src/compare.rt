@@ -1,7 +1,7 @@
 //! How two forms stand to each other, on the next lines of a report.
 ghost use Rattle.std.specs.Prelude.{◌≡◌, true, false};
 ghost use Rattle.rp_walks.specs.Form.{common_in_full, touch_in_full};
-ghost use Rattle.rp_walks.specs.Compare.{show_then_no, is_covered, touches_outside, relation_by_rests, relation_by_overlap, relation_of_parts};
+ghost use Rattle.rp_walks.specs.Compare.{touches_outside, relation_by_rests, relation_by_overlap, relation_of_parts};
 ghost use Rattle.rp_model.specs.commands.Verdict.{Verdict as ModelVerdict};
 ghost use Rattle.rp_model.specs.commands.Row.{row_relation};
 ghost use Rattle.rp_reports.specs.Check.{line_tester};

@@ -1,5 +1,5 @@
 //! The pieces of a form, on the next lines of a report.
-ghost use Rattle.std.specs.Prelude.{◌≡◌, ℕ, ◌+◌, ◌≤◌, [], IfOk, OnOk, length};
+ghost use Rattle.std.specs.Prelude.{◌≡◌, ℕ, ◌+◌, ◌≤◌, IfOk, OnOk, length};
 ghost use Rattle.std.specs.List.{AllByRecursion};
 ghost use Rattle.rp_geometry.specs.parts.Parts.{most_parts};
 ghost use Rattle.rp_walks.specs.Pieces.{pair_count, numbered_from, link_pair, links_with_part, links_among, pieces_of_parts};

@@ -1,4 +1,4 @@
-ghost use Rattle.std.specs.Prelude.{◌≡◌, ◌≤◌, ◌∷◌, ◌++◌, [], length, IfErr, IfOk, OnErr, OnOk};
+ghost use Rattle.std.specs.Prelude.{◌≤◌, ◌∷◌, ◌++◌, [], IfErr, IfOk, OnErr, OnOk};
 ghost use Rattle.rp_io.specs.Bytes.{Appends, AppendsPrefix};
 ghost use Rattle.rp_language.specs.Grammar.{reading, spelling};
 ghost use Rattle.rp_reports.specs.Output.{spell_script, spelled_lines};

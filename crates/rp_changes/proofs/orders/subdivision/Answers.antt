@@ -1,4 +1,4 @@
-use Rattle.std.proofs.Common.{List, sym, ap, ◌∙◌, subst}
+use Rattle.std.proofs.Common.{sym, ◌∙◌}
 use Rattle.std.proofs.lemmas.Result.{err_from_is_err_and}
 use Rattle.rp_changes.specs.Children.{formed_children}
 use Rattle.rp_changes.proofs.ChildLemmas.{shape_missing, children_stop, children_made}

@@ -4,7 +4,7 @@ use Rattle.rp_geometry.specs.sets.Shape.{Part}
 use Rattle.rp_language.specs.Name.{Label}
 use Rattle.rp_walks.specs.Walk.{Outcome, done}
 use Rattle.rp_walks.specs.Form.{near_pair}
-use Rattle.rp_model.specs.states.State.{Lot, NewLot, lots_of_layer, present_lots, parts_under_lots, lots_replaced, most_kept_parts}
+use Rattle.rp_model.specs.states.State.{NewLot, present_lots, parts_under_lots, lots_replaced, most_kept_parts}
 use Rattle.rp_model.specs.commands.Verdict.{overlaps}
 use Rattle.rp_model.specs.commands.Row.{refusal, accepted, check_size, new_lot, lot_parts, count_with_each, first_overlapped}
 use Rattle.rp_reports.specs.Check.{Trail, follow_count, line_tester}

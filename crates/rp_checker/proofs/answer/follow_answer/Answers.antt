@@ -1,8 +1,6 @@
-use Rattle.std.proofs.Common.{ℕ, sym, ap, ◌∙◌, refl}
-use Rattle.std.specs.Prelude.{Option, option_map}
+use Rattle.std.proofs.Common.{sym, ap, ◌∙◌}
+use Rattle.std.specs.Prelude.{option_map}
 use Rattle.std.proofs.lemmas.Result.{err_from_is_err_and}
-use denote.Ref.{Bor}
-use Rattle.std.proofs.Common.{List}
 use Rattle.rp_model.specs.states.State.{state_of_parts}
 use Rattle.rp_checker.specs.Answers.{echo_with}
 use Rattle.rp_checker.proofs.Numbered.{no_echo, low_echo, echo_halts, echo_ends, later_still}

@@ -2,7 +2,7 @@ use Rattle.std.proofs.Common.{Bool, subst}
 use Rattle.rp_syntax.specs.Views.{command_of}
 use Rattle.rp_model.specs.commands.Row.{row}
 use Rattle.rp_model.specs.states.State.{PlainState}
-use Rattle.rp_reports.specs.Check.{line_tester, limit_allowed, follow_walk, follow_command}
+use Rattle.rp_reports.specs.Check.{line_tester, follow_walk, follow_command}
 use Rattle.rp_checker.specs.Answers.{Answers}
 use Rattle.rp_checker.proofs.States.{replied_known, replied_sound}
 use Rattle.rp_checker.proofs.answer.follow_command.Goals as goal

@@ -1,4 +1,4 @@
-use Rattle.std.proofs.Common.{◌≡◌, ◌<◌, Bool, true, false, length, sym, ap, ◌∙◌, subst}
+use Rattle.std.proofs.Common.{true, false, sym, subst}
 use Rattle.rp_model.specs.states.State.{PlainState}
 use Rattle.rp_reports.specs.Check.{Trail}
 use Rattle.rp_reports.specs.Output.{report_lines}
