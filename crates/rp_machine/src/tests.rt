@@ -4,7 +4,7 @@ ghost use Rattle.rp_model.specs.states.Sound.{IsLaterThan};
 
 use crate::{FormFault, Machine};
 use rp_region::Work;
-use rp_report::write_answer;
+use rp_report::{Answer, write_answer};
 use rp_space::{IntBox, Name};
 use rp_syntax::Expr;
 use std::alloc::{AllocError, Global};
@@ -19,6 +19,42 @@ fn opened(alloc: Global) -> Result<Machine, AllocError>
     Machine::new(alloc)
 }
 
+/// The text of an answer.
+fn text_of(alloc: Global, answer: &Answer, brief: bool) -> Result<Vec<u8>, AllocError> {
+    let mut text = Vec::new(alloc);
+    write_answer(answer, brief, &mut text)?;
+    Ok(text)
+}
+
+/// Takes one line: the echo and the verdict lines of its answer.
+fn told<R: Threads + Sync>(
+    rt: &R,
+    alloc: Global,
+    machine: &mut Machine,
+    n: u32,
+    line: &str,
+) -> Result<Vec<u8>, AllocError>
+    requires { IsLaterThan n (state_of_parts machine.old) }
+    ensures { OnOk result (IsLaterThan (n + 1) (state_of_parts machine.new)) }
+{
+    let answer = machine.step(rt, alloc, n, line.as_bytes())?;
+    text_of(alloc, &answer, true)
+}
+
+/// Compares the text of the answer to a line.
+fn expect_text(
+    rt: &impl Abort,
+    alloc: Global,
+    text: &[u8],
+    n: u32,
+    line: &str,
+    verdicts: &str,
+) -> Result<(), AllocError> {
+    let want = format!(in alloc; "> {n} {line}\n{verdicts}\n")?;
+    assert_eq!(rt; text, want.as_bytes(), "on {line:?}");
+    Ok(())
+}
+
 /// Takes one line, and compares the verdict lines of its answer.
 fn expect_told<R: Abort + Threads + Sync>(
     rt: &R,
@@ -31,12 +67,8 @@ fn expect_told<R: Abort + Threads + Sync>(
     requires { IsLaterThan n (state_of_parts machine.old) }
     ensures { OnOk result (IsLaterThan (n + 1) (state_of_parts machine.new)) }
 {
-    let answer = machine.step(rt, alloc, n, line.as_bytes())?;
-    let mut text = Vec::new(alloc);
-    write_answer(&answer, true, &mut text)?;
-    let want = format!(in alloc; "> {n} {line}\n{verdicts}\n")?;
-    assert_eq!(rt; text.as_slice(), want.as_bytes(), "on {line:?}");
-    Ok(())
+    let text = told(rt, alloc, machine, n, line)?;
+    expect_text(rt, alloc, &text, n, line, verdicts)
 }
 
 /// Takes one line in the opening state, and compares the verdict lines of its answer.
@@ -48,6 +80,18 @@ fn expect_alone<R: Abort + Threads + Sync>(
 ) -> Result<(), AllocError> {
     let mut machine = opened(alloc)?;
     expect_told(rt, alloc, &mut machine, 1, line, verdicts)
+}
+
+/// Takes each line in the opening state, and compares the verdict lines of its answer.
+fn expect_each<R: Abort + Threads + Sync>(
+    rt: &R,
+    alloc: Global,
+    rows: &[(&str, &str)],
+) -> Result<(), AllocError> {
+    for (line, verdicts) in rows {
+        expect_alone(rt, alloc, line, verdicts)?;
+    }
+    Ok(())
 }
 
 /// Takes lines in turn, of which the first has the number, and compares the verdict lines of each answer.
@@ -83,7 +127,7 @@ fn expect_in_turn<R: Abort + Threads + Sync>(
 
 #[test]
 fn each_boundary_point_has_one_owner(rt: HostRuntime) -> Result<(), Fail> {
-    for (line, verdict) in [
+    let rows = [
         ("member half 1 0 0 0 0 5 5 1", "= yes"),
         ("member not half 1 0 0 0 0 5 5 1", "= no"),
         ("member half -1 0 0 0 0 5 5 1", "= no"),
@@ -93,15 +137,14 @@ fn each_boundary_point_has_one_owner(rt: HostRuntime) -> Result<(), Fail> {
         ("member all -16777216 0 0 1", "= yes"),
         ("member all 16777216 0 0 1", "= no"),
         ("member not all 16777216 0 0 1", "= no"),
-    ] {
-        expect_alone(&rt, rt.alloc(), line, verdict)?;
-    }
+    ];
+    expect_each(&rt, rt.alloc(), &rows)?;
     Ok(())
 }
 
 #[test]
 fn regions_are_combined_as_sets(rt: HostRuntime) -> Result<(), Fail> {
-    for (line, verdict) in [
+    let rows = [
         ("member and box 0 0 0 9 9 9 box 5 5 5 8 8 8 4 6 6 1", "= no"),
         ("member or box 0 0 0 9 9 9 box 5 5 5 8 8 8 4 6 6 1", "= yes"),
         (
@@ -120,9 +163,8 @@ fn regions_are_combined_as_sets(rt: HostRuntime) -> Result<(), Fail> {
         ("empty not all", "= yes"),
         ("show none", "= parts 0"),
         ("show not half 1 0 0 0", "= parts 1\n= part (-1 0 0 0)"),
-    ] {
-        expect_alone(&rt, rt.alloc(), line, verdict)?;
-    }
+    ];
+    expect_each(&rt, rt.alloc(), &rows)?;
     Ok(())
 }
 
@@ -197,7 +239,7 @@ fn two_regions_are_compared(rt: HostRuntime) -> Result<(), Fail> {
 
 #[test]
 fn pieces_are_told_by_the_numbers_of_parts(rt: HostRuntime) -> Result<(), Fail> {
-    for (line, verdicts) in [
+    let rows = [
         ("pieces none", "= pieces 0"),
         ("pieces all", "= pieces 1\n= piece 1"),
         (
@@ -213,15 +255,14 @@ fn pieces_are_told_by_the_numbers_of_parts(rt: HostRuntime) -> Result<(), Fail> 
             "= pieces 2\n= piece 1 3\n= piece 2",
         ),
         ("pieces name a", "= refused unknown a"),
-    ] {
-        expect_alone(&rt, rt.alloc(), line, verdicts)?;
-    }
+    ];
+    expect_each(&rt, rt.alloc(), &rows)?;
     Ok(())
 }
 
 #[test]
 fn comparisons_are_refused_in_order(rt: HostRuntime) -> Result<(), Fail> {
-    for (line, verdict) in [
+    let rows = [
         ("rcc none all", "= refused emptyregion 1"),
         ("rcc none none", "= refused emptyregion 1"),
         ("rcc all none", "= refused emptyregion 2"),
@@ -230,22 +271,20 @@ fn comparisons_are_refused_in_order(rt: HostRuntime) -> Result<(), Fail> {
         ("contact all name b", "= refused unknown b"),
         ("within lot c name b", "= refused unknown c"),
         ("equal all name b", "= refused unknown b"),
-    ] {
-        expect_alone(&rt, rt.alloc(), line, verdict)?;
-    }
+    ];
+    expect_each(&rt, rt.alloc(), &rows)?;
     Ok(())
 }
 
 #[test]
 fn lines_that_are_no_command_are_refused(rt: HostRuntime) -> Result<(), Fail> {
-    for (line, verdict) in [
+    let rows = [
         ("member half 1 0 0 0 0 5 5", "= refused syntax"),
         ("member half 0 0 0 0 0 5 5 1", "= refused zero"),
         ("member half 1 0 0 0 0 5 5 0", "= refused range"),
         ("member half 16777217 0 0 0 0 5 5 1", "= refused range"),
-    ] {
-        expect_alone(&rt, rt.alloc(), line, verdict)?;
-    }
+    ];
+    expect_each(&rt, rt.alloc(), &rows)?;
     Ok(())
 }
 
@@ -289,10 +328,39 @@ fn keep_numbered<R: Abort + Threads + Sync>(
     expect_told(rt, alloc, machine, n, line.as_str(), "= ok")
 }
 
+/// Keeps a region under so many names, by lines of which the first has the number.
+fn keep_many<R: Abort + Threads + Sync>(
+    rt: &R,
+    alloc: Global,
+    machine: &mut Machine,
+    first: u32,
+    count: u32,
+    region: &str,
+) -> Result<(), AllocError>
+    requires later { IsLaterThan first (state_of_parts machine.old) }
+    requires few { first + count < 100000 }
+    ensures { OnOk result (IsLaterThan (first + count) (state_of_parts machine.new)) }
+{
+    let mut n = first;
+    for _ in 0..count {
+        keep_numbered(rt, alloc, machine, n, region)?;
+        n += 1;
+    }
+    Ok(())
+}
+
+/// The machine that has the union of the 512 boxes under the name `a`.
+fn with_boxes<R: Abort + Threads + Sync>(rt: &R, alloc: Global) -> Result<Machine, AllocError>
+    ensures { IfOk result (λ m. IsLaterThan 2 (state_of_parts m)) }
+{
+    let mut machine = opened(alloc)?;
+    keep_boxes(rt, alloc, &mut machine)?;
+    Ok(machine)
+}
+
 #[test]
 fn regions_have_at_most_1024_parts(rt: HostRuntime) -> Result<(), Fail> {
-    let mut machine = opened(rt.alloc())?;
-    keep_boxes(&rt, rt.alloc(), &mut machine)?;
+    let mut machine = with_boxes(&rt, rt.alloc())?;
     let rows = [
         ("let b = or name a name a", "= ok"),
         ("let c = or name b all", "= refused limit"),
@@ -304,40 +372,47 @@ fn regions_have_at_most_1024_parts(rt: HostRuntime) -> Result<(), Fail> {
     Ok(())
 }
 
+/// The machine that has the 512 boxes under `a`, and 1,024 parts under each of 63 more names.
+fn with_many_parts<R: Abort + Threads + Sync>(rt: &R, alloc: Global) -> Result<Machine, AllocError>
+    ensures { IfOk result (λ m. IsLaterThan 65 (state_of_parts m)) }
+{
+    let mut machine = with_boxes(rt, alloc)?;
+    keep_many(rt, alloc, &mut machine, 2, 63, "or name a name a")?;
+    Ok(machine)
+}
+
 #[test]
 fn names_keep_at_most_65536_parts(rt: HostRuntime) -> Result<(), Fail> {
-    let mut machine = opened(rt.alloc())?;
-    keep_boxes(&rt, rt.alloc(), &mut machine)?;
-    let mut n = 2;
-    for _ in 0..63u32 {
-        keep_numbered(&rt, rt.alloc(), &mut machine, n, "or name a name a")?;
-        n += 1;
-    }
+    let mut machine = with_many_parts(&rt, rt.alloc())?;
     let rows = [
         ("let c = or name a all", "= refused limit"),
         ("let c = name a", "= ok"),
         ("let d = all", "= refused limit"),
         ("let d = none", "= ok"),
     ];
-    expect_from(&rt, rt.alloc(), &mut machine, n, &rows)?;
+    expect_from(&rt, rt.alloc(), &mut machine, 65, &rows)?;
     Ok(())
+}
+
+/// The machine that has 65,536 names.
+fn with_many_names<R: Abort + Threads + Sync>(rt: &R, alloc: Global) -> Result<Machine, AllocError>
+    ensures { IfOk result (λ m. IsLaterThan 65537 (state_of_parts m)) }
+{
+    let mut machine = opened(alloc)?;
+    keep_many(rt, alloc, &mut machine, 1, 65536, "none")?;
+    Ok(machine)
 }
 
 #[test]
 fn there_are_at_most_65536_names(rt: HostRuntime) -> Result<(), Fail> {
-    let mut machine = opened(rt.alloc())?;
-    let mut n = 1;
-    for _ in 0..65536u32 {
-        keep_numbered(&rt, rt.alloc(), &mut machine, n, "none")?;
-        n += 1;
-    }
+    let mut machine = with_many_names(&rt, rt.alloc())?;
     let rows = [
         ("let n65536 = none", "= refused known n65536"),
         ("let n65537 = none", "= refused limit"),
         ("empty name n65536", "= yes"),
         ("empty name n65537", "= refused unknown n65537"),
     ];
-    expect_from(&rt, rt.alloc(), &mut machine, n, &rows)?;
+    expect_from(&rt, rt.alloc(), &mut machine, 65537, &rows)?;
     Ok(())
 }
 
@@ -454,40 +529,69 @@ fn live_lots_are_counted(rt: HostRuntime) -> Result<(), Fail> {
     Ok(())
 }
 
-#[test]
-fn the_form_of_an_expression_is_made_test_by_test(rt: HostRuntime) -> Result<(), Fail> {
-    let machine = Machine::new(rt.alloc())?;
+/// Compares how many parts the form of the outside of a box has.
+fn expect_six_parts(
+    rt: &impl Abort,
+    alloc: Global,
+    machine: &Machine,
+    work: &mut Work,
+) -> Result<(), Fail> {
     let block = Expr::Block(IntBox {
         lo: [0; 3],
         hi: [4, 4, 4],
     });
-    let region = Expr::Not(Box::new(rt.alloc(), block)?);
-    let mut work = Work::new(rt.alloc());
-    let form = machine.form(rt.alloc(), &region, &mut work)?;
+    let region = Expr::Not(Box::new(alloc, block)?);
+    let form = machine.form(alloc, &region, work)?;
     assert_eq!(rt; form.parts().len(), 6);
-    assert_eq!(rt; work.tests(), 7);
-    let north = Name::new(b"north").ok_or("no name")?;
-    let unknown = machine.form(rt.alloc(), &Expr::Name(north), &mut work);
+    Ok(())
+}
+
+/// Compares why a name that stands for nothing has no form.
+fn expect_unknown(rt: &impl Abort, alloc: Global, machine: &Machine, work: &mut Work) {
+    let north = Name::new(b"north").unwrap();
+    let unknown = machine.form(alloc, &Expr::Name(north), work);
     assert_eq!(rt; unknown.err(), Some(FormFault::Unknown(north)));
+}
+
+#[test]
+fn the_form_of_an_expression_is_made_test_by_test(rt: HostRuntime) -> Result<(), Fail> {
+    let machine = Machine::new(rt.alloc())?;
+    let mut work = Work::new(rt.alloc());
+    expect_six_parts(&rt, rt.alloc(), &machine, &mut work)?;
+    assert_eq!(rt; work.tests(), 7);
+    expect_unknown(&rt, rt.alloc(), &machine, &mut work);
     assert_eq!(rt; work.tests(), 7);
     Ok(())
 }
 
+/// The answer to a line in the opening state.
+fn answer_alone<R: Threads + Sync>(
+    rt: &R,
+    alloc: Global,
+    line: &[u8],
+) -> Result<Answer, AllocError> {
+    opened(alloc)?.step(rt, alloc, 1, line)
+}
+
+/// The answer to a line of one byte more than a line may have.
+fn answer_to_long<R: Threads + Sync>(rt: &R, alloc: Global) -> Result<Answer, AllocError> {
+    let line = vec![in alloc; b'x'; 65537]?;
+    answer_alone(rt, alloc, &line)
+}
+
 #[test]
 fn lines_that_are_too_long_are_not_echoed(rt: HostRuntime) -> Result<(), Fail> {
-    let line = vec![in rt.alloc(); b'x'; 65537]?;
-    let answer = opened(rt.alloc())?.step(&rt, rt.alloc(), 1, &line)?;
+    let answer = answer_to_long(&rt, rt.alloc())?;
     assert_eq!(rt; answer.n, 1);
     assert!(rt; answer.echo.items().is_empty());
-    let mut text = Vec::new(rt.alloc());
-    write_answer(&answer, false, &mut text)?;
+    let text = text_of(rt.alloc(), &answer, false)?;
     assert_eq!(rt; text.as_slice(), b"> 1\n= refused long\n".as_slice());
     Ok(())
 }
 
 #[test]
 fn blank_lines_say_nothing(rt: HostRuntime) -> Result<(), Fail> {
-    let answer = opened(rt.alloc())?.step(&rt, rt.alloc(), 1, b"# south")?;
+    let answer = answer_alone(&rt, rt.alloc(), b"# south")?;
     assert!(rt; answer.verdicts.items().is_empty());
     Ok(())
 }

@@ -1,8 +1,8 @@
 use Rattle.std.proofs.Common.{◌≡◌, ◌+◌}
 use Rattle.rp_model.specs.states.State.{state_of_parts}
 use Rattle.rp_model.specs.states.Sound.{IsLaterThan}
-use Rattle.rp_machine.proofs.tests.names_keep_at_most_65536_parts.Given as goal
+use Rattle.rp_machine.proofs.tests.keep_many.Given as goal
 
 -- the next number is above all births and ends
 abbrev pub invariant-loop : goal.invariant-loop
-invariant-loop g l = record { number : l.n ≡ 2 + l.counter; later : IsLaterThan l.n (state_of_parts l.machine) }
+invariant-loop g l = record { number : l.n ≡ l.first + l.counter; later : IsLaterThan l.n (state_of_parts l.machine) }

@@ -1,8 +1,0 @@
-use Rattle.std.proofs.Common.{◌≡◌, ◌+◌}
-use Rattle.rp_model.specs.states.State.{state_of_parts}
-use Rattle.rp_model.specs.states.Sound.{IsLaterThan}
-use Rattle.rp_machine.proofs.tests.there_are_at_most_65536_names.Given as goal
-
--- the next number is above all births and ends
-abbrev pub invariant-loop : goal.invariant-loop
-invariant-loop g l = record { number : l.n ≡ 1 + l.counter; later : IsLaterThan l.n (state_of_parts l.machine) }
