@@ -341,10 +341,8 @@ fn keep_many<R: Abort + Threads + Sync>(
     requires few { first + count < 100000 }
     ensures { OnOk result (IsLaterThan (first + count) (state_of_parts machine.new)) }
 {
-    let mut n = first;
-    for _ in 0..count {
-        keep_numbered(rt, alloc, machine, n, region)?;
-        n += 1;
+    for i in 0..count {
+        keep_numbered(rt, alloc, machine, first + i, region)?;
     }
     Ok(())
 }
