@@ -1,4 +1,4 @@
-ghost use Rattle.std.specs.Prelude.{◌≡◌, ◌+◌, ◌<◌, ◌≤◌, true, length, IfOk, OnOk};
+ghost use Rattle.std.specs.Prelude.{◌≡◌, ◌+◌, ◌<◌, ◌≤◌, true, length};
 ghost use Rattle.rp_geometry.specs.Geometry.{is_box_in_bounds};
 ghost use Rattle.rp_language.specs.Name.{is_name};
 ghost use Rattle.rp_space.specs.Boxes.{integer_box};
@@ -9,8 +9,8 @@ use rp_boxindex::{Quiet, Watch};
 use rp_region::{Region, Work};
 use rp_space::{Half, IntBox, Name, Point, box_halves};
 use std::alloc::Global;
+use std::process::Abort;
 use std::sync::atomic::{AtomicBool, AtomicU32, Ordering};
-use std::test::Fail;
 use std::thread::Threads;
 
 /// The box from 0 0 0 to 10 10 10.
@@ -57,107 +57,118 @@ fn name(bytes: &[u8]) -> Name
 }
 
 /// The region of a box.
-fn region(alloc: Global, bounds: &IntBox) -> Result<Region, Fail>
+fn region(rt: &impl Abort, alloc: Global, bounds: &IntBox) -> Region
     requires { is_box_in_bounds (integer_box bounds.now) ≡ true }
 {
     let mut work = Work::new(alloc);
-    Ok(Region::of_cell(alloc, &box_halves(bounds), &mut work)?)
+    Region::of_cell(alloc, &box_halves(bounds), &mut work).expect(rt, "no region of a box")
 }
 
 /// Registers a region at the line, in the layer `land`.
-fn register<W: Watch>(
+fn register<R: Abort, W: Watch>(
+    rt: &R,
     alloc: Global,
     watch: &W,
     parcels: &mut Parcels,
     line: u32,
     id: Name,
     region: Region,
-) -> Result<(), Fail>
+)
     requires { IsLater line parcels.old }
-    ensures { OnOk result (IsLater (line + 1) parcels.new) }
+    ensures { IsLater (line + 1) parcels.new }
 {
     let mut work = Work::new(alloc);
-    parcels.register(alloc, watch, line, name(b"land"), id, region, &mut work)?;
-    Ok(())
+    let done = parcels.register(alloc, watch, line, name(b"land"), id, region, &mut work);
+    done.expect(rt, "a region is not registered");
 }
 
 /// Registers a box at the line.
 fn register_box(
+    rt: &impl Abort,
     alloc: Global,
     parcels: &mut Parcels,
     line: u32,
     id: Name,
     bounds: &IntBox,
-) -> Result<(), Fail>
+)
     requires later { IsLater line parcels.old }
     requires bounds { is_box_in_bounds (integer_box bounds.now) ≡ true }
-    ensures { OnOk result (IsLater (line + 1) parcels.new) }
+    ensures { IsLater (line + 1) parcels.new }
 {
-    register(alloc, &Quiet, parcels, line, id, region(alloc, bounds)?)
+    let region = region(rt, alloc, bounds);
+    register(rt, alloc, &Quiet, parcels, line, id, region);
+}
+
+/// A register of no parcels.
+fn nothing(rt: &impl Abort, alloc: Global) -> Parcels
+    ensures { IsLater 1 result }
+{
+    Parcels::new(alloc).expect(rt, "no register")
 }
 
 /// A register with one parcel, whose id is `plot`, born at line 1 in the layer `land`.
-fn with_plot(alloc: Global, bounds: &IntBox) -> Result<Parcels, Fail>
+fn with_plot(rt: &impl Abort, alloc: Global, bounds: &IntBox) -> Parcels
     requires { is_box_in_bounds (integer_box bounds.now) ≡ true }
-    ensures { IfOk result (IsLater 2) }
+    ensures { IsLater 2 result }
 {
-    let mut parcels = Parcels::new(alloc)?;
-    register_box(alloc, &mut parcels, 1, name(b"plot"), bounds)?;
-    Ok(parcels)
+    let mut parcels = nothing(rt, alloc);
+    register_box(rt, alloc, &mut parcels, 1, name(b"plot"), bounds);
+    parcels
 }
 
 /// Cuts the parcel of the first id by a region into the other two, at the line.
 fn cut(
+    rt: &impl Abort,
     alloc: Global,
     parcels: &mut Parcels,
     line: u32,
     ids: &[Name; 3],
     by: &Region,
-) -> Result<(), Fail>
+)
     requires { IsLater line parcels.old }
-    ensures { OnOk result (IsLater (line + 1) parcels.new) }
+    ensures { IsLater (line + 1) parcels.new }
 {
     let mut work = Work::new(alloc);
-    parcels.cut(alloc, line, ids[0], by, ids[1], ids[2], &mut work)?;
-    Ok(())
+    let done = parcels.cut(alloc, line, ids[0], by, ids[1], ids[2], &mut work);
+    done.expect(rt, "a parcel is not cut");
 }
 
 /// Cuts the plot by its lower half, at line 2.
-fn cut_plot(alloc: Global, parcels: &mut Parcels) -> Result<(), Fail>
+fn cut_plot(rt: &impl Abort, alloc: Global, parcels: &mut Parcels)
     requires { IsLater 2 parcels.old }
-    ensures { OnOk result (IsLater 3 parcels.new) }
+    ensures { IsLater 3 parcels.new }
 {
     let ids = [name(b"plot"), name(b"low"), name(b"high")];
-    let by = region(alloc, &LOW)?;
-    cut(alloc, parcels, 2, &ids, &by)
+    let by = region(rt, alloc, &LOW);
+    cut(rt, alloc, parcels, 2, &ids, &by);
 }
 
 /// The plot, cut in two.
-fn two_sides(alloc: Global) -> Result<Parcels, Fail>
-    ensures { IfOk result (IsLater 3) }
+fn two_sides(rt: &impl Abort, alloc: Global) -> Parcels
+    ensures { IsLater 3 result }
 {
-    let mut parcels = with_plot(alloc, &PLOT)?;
-    cut_plot(alloc, &mut parcels)?;
-    Ok(parcels)
+    let mut parcels = with_plot(rt, alloc, &PLOT);
+    cut_plot(rt, alloc, &mut parcels);
+    parcels
 }
 
 /// How many live parcels an audit clears, and how many proof lines it has.
-fn audited<R: Threads + Sync, W: Watch>(
+fn audited<R: Abort + Threads + Sync, W: Watch>(
     rt: &R,
     alloc: Global,
     watch: &W,
     grain: usize,
     parcels: &Parcels,
-) -> Result<(u32, usize), Fail>
+) -> (u32, usize)
     requires { 1 ≤ grain }
 {
     let mut work = Work::new(alloc);
-    let count = parcels.audit(rt, alloc, watch, grain, &mut work)?;
-    Ok((count, work.proofs().len()))
+    let count = parcels.audit(rt, alloc, watch, grain, &mut work);
+    (count.expect(rt, "no audit"), work.proofs().len())
 }
 
 /// Whether the neighbours of a parcel are these.
-fn are_neighbours<R: Threads + Sync, W: Watch>(
+fn are_neighbours<R: Abort + Threads + Sync, W: Watch>(
     rt: &R,
     alloc: Global,
     watch: &W,
@@ -165,12 +176,12 @@ fn are_neighbours<R: Threads + Sync, W: Watch>(
     parcels: &Parcels,
     id: Name,
     ids: &[Name],
-) -> Result<bool, Fail>
+) -> bool
     requires { 1 ≤ grain }
 {
     let mut work = Work::new(alloc);
-    let found = parcels.neighbours(rt, alloc, watch, grain, id, &mut work)?;
-    Ok(found.items() == ids)
+    let found = parcels.neighbours(rt, alloc, watch, grain, id, &mut work);
+    found.expect(rt, "no neighbours").items() == ids
 }
 
 /// The south-west corner of the plot.
@@ -179,59 +190,56 @@ fn corner() -> Point {
 }
 
 #[test]
-fn a_point_has_one_owner_in_each_layer(rt: HostRuntime) -> Result<(), Fail> {
-    let parcels = with_plot(rt.alloc(), &PLOT)?;
+fn a_point_has_one_owner_in_each_layer(rt: HostRuntime) {
+    let parcels = with_plot(&rt, rt.alloc(), &PLOT);
     assert_eq!(rt; parcels.at(name(b"land"), &corner()), Some(name(b"plot")));
     assert_eq!(rt; parcels.at(name(b"air"), &corner()), None);
-    Ok(())
 }
 
 #[test]
-fn a_parcel_that_ended_was_there_before(rt: HostRuntime) -> Result<(), Fail> {
-    let mut parcels = with_plot(rt.alloc(), &PLOT)?;
-    parcels.retire(2, name(b"plot"))?;
+fn a_parcel_that_ended_was_there_before(rt: HostRuntime) {
+    let mut parcels = with_plot(&rt, rt.alloc(), &PLOT);
+    let done = parcels.retire(2, name(b"plot"));
+    done.expect(&rt, "the plot is not retired");
     assert_eq!(rt; parcels.at(name(b"land"), &corner()), None);
     assert_eq!(rt;
         parcels.at_line(name(b"land"), 1, &corner()),
         Some(name(b"plot"))
     );
-    Ok(())
 }
 
 #[test]
-fn sides_of_a_cut_touch(rt: HostRuntime) -> Result<(), Fail> {
-    let parcels = two_sides(rt.alloc())?;
+fn sides_of_a_cut_touch(rt: HostRuntime) {
+    let parcels = two_sides(&rt, rt.alloc());
     let ids = [name(b"high")];
-    assert!(rt; are_neighbours(&rt, rt.alloc(), &Quiet, 16, &parcels, name(b"low"), &ids)?);
-    assert_eq!(rt; audited(&rt, rt.alloc(), &Quiet, 16, &parcels)?, (2, 0));
+    assert!(rt; are_neighbours(&rt, rt.alloc(), &Quiet, 16, &parcels, name(b"low"), &ids));
+    assert_eq!(rt; audited(&rt, rt.alloc(), &Quiet, 16, &parcels), (2, 0));
     assert_eq!(rt; parcels.count_live(), 2);
-    Ok(())
 }
 
 /// Makes the two sides of the plot one parcel, at line 3.
-fn join_sides(alloc: Global, parcels: &mut Parcels) -> Result<(), Fail>
+fn join_sides(rt: &impl Abort, alloc: Global, parcels: &mut Parcels)
     requires { IsLater 3 parcels.old }
 {
     let sides = [name(b"low"), name(b"high")];
     let mut work = Work::new(alloc);
-    parcels.consolidate(alloc, 3, name(b"whole"), &sides, &mut work)?;
-    Ok(())
+    let done = parcels.consolidate(alloc, 3, name(b"whole"), &sides, &mut work);
+    done.expect(rt, "the sides are not made one");
 }
 
 #[test]
-fn sides_of_a_cut_become_one(rt: HostRuntime) -> Result<(), Fail> {
-    let mut parcels = two_sides(rt.alloc())?;
-    join_sides(rt.alloc(), &mut parcels)?;
-    assert_eq!(rt; audited(&rt, rt.alloc(), &Quiet, 16, &parcels)?, (1, 0));
-    Ok(())
+fn sides_of_a_cut_become_one(rt: HostRuntime) {
+    let mut parcels = two_sides(&rt, rt.alloc());
+    join_sides(&rt, rt.alloc(), &mut parcels);
+    assert_eq!(rt; audited(&rt, rt.alloc(), &Quiet, 16, &parcels), (1, 0));
 }
 
 /// A child with the region of a box.
-fn child(alloc: Global, id: Name, bounds: &IntBox) -> Result<Child, Fail>
+fn child(rt: &impl Abort, alloc: Global, id: Name, bounds: &IntBox) -> Child
     requires { is_box_in_bounds (integer_box bounds.now) ≡ true }
 {
-    let region = region(alloc, bounds)?;
-    Ok(Child { id, region })
+    let region = region(rt, alloc, bounds);
+    Child { id, region }
 }
 
 /// Whether it is refused at line 2 to divide the plot into these children, the second of which is outside.
@@ -245,20 +253,19 @@ fn is_outside_refused(alloc: Global, parcels: &mut Parcels, children: &[Child]) 
 }
 
 /// Both halves of the plot, as children.
-fn halves(alloc: Global) -> Result<[Child; 2], Fail> {
-    let low = child(alloc, name(b"low"), &LOW)?;
-    let high = child(alloc, name(b"high"), &HIGH)?;
-    Ok([low, high])
+fn halves(rt: &impl Abort, alloc: Global) -> [Child; 2] {
+    let low = child(rt, alloc, name(b"low"), &LOW);
+    let high = child(rt, alloc, name(b"high"), &HIGH);
+    [low, high]
 }
 
 #[test]
-fn a_child_outside_leaves_all_as_it_was(rt: HostRuntime) -> Result<(), Fail> {
-    let children = halves(rt.alloc())?;
-    let mut parcels = with_plot(rt.alloc(), &LOW)?;
+fn a_child_outside_leaves_all_as_it_was(rt: HostRuntime) {
+    let children = halves(&rt, rt.alloc());
+    let mut parcels = with_plot(&rt, rt.alloc(), &LOW);
     assert!(rt; is_outside_refused(rt.alloc(), &mut parcels, &children));
     assert!(rt; parcels.region(name(b"plot")).is_some());
     assert_eq!(rt; parcels.history().lots().len(), 1);
-    Ok(())
 }
 
 /// Counts the nodes that are visited.
@@ -313,136 +320,142 @@ fn have_met(meeting: &Meeting) -> bool {
 }
 
 /// The unit box in a row along x, from x on.
-fn slice(alloc: Global, x: u32) -> Result<Region, Fail> {
+fn slice(rt: &impl Abort, alloc: Global, x: u32) -> Region {
     let [_, _, south, north, bottom, top] = box_halves(&IntBox {
         lo: [0, 0, 0],
         hi: [1, 1, 1],
     });
-    let west = Half::new(1, 0, 0, -(x as i64))?;
-    let east = Half::new(-1, 0, 0, x as i64 + 1)?;
+    let west = Half::new(1, 0, 0, -(x as i64)).expect(rt, "no side in the west");
+    let east = Half::new(-1, 0, 0, x as i64 + 1).expect(rt, "no side in the east");
     let cell = [west, east, south, north, bottom, top];
     let mut work = Work::new(alloc);
-    Ok(Region::of_cell(alloc, &cell, &mut work)?)
+    Region::of_cell(alloc, &cell, &mut work).expect(rt, "no unit box")
 }
 
 /// The name of a box in a row.
-fn name_in_row(i: u32) -> Result<Name, Fail> {
+fn name_in_row(rt: &impl Abort, i: u32) -> Name {
     let id = [b'p', b'0' + (i / 10 % 10) as u8, b'0' + (i % 10) as u8];
-    Ok(Name::new(&id).ok_or("no name")?)
+    Name::new(&id).expect(rt, "no name")
 }
 
 /// Registers the next unit box of a row.
-fn add_slice(alloc: Global, parcels: &mut Parcels, i: u32) -> Result<(), Fail>
+fn add_slice(rt: &impl Abort, alloc: Global, parcels: &mut Parcels, i: u32)
     requires small { i < 1000 }
     requires later { IsLater (i + 1) parcels.old }
-    ensures { OnOk result (IsLater (i + 2) parcels.new) }
+    ensures { IsLater (i + 2) parcels.new }
 {
-    let id = name_in_row(i)?;
-    register(alloc, &Quiet, parcels, i + 1, id, slice(alloc, i)?)
+    let id = name_in_row(rt, i);
+    let region = slice(rt, alloc, i);
+    register(rt, alloc, &Quiet, parcels, i + 1, id, region);
 }
 
 /// A row of unit boxes along x, from 0 on, one at each line.
-fn row(alloc: Global, count: u32) -> Result<Parcels, Fail>
+fn row(rt: &impl Abort, alloc: Global, count: u32) -> Parcels
     requires { count < 1000 }
-    ensures { IfOk result (IsLater (count + 1)) }
+    ensures { IsLater (count + 1) result }
 {
-    let mut parcels = Parcels::new(alloc)?;
+    let mut parcels = nothing(rt, alloc);
     for i in 0..count {
-        add_slice(alloc, &mut parcels, i)?;
+        add_slice(rt, alloc, &mut parcels, i);
     }
-    Ok(parcels)
+    parcels
 }
 
 #[test]
-fn register_reads_few(rt: HostRuntime) -> Result<(), Fail> {
-    let region = slice(rt.alloc(), 100)?;
-    let mut parcels = row(rt.alloc(), 100)?;
+fn register_reads_few(rt: HostRuntime) {
+    let region = slice(&rt, rt.alloc(), 100);
+    let mut parcels = row(&rt, rt.alloc(), 100);
     let count = NodeCount {
         nodes: AtomicU32::new(0),
     };
-    register(rt.alloc(), &count, &mut parcels, 101, name(b"last"), region)?;
+    register(
+        &rt,
+        rt.alloc(),
+        &count,
+        &mut parcels,
+        101,
+        name(b"last"),
+        region,
+    );
     let nodes = count.nodes.load(Ordering::SeqCst);
     assert!(rt; (1..=56).contains(&nodes));
-    Ok(())
 }
 
 /// Three plots in a row, of which the first is in the middle.
-fn three_plots(alloc: Global) -> Result<Parcels, Fail> {
-    let mut parcels = with_plot(alloc, &PLOT)?;
-    register_box(alloc, &mut parcels, 2, name(b"b"), &EAST)?;
-    register_box(alloc, &mut parcels, 3, name(b"c"), &WEST)?;
-    Ok(parcels)
+fn three_plots(rt: &impl Abort, alloc: Global) -> Parcels {
+    let mut parcels = with_plot(rt, alloc, &PLOT);
+    register_box(rt, alloc, &mut parcels, 2, name(b"b"), &EAST);
+    register_box(rt, alloc, &mut parcels, 3, name(b"c"), &WEST);
+    parcels
 }
 
 #[test]
-fn parcel_items_meet_in_neighbours(rt: HostRuntime) -> Result<(), Fail> {
-    let parcels = three_plots(rt.alloc())?;
+fn parcel_items_meet_in_neighbours(rt: HostRuntime) {
+    let parcels = three_plots(&rt, rt.alloc());
     let meeting = apart();
     let ids = [name(b"b"), name(b"c")];
-    assert!(rt; are_neighbours(&rt, rt.alloc(), &meeting, 1, &parcels, name(b"plot"), &ids)?);
+    assert!(rt; are_neighbours(&rt, rt.alloc(), &meeting, 1, &parcels, name(b"plot"), &ids));
     assert!(rt; have_met(&meeting));
-    Ok(())
 }
 
 /// The half-space askew of the points whose x and y together are at least so much.
-fn askew(alloc: Global, least: i32) -> Result<Region, Fail> {
-    let half = Half::new(1, 1, 0, -(least as i64))?;
+fn askew(rt: &impl Abort, alloc: Global, least: i32) -> Region {
+    let half = Half::new(1, 1, 0, -(least as i64)).expect(rt, "no half-space askew");
     let mut work = Work::new(alloc);
-    Ok(Region::of_cell(alloc, &[half], &mut work)?)
+    Region::of_cell(alloc, &[half], &mut work).expect(rt, "no region askew")
 }
 
 /// Registers a box at the line, and cuts it askew at the next one.
 fn register_and_cut(
+    rt: &impl Abort,
     alloc: Global,
     parcels: &mut Parcels,
     line: u32,
     bounds: &IntBox,
     ids: &[Name; 3],
     by: &Region,
-) -> Result<(), Fail>
+)
     requires small { line < 1000 }
     requires later { IsLater line parcels.old }
     requires bounds { is_box_in_bounds (integer_box bounds.now) ≡ true }
-    ensures { OnOk result (IsLater (line + 2) parcels.new) }
+    ensures { IsLater (line + 2) parcels.new }
 {
-    register_box(alloc, parcels, line, ids[0], bounds)?;
-    cut(alloc, parcels, line + 1, ids, by)
+    register_box(rt, alloc, parcels, line, ids[0], bounds);
+    cut(rt, alloc, parcels, line + 1, ids, by);
 }
 
 /// The first of two plots, cut askew at line 2.
-fn first_cut(alloc: Global) -> Result<Parcels, Fail>
-    ensures { IfOk result (IsLater 3) }
+fn first_cut(rt: &impl Abort, alloc: Global) -> Parcels
+    ensures { IsLater 3 result }
 {
-    let by = askew(alloc, 10)?;
+    let by = askew(rt, alloc, 10);
     let ids = [name(b"a"), name(b"a1"), name(b"a2")];
-    let mut parcels = Parcels::new(alloc)?;
-    register_and_cut(alloc, &mut parcels, 1, &PLOT, &ids, &by)?;
-    Ok(parcels)
+    let mut parcels = nothing(rt, alloc);
+    register_and_cut(rt, alloc, &mut parcels, 1, &PLOT, &ids, &by);
+    parcels
 }
 
 /// Two plots that are cut askew: the boxes of the two sides of each meet.
-fn cut_plots(alloc: Global) -> Result<Parcels, Fail> {
-    let by = askew(alloc, 30)?;
+fn cut_plots(rt: &impl Abort, alloc: Global) -> Parcels {
+    let by = askew(rt, alloc, 30);
     let ids = [name(b"b"), name(b"b1"), name(b"b2")];
-    let mut parcels = first_cut(alloc)?;
-    register_and_cut(alloc, &mut parcels, 3, &FAR, &ids, &by)?;
-    Ok(parcels)
+    let mut parcels = first_cut(rt, alloc);
+    register_and_cut(rt, alloc, &mut parcels, 3, &FAR, &ids, &by);
+    parcels
 }
 
 #[test]
-fn parcel_items_meet_in_audit(rt: HostRuntime) -> Result<(), Fail> {
-    let parcels = cut_plots(rt.alloc())?;
+fn parcel_items_meet_in_audit(rt: HostRuntime) {
+    let parcels = cut_plots(&rt, rt.alloc());
     let meeting = apart();
-    assert_eq!(rt; audited(&rt, rt.alloc(), &meeting, 1, &parcels)?, (4, 2));
+    assert_eq!(rt; audited(&rt, rt.alloc(), &meeting, 1, &parcels), (4, 2));
     assert!(rt; have_met(&meeting));
-    Ok(())
 }
 
 #[test]
-fn audit_is_the_same_for_every_grain(rt: HostRuntime) -> Result<(), Fail> {
-    let parcels = cut_plots(rt.alloc())?;
+fn audit_is_the_same_for_every_grain(rt: HostRuntime) {
+    let parcels = cut_plots(&rt, rt.alloc());
     for grain in [1, 7, 1000] {
-        assert_eq!(rt; audited(&rt, rt.alloc(), &Quiet, grain, &parcels)?, (4, 2));
+        assert_eq!(rt; audited(&rt, rt.alloc(), &Quiet, grain, &parcels), (4, 2));
     }
-    Ok(())
 }

@@ -4,4 +4,4 @@ use Rattle.rp_parcels.proofs.tests.row.Given as goal
 
 -- the line of the next box is above those of all boxes so far
 abbrev pub invariant-loop-i : goal.invariant-loop-i
-invariant-loop-i l = IsLater (l.i + 1) l.parcels
+invariant-loop-i g l = IsLater (l.i + 1) l.parcels
