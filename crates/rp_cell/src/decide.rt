@@ -12,7 +12,7 @@ ghost use Rattle.rp_cell.specs.Decisions.{line_of_strict, line_of_weak, DecidesS
 use crate::held::Held;
 use rp_elim::{first_outside, first_outside_of_two};
 use rp_space::{Half, Inside, Outside, Point, keep_bounds};
-use rp_vertex::{first_inside, first_weak, inside_on_first, weak_on_first};
+use rp_vertex::{first_inside, first_weak, inside_on_few_lines, weak_on_few_lines};
 
 /// Whether a cell has a point.
 #[derive(Debug, Drop)]
@@ -33,6 +33,9 @@ pub enum Weak {
     Outside(Outside),
 }
 
+/// The fewest half-spaces of a cell for which refutations by two of them are tried first: with fewer, points are found as fast.
+const FEW_FOR_PAIRS: usize = 7;
+
 /// The fewest half-spaces of a cell that is held with its vertices to be decided: with fewer the searches are as fast.
 const FEW: usize = 12;
 
@@ -46,6 +49,9 @@ pub fn decide_strict(cell: &[Half]) -> Strict
 {
     // Only so that it is known of all half-spaces that they keep their bounds.
     keep_bounds(cell);
+    if cell.len() < FEW_FOR_PAIRS {
+        return search_strict(cell);
+    }
     if let Some(terms) = first_outside_of_two(cell, true) {
         return Strict::Outside(terms);
     }
@@ -61,7 +67,7 @@ fn try_strict(cell: &[Half]) -> Strict
     ensures decides { DecidesStrict cell.now result }
     ensures line { line_of_strict result ≡ strict_line cell.now }
 {
-    match inside_on_first(cell) {
+    match inside_on_few_lines(cell) {
         Some(points) => Strict::Inside(points),
         None => hold_strict(cell),
     }
@@ -98,6 +104,9 @@ pub fn decide_weak(cell: &[Half]) -> Weak
 {
     // Only so that it is known of all half-spaces that they keep their bounds.
     keep_bounds(cell);
+    if cell.len() < FEW_FOR_PAIRS {
+        return search_weak(cell);
+    }
     if let Some(terms) = first_outside_of_two(cell, false) {
         return Weak::Outside(terms);
     }
@@ -113,7 +122,7 @@ fn try_weak(cell: &[Half]) -> Weak
     ensures decides { DecidesWeak cell.now result }
     ensures line { line_of_weak result ≡ weak_line cell.now }
 {
-    match weak_on_first(cell) {
+    match weak_on_few_lines(cell) {
         Some(p) => Weak::At(p),
         None => hold_weak(cell),
     }

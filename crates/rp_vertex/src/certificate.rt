@@ -1,15 +1,15 @@
 //! The first certificates made of points.
-ghost use Rattle.std.specs.Prelude.{◌≡◌, ◌≤◌, length, ◌↔◌, IsNone, IfSome, IsTrue, false, true, Some, [], ◌∷◌};
+ghost use Rattle.std.specs.Prelude.{◌≡◌, ◌≤◌, length, ◌↔◌, IsNone, IfSome, IsTrue, false, Some};
 ghost use Rattle.rp_geometry.specs.Geometry.{RationalPoint};
 ghost use Rattle.rp_geometry.specs.sets.Shape.{shape_of_cell};
 ghost use Rattle.rp_geometry.specs.sets.Sets.{IsEmpty};
 ghost use Rattle.rp_geometry.specs.searches.Certificate.{is_inside_certificate};
-ghost use Rattle.rp_geometry.specs.searches.Vertex.{first_inside, first_weak_point, first_vertex, flat_half_spaces, any_point, points_from};
+ghost use Rattle.rp_geometry.specs.searches.Vertex.{first_inside, first_weak_point, first_vertex, any_point, points_from};
 ghost use Rattle.rp_geometry.specs.laws.CellLaws.{IsSolution};
 ghost use Rattle.rp_vertex.specs.Joined.{HasCube};
 
 use crate::flat::flat_at;
-use crate::search::{Wanted, Way, first_vertex, vertex_on_first};
+use crate::search::{Wanted, Way, first_vertex, vertex_on_few};
 use rp_space::{Half, Inside, Point, with_cube};
 
 /// With fewer half-spaces in a cell a search over triples is faster than one along lines.
@@ -63,40 +63,27 @@ pub fn first_weak(cell: &[Half]) -> Option<Point>
     first_vertex(way_of(cell), Wanted::Any, system.as_slice())
 }
 
-/// The first inside certificate of a cell, if its first point is on one of the first few lines on the plane of the first
-/// half-space of the list. `None` tells nothing. A cell has at most 64 half-spaces. Takes no memory.
-pub fn inside_on_first(cell: &[Half]) -> Option<Inside>
+/// The first inside certificate of a cell, if each of its points is found on the first few lines of the first plane that may
+/// have it. `None` tells nothing, and comes soon. A cell has at most 64 half-spaces. Takes no memory.
+pub fn inside_on_few_lines(cell: &[Half]) -> Option<Inside>
     requires { length cell.now ≤ 64 }
     ensures first { IfSome result (λ points. first_inside cell.now ≡ Some points) }
     ensures passes { IfSome result (λ points. IsTrue (is_inside_certificate cell.now points)) }
 {
     let system = with_cube(cell);
-    let first = vertex_on_first(system.as_slice())?;
-    // On more than three planes it may be the only point of a cell without members, and all lines would be gone over.
-    if !is_on_three(system.as_slice(), &first) {
-        return None;
-    }
-    points_from(Way::Lines, system.as_slice(), first)
+    let first = vertex_on_few(Wanted::Any, system.as_slice())?;
+    points_on_few(system.as_slice(), first)
 }
 
-/// Whether at most three half-spaces of a list are not positive at the point.
-fn is_on_three(system: &[Half], p: &Point) -> bool
-    requires { length system.now ≤ 70 }
-    ensures { result ≡ true ↔ length (flat_half_spaces system.now (p.now ∷ [])) ≤ 3 }
-{
-    flat_at(system, p).len() <= 3
-}
-
-/// The first weak point of a cell, if it is on one of the first few lines on the plane of the first half-space of the list.
-/// `None` tells nothing.
-/// A cell has at most 64 half-spaces. Takes no memory.
-pub fn weak_on_first(cell: &[Half]) -> Option<Point>
+/// The first weak point of a cell, if it is found on the first few lines of the first plane. `None` tells nothing, and comes
+/// soon. A cell has at most 64 half-spaces. Takes no memory.
+pub fn weak_on_few_lines(cell: &[Half]) -> Option<Point>
     requires { length cell.now ≤ 64 }
     ensures first { IfSome result (λ p. first_weak_point cell.now ≡ Some p) }
     ensures passes { IfSome result (λ p. IsSolution false cell.now p) }
 {
     let system = with_cube(cell);
-    vertex_on_first(system.as_slice())
+    vertex_on_few(Wanted::Any, system.as_slice())
 }
 
 /// The points that are taken of the vertices of a list of half-spaces.
@@ -121,6 +108,24 @@ fn points_from(way: Way, system: &[Half], first: Point) -> Option<Inside>
     let mut flat = flat_at(system, &first);
     while !flat.is_empty() {
         let next = first_vertex(way, Wanted::Lifting(flat.as_slice()), system)?;
+        taken.push(next);
+        flat = flat_at(flat.as_slice(), &next);
+    }
+    Some(taken)
+}
+
+/// The same, as long as each point is found on a few lines. `None` tells nothing.
+fn points_on_few(system: &[Half], first: Point) -> Option<Inside>
+    requires few { length system.now ≤ 70 }
+    requires cube { HasCube system.now }
+    requires first { first_vertex any_point system.now ≡ Some first }
+    ensures { IfSome result (λ points. points_from system.now (Some first) ≡ Some points) }
+{
+    let mut taken = Inside::new();
+    taken.push(first);
+    let mut flat = flat_at(system, &first);
+    while !flat.is_empty() {
+        let next = vertex_on_few(Wanted::Lifting(flat.as_slice()), system)?;
         taken.push(next);
         flat = flat_at(flat.as_slice(), &next);
     }

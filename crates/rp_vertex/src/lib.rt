@@ -10,7 +10,7 @@ mod search;
 
 pub use bounds::box_of_vertices;
 pub use certificate::{
-    first_inside, first_inside_over_triples, first_weak, inside_on_first, weak_on_first,
+    first_inside, first_inside_over_triples, first_weak, inside_on_few_lines, weak_on_few_lines,
 };
 
 #[cfg(test)]

@@ -1,9 +1,9 @@
 //! The search for the first vertex: the first meeting point of three planes of a list, in the order of the triples,
 //! at which no half-space of the list is negative.
-ghost use Rattle.std.specs.Prelude.{◌≡◌, ◌&&◌, IfSome, Some};
+ghost use Rattle.std.specs.Prelude.{◌≡◌, ◌&&◌, true, IfSome, Some, None};
 ghost use Rattle.rp_geometry.specs.Geometry.{all_nonnegative};
 ghost use Rattle.rp_geometry.specs.searches.Search.{first_of, first_of_pairs};
-ghost use Rattle.rp_geometry.specs.searches.Vertex.{any_point, lifts, vertex_at, first_vertex};
+ghost use Rattle.rp_geometry.specs.searches.Vertex.{lifts, vertex_at, first_vertex};
 ghost use Rattle.rp_vertex.specs.Joined.{HasCube};
 ghost use Rattle.rp_vertex.specs.Line.{HoldsVertices};
 ghost use Rattle.rp_vertex.specs.Wanted.{are_among, is_wanted, lie_within};
@@ -11,7 +11,7 @@ ghost use Rattle.rp_vertex.specs.Wanted.{are_among, is_wanted, lie_within};
 use crate::line::{Line, line_of};
 use rp_space::{Half, Meeting, Pair, Point};
 
-/// So many lines of one plane are tried for the first vertex. Most often it is on one of these, where it is on the plane.
+/// So many lines of one plane are tried for a vertex. Most often it is on one of these, where it is on the plane.
 const FEW_LINES: usize = 12;
 
 /// Which vertices are wanted.
@@ -47,35 +47,41 @@ pub(crate) fn first_vertex(way: Way, wanted: Wanted, system: &[Half]) -> Option<
     None
 }
 
-/// The first vertex of a list of half-spaces, if it is on the plane of the first one and of one of a few behind it. `None`
-/// tells nothing.
+/// The first wanted vertex of a list of half-spaces, if it is on one of the first few lines on the first plane that may have
+/// one. `None` tells nothing.
 #[tactic(auto, unfolding(rp_geometry::specs::searches::Vertex::first_vertex))]
-pub(crate) fn vertex_on_first(system: &[Half]) -> Option<Point>
+pub(crate) fn vertex_on_few(wanted: Wanted, system: &[Half]) -> Option<Point>
     requires { HasCube system.now }
-    ensures { IfSome result (λ p. first_vertex any_point system.now ≡ Some p) }
+    ensures { IfSome result (λ p. first_vertex (is_wanted wanted.entry) system.now ≡ Some p) }
 {
-    let (f, others) = system.split_first()?;
-    first_on_few(system, f, others)
+    for place in 0..system.len() {
+        let f = &system[place];
+        let others = &system[place + 1..];
+        if !has_none(wanted, system, f, others) {
+            return first_on_few(wanted, system, f, others);
+        }
+    }
+    None
 }
 
-/// The first vertex on the plane of `f` and two planes of `others`, if it is on one of the first few of these. `None` tells
-/// nothing.
-fn first_on_few(system: &[Half], f: &Half, others: &[Half]) -> Option<Point>
+/// Whether it is known at once that no vertex on the plane of `f` and two planes of `others` is wanted.
+fn has_none(wanted: Wanted, system: &[Half], f: &Half, others: &[Half]) -> bool
+    ensures { result ≡ true → first_of_pairs (vertex_at (is_wanted wanted.entry) system.now f.now) others.now ≡ None }
+{
+    lie_within(wanted, f, f)
+}
+
+/// The first wanted vertex on the plane of `f` and two planes of `others`, if it is on one of the first few of these. `None`
+/// tells nothing.
+fn first_on_few(wanted: Wanted, system: &[Half], f: &Half, others: &[Half]) -> Option<Point>
     requires { HasCube system.now }
-    ensures { IfSome result (λ p. first_of_pairs (vertex_at any_point system.now f.now) others.now ≡ Some p) }
+    ensures { IfSome result (λ p. first_of_pairs (vertex_at (is_wanted wanted.entry) system.now f.now) others.now ≡ Some p) }
 {
     for i in 0..others.len() {
         if i == FEW_LINES {
             return None;
         }
-        let found = first_on_both(
-            Way::Lines,
-            Wanted::Any,
-            system,
-            f,
-            &others[i],
-            &others[i + 1..],
-        );
+        let found = first_on_both(Way::Lines, wanted, system, f, &others[i], &others[i + 1..]);
         if found.is_some() {
             return found;
         }
@@ -94,7 +100,7 @@ fn first_with_one(
     requires { HasCube system.now }
     ensures { result ≡ first_of_pairs (vertex_at (is_wanted wanted.entry) system.now f.now) others.now }
 {
-    if lie_within(wanted, f, f) {
+    if has_none(wanted, system, f, others) {
         return None;
     }
     for i in 0..others.len() {

@@ -1,6 +1,6 @@
 use crate::{
-    box_of_vertices, first_inside, first_inside_over_triples, first_weak, inside_on_first,
-    weak_on_first,
+    box_of_vertices, first_inside, first_inside_over_triples, first_weak, inside_on_few_lines,
+    weak_on_few_lines,
 };
 use rp_space::{Half, IntBox};
 use std::process::Abort;
@@ -40,12 +40,12 @@ fn a_few_lines_of_the_first_plane_tell_the_same(rt: HostRuntime) -> Result<(), F
         half(&rt, (0, 0, 1, 0)),
         half(&rt, (-2, -3, -5, 7)),
     ];
-    let inside = inside_on_first(&cell).ok_or("no certificate")?;
+    let inside = inside_on_few_lines(&cell).ok_or("no certificate")?;
     let points = inside.items();
     assert_eq!(rt; points.len(), 4);
     assert_eq!(rt; points[1].numbers(), (0, 0, 7, 5));
     assert_eq!(rt; points[3].numbers(), (7, 0, 0, 2));
-    let weak = weak_on_first(&cell).ok_or("no weak point")?;
+    let weak = weak_on_few_lines(&cell).ok_or("no weak point")?;
     assert_eq!(rt; weak.numbers(), (0, 0, 0, 1));
     assert!(rt; first_inside_over_triples(&cell).is_some());
     Ok(())
