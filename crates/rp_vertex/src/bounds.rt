@@ -13,6 +13,7 @@ ghost use Rattle.rp_vertex.specs.Joined.{HasCube, joined};
 ghost use Rattle.rp_vertex.specs.Line.{HoldsVertices};
 
 use crate::line::{Line, line_of};
+use crate::order::Order;
 use crate::search::are_nonnegative;
 use rp_space::{Half, IntBox, Meeting, Pair, with_cube};
 
@@ -35,8 +36,9 @@ fn box_of_system(system: &[Half]) -> Option<IntBox>
     ensures { option_map integer_box result ≡ joined None (all_of_triples (vertex_at any_point system.now) system.now) }
 {
     let mut bounds = None;
+    let mut order = Order::new();
     for i in 0..system.len() {
-        bounds = joined_with_one(bounds, system, &system[i], &system[i + 1..]);
+        bounds = joined_with_one(bounds, system, &mut order, &system[i], &system[i + 1..]);
     }
     bounds
 }
@@ -45,6 +47,7 @@ fn box_of_system(system: &[Half]) -> Option<IntBox>
 fn joined_with_one(
     mut bounds: Option<IntBox>,
     system: &[Half],
+    order: &mut Order,
     f: &Half,
     others: &[Half],
 ) -> Option<IntBox>
@@ -53,7 +56,7 @@ fn joined_with_one(
 {
     for i in 0..others.len() {
         let pair = Pair::new(f, &others[i]);
-        bounds = joined_with_two(bounds, system, &pair, &others[i + 1..]);
+        bounds = joined_with_two(bounds, system, order, &pair, &others[i + 1..]);
     }
     bounds
 }
@@ -62,13 +65,14 @@ fn joined_with_one(
 fn joined_with_two(
     mut bounds: Option<IntBox>,
     system: &[Half],
+    order: &mut Order,
     pair: &Pair,
     others: &[Half],
 ) -> Option<IntBox>
     requires { HasCube system.now }
     ensures { option_map integer_box result ≡ joined (option_map integer_box bounds) (filter_map (vertex_at any_point system.now pair.now.first pair.now.second) others.now) }
 {
-    let line = line_of(system, pair);
+    let line = line_of(system, pair, order);
     for h in others {
         bounds = joined_on(bounds, system, pair, &line, h);
     }

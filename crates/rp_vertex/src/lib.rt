@@ -6,6 +6,7 @@ mod bounds;
 mod certificate;
 mod flat;
 mod line;
+mod order;
 mod search;
 
 pub use bounds::box_of_vertices;

@@ -4,6 +4,7 @@ ghost use Rattle.rp_geometry.specs.Geometry.{side_value};
 ghost use Rattle.rp_vertex.specs.Joined.{HasCube};
 ghost use Rattle.rp_vertex.specs.Line.{Cuts, HoldsVertices, IsBetween, IsInCube, IsSpan, are_on_one_side, passes};
 
+use crate::order::Order;
 use rp_space::{Half, Meeting, Pair, cube};
 
 /// What is known of the points of the line of two planes at which no half-space of a list is negative.
@@ -49,12 +50,12 @@ fn are_on_one_side(h: &Half, p: &Meeting, q: &Meeting) -> bool
 }
 
 /// What a list of half-spaces, with the cube's, leaves of the line of two planes.
-pub(crate) fn line_of(system: &[Half], pair: &Pair) -> Line
+pub(crate) fn line_of(system: &[Half], pair: &Pair, order: &mut Order) -> Line
     requires { HasCube system.now }
     ensures { HoldsVertices system.now pair.now result }
 {
     match span_in_cube(pair) {
-        Some(span) => clipped(system, pair, span),
+        Some(span) => clipped(system, pair, order, span),
         None => Line::Unknown,
     }
 }
@@ -83,12 +84,14 @@ fn span_of(pair: &Pair, f: &Half, g: &Half) -> Option<Span>
 }
 
 /// What a list of half-spaces leaves of a part of the line of two planes.
-fn clipped(system: &[Half], pair: &Pair, mut span: Span) -> Line
+fn clipped(system: &[Half], pair: &Pair, order: &mut Order, mut span: Span) -> Line
     requires { IsSpan system.now pair.now span }
     ensures { HoldsVertices system.now pair.now result }
 {
-    for h in system {
+    for rank in 0..system.len() {
+        let h = order.half(system, rank);
         if !cut(pair, h, &mut span) {
+            order.bring_forward(rank);
             return Line::Empty;
         }
     }

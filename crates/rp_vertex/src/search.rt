@@ -9,6 +9,7 @@ ghost use Rattle.rp_vertex.specs.Line.{HoldsVertices};
 ghost use Rattle.rp_vertex.specs.Wanted.{are_among, is_wanted, lie_within};
 
 use crate::line::{Line, line_of};
+use crate::order::Order;
 use rp_space::{Half, Meeting, Pair, Point};
 
 /// So many lines of one plane are tried for a vertex. Most often it is on one of these, where it is on the plane.
@@ -38,8 +39,16 @@ pub(crate) fn first_vertex(way: Way, wanted: Wanted, system: &[Half]) -> Option<
     requires { HasCube system.now }
     ensures { result ≡ first_vertex (is_wanted wanted.entry) system.now }
 {
+    let mut order = Order::new();
     for i in 0..system.len() {
-        let found = first_with_one(way, wanted, system, &system[i], &system[i + 1..]);
+        let found = first_with_one(
+            way,
+            wanted,
+            system,
+            &mut order,
+            &system[i],
+            &system[i + 1..],
+        );
         if found.is_some() {
             return found;
         }
@@ -77,11 +86,20 @@ fn first_on_few(wanted: Wanted, system: &[Half], f: &Half, others: &[Half]) -> O
     requires { HasCube system.now }
     ensures { IfSome result (λ p. first_of_pairs (vertex_at (is_wanted wanted.entry) system.now f.now) others.now ≡ Some p) }
 {
+    let mut order = Order::new();
     for i in 0..others.len() {
         if i == FEW_LINES {
             return None;
         }
-        let found = first_on_both(Way::Lines, wanted, system, f, &others[i], &others[i + 1..]);
+        let found = first_on_both(
+            Way::Lines,
+            wanted,
+            system,
+            &mut order,
+            f,
+            &others[i],
+            &others[i + 1..],
+        );
         if found.is_some() {
             return found;
         }
@@ -94,6 +112,7 @@ fn first_with_one(
     way: Way,
     wanted: Wanted,
     system: &[Half],
+    order: &mut Order,
     f: &Half,
     others: &[Half],
 ) -> Option<Point>
@@ -104,7 +123,7 @@ fn first_with_one(
         return None;
     }
     for i in 0..others.len() {
-        let found = first_on_both(way, wanted, system, f, &others[i], &others[i + 1..]);
+        let found = first_on_both(way, wanted, system, order, f, &others[i], &others[i + 1..]);
         if found.is_some() {
             return found;
         }
@@ -117,6 +136,7 @@ fn first_on_both(
     way: Way,
     wanted: Wanted,
     system: &[Half],
+    order: &mut Order,
     f: &Half,
     g: &Half,
     others: &[Half],
@@ -128,7 +148,7 @@ fn first_on_both(
         return None;
     }
     let pair = Pair::new(f, g);
-    let line = line_by(way, system, &pair);
+    let line = line_by(way, system, &pair, order);
     first_with_two(wanted, system, &pair, &line, others)
 }
 
@@ -150,13 +170,13 @@ fn are_among(halves: &[Half], f: &Half, g: &Half) -> bool
 }
 
 /// What is known of the line of a pair.
-pub(crate) fn line_by(way: Way, system: &[Half], pair: &Pair) -> Line
+fn line_by(way: Way, system: &[Half], pair: &Pair, order: &mut Order) -> Line
     requires { HasCube system.now }
     ensures { HoldsVertices system.now pair.now result }
 {
     match way {
         Way::Triples => Line::Unknown,
-        Way::Lines => line_of(system, pair),
+        Way::Lines => line_of(system, pair, order),
     }
 }
 
