@@ -9,6 +9,7 @@ ghost use Rattle.rp_geometry.specs.laws.CellLaws.{IsSolution};
 ghost use Rattle.rp_vertex.specs.Joined.{HasCube};
 
 use crate::flat::flat_at;
+use crate::order::Order;
 use crate::search::{Wanted, Way, first_vertex, vertex_on_few};
 use rp_space::{Half, Inside, Point, with_cube};
 
@@ -60,19 +61,25 @@ pub fn first_weak(cell: &[Half]) -> Option<Point>
     ensures none { IsNone result ↔ ((p : RationalPoint) → ¬ IsSolution false cell.now p) }
 {
     let system = with_cube(cell);
-    first_vertex(way_of(cell), Wanted::Any, system.as_slice())
+    first_vertex(
+        way_of(cell),
+        Wanted::Any,
+        system.as_slice(),
+        &mut Order::new(),
+    )
 }
 
-/// The first inside certificate of a cell, if each of its points is found on the first few lines of the first plane that may
-/// have it. `None` tells nothing, and comes soon. A cell has at most 64 half-spaces. Takes no memory.
+/// The first inside certificate of a cell, if its first point is found on the first few lines of the first plane, and each
+/// further one on the first plane that may have it. `None` tells nothing, and comes soon. A cell has at most 64 half-spaces. Takes no memory.
 pub fn inside_on_few_lines(cell: &[Half]) -> Option<Inside>
     requires { length cell.now ≤ 64 }
     ensures first { IfSome result (λ points. first_inside cell.now ≡ Some points) }
     ensures passes { IfSome result (λ points. IsTrue (is_inside_certificate cell.now points)) }
 {
     let system = with_cube(cell);
-    let first = vertex_on_few(Wanted::Any, system.as_slice())?;
-    points_on_few(system.as_slice(), first)
+    let mut order = Order::new();
+    let first = vertex_on_few(Wanted::Any, system.as_slice(), &mut order)?;
+    points_on_few(system.as_slice(), &mut order, first)
 }
 
 /// The first weak point of a cell, if it is found on the first few lines of the first plane. `None` tells nothing, and comes
@@ -83,7 +90,7 @@ pub fn weak_on_few_lines(cell: &[Half]) -> Option<Point>
     ensures passes { IfSome result (λ p. IsSolution false cell.now p) }
 {
     let system = with_cube(cell);
-    vertex_on_few(Wanted::Any, system.as_slice())
+    vertex_on_few(Wanted::Any, system.as_slice(), &mut Order::new())
 }
 
 /// The points that are taken of the vertices of a list of half-spaces.
@@ -92,12 +99,13 @@ fn first_points(way: Way, system: &[Half]) -> Option<Inside>
     requires cube { HasCube system.now }
     ensures { result ≡ points_from system.now (first_vertex any_point system.now) }
 {
-    let first = first_vertex(way, Wanted::Any, system)?;
-    points_from(way, system, first)
+    let mut order = Order::new();
+    let first = first_vertex(way, Wanted::Any, system, &mut order)?;
+    points_from(way, system, &mut order, first)
 }
 
 /// The points that are taken from a first one on, which is the first vertex of the list.
-fn points_from(way: Way, system: &[Half], first: Point) -> Option<Inside>
+fn points_from(way: Way, system: &[Half], order: &mut Order, first: Point) -> Option<Inside>
     requires few { length system.now ≤ 70 }
     requires cube { HasCube system.now }
     requires first { first_vertex any_point system.now ≡ Some first }
@@ -107,15 +115,15 @@ fn points_from(way: Way, system: &[Half], first: Point) -> Option<Inside>
     taken.push(first);
     let mut flat = flat_at(system, &first);
     while !flat.is_empty() {
-        let next = first_vertex(way, Wanted::Lifting(flat.as_slice()), system)?;
+        let next = first_vertex(way, Wanted::Lifting(flat.as_slice()), system, order)?;
         taken.push(next);
         flat = flat_at(flat.as_slice(), &next);
     }
     Some(taken)
 }
 
-/// The same, as long as each point is found on a few lines. `None` tells nothing.
-fn points_on_few(system: &[Half], first: Point) -> Option<Inside>
+/// The same, if each is found on the first plane that may have it. `None` tells nothing.
+fn points_on_few(system: &[Half], order: &mut Order, first: Point) -> Option<Inside>
     requires few { length system.now ≤ 70 }
     requires cube { HasCube system.now }
     requires first { first_vertex any_point system.now ≡ Some first }
@@ -125,7 +133,7 @@ fn points_on_few(system: &[Half], first: Point) -> Option<Inside>
     taken.push(first);
     let mut flat = flat_at(system, &first);
     while !flat.is_empty() {
-        let next = vertex_on_few(Wanted::Lifting(flat.as_slice()), system)?;
+        let next = vertex_on_few(Wanted::Lifting(flat.as_slice()), system, order)?;
         taken.push(next);
         flat = flat_at(flat.as_slice(), &next);
     }

@@ -45,10 +45,12 @@ impl Order {
         }
     }
 
-    /// Brings what has a rank half the way forward.
+    /// Brings what has a rank to the front.
     pub(crate) fn bring_forward(&mut self, rank: usize) {
         if rank < MOST {
-            self.places.swap(rank, rank / 2);
+            let place = self.places[rank];
+            self.places.copy_within(0..rank, 1);
+            self.places[0] = place;
         }
     }
 }

@@ -12,7 +12,7 @@ use crate::line::{Line, line_of};
 use crate::order::Order;
 use rp_space::{Half, Meeting, Pair, Point};
 
-/// So many lines of one plane are tried for a vertex. Most often it is on one of these, where it is on the plane.
+/// So many lines of one plane are tried for the first vertex. Most often it is on one of these, where it is on the plane.
 const FEW_LINES: usize = 12;
 
 /// Which vertices are wanted.
@@ -35,20 +35,17 @@ pub(crate) enum Way {
 
 /// The first wanted vertex of a list of half-spaces.
 #[tactic(auto, unfolding(rp_geometry::specs::searches::Vertex::first_vertex))]
-pub(crate) fn first_vertex(way: Way, wanted: Wanted, system: &[Half]) -> Option<Point>
+pub(crate) fn first_vertex(
+    way: Way,
+    wanted: Wanted,
+    system: &[Half],
+    order: &mut Order,
+) -> Option<Point>
     requires { HasCube system.now }
     ensures { result ≡ first_vertex (is_wanted wanted.entry) system.now }
 {
-    let mut order = Order::new();
     for i in 0..system.len() {
-        let found = first_with_one(
-            way,
-            wanted,
-            system,
-            &mut order,
-            &system[i],
-            &system[i + 1..],
-        );
+        let found = first_with_one(way, wanted, system, order, &system[i], &system[i + 1..]);
         if found.is_some() {
             return found;
         }
@@ -59,7 +56,7 @@ pub(crate) fn first_vertex(way: Way, wanted: Wanted, system: &[Half]) -> Option<
 /// The first wanted vertex of a list of half-spaces, if it is on one of the first few lines on the first plane that may have
 /// one. `None` tells nothing.
 #[tactic(auto, unfolding(rp_geometry::specs::searches::Vertex::first_vertex))]
-pub(crate) fn vertex_on_few(wanted: Wanted, system: &[Half]) -> Option<Point>
+pub(crate) fn vertex_on_few(wanted: Wanted, system: &[Half], order: &mut Order) -> Option<Point>
     requires { HasCube system.now }
     ensures { IfSome result (λ p. first_vertex (is_wanted wanted.entry) system.now ≡ Some p) }
 {
@@ -67,7 +64,7 @@ pub(crate) fn vertex_on_few(wanted: Wanted, system: &[Half]) -> Option<Point>
         let f = &system[place];
         let others = &system[place + 1..];
         if !has_none(wanted, system, f, others) {
-            return first_on_few(wanted, system, f, others);
+            return first_on_few(wanted, system, order, f, others);
         }
     }
     None
@@ -80,22 +77,37 @@ fn has_none(wanted: Wanted, system: &[Half], f: &Half, others: &[Half]) -> bool
     lie_within(wanted, f, f)
 }
 
+/// On how many lines of one plane a vertex is sought before it is given up: a further vertex on all, since the first one, which
+/// is there, tells that the plane bears some.
+fn most_lines(wanted: Wanted) -> usize {
+    match wanted {
+        Wanted::Any => FEW_LINES,
+        Wanted::Lifting(_) => usize::MAX,
+    }
+}
+
 /// The first wanted vertex on the plane of `f` and two planes of `others`, if it is on one of the first few of these. `None`
 /// tells nothing.
-fn first_on_few(wanted: Wanted, system: &[Half], f: &Half, others: &[Half]) -> Option<Point>
+fn first_on_few(
+    wanted: Wanted,
+    system: &[Half],
+    order: &mut Order,
+    f: &Half,
+    others: &[Half],
+) -> Option<Point>
     requires { HasCube system.now }
     ensures { IfSome result (λ p. first_of_pairs (vertex_at (is_wanted wanted.entry) system.now f.now) others.now ≡ Some p) }
 {
-    let mut order = Order::new();
+    let most = most_lines(wanted);
     for i in 0..others.len() {
-        if i == FEW_LINES {
+        if i == most {
             return None;
         }
         let found = first_on_both(
             Way::Lines,
             wanted,
             system,
-            &mut order,
+            order,
             f,
             &others[i],
             &others[i + 1..],
