@@ -52,6 +52,23 @@ fn a_few_lines_of_the_first_plane_tell_the_same(rt: HostRuntime) -> Result<(), F
 }
 
 #[test]
+fn a_first_point_on_four_planes_is_found_on_a_few_lines(rt: HostRuntime) -> Result<(), Fail> {
+    let cell = [
+        half(&rt, (1, 0, 0, 0)),
+        half(&rt, (0, 1, 0, 0)),
+        half(&rt, (0, 0, 1, 0)),
+        half(&rt, (1, 1, 1, 0)),
+        half(&rt, (-2, -3, -5, 7)),
+    ];
+    let inside = inside_on_few_lines(&cell).ok_or("no certificate")?;
+    let points = inside.items();
+    assert_eq!(rt; points.len(), 4);
+    assert_eq!(rt; points[0].numbers(), (0, 0, 0, 1));
+    assert_eq!(rt; points[2].numbers(), (0, 7, 0, 3));
+    Ok(())
+}
+
+#[test]
 fn a_half_space_and_its_complement_have_no_common_point(rt: HostRuntime) -> Result<(), Fail> {
     let above = half(&rt, (0, 0, 1, -4));
     let flat = [above, above.not()];
