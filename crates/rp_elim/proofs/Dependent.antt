@@ -18,11 +18,11 @@ use Rattle.rp_elim.specs.HeldFast.{two_in_order, three_in_order}
 use Rattle.rp_elim.proofs.Three.{three_minors}
 
 -- terms that do not refute are not given
-not_given : (strict : Bool) (us : List Multiple) → (is_refutation strict us ≡ true → ⊥) → terms_if strict us ≡ None
+pub not_given : (strict : Bool) (us : List Multiple) → (is_refutation strict us ≡ true → ⊥) → terms_if strict us ≡ None
 not_given strict us n = λ i. elim (false_unless (is_refutation strict us) n i) [ true ↦ Some us | false ↦ None ]
 
 -- terms that refute are balanced
-balance_of : (strict : Bool) (us : List Multiple) → is_refutation strict us ≡ true → Balanced us
+pub balance_of : (strict : Bool) (us : List Multiple) → is_refutation strict us ≡ true → Balanced us
 balance_of strict us e =
     balanced-to us (and_second (list_all (λ (t : Multiple). is_positive t.factor) us) (is_balanced us) (and_first _ (is_contradiction strict us) e))
 
@@ -81,7 +81,7 @@ parallel_of strict (t ∷ u ∷ []) f g same e =
 parallel_of strict (t ∷ u ∷ v ∷ vs) f g same e = absurd (cc)
 
 -- the multiples of two half-spaces are of these
-two_halves : (f g : HalfSpace) → half_spaces_of (minors_of_two f g) ≡ f ∷ g ∷ []
+pub two_halves : (f g : HalfSpace) → half_spaces_of (minors_of_two f g) ≡ f ∷ g ∷ []
 two_halves f g =
     elim (is_zero f.a) as (λ b. half_spaces_of (elim b [
       | false ↦ multiple_of g.a f ∷ multiple_of (neg_ℤ f.a) g ∷ []

@@ -6,5 +6,6 @@ pub mod FewTerms
 pub mod Mixed
 pub mod Three
 pub mod Dependent
+pub mod Opposed
 pub mod Unfit
 pub mod InPlace

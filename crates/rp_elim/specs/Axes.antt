@@ -1,6 +1,6 @@
 -- The coefficients of a half-space by axis.
-use Rattle.std.specs.Prelude.{Bool, true, false, ◌&&◌, ℤ, neg_ℤ, List, [], ◌∷◌}
-use Rattle.rp_algebra.specs.Integer.{is_zero}
+use Rattle.std.specs.Prelude.{Bool, true, false, ◌&&◌, ◌||◌, ℤ, neg_ℤ, List, [], ◌∷◌}
+use Rattle.rp_algebra.specs.Integer.{is_zero, is_positive, is_negative}
 use Rattle.rp_geometry.specs.Geometry.{HalfSpace}
 use Rattle.rp_geometry.specs.searches.Certificate.{Multiple}
 use Rattle.rp_geometry.specs.searches.Vertex.{det2}
@@ -37,3 +37,11 @@ is_without_normal h = is_zero h.a && is_zero h.b && is_zero h.c
 -- two half-spaces have dependent normals: the 2 by 2 determinants on each two axes are 0
 abbrev pub are_parallel : HalfSpace → HalfSpace → Bool
 are_parallel f g = is_zero (det2 f.a f.b g.a g.b) && is_zero (det2 f.a f.c g.a g.c) && is_zero (det2 f.b f.c g.b g.c)
+
+-- positive multiples of two numbers may cancel: one is above 0 and the other below, or both are 0
+abbrev pub are_opposed : ℤ → ℤ → Bool
+are_opposed v w = is_positive v && is_negative w || is_negative v && is_positive w || is_zero v && is_zero w
+
+-- positive multiples of two normals may cancel: the coefficients are opposed on each axis
+abbrev pub may_cancel : HalfSpace → HalfSpace → Bool
+may_cancel f g = are_opposed f.a g.a && are_opposed f.b g.b && are_opposed f.c g.c

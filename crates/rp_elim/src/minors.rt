@@ -4,7 +4,7 @@ ghost use Rattle.rp_algebra.specs.Integer.{is_zero};
 ghost use Rattle.rp_algebra.specs.Within.{IsWithin};
 ghost use Rattle.rp_geometry.specs.searches.Vertex.{det2, meeting_weight};
 ghost use Rattle.rp_geometry.specs.searches.Elimination.{minors_of_two, minors_on_axes, minors_of_four};
-ghost use Rattle.rp_elim.specs.Axes.{along, axes_of, minors_on_axis, is_without_normal, are_parallel};
+ghost use Rattle.rp_elim.specs.Axes.{along, axes_of, minors_on_axis, is_without_normal, are_parallel, are_opposed, may_cancel};
 ghost use Rattle.rp_elim.specs.Factors.{AreFactorsSmall};
 
 use rp_space::{Half, Term};
@@ -100,6 +100,22 @@ pub fn are_parallel(f: &Half, g: &Half) -> bool
     are_dependent(f, g, Axis::X, Axis::Y)
         && are_dependent(f, g, Axis::X, Axis::Z)
         && are_dependent(f, g, Axis::Y, Axis::Z)
+}
+
+/// Whether the normals may cancel: on each axis one coefficient is positive and the other negative, or both are 0.
+pub fn may_cancel(f: &Half, g: &Half) -> bool
+    ensures { result ≡ may_cancel f.now g.now }
+{
+    are_opposed(f, g, Axis::X) && are_opposed(f, g, Axis::Y) && are_opposed(f, g, Axis::Z)
+}
+
+/// Whether one coefficient is positive and the other negative, or both are 0.
+fn are_opposed(f: &Half, g: &Half, axis: Axis) -> bool
+    ensures { result ≡ are_opposed (along axis f.now) (along axis g.now) }
+{
+    let v = along(f, axis);
+    let w = along(g, axis);
+    (v > 0) == (w < 0) && (v < 0) == (w > 0)
 }
 
 /// The multiples of two half-spaces that cancel on the first axis on which the first one's coefficient is not 0.

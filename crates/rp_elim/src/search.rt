@@ -8,7 +8,7 @@ ghost use Rattle.rp_geometry.specs.searches.Elimination.{refutation_of_one, refu
 ghost use Rattle.rp_elim.specs.FewTerms.{first_of_two};
 
 use crate::couple::Couple;
-use crate::minors::{are_parallel, is_without_normal, minors_of_two};
+use crate::minors::{are_parallel, is_without_normal, may_cancel, minors_of_two};
 use crate::refutation::{positive_refutation, refutation};
 use crate::triple::{Cross, Triple};
 use rp_space::{Half, Outside, Term, with_cube};
@@ -75,10 +75,14 @@ pub fn refutation_of_one(strict: bool, h: &Half) -> Option<Outside>
     positive_refutation(strict, &[Term { by: 1, half: *h }])
 }
 
-/// The refutation by two half-spaces, if they refute. Only two with dependent normals can cancel.
+/// The refutation by two half-spaces, if they refute. Only two with opposed and dependent normals can cancel; most are
+/// passed over by their signs alone.
 pub fn refutation_of_two(strict: bool, g: &Half, h: &Half) -> Option<Outside>
     ensures { result ≡ refutation_of_two strict g.now h.now }
 {
+    if !may_cancel(g, h) {
+        return None;
+    }
     if !are_parallel(g, h) {
         return None;
     }
