@@ -1,5 +1,5 @@
 //! Searches over one, two, three and four half-spaces, in the order of their places.
-ghost use Rattle.std.specs.Prelude.{◌≡◌, ◌↔◌, ◌≤◌, length, Some, IsNone, IfSome, IsTrue};
+ghost use Rattle.std.specs.Prelude.{◌≡◌, ◌↔◌, ◌≤◌, Bool, true, length, None, Some, IsNone, IfSome, IsTrue};
 ghost use Rattle.rp_geometry.specs.Geometry.{RationalPoint, with_cube};
 ghost use Rattle.rp_geometry.specs.laws.CellLaws.{IsSolution};
 ghost use Rattle.rp_geometry.specs.searches.Certificate.{is_outside_certificate};
@@ -75,18 +75,22 @@ pub fn refutation_of_one(strict: bool, h: &Half) -> Option<Outside>
     positive_refutation(strict, &[Term { by: 1, half: *h }])
 }
 
-/// The refutation by two half-spaces, if they refute. Only two with opposed and dependent normals can cancel; most are
-/// passed over by their signs alone.
+/// The refutation by two half-spaces, if they refute. Only two with dependent normals can cancel.
 pub fn refutation_of_two(strict: bool, g: &Half, h: &Half) -> Option<Outside>
     ensures { result ≡ refutation_of_two strict g.now h.now }
 {
-    if !may_cancel(g, h) {
-        return None;
-    }
     if !are_parallel(g, h) {
         return None;
     }
     refutation(strict, &minors_of_two(g, h))
+}
+
+/// Whether the signs of the coefficients tell that two half-spaces do not refute. Most pairs are passed over so, without room
+/// for terms.
+fn are_passed_over(g: &Half, h: &Half) -> bool
+    ensures { result ≡ true → (strict : Bool) → refutation_of_two strict g.now h.now ≡ None }
+{
+    !may_cancel(g, h)
 }
 
 /// The first refutation by one of several.
@@ -118,6 +122,9 @@ fn first_two_with(strict: bool, g: &Half, hs: &[Half]) -> Option<Outside>
     ensures { result ≡ first_of (refutation_of_two strict g.now) hs.now }
 {
     for h in hs {
+        if are_passed_over(g, h) {
+            continue;
+        }
         if let Some(terms) = refutation_of_two(strict, g, h) {
             return Some(terms);
         }

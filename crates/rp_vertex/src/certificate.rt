@@ -13,8 +13,8 @@ use crate::order::Order;
 use crate::search::{Wanted, Way, first_vertex, vertex_on_few};
 use rp_space::{Half, Inside, Point, with_cube};
 
-/// With fewer half-spaces in a cell a search over triples is faster than one along lines.
-const FEW_HALVES: usize = 9;
+/// With fewer half-spaces in a cell a search over triples is about as fast as one along lines, and never slower than that.
+const FEW_HALVES: usize = 16;
 
 /// How a cell is searched. Either way finds the same.
 fn way_of(cell: &[Half]) -> Way {
@@ -78,8 +78,9 @@ pub fn inside_on_few_lines(cell: &[Half]) -> Option<Inside>
 {
     let system = with_cube(cell);
     let mut order = Order::new();
-    let first = vertex_on_few(Wanted::Any, system.as_slice(), &mut order)?;
-    points_on_few(system.as_slice(), &mut order, first)
+    let way = way_of(cell);
+    let first = vertex_on_few(way, Wanted::Any, system.as_slice(), &mut order)?;
+    points_on_few(way, system.as_slice(), &mut order, first)
 }
 
 /// The first weak point of a cell, if it is found on the first few lines of the first plane. `None` tells nothing, and comes
@@ -90,7 +91,12 @@ pub fn weak_on_few_lines(cell: &[Half]) -> Option<Point>
     ensures passes { IfSome result (λ p. IsSolution false cell.now p) }
 {
     let system = with_cube(cell);
-    vertex_on_few(Wanted::Any, system.as_slice(), &mut Order::new())
+    vertex_on_few(
+        way_of(cell),
+        Wanted::Any,
+        system.as_slice(),
+        &mut Order::new(),
+    )
 }
 
 /// The points that are taken of the vertices of a list of half-spaces.
@@ -123,7 +129,7 @@ fn points_from(way: Way, system: &[Half], order: &mut Order, first: Point) -> Op
 }
 
 /// The same, if each is found on the first plane that may have it. `None` tells nothing.
-fn points_on_few(system: &[Half], order: &mut Order, first: Point) -> Option<Inside>
+fn points_on_few(way: Way, system: &[Half], order: &mut Order, first: Point) -> Option<Inside>
     requires few { length system.now ≤ 70 }
     requires cube { HasCube system.now }
     requires first { first_vertex any_point system.now ≡ Some first }
@@ -133,7 +139,7 @@ fn points_on_few(system: &[Half], order: &mut Order, first: Point) -> Option<Ins
     taken.push(first);
     let mut flat = flat_at(system, &first);
     while !flat.is_empty() {
-        let next = vertex_on_few(Wanted::Lifting(flat.as_slice()), system, order)?;
+        let next = vertex_on_few(way, Wanted::Lifting(flat.as_slice()), system, order)?;
         taken.push(next);
         flat = flat_at(flat.as_slice(), &next);
     }

@@ -13,7 +13,7 @@ use crate::order::Order;
 use rp_space::{Half, Meeting, Pair, Point};
 
 /// So many lines of one plane are tried for the first vertex. Most often it is on one of these, where it is on the plane.
-const FEW_LINES: usize = 12;
+const FEW_LINES: usize = 8;
 
 /// Which vertices are wanted.
 #[derive(Clone, Copy)]
@@ -56,7 +56,12 @@ pub(crate) fn first_vertex(
 /// The first wanted vertex of a list of half-spaces, if it is on one of the first few lines on the first plane that may have
 /// one. `None` tells nothing.
 #[tactic(auto, unfolding(rp_geometry::specs::searches::Vertex::first_vertex))]
-pub(crate) fn vertex_on_few(wanted: Wanted, system: &[Half], order: &mut Order) -> Option<Point>
+pub(crate) fn vertex_on_few(
+    way: Way,
+    wanted: Wanted,
+    system: &[Half],
+    order: &mut Order,
+) -> Option<Point>
     requires { HasCube system.now }
     ensures { IfSome result (λ p. first_vertex (is_wanted wanted.entry) system.now ≡ Some p) }
 {
@@ -64,7 +69,7 @@ pub(crate) fn vertex_on_few(wanted: Wanted, system: &[Half], order: &mut Order) 
         let f = &system[place];
         let others = &system[place + 1..];
         if !has_none(wanted, system, f, others) {
-            return first_on_few(wanted, system, order, f, others);
+            return first_on_few(way, wanted, system, order, f, others);
         }
     }
     None
@@ -89,6 +94,7 @@ fn most_lines(wanted: Wanted) -> usize {
 /// The first wanted vertex on the plane of `f` and two planes of `others`, if it is on one of the first few of these. `None`
 /// tells nothing.
 fn first_on_few(
+    way: Way,
     wanted: Wanted,
     system: &[Half],
     order: &mut Order,
@@ -103,15 +109,7 @@ fn first_on_few(
         if i == most {
             return None;
         }
-        let found = first_on_both(
-            Way::Lines,
-            wanted,
-            system,
-            order,
-            f,
-            &others[i],
-            &others[i + 1..],
-        );
+        let found = first_on_both(way, wanted, system, order, f, &others[i], &others[i + 1..]);
         if found.is_some() {
             return found;
         }

@@ -2,12 +2,7 @@ use Rattle.std.proofs.Common.{sym, ap, ◌∙◌, List}
 use Rattle.rp_geometry.specs.searches.Certificate.{Multiple}
 use Rattle.rp_geometry.specs.searches.Elimination.{normal_terms, terms_if, refutation_of_two}
 use Rattle.rp_elim.proofs.Dependent.{two_not_parallel}
-use Rattle.rp_elim.proofs.Opposed.{two_not_opposed}
 use Rattle.rp_elim.proofs.search.refutation_of_two.Goals as goal
-
-pub returns-then-not-may_cancel : goal.returns-then-not-may_cancel
-returns-then-not-may_cancel c =
-    sym (two_not_opposed c.args.strict c.args.g.now c.args.h.now (sym c.may_cancel.ensures ∙ c.if-not-may_cancel.true))
 
 pub returns-then-not-are_parallel : goal.returns-then-not-are_parallel
 returns-then-not-are_parallel c =
