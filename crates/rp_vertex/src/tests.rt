@@ -51,6 +51,36 @@ fn a_few_lines_of_the_first_plane_tell_the_same(rt: HostRuntime) -> Result<(), F
     Ok(())
 }
 
+/// A box that is cut at two opposite corners and along the edges beside them: 16 half-spaces.
+const CUT_BOX: [(i64, i64, i64, i64); 16] = [
+    (1, 1, 1, -2),
+    (1, 0, 0, 0),
+    (-1, 0, 0, 9),
+    (0, 1, 0, 0),
+    (0, -1, 0, 9),
+    (0, 0, 1, 0),
+    (0, 0, -1, 9),
+    (1, 1, 0, -1),
+    (1, 0, 1, -1),
+    (0, 1, 1, -1),
+    (-1, -1, 0, 17),
+    (-1, 0, -1, 17),
+    (0, -1, -1, 17),
+    (-1, -1, -1, 25),
+    (2, 1, 1, -2),
+    (-2, -1, -1, 34),
+];
+
+#[test]
+fn lines_and_triples_find_the_same(rt: HostRuntime) -> Result<(), Fail> {
+    let cell = CUT_BOX.map(|numbers| half(&rt, numbers));
+    let along = first_inside(&cell).ok_or("no certificate")?;
+    let over = first_inside_over_triples(&cell).ok_or("no certificate over triples")?;
+    assert_eq!(rt; along.items(), over.items());
+    assert_eq!(rt; along.items().len(), 4);
+    Ok(())
+}
+
 #[test]
 fn a_first_point_on_four_planes_is_found_on_a_few_lines(rt: HostRuntime) -> Result<(), Fail> {
     let cell = [
