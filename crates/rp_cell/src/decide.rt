@@ -61,7 +61,7 @@ pub fn decide_strict(cell: &[Half]) -> Strict
     try_strict(cell)
 }
 
-/// The same, by a search on a few lines of the first plane, and over vertices where the first point is on none of them.
+/// The same, by a search on a few lines, and over vertices where one of the points is on none of them.
 fn try_strict(cell: &[Half]) -> Strict
     requires { length cell.now ≤ 64 }
     ensures decides { DecidesStrict cell.now result }

@@ -13,7 +13,7 @@ use crate::order::Order;
 use crate::search::{Wanted, Way, first_vertex, vertex_on_few};
 use rp_space::{Half, Inside, Point, with_cube};
 
-/// With fewer half-spaces in a cell a search over triples is about as fast as one along lines, and never slower than that.
+/// From so many half-spaces on a cell is searched along lines. With fewer that is faster for some cells and slower for others.
 const FEW_HALVES: usize = 16;
 
 /// How a cell is searched. Either way finds the same.
@@ -70,7 +70,8 @@ pub fn first_weak(cell: &[Half]) -> Option<Point>
 }
 
 /// The first inside certificate of a cell, if its first point is found on the first few lines of the first plane, and each
-/// further one on the first plane that may have it. `None` tells nothing, and comes soon. A cell has at most 64 half-spaces. Takes no memory.
+/// further one on the first plane that may have it. `None` tells nothing, and comes soon.
+/// A cell has at most 64 half-spaces. Takes no memory.
 pub fn inside_on_few_lines(cell: &[Half]) -> Option<Inside>
     requires { length cell.now ≤ 64 }
     ensures first { IfSome result (λ points. first_inside cell.now ≡ Some points) }

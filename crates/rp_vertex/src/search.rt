@@ -82,8 +82,8 @@ fn has_none(wanted: Wanted, system: &[Half], f: &Half, others: &[Half]) -> bool
     lie_within(wanted, f, f)
 }
 
-/// On how many lines of one plane a vertex is sought before it is given up: a further vertex on all, since the first one, which
-/// is there, tells that the plane bears some.
+/// On how many lines of one plane a vertex is sought: the first one on a few, since there may be none on the plane, and a
+/// further one on all.
 fn most_lines(wanted: Wanted) -> usize {
     match wanted {
         Wanted::Any => FEW_LINES,
