@@ -1,4 +1,5 @@
 mod Between
+mod BinaryDivisor
 mod Bounded
 mod Cramer
 mod Kept

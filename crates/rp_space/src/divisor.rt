@@ -1,9 +1,8 @@
 //! Greatest common divisors, and exact quotients by them.
-ghost use Rattle.std.specs.Prelude.{◌≡◌, ◌<◌, ◌^◌, [], ◌∷◌};
+ghost use Rattle.std.specs.Prelude.{◌≡◌, ◌<◌, ◌≤◌, ◌%◌, ◌^◌, ℕ, [], ◌∷◌};
 ghost use Rattle.rp_algebra.specs.Integer.{gcd, gcd_of, reduced_by};
 
-/// The greatest common divisor of two numbers, by Euclid's rule: in 64 bits as soon as the numbers fit, where a division
-/// takes a tenth of the time.
+/// The greatest common divisor of two numbers, by Euclid's rule until the numbers fit in 64 bits.
 #[tactic(auto, using(rp_algebra::proofs::Divisors::euclid))]
 pub fn greatest_common_divisor(a: u128, b: u128) -> u128
     ensures { result ≡ gcd a b }
@@ -21,19 +20,50 @@ pub fn greatest_common_divisor(a: u128, b: u128) -> u128
     short_divisor(low as u64, (high % low) as u64) as u128
 }
 
-/// The greatest common divisor of two numbers of 64 bits.
-#[tactic(auto, using(rp_algebra::proofs::Divisors::euclid))]
+/// The greatest common divisor of two numbers of 64 bits, by the binary method (Stein 1967): halving and taking away, where
+/// Euclid's rule divides.
 fn short_divisor(a: u64, b: u64) -> u64
     ensures { result ≡ gcd a b }
 {
-    let mut high = a;
-    let mut low = b;
+    if a % 2 == 1 {
+        return odd_divisor(a, b);
+    }
+    if b % 2 == 1 {
+        return odd_divisor(b, a);
+    }
+    if b == 0 {
+        return a;
+    }
+    2 * short_divisor(a / 2, b / 2)
+}
+
+/// The greatest common divisor of an odd number and another.
+fn odd_divisor(odd: u64, other: u64) -> u64
+    requires { odd % 2 ≡ 1 }
+    ensures { result ≡ gcd odd other }
+{
+    let mut high = odd;
+    let mut low = other;
     while low != 0 {
-        let rest = high % low;
-        high = low;
-        low = rest;
+        let part = odd_part(low);
+        if part < high {
+            low = high - part;
+            high = part;
+        } else {
+            low = part - high;
+        }
     }
     high
+}
+
+/// A number above 0 without its factors 2.
+fn odd_part(n: u64) -> u64
+    requires { 0 < n }
+    ensures odd { result % 2 ≡ 1 }
+    ensures least { result ≤ n }
+    ensures same { (m : ℕ) → m % 2 ≡ 1 → gcd m result ≡ gcd m n }
+{
+    n >> n.trailing_zeros()
 }
 
 /// The greatest common divisor of four whole numbers; 0 only where all are 0.
@@ -52,6 +82,9 @@ pub fn quotient(v: i128, divisor: u128) -> i128
     requires small { divisor < 2 ^ 127 }
     ensures { result ≡ reduced_by divisor v }
 {
+    if divisor == 1 {
+        return v;
+    }
     v / divisor as i128
 }
 
@@ -62,5 +95,8 @@ pub fn short_quotient(v: i64, divisor: u128) -> i64
     requires small { divisor < 2 ^ 63 }
     ensures { result ≡ reduced_by divisor v }
 {
+    if divisor == 1 {
+        return v;
+    }
     v / divisor as i64
 }

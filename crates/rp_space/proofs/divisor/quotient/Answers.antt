@@ -1,6 +1,9 @@
-use Rattle.std.proofs.Common.{rules}
+use Rattle.std.proofs.Common.{ap, sym, ◌∙◌, rules}
+use Rattle.std.proofs.lemmas.Int.{to_z-of_z}
 use mir.Syntax.{w128}
+use Rattle.rp_algebra.specs.Integer.{reduced_by}
 use Rattle.rp_algebra.proofs.Machine.{machine_quotient_fits, machine_quotient_is}
+use Rattle.rp_space.proofs.BinaryDivisor.{reduced_by-one}
 use Rattle.rp_space.proofs.divisor.quotient.Goals as goal
 
 pub overflow_cast-result : goal.overflow_cast-result
@@ -11,3 +14,6 @@ nonzero_div-result c = (c.requires.positive, machine_quotient_fits w128 c.args.d
 
 pub returns : goal.returns
 returns c = machine_quotient_is w128 c.args.divisor c.args.v c.ranges.v c.requires.positive c.requires.small
+
+pub returns-then-divisor-eq1 : goal.returns-then-divisor-eq1
+returns-then-divisor-eq1 c = to_z-of_z w128 c.args.v c.ranges.v ∙ reduced_by-one c.args.v ∙ ap (λ n. reduced_by n c.args.v) (sym c.if-divisor-eq1.true)
