@@ -1,6 +1,7 @@
 mod Between
 mod BinaryDivisor
 mod Bounded
+mod Compared
 mod Cramer
 mod Kept
 mod Named

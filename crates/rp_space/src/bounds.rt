@@ -1,6 +1,7 @@
 //! Boxes with whole corners, and the domain cube.
 ghost use Rattle.std.specs.Prelude.{◌≡◌, ◌<◌, ◌^◌, ◌*ℤ◌, true, unsigned_abs};
-ghost use Rattle.rp_geometry.specs.Geometry.{all_hold, box_half_spaces, cube_box, cube_half_spaces, is_between, is_box_in_bounds, is_in_box};
+ghost use Rattle.rp_geometry.specs.Geometry.{all_hold, box_half_spaces, boxes_meet, closed_boxes_meet, cube_box, cube_half_spaces, is_between, is_box_in_bounds, is_in_box};
+ghost use Rattle.rp_geometry.specs.parts.LeastBox.{box_union};
 ghost use Rattle.rp_space.specs.Boxes.{integer_box};
 
 use crate::half::Half;
@@ -42,6 +43,42 @@ impl IntBox {
         let on_y = is_between(y1, y2, y, w);
         let on_z = is_between(z1, z2, z, w);
         on_x & on_y & on_z
+    }
+
+    /// Whether each of two boxes begins before the other ends, on each axis.
+    pub fn meets(&self, other: &IntBox) -> bool
+        ensures { result ≡ boxes_meet (integer_box self.now) (integer_box other.now) }
+    {
+        let [x1, y1, z1] = self.lo;
+        let [x2, y2, z2] = self.hi;
+        let [u1, v1, w1] = other.lo;
+        let [u2, v2, w2] = other.hi;
+        (x1 < u2) & (u1 < x2) & (y1 < v2) & (v1 < y2) & (z1 < w2) & (w1 < z2)
+    }
+
+    /// Whether each of two boxes begins no later than the other ends, on each axis: whether they meet with their boundaries.
+    pub fn meets_closed(&self, other: &IntBox) -> bool
+        ensures { result ≡ closed_boxes_meet (integer_box self.now) (integer_box other.now) }
+    {
+        let [x1, y1, z1] = self.lo;
+        let [x2, y2, z2] = self.hi;
+        let [u1, v1, w1] = other.lo;
+        let [u2, v2, w2] = other.hi;
+        (x1 <= u2) & (u1 <= x2) & (y1 <= v2) & (v1 <= y2) & (z1 <= w2) & (w1 <= z2)
+    }
+
+    /// The least box that holds both boxes.
+    pub fn union(&self, other: &IntBox) -> IntBox
+        ensures { integer_box result ≡ box_union (integer_box self.now) (integer_box other.now) }
+    {
+        let [x1, y1, z1] = self.lo;
+        let [x2, y2, z2] = self.hi;
+        let [u1, v1, w1] = other.lo;
+        let [u2, v2, w2] = other.hi;
+        IntBox {
+            lo: [x1.min(u1), y1.min(v1), z1.min(w1)],
+            hi: [x2.max(u2), y2.max(v2), z2.max(w2)],
+        }
     }
 }
 
