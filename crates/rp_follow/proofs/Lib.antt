@@ -1,4 +1,3 @@
-pub mod Bounds
 pub mod Cut
 pub mod Followed
 pub mod Left

@@ -1,10 +1,7 @@
 -- The members of the regions that walks come to, and points in them.
-use Rattle.std.proofs.Common.{◌≡◌, ◌*◌, ℤ, to_z, of_z, ◌&&◌, ◌||◌, List, [], ◌∷◌, length, refl, ap, ◌∙◌, subst, arith}
-use Rattle.std.specs.Prelude.{int_le, int_lt, Bool, true, false, Option, Some, None, Result, Ok, Err, is_some, IsSome, IsTrue, IfOk, ◌↔◌}
-use Rattle.std.specs.Int.RustNames.{FitsSigned}
+use Rattle.std.proofs.Common.{◌≡◌, ◌*◌, ◌&&◌, ◌||◌, List, [], ◌∷◌, length, refl, ap, ◌∙◌, subst, arith}
+use Rattle.std.specs.Prelude.{Bool, true, false, Option, Some, None, Result, Ok, Err, is_some, IsSome, IsTrue, IfOk, ◌↔◌}
 use Rattle.std.specs.List.{list_any}
-use Rattle.std.proofs.lemmas.Int.{to_z-of_z}
-use mir.Syntax.{w32}
 use Rattle.rp_geometry.specs.Geometry.{RationalPoint, HalfSpace, holds, all_hold}
 use Rattle.rp_geometry.specs.sets.Shape.{Shape, Part, passes, shape_of_cell, shape_of_parts}
 use Rattle.rp_geometry.specs.parts.Parts.{IsPart, IsRegion, AreOf}
@@ -80,14 +77,6 @@ cell_passes (h ∷ hs) p = ap (λ b. holds h p && b) (cell_passes hs p)
 pub some_passes : (parts : List Part) (p : RationalPoint) → list_any (λ part. all_hold part.cell p) parts ≡ passes (shape_of_parts parts) p
 some_passes [] p = refl
 some_passes (q ∷ qs) p = λ i. cell_passes q.cell p i || some_passes qs p i
-
--- two numbers as the machine compares them
-pub read_less : (a b : ℤ) → FitsSigned w32 a → FitsSigned w32 b → int_lt (to_z w32 (of_z w32 a)) (to_z w32 (of_z w32 b)) ≡ int_lt a b
-read_less a b f g = λ i. int_lt (to_z-of_z w32 a f i) (to_z-of_z w32 b g i)
-
--- and whether the first is at most the second
-pub read_at_most : (a b : ℤ) → FitsSigned w32 a → FitsSigned w32 b → int_le (to_z w32 (of_z w32 a)) (to_z w32 (of_z w32 b)) ≡ int_le a b
-read_at_most a b f g = λ i. int_le (to_z-of_z w32 a f i) (to_z-of_z w32 b g i)
 
 -- the part that a test makes, or none, is a region
 pub region_made : (cell : List HalfSpace) (o : Option Part) → IsMadeOf IsPart cell o → IsRegion (made_part o)

@@ -89,7 +89,7 @@ impl Part {
         ensures value { result ≡ boxes_meet self.now.bounds other.now.bounds }
         ensures apart { result ≡ false → IsEmpty (shape_of_cell (self.now.cell ++ other.now.cell)) }
     {
-        boxes_meet(&self.bounds, &other.bounds)
+        self.bounds.meets(&other.bounds)
     }
 
     /// Whether the boxes of two parts share a point, the boundary included. Else the parts are not in contact.
@@ -97,28 +97,6 @@ impl Part {
         ensures value { result ≡ closed_boxes_meet self.now.bounds other.now.bounds }
         ensures apart { result ≡ false → (p : RationalPoint) → ¬ IsSolution false (self.now.cell ++ other.now.cell) p }
     {
-        closed_boxes_meet(&self.bounds, &other.bounds)
+        self.bounds.meets_closed(&other.bounds)
     }
-}
-
-/// Whether each of two boxes begins before the other ends, on each axis.
-fn boxes_meet(first: &IntBox, second: &IntBox) -> bool
-    ensures { result ≡ boxes_meet (integer_box first.now) (integer_box second.now) }
-{
-    let [x1, y1, z1] = first.lo;
-    let [x2, y2, z2] = first.hi;
-    let [u1, v1, w1] = second.lo;
-    let [u2, v2, w2] = second.hi;
-    (x1 < u2) & (u1 < x2) & (y1 < v2) & (v1 < y2) & (z1 < w2) & (w1 < z2)
-}
-
-/// Whether each of two boxes begins no later than the other ends, on each axis.
-fn closed_boxes_meet(first: &IntBox, second: &IntBox) -> bool
-    ensures { result ≡ closed_boxes_meet (integer_box first.now) (integer_box second.now) }
-{
-    let [x1, y1, z1] = first.lo;
-    let [x2, y2, z2] = first.hi;
-    let [u1, v1, w1] = second.lo;
-    let [u2, v2, w2] = second.hi;
-    (x1 <= u2) & (u1 <= x2) & (y1 <= v2) & (v1 <= y2) & (z1 <= w2) & (w1 <= z2)
 }

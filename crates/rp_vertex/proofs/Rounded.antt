@@ -1,7 +1,7 @@
 -- Coordinates of points of the closed cube, rounded down and up, in machine numbers.
 use Rattle.std.proofs.Common.{◌≡◌, ◌≤◌, ◌<◌, ◌^◌, ℤ, pos, neg_ℤ, ◌-ℤ◌, ◌*ℤ◌, ◌≤ℤ◌, ◌<ℤ◌, unsigned_abs, FitsSigned, to_z, of_z, true, ◌&&◌, [], ◌∷◌, sym, ap, ◌∙◌, subst, le_of_lt, arith}
 use Rattle.std.specs.Prelude.{int_le}
-use Rattle.std.specs.Int.{int_div_euclid, int_min, int_max}
+use Rattle.std.specs.Int.{int_div_euclid}
 use Rattle.std.proofs.lemmas.Int.{ints, to_z-of_z}
 use mir.Syntax.{w32, w128}
 use Rattle.rp_algebra.specs.Integer.{floor_of, ceiling_of}
@@ -120,13 +120,3 @@ read_range x y z w p r e =
       y_range = (λ i. is_in_closed_range (r.y_is i) (r.w_is i)) ∙ and_second (is_in_closed_range p.x p.w) (is_in_closed_range p.y p.w) first_two;
       z_range = (λ i. is_in_closed_range (r.z_is i) (r.w_is i)) ∙ and_second (is_in_closed_range p.x p.w && is_in_closed_range p.y p.w) (is_in_closed_range p.z p.w) e;
     }
-
--- ---- the lesser and the greater of two machine numbers
-
--- the lesser that the code has
-pub lesser_is : (r a b : ℤ) → FitsSigned w32 r → FitsSigned w32 a → FitsSigned w32 b → r ≡ int_min (to_z w32 (of_z w32 a)) (to_z w32 (of_z w32 b)) → to_z w32 (of_z w32 r) ≡ int_min a b
-lesser_is r a b fr fa fb e = to_z-of_z w32 r fr ∙ e ∙ (λ i. int_min (to_z-of_z w32 a fa i) (to_z-of_z w32 b fb i))
-
--- the greater that the code has
-pub greater_is : (r a b : ℤ) → FitsSigned w32 r → FitsSigned w32 a → FitsSigned w32 b → r ≡ int_max (to_z w32 (of_z w32 a)) (to_z w32 (of_z w32 b)) → to_z w32 (of_z w32 r) ≡ int_max a b
-greater_is r a b fr fa fb e = to_z-of_z w32 r fr ∙ e ∙ (λ i. int_max (to_z-of_z w32 a fa i) (to_z-of_z w32 b fb i))

@@ -5,7 +5,7 @@ ghost use Rattle.rp_algebra.specs.Integer.{floor_of, ceiling_of};
 ghost use Rattle.rp_algebra.specs.Within.{IsWithin};
 ghost use Rattle.rp_geometry.specs.Geometry.{half_edge, is_box_in_bounds, is_closed_cube_point, is_in_closed_range};
 ghost use Rattle.rp_geometry.specs.laws.CellLaws.{AreHalfSpaces};
-ghost use Rattle.rp_geometry.specs.parts.LeastBox.{box_of_vertex, box_of_vertices, box_union};
+ghost use Rattle.rp_geometry.specs.parts.LeastBox.{box_of_vertex, box_of_vertices};
 ghost use Rattle.rp_geometry.specs.searches.Search.{all_of_pairs, all_of_triples};
 ghost use Rattle.rp_geometry.specs.searches.Vertex.{any_point, vertex_at, vertices};
 ghost use Rattle.rp_space.specs.Boxes.{integer_box};
@@ -117,7 +117,7 @@ fn joined_with_three(
     }
     let vertex = box_of_vertex(&p);
     match bounds {
-        Some(others) => Some(union(&others, &vertex)),
+        Some(others) => Some(others.union(&vertex)),
         None => Some(vertex),
     }
 }
@@ -131,20 +131,6 @@ fn box_of_vertex(p: &Meeting) -> IntBox
     IntBox {
         lo: [floor(x, w), floor(y, w), floor(z, w)],
         hi: [ceiling(x, w), ceiling(y, w), ceiling(z, w)],
-    }
-}
-
-/// The least box that holds both boxes.
-fn union(b: &IntBox, e: &IntBox) -> IntBox
-    ensures { integer_box result ≡ box_union (integer_box b.now) (integer_box e.now) }
-{
-    let [bx1, by1, bz1] = b.lo;
-    let [bx2, by2, bz2] = b.hi;
-    let [ex1, ey1, ez1] = e.lo;
-    let [ex2, ey2, ez2] = e.hi;
-    IntBox {
-        lo: [bx1.min(ex1), by1.min(ey1), bz1.min(ez1)],
-        hi: [bx2.max(ex2), by2.max(ey2), bz2.max(ez2)],
     }
 }
 

@@ -1,6 +1,5 @@
 //! Two sides and a node between them, put together by rotations.
 ghost use Rattle.std.specs.Prelude.{◌≡◌, ◌+◌, ◌<◌, ◌≤◌, max, ◌∷◌, ◌++◌, ◌⊎◌, int_lt, int_le, true};
-ghost use Rattle.rp_geometry.specs.parts.LeastBox.{box_union};
 ghost use Rattle.rp_space.specs.Boxes.{integer_box};
 ghost use Rattle.rp_boxindex.specs.Counts.{count};
 ghost use Rattle.rp_boxindex.specs.tree.Nodes.{high, is_within, AreWithin, DifferByAtMost, IsSettled, entries_of};
@@ -119,20 +118,6 @@ fn hull_with(hull: &IntBox, tree: &Tree) -> IntBox
 {
     match tree.hull() {
         None => *hull,
-        Some(other) => union(hull, &other),
-    }
-}
-
-/// The least box that holds both boxes.
-fn union(b: &IntBox, e: &IntBox) -> IntBox
-    ensures { integer_box result ≡ box_union (integer_box b.now) (integer_box e.now) }
-{
-    let [bx1, by1, bz1] = b.lo;
-    let [bx2, by2, bz2] = b.hi;
-    let [ex1, ey1, ez1] = e.lo;
-    let [ex2, ey2, ez2] = e.hi;
-    IntBox {
-        lo: [bx1.min(ex1), by1.min(ey1), bz1.min(ez1)],
-        hi: [bx2.max(ex2), by2.max(ey2), bz2.max(ez2)],
+        Some(other) => hull.union(&other),
     }
 }
