@@ -94,8 +94,8 @@ found_at cell h t set i j f g v has ii jj ef eg e =
     turned = let m = meeting_is f g h v e in is_meeting g f h v (record { point = m.point; lowest = m.lowest; tight = (tight_symmetric v).first_two f g h m.tight })
 
 -- a crossing stands in a table that has all
-crossing_found : (cell : List HalfSpace) (h : HalfSpace) (t kept new : Rows) (v : RationalPoint) → length cell ≤ 64 → ((u : RationalPoint) → Contains (vertices cell) u → Contains t.points u)
-    → IsCrossedAll cell h t.points kept new true → IsCrossing cell h v → Contains new.points v
+crossing_found : {most : ℕ} (cell : List HalfSpace) (h : HalfSpace) (t kept new : Rows) (v : RationalPoint) → length cell ≤ 64 → ((u : RationalPoint) → Contains (vertices cell) u → Contains t.points u)
+    → IsCrossedAll most cell h t.points kept new true → IsCrossing cell h v → Contains new.points v
 crossing_found cell h t kept new v few complete k c =
     let e = c.crossed.edge in
     let i = listed_at cell c.one few e.first_listed in
@@ -107,7 +107,7 @@ crossing_found cell h t kept new v few complete k c =
     i.at j.at c.at
 
 -- the table with the crossings is that of the cell with the half-space
-pub added : (cell : List HalfSpace) (h : HalfSpace) (t kept new : Rows) → IsClip cell t → length cell < 64 → IsHalfSpace h → IsKeptTable cell h t kept → IsCrossedAll cell h t.points kept new true
+pub added : (cell : List HalfSpace) (h : HalfSpace) (t kept new : Rows) → IsClip cell t → length cell < 64 → IsHalfSpace h → IsKeptTable 256 cell h t kept → IsCrossedAll 256 cell h t.points kept new true
     → IsClip (with_one cell h) new
 added cell h t kept new k room bound keeps c = record {
   few = one_longer cell h room;
@@ -120,17 +120,17 @@ added cell h t kept new k room bound keeps c = record {
 }
 
 -- what the answer of all crossings says, where it is known
-crossed_true : (cell : List HalfSpace) (h : HalfSpace) (points : List RationalPoint) (old new : Rows) (r : Bool) → r ≡ true → IsCrossedAll cell h points old new r → IsCrossedAll cell h points old new true
-crossed_true cell h points old new r e c = subst (λ (b : Bool). IsCrossedAll cell h points old new b) e c
+crossed_true : (most : ℕ) (cell : List HalfSpace) (h : HalfSpace) (points : List RationalPoint) (old new : Rows) (r : Bool) → r ≡ true → IsCrossedAll most cell h points old new r → IsCrossedAll most cell h points old new true
+crossed_true most cell h points old new r e c = subst (λ (b : Bool). IsCrossedAll most cell h points old new b) e c
 
 -- ---- as contracts see it
 
 -- the clip with the half-space, as the code has it
 pub added_here : (cell after : List HalfSpace) (h : HalfSpace) (t new : Rows) (seen : Clipped) (r : Bool) → IsClip cell t → clipped cell t.points ≡ seen → length seen.halves < 64
-    → IsHalfSpace h → IsRefilled cell h t new r → r ≡ true → after ≡ cell ++ h ∷ [] → IsClip after new
+    → IsHalfSpace h → IsRefilled 256 cell h t new r → r ≡ true → after ≡ cell ++ h ∷ [] → IsClip after new
 added_here cell after h t new seen r k e room bound f is a =
     subst (λ (hs : List HalfSpace). IsClip hs new) (sym a)
-    (added cell h t f.kept new k (subst (λ (s : Clipped). length s.halves < 64) (sym e) room) bound f.keeps (crossed_true cell h t.points f.kept new r is f.crossed))
+    (added cell h t f.kept new k (subst (λ (s : Clipped). length s.halves < 64) (sym e) room) bound f.keeps (crossed_true 256 cell h t.points f.kept new r is f.crossed))
 
 -- a cell that has a clip has no more than 256 vertices
 pub full_never : (cell after : List HalfSpace) (h : HalfSpace) (t : Rows) (seen : Clipped) (points : List RationalPoint) → clipped cell points ≡ seen → after ≡ cell ++ h ∷ [] → IsClip after t

@@ -177,51 +177,51 @@ same_mask cell u v few cu cv e =
 -- ---- a point that is put into a table
 
 -- a vertex with the places of a row stands in that row
-row_of_mask : (cell : List HalfSpace) (t : Rows) (p : RationalPoint) (planes : ℕ) → length cell ≤ 64 → IsTable cell t → Contains (vertices cell) p → mask_of cell p ≡ planes → Contains t.planes planes → Contains t.points p
+row_of_mask : {most : ℕ} (cell : List HalfSpace) (t : Rows) (p : RationalPoint) (planes : ℕ) → length cell ≤ 64 → IsTable most cell t → Contains (vertices cell) p → mask_of cell p ≡ planes → Contains t.planes planes → Contains t.points p
 row_of_mask cell t p planes few k v m c =
     let r = contains_map (mask_of cell) t.points planes (subst (λ (xs : List ℕ). Contains xs planes) k.planes c) in
     subst (λ (q : RationalPoint). Contains t.points q) (same_mask cell r.0 p few (k.different.vertices r.0 r.1) v (sym r.2 ∙ sym m)) r.1
 
 -- a vertex whose places no row has does not stand in the table
-no_row : (cell : List HalfSpace) (t : Rows) (p : RationalPoint) (planes : ℕ) → IsTable cell t → mask_of cell p ≡ planes → (Contains t.planes planes → ⊥) → Contains t.points p → ⊥
+no_row : {most : ℕ} (cell : List HalfSpace) (t : Rows) (p : RationalPoint) (planes : ℕ) → IsTable most cell t → mask_of cell p ≡ planes → (Contains t.planes planes → ⊥) → Contains t.points p → ⊥
 no_row cell t p planes k m n c = n (subst (λ (xs : List ℕ). Contains xs planes) (sym k.planes) (subst (λ (s : ℕ). Contains (map (mask_of cell) t.points) s) m (map_contains (mask_of cell) t.points p c)))
 
 -- different vertices with one that no row has
-one_more : (cell : List HalfSpace) (t : Rows) (p : RationalPoint) (planes : ℕ) → IsTable cell t → Contains (vertices cell) p → mask_of cell p ≡ planes → (Contains t.planes planes → ⊥) → AreDifferentVertices cell (t.points ++ p ∷ [])
+one_more : {most : ℕ} (cell : List HalfSpace) (t : Rows) (p : RationalPoint) (planes : ℕ) → IsTable most cell t → Contains (vertices cell) p → mask_of cell p ≡ planes → (Contains t.planes planes → ⊥) → AreDifferentVertices cell (t.points ++ p ∷ [])
 one_more cell t p planes k v m n = record {
   distinct = push_distinct t.points p k.different.distinct (no_row cell t p planes k m n);
   vertices = λ u c. ⊎_elim (k.different.vertices u) (λ (e : u ≡ p). subst (λ (q : RationalPoint). Contains (vertices cell) q) (sym e) v) (push_cases t.points p u c);
 }
 
 -- a table with a further vertex at its end
-put_end : (cell : List HalfSpace) (t new : Rows) (p : RationalPoint) (planes : ℕ) → IsTable cell t → Contains (vertices cell) p → mask_of cell p ≡ planes → (Contains t.planes planes → ⊥) → length t.points < 256
-    → new.points ≡ t.points ++ p ∷ [] → new.planes ≡ t.planes ++ planes ∷ [] → IsTable cell new
-put_end cell t new p planes k v m n l ep el = record {
+put_end : (most : ℕ) (cell : List HalfSpace) (t new : Rows) (p : RationalPoint) (planes : ℕ) → IsTable most cell t → Contains (vertices cell) p → mask_of cell p ≡ planes → (Contains t.planes planes → ⊥) → length t.points < most
+    → new.points ≡ t.points ++ p ∷ [] → new.planes ≡ t.planes ++ planes ∷ [] → IsTable most cell new
+put_end most cell t new p planes k v m n l ep el = record {
   different = subst (λ (xs : List RationalPoint). AreDifferentVertices cell xs) (sym ep) (one_more cell t p planes k v m n);
   planes = el ∙ (λ i. k.planes i ++ sym m i ∷ []) ∙ sym (map_push (mask_of cell) t.points p) ∙ ap (map (mask_of cell)) (sym ep);
-  fits = subst (λ (xs : List RationalPoint). length xs ≤ 256) (sym ep) (omega (arith, l, length-append t.points (p ∷ [])));
+  fits = subst (λ (xs : List RationalPoint). length xs ≤ most) (sym ep) (omega (arith, l, length-append t.points (p ∷ [])));
 }
 
 -- a vertex that is put into a table
-put_grown : (cell : List HalfSpace) (h : HalfSpace) (old new : Rows) (p : RationalPoint) (planes : ℕ) → length cell < 64 → IsTable (with_one cell h) old → Contains (vertices (with_one cell h)) p
-    → mask_of (with_one cell h) p ≡ planes → IsPut old p planes new true → IsGrown cell h old new × Contains new.points p
-put_grown cell h old new p planes room t v m (inl (c, e)) = (
-  record { table = subst (λ (r : Rows). IsTable (with_one cell h) r) (sym e) t; all = λ u k. subst (λ (r : Rows). Contains r.points u) (sym e) k },
+put_grown : {most : ℕ} (cell : List HalfSpace) (h : HalfSpace) (old new : Rows) (p : RationalPoint) (planes : ℕ) → length cell < 64 → IsTable most (with_one cell h) old → Contains (vertices (with_one cell h)) p
+    → mask_of (with_one cell h) p ≡ planes → IsPut most old p planes new true → IsGrown most cell h old new × Contains new.points p
+put_grown {most} cell h old new p planes room t v m (inl (c, e)) = (
+  record { table = subst (λ (r : Rows). IsTable most (with_one cell h) r) (sym e) t; all = λ u k. subst (λ (r : Rows). Contains r.points u) (sym e) k },
   subst (λ (r : Rows). Contains r.points p) (sym e) (row_of_mask (with_one cell h) old p planes (one_longer cell h room) t v m c),
 )
-put_grown cell h old new p planes room t v m (inr (n, l, ep, el)) = (
-  record { table = put_end (with_one cell h) old new p planes t v m n l ep el; all = λ u k. subst (λ (xs : List RationalPoint). Contains xs u) (sym ep) (push_keeps old.points p u k) },
+put_grown {most} cell h old new p planes room t v m (inr (n, l, ep, el)) = (
+  record { table = put_end most (with_one cell h) old new p planes t v m n l ep el; all = λ u k. subst (λ (xs : List RationalPoint). Contains xs u) (sym ep) (push_keeps old.points p u k) },
   subst (λ (xs : List RationalPoint). Contains xs p) (sym ep) (push_has old.points p),
 )
 
 -- a vertex for which there is no room
-put_full : (cell : List HalfSpace) (h : HalfSpace) (old new : Rows) (p : RationalPoint) (planes : ℕ) → IsTable (with_one cell h) old → Contains (vertices (with_one cell h)) p → mask_of (with_one cell h) p ≡ planes
-    → IsPut old p planes new false → HasMoreVertices 256 (with_one cell h)
+put_full : {most : ℕ} (cell : List HalfSpace) (h : HalfSpace) (old new : Rows) (p : RationalPoint) (planes : ℕ) → IsTable most (with_one cell h) old → Contains (vertices (with_one cell h)) p → mask_of (with_one cell h) p ≡ planes
+    → IsPut most old p planes new false → HasMoreVertices most (with_one cell h)
 put_full cell h old new p planes t v m (n, l) = (old.points ++ p ∷ [], one_more (with_one cell h) old p planes t v m n, omega (arith, l, length-append old.points (p ∷ [])))
 
 -- the crossing of a set that was put into a table
-pub crossed_put : (cell : List HalfSpace) (h : HalfSpace) (set : ℕ) (old new : Rows) (m : Met) (planes : ℕ) (r : Bool) → IsBetween cell h set → IsTable (with_one cell h) old
-    → IsFirstMet cell set 0 h m → planes ≡ bit_or set (new_place cell) → IsPut old (reduced_point m.at) planes new r → IsCrossed cell h set old new r
+pub crossed_put : {most : ℕ} (cell : List HalfSpace) (h : HalfSpace) (set : ℕ) (old new : Rows) (m : Met) (planes : ℕ) (r : Bool) → IsBetween cell h set → IsTable most (with_one cell h) old
+    → IsFirstMet cell set 0 h m → planes ≡ bit_or set (new_place cell) → IsPut most old (reduced_point m.at) planes new r → IsCrossed most cell h set old new r
 crossed_put cell h set old new m planes true b t k e put =
     let a = k.met.places in
     let v = reduced_point m.at in
@@ -235,9 +235,9 @@ crossed_put cell h set old new m planes false b t k e put =
     put_full cell h old new v planes t (crossing_vertex cell h set m.first m.second k.met.one k.met.two v b a at) (crossing_mask cell h set m.first m.second k.met.one k.met.two v b a at ∙ sym e) put
 
 -- where no planes of the set meet that of h, there is nothing to put
-crossed_none : (cell : List HalfSpace) (h : HalfSpace) (set : ℕ) (old : Rows) → IsTable (with_one cell h) old → MeetNowhere cell set 0 h → IsCrossed cell h set old old true
+crossed_none : {most : ℕ} (cell : List HalfSpace) (h : HalfSpace) (set : ℕ) (old : Rows) → IsTable most (with_one cell h) old → MeetNowhere cell set 0 h → IsCrossed most cell h set old old true
 crossed_none cell h set old t none = (record { table = t; all = λ u k. k }, λ i j f g v a e. absurd (none_not_some v (sym (none i j f g a) ∙ e)))
 
 -- nor where there are no two planes
-pub crossed_nowhere : (cell : List HalfSpace) (h : HalfSpace) (set : ℕ) (old : Rows) → IsTable (with_one cell h) old → HasNoTwo set → IsCrossed cell h set old old true
+pub crossed_nowhere : {most : ℕ} (cell : List HalfSpace) (h : HalfSpace) (set : ℕ) (old : Rows) → IsTable most (with_one cell h) old → HasNoTwo set → IsCrossed most cell h set old old true
 crossed_nowhere cell h set old t none = crossed_none cell h set old t (λ i j f g a. absurd (none i j a.rises a.first_in a.second_in))

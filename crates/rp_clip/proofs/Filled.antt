@@ -19,15 +19,15 @@ use Rattle.rp_clip.proofs.Lists.{get_contains}
 use Rattle.rp_clip.proofs.Sides.{Row, row, get_some, map_length, known_side, above_side}
 
 -- a table that has grown twice has grown
-grown_on : (cell : List HalfSpace) (h : HalfSpace) (a b c : Rows) → IsGrown cell h a b → IsGrown cell h b c → IsGrown cell h a c
+grown_on : {most : ℕ} (cell : List HalfSpace) (h : HalfSpace) (a b c : Rows) → IsGrown most cell h a b → IsGrown most cell h b c → IsGrown most cell h a c
 grown_on cell h a b c k l = record { table = l.table; all = λ v m. l.all v (k.all v m) }
 
 -- a table that is as it was has grown
-grown_same : (cell : List HalfSpace) (h : HalfSpace) (t : Rows) → IsTable (with_one cell h) t → IsGrown cell h t t
+grown_same : {most : ℕ} (cell : List HalfSpace) (h : HalfSpace) (t : Rows) → IsTable most (with_one cell h) t → IsGrown most cell h t t
 grown_same cell h t k = record { table = k; all = λ v m. m }
 
 -- meetings that a table has stay in it
-meetings_stay : (cell : List HalfSpace) (h : HalfSpace) (set : ℕ) (a b : Rows) → IsGrown cell h a b → HasMeetings cell h set a → HasMeetings cell h set b
+meetings_stay : {most : ℕ} (cell : List HalfSpace) (h : HalfSpace) (set : ℕ) (a b : Rows) → IsGrown most cell h a b → HasMeetings cell h set a → HasMeetings cell h set b
 meetings_stay cell h set a b g k i j f d v c e = g.all v (k i j f d v c e)
 
 -- an item of a list has a place
@@ -41,8 +41,8 @@ stands xs i l = let g = get_some xs i l in g.1 ∙ ap Some (sym (get_index xs i 
 -- ---- from one vertex
 
 -- the crossings with the first j vertices below are in the table
-pub record IsFilledFrom (cell : List HalfSpace) (h : HalfSpace) (below : List ℕ) (set : ℕ) (old : Rows) (j : ℕ) (new : Rows) : Type 0 where
-  pub grown : IsGrown cell h old new
+pub record IsFilledFrom (most : ℕ) (cell : List HalfSpace) (h : HalfSpace) (below : List ℕ) (set : ℕ) (old : Rows) (j : ℕ) (new : Rows) : Type 0 where
+  pub grown : IsGrown most cell h old new
   pub has : (k low : ℕ) → slice_get below k ≡ Some low → k < j → HasMeetings cell h (bit_and set low) new
 
 -- the planes that a vertex above and one below share
@@ -59,8 +59,8 @@ shared cell h set low room a b = record {
 }
 
 -- one vertex further
-pub from_next : (cell : List HalfSpace) (h : HalfSpace) (below : List ℕ) (set low j : ℕ) (old mid new : Rows) (b : Bool) → slice_get below j ≡ Some low
-    → IsFilledFrom cell h below set old j mid → b ≡ true → IsCrossed cell h (bit_and set low) mid new b → IsFilledFrom cell h below set old (j + 1) new
+pub from_next : {most : ℕ} (cell : List HalfSpace) (h : HalfSpace) (below : List ℕ) (set low j : ℕ) (old mid new : Rows) (b : Bool) → slice_get below j ≡ Some low
+    → IsFilledFrom most cell h below set old j mid → b ≡ true → IsCrossed most cell h (bit_and set low) mid new b → IsFilledFrom most cell h below set old (j + 1) new
 from_next cell h below set low j old mid new false at f e c = absurd (cc)
 from_next cell h below set low j old mid new true at f e c = record { grown = grown_on cell h old mid new f.grown c.0; has = has }
   where
@@ -74,7 +74,7 @@ from_next cell h below set low j old mid new true at f e c = record { grown = gr
         (cases_order k j)
 
 -- all vertices
-pub from_all : (cell : List HalfSpace) (h : HalfSpace) (below : List ℕ) (set j : ℕ) (old new : Rows) → IsFilledFrom cell h below set old j new → length below ≤ j → IsCrossedFrom cell h below set old new true
+pub from_all : {most : ℕ} (cell : List HalfSpace) (h : HalfSpace) (below : List ℕ) (set j : ℕ) (old new : Rows) → IsFilledFrom most cell h below set old j new → length below ≤ j → IsCrossedFrom most cell h below set old new true
 from_all cell h below set j old new f l = (
   f.grown,
   λ low c.
@@ -86,12 +86,12 @@ from_all cell h below set j old new f l = (
 -- ---- from all vertices
 
 -- the crossings from the first i vertices are in the table
-pub record IsFilledAll (cell : List HalfSpace) (h : HalfSpace) (points : List RationalPoint) (old : Rows) (i : ℕ) (new : Rows) : Type 0 where
-  pub grown : IsGrown cell h old new
+pub record IsFilledAll (most : ℕ) (cell : List HalfSpace) (h : HalfSpace) (points : List RationalPoint) (old : Rows) (i : ℕ) (new : Rows) : Type 0 where
+  pub grown : IsGrown most cell h old new
   pub has : (k : ℕ) (u : RationalPoint) → slice_get points k ≡ Some u → k < i → HasMeetingsOf cell h u points new
 
 -- what a step from one vertex owes
-pub owes_above : (cell : List HalfSpace) (h : HalfSpace) (t : Rows) (sides : List Side) (i : ℕ) (planes : List ℕ) → HasSides cell h t sides → i < length sides → planes ≡ t.planes
+pub owes_above : {most : ℕ} (cell : List HalfSpace) (h : HalfSpace) (t : Rows) (sides : List Side) (i : ℕ) (planes : List ℕ) → HasSides most cell h t sides → i < length sides → planes ≡ t.planes
     → slice_index_or sides i Above ≡ Above → IsAbove cell h (slice_index_or planes i 0)
 owes_above cell h t sides i planes k l el e =
     let r = row cell h t sides i k l in (
@@ -102,9 +102,9 @@ owes_above cell h t sides i planes k l el e =
     )
 
 -- one vertex further
-pub all_next : (cell : List HalfSpace) (h : HalfSpace) (t : Rows) (sides : List Side) (below : List ℕ) (i : ℕ) (planes : List ℕ) (old mid new : Rows) (b : Bool) → HasSides cell h t sides → AreAllBelow cell h t below
-    → i < length sides → planes ≡ t.planes → IsFilledAll cell h t.points old i mid → b ≡ true
-    → IsCrossedAbove cell h below (slice_index_or sides i Above) (slice_index_or planes i 0) mid new b → IsFilledAll cell h t.points old (i + 1) new
+pub all_next : {most : ℕ} (cell : List HalfSpace) (h : HalfSpace) (t : Rows) (sides : List Side) (below : List ℕ) (i : ℕ) (planes : List ℕ) (old mid new : Rows) (b : Bool) → HasSides most cell h t sides → AreAllBelow cell h t below
+    → i < length sides → planes ≡ t.planes → IsFilledAll most cell h t.points old i mid → b ≡ true
+    → IsCrossedAbove most cell h below (slice_index_or sides i Above) (slice_index_or planes i 0) mid new b → IsFilledAll most cell h t.points old (i + 1) new
 all_next cell h t sides below i planes old mid new false k lows l el f e c = absurd (cc)
 all_next cell h t sides below i planes old mid new true k lows l el f e c = record { grown = grown_on cell h old mid new f.grown c.0; has = has }
   where
@@ -129,8 +129,8 @@ all_next cell h t sides below i planes old mid new true k lows l el f e c = reco
         (cases_order n i)
 
 -- all vertices
-pub all_all : (cell : List HalfSpace) (h : HalfSpace) (t : Rows) (sides : List Side) (i : ℕ) (old new : Rows) → HasSides cell h t sides → IsFilledAll cell h t.points old i new → length sides ≤ i
-    → IsCrossedAll cell h t.points old new true
+pub all_all : {most : ℕ} (cell : List HalfSpace) (h : HalfSpace) (t : Rows) (sides : List Side) (i : ℕ) (old new : Rows) → HasSides most cell h t sides → IsFilledAll most cell h t.points old i new → length sides ≤ i
+    → IsCrossedAll most cell h t.points old new true
 all_all cell h t sides i old new k f l = (
   f.grown,
   λ u c.

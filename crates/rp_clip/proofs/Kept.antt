@@ -65,8 +65,8 @@ take_whole (x ∷ xs) zero h = absurd (omega (arith, h))
 take_whole (x ∷ xs) (suc i) h = ap (λ ys. x ∷ ys) (take_whole xs i (omega (arith, h)))
 
 -- all of them
-pub kept_all : (cell : List HalfSpace) (h : HalfSpace) (t kept : Rows) (sides : List Side) (i : ℕ) → HasSides cell h t sides → IsKeptUpTo cell h t.points i kept → length sides ≤ i → i ≤ length sides
-    → IsKeptTable cell h t kept
+pub kept_all : {most : ℕ} (cell : List HalfSpace) (h : HalfSpace) (t kept : Rows) (sides : List Side) (i : ℕ) → HasSides most cell h t sides → IsKeptUpTo cell h t.points i kept → length sides ≤ i → i ≤ length sides
+    → IsKeptTable most cell h t kept
 kept_all cell h t kept sides i s k far end =
     let e : length sides ≡ length t.points = ap length s.each ∙ map_length (side_of h) t.points in
     let all : kept.points ≡ filter (is_kept h) t.points = k.points_are ∙ ap (filter (is_kept h)) (take_whole t.points i (omega (arith, far, e))) in
@@ -131,7 +131,7 @@ is_below_side On e = absurd (cc)
 is_below_side Below e = refl
 
 -- the places of all of them
-pub below_all : (cell : List HalfSpace) (h : HalfSpace) (t : Rows) (sides : List Side) (i : ℕ) (below : List ℕ) → HasSides cell h t sides → AreBelowUpTo cell h t.points i below → length sides ≤ i → AreAllBelow cell h t below
+pub below_all : {most : ℕ} (cell : List HalfSpace) (h : HalfSpace) (t : Rows) (sides : List Side) (i : ℕ) (below : List ℕ) → HasSides most cell h t sides → AreBelowUpTo cell h t.points i below → length sides ≤ i → AreAllBelow cell h t below
 below_all cell h t sides i below s k far =
     subst (λ (xs : List ℕ). AreAllBelow cell h t xs) (sym all) (record {
       each = λ set c.
@@ -158,8 +158,8 @@ pub record IsSplitUpTo (cell : List HalfSpace) (h : HalfSpace) (points : List Ra
   pub below : AreBelowUpTo cell h points i sets
 
 -- one point further
-pub split_next : (cell : List HalfSpace) (h : HalfSpace) (t old new : Rows) (sides : List Side) (i n : ℕ) (p : RationalPoint) (corners : List RationalPoint) (planes before below : List ℕ)
-    → HasSides cell h t sides → i < length sides → IsSplitUpTo cell h t.points i old before → map reduced_point corners ≡ t.points → p ≡ slice_index_or corners i p → planes ≡ t.planes → n ≡ length cell
+pub split_next : {most : ℕ} (cell : List HalfSpace) (h : HalfSpace) (t old new : Rows) (sides : List Side) (i n : ℕ) (p : RationalPoint) (corners : List RationalPoint) (planes before below : List ℕ)
+    → HasSides most cell h t sides → i < length sides → IsSplitUpTo cell h t.points i old before → map reduced_point corners ≡ t.points → p ≡ slice_index_or corners i p → planes ≡ t.planes → n ≡ length cell
     → new.points ≡ with_kept (is_not_below (slice_index_or sides i Above)) old.points (reduced_point p)
     → new.planes ≡ with_kept (is_not_below (slice_index_or sides i Above)) old.planes (kept_planes (slice_index_or sides i Above) (slice_index_or planes i 0) (1 * 2 ^ n % 2 ^ 128))
     → below ≡ with_kept (is_below (slice_index_or sides i Above)) before (slice_index_or planes i 0)

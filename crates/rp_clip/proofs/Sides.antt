@@ -108,7 +108,7 @@ pub record Row (cell : List HalfSpace) (h : HalfSpace) (t : Rows) (sides : List 
   pub planes : (d : ℕ) → slice_index_or t.planes i d ≡ mask_of cell point
 
 -- each place has one
-pub row : (cell : List HalfSpace) (h : HalfSpace) (t : Rows) (sides : List Side) (i : ℕ) → HasSides cell h t sides → i < length sides → Row cell h t sides i
+pub row : {most : ℕ} (cell : List HalfSpace) (h : HalfSpace) (t : Rows) (sides : List Side) (i : ℕ) → HasSides most cell h t sides → i < length sides → Row cell h t sides i
 row cell h t sides i k l =
     let e : length sides ≡ length t.points = ap length k.each ∙ map_length (side_of h) t.points in
     let g = get_some t.points i (omega (arith, l, e)) in

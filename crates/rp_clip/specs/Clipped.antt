@@ -19,5 +19,5 @@ clipped halves points = record { halves = halves; points = points }
 pub record IsClip (cell : List HalfSpace) (t : Rows) : Type 0 where
   pub few : length cell ≤ 64
   pub bounds : AreHalfSpaces cell
-  pub table : IsTable cell t
+  pub table : IsTable 256 cell t
   pub complete : (v : RationalPoint) → Contains (vertices cell) v → Contains t.points v

@@ -11,8 +11,8 @@ use Rattle.rp_clip.specs.declared.cross.Side.{Side}
 use Rattle.rp_clip.specs.declared.cross.Side.TheVariants.{Above}
 
 -- the table of a cell's vertices, and on which side of the plane of a further half-space each lies
-pub record HasSides (cell : List HalfSpace) (h : HalfSpace) (t : Rows) (sides : List Side) : Type 0 where
-  pub table : IsTable cell t
+pub record HasSides (most : ℕ) (cell : List HalfSpace) (h : HalfSpace) (t : Rows) (sides : List Side) : Type 0 where
+  pub table : IsTable most cell t
   pub each : sides ≡ map (side_of h) t.points
   pub room : length cell < 64
 
@@ -54,37 +54,37 @@ abbrev pub with_one : List HalfSpace → HalfSpace → List HalfSpace
 with_one cell h = cell ++ h ∷ []
 
 -- a table of the cell with one more half-space, with all points of before
-pub record IsGrown (cell : List HalfSpace) (h : HalfSpace) (old new : Rows) : Type 0 where
-  pub table : IsTable (with_one cell h) new
+pub record IsGrown (most : ℕ) (cell : List HalfSpace) (h : HalfSpace) (old new : Rows) : Type 0 where
+  pub table : IsTable most (with_one cell h) new
   pub all : HasAllOf old new
 
 -- what it means that the crossings of one set were put into a table
-abbrev pub IsCrossed : List HalfSpace → HalfSpace → ℕ → Rows → Rows → Bool → Type 0
-IsCrossed cell h set old new true = IsGrown cell h old new × HasMeetings cell h set new
-IsCrossed cell h set old new false = HasMoreVertices 256 (with_one cell h)
+abbrev pub IsCrossed : ℕ → List HalfSpace → HalfSpace → ℕ → Rows → Rows → Bool → Type 0
+IsCrossed most cell h set old new true = IsGrown most cell h old new × HasMeetings cell h set new
+IsCrossed most cell h set old new false = HasMoreVertices most (with_one cell h)
 
 -- what it means that the crossings from one vertex to those of the sets below were
-abbrev pub IsCrossedFrom : List HalfSpace → HalfSpace → List ℕ → ℕ → Rows → Rows → Bool → Type 0
-IsCrossedFrom cell h below set old new true = IsGrown cell h old new × ((low : ℕ) → Contains below low → HasMeetings cell h (bit_and set low) new)
-IsCrossedFrom cell h below set old new false = HasMoreVertices 256 (with_one cell h)
+abbrev pub IsCrossedFrom : ℕ → List HalfSpace → HalfSpace → List ℕ → ℕ → Rows → Rows → Bool → Type 0
+IsCrossedFrom most cell h below set old new true = IsGrown most cell h old new × ((low : ℕ) → Contains below low → HasMeetings cell h (bit_and set low) new)
+IsCrossedFrom most cell h below set old new false = HasMoreVertices most (with_one cell h)
 
 -- the same of a vertex, if it is above
-abbrev pub IsCrossedAbove : List HalfSpace → HalfSpace → List ℕ → Side → ℕ → Rows → Rows → Bool → Type 0
-IsCrossedAbove cell h below side set old new true = IsGrown cell h old new × (side ≡ Above → (low : ℕ) → Contains below low → HasMeetings cell h (bit_and set low) new)
-IsCrossedAbove cell h below side set old new false = HasMoreVertices 256 (with_one cell h)
+abbrev pub IsCrossedAbove : ℕ → List HalfSpace → HalfSpace → List ℕ → Side → ℕ → Rows → Rows → Bool → Type 0
+IsCrossedAbove most cell h below side set old new true = IsGrown most cell h old new × (side ≡ Above → (low : ℕ) → Contains below low → HasMeetings cell h (bit_and set low) new)
+IsCrossedAbove most cell h below side set old new false = HasMoreVertices most (with_one cell h)
 
 -- what it means that all crossings were
-abbrev pub IsCrossedAll : List HalfSpace → HalfSpace → List RationalPoint → Rows → Rows → Bool → Type 0
-IsCrossedAll cell h points old new true = IsGrown cell h old new × ((u : RationalPoint) → Contains points u → HasMeetingsOf cell h u points new)
-IsCrossedAll cell h points old new false = HasMoreVertices 256 (with_one cell h)
+abbrev pub IsCrossedAll : ℕ → List HalfSpace → HalfSpace → List RationalPoint → Rows → Rows → Bool → Type 0
+IsCrossedAll most cell h points old new true = IsGrown most cell h old new × ((u : RationalPoint) → Contains points u → HasMeetingsOf cell h u points new)
+IsCrossedAll most cell h points old new false = HasMoreVertices most (with_one cell h)
 
 -- a table of the vertices at which the further half-space is not negative
-pub record IsKeptTable (cell : List HalfSpace) (h : HalfSpace) (old new : Rows) : Type 0 where
-  pub table : IsTable (with_one cell h) new
+pub record IsKeptTable (most : ℕ) (cell : List HalfSpace) (h : HalfSpace) (old new : Rows) : Type 0 where
+  pub table : IsTable most (with_one cell h) new
   pub kept : (v : RationalPoint) → Contains old.points v → pos 0 ≤ℤ side_value h v → Contains new.points v
 
 -- what it means that a table was filled with the vertices of the cell with one more half-space: those that are kept, and then the crossings
-pub record IsRefilled (cell : List HalfSpace) (h : HalfSpace) (old new : Rows) (result : Bool) : Type 0 where
+pub record IsRefilled (most : ℕ) (cell : List HalfSpace) (h : HalfSpace) (old new : Rows) (result : Bool) : Type 0 where
   pub kept : Rows
-  pub keeps : IsKeptTable cell h old kept
-  pub crossed : IsCrossedAll cell h old.points kept new result
+  pub keeps : IsKeptTable most cell h old kept
+  pub crossed : IsCrossedAll most cell h old.points kept new result

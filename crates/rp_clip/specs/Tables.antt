@@ -37,19 +37,19 @@ pub record AreVertices (cell : List HalfSpace) (points : List RationalPoint) : T
 abbrev pub HasMoreVertices : ℕ → List HalfSpace → Type 0
 HasMoreVertices n cell = (points : List RationalPoint) × AreDifferentVertices cell points × (n < length points)
 
--- a table of different vertices of a cell, beside each the places of the planes through it
-pub record IsTable (cell : List HalfSpace) (t : Rows) : Type 0 where
+-- a table of different vertices of a cell, of at most so many, beside each the places of the planes through it
+pub record IsTable (most : ℕ) (cell : List HalfSpace) (t : Rows) : Type 0 where
   pub different : AreDifferentVertices cell t.points
   pub planes : t.planes ≡ map (mask_of cell) t.points
-  pub fits : length t.points ≤ 256
+  pub fits : length t.points ≤ most
 
 -- a table with all points of another
 abbrev pub HasAllOf : Rows → Rows → Type 0
 HasAllOf old new = (v : RationalPoint) → Contains old.points v → Contains new.points v
 
--- what it means that a row is put into a table: one with its places stood there and all is as before, or it stands at the end; or none did, and the table is full
-abbrev pub IsPut : Rows → RationalPoint → ℕ → Rows → Bool → Type 0
-IsPut old p planes new true =
+-- what it means that a row is put into a table with room for so many: one with its places stood there and all is as before, or it stands at the end; or none did, and the table is full
+abbrev pub IsPut : ℕ → Rows → RationalPoint → ℕ → Rows → Bool → Type 0
+IsPut most old p planes new true =
     (Contains old.planes planes × (new ≡ old))
-    ⊎ ((¬ Contains old.planes planes) × (length old.points < 256) × (new.points ≡ old.points ++ p ∷ []) × (new.planes ≡ old.planes ++ planes ∷ []))
-IsPut old p planes new false = (¬ Contains old.planes planes) × (length old.points ≡ 256)
+    ⊎ ((¬ Contains old.planes planes) × (length old.points < most) × (new.points ≡ old.points ++ p ∷ []) × (new.planes ≡ old.planes ++ planes ∷ []))
+IsPut most old p planes new false = (¬ Contains old.planes planes) × (length old.points ≡ most)

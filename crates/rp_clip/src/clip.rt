@@ -30,8 +30,8 @@ use std::marker::Model;
 #[derive(Drop)]
 pub struct Clip {
     planes: Planes,
-    first: Table,
-    second: Table,
+    first: Table<256>,
+    second: Table<256>,
     is_second: bool,
 }
 
@@ -185,7 +185,7 @@ impl Clip {
     }
 
     /// The table of the vertices.
-    fn table(&self) -> &Table
+    fn table(&self) -> &Table<256>
         ensures clip { IsClip self.now.halves result.now }
         ensures points { result.now.points ≡ self.now.points }
     {
@@ -199,11 +199,17 @@ impl Clip {
 
 /// Fills the table that does not count with the vertices of the cell of the other with one more half-space.
 /// False where there are too many.
-fn refill(planes: &Planes, h: &Half, is_second: bool, first: &mut Table, second: &mut Table) -> bool
-    requires table { IsTable planes.now (counting is_second first.old second.old) }
+fn refill(
+    planes: &Planes,
+    h: &Half,
+    is_second: bool,
+    first: &mut Table<256>,
+    second: &mut Table<256>,
+) -> bool
+    requires table { IsTable 256 planes.now (counting is_second first.old second.old) }
     requires room { length planes.now < 64 }
     ensures same { counting is_second first.new second.new ≡ counting is_second first.old second.old }
-    ensures refilled { IsRefilled planes.now h.now (counting is_second first.old second.old) (counting (not is_second) first.new second.new) result }
+    ensures refilled { IsRefilled 256 planes.now h.now (counting is_second first.old second.old) (counting (not is_second) first.new second.new) result }
 {
     if is_second {
         cross_over(planes, h, second, first)

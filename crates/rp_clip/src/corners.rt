@@ -1,5 +1,5 @@
 //! The corners of the closed cube.
-ghost use Rattle.std.specs.Prelude.{◌≡◌, ◌<◌, [], map, Some};
+ghost use Rattle.std.specs.Prelude.{◌≡◌, ◌<◌, ◌≤◌, [], map, Some};
 ghost use Rattle.rp_geometry.specs.Geometry.{reduced_point, cube_half_spaces};
 ghost use Rattle.rp_clip.specs.CubeCorners.{cube_side, cube_corner, cube_corners};
 ghost use Rattle.rp_clip.specs.Masks.{mask_of};
@@ -26,7 +26,8 @@ fn corner(sides: &[Half; 6], x: bool, y: bool, z: bool) -> Meeting
 }
 
 /// Fills a table with the eight corners, each with the places of its three sides.
-pub(crate) fn fill_cube(table: &mut Table)
+pub(crate) fn fill_cube<const MOST: usize>(table: &mut Table<MOST>)
+    requires { 8 ≤ MOST }
     ensures points { table.new.points ≡ cube_corners }
     ensures planes { table.new.planes ≡ map (mask_of []) cube_corners }
 {

@@ -33,13 +33,18 @@ impl Default for Side {
 }
 
 /// Fills a further table with the vertices that a cell of fewer than 64 half-spaces has with one more: those of the cell that
-/// are not below its plane, and then the points at which edges cross it. False where there are more than 256.
-pub(crate) fn cross_over(planes: &Planes, h: &Half, table: &Table, more: &mut Table) -> bool
-    requires table { IsTable planes.now table.now }
+/// are not below its plane, and then the points at which edges cross it. False where there are more than its room.
+pub(crate) fn cross_over<const MOST: usize>(
+    planes: &Planes,
+    h: &Half,
+    table: &Table<MOST>,
+    more: &mut Table<MOST>,
+) -> bool
+    requires table { IsTable MOST planes.now table.now }
     requires room { length planes.now < 64 }
-    ensures { IsRefilled planes.now h.now table.now more.new result }
+    ensures { IsRefilled MOST planes.now h.now table.now more.new result }
 {
-    let sides = sides_of(h, table.corners());
+    let sides = sides_of::<MOST>(h, table.corners());
     let sides = sides.as_slice();
     let mut below = ArrayVec::new();
     split(planes, h, table, sides, more, &mut below);
@@ -63,8 +68,8 @@ fn side_of(h: &Half, p: &Meeting) -> Side
 }
 
 /// On which side of the plane of a half-space each of the points lies.
-fn sides_of(h: &Half, corners: &[Meeting]) -> ArrayVec<Side, 256>
-    requires { length corners.now ≤ 256 }
+fn sides_of<const MOST: usize>(h: &Half, corners: &[Meeting]) -> ArrayVec<Side, MOST>
+    requires { length corners.now ≤ MOST }
     ensures { result.items ≡ map (side_of h.now) (map reduced_point corners.now) }
 {
     let mut sides = ArrayVec::new();
@@ -76,17 +81,17 @@ fn sides_of(h: &Half, corners: &[Meeting]) -> ArrayVec<Side, 256>
 
 /// Fills a table with the points of another that are not below the plane, those on it with the new place, and an empty list
 /// with the places of those that are.
-fn split(
+fn split<const MOST: usize>(
     planes: &Planes,
     h: &Half,
-    table: &Table,
+    table: &Table<MOST>,
     sides: &[Side],
-    kept: &mut Table,
-    below: &mut ArrayVec<u128, 256>,
+    kept: &mut Table<MOST>,
+    below: &mut ArrayVec<u128, MOST>,
 )
-    requires sides { HasSides planes.now h.now table.now sides.now }
+    requires sides { HasSides MOST planes.now h.now table.now sides.now }
     requires empty { below.old.items ≡ [] }
-    ensures kept { IsKeptTable planes.now h.now table.now kept.new }
+    ensures kept { IsKeptTable MOST planes.now h.now table.now kept.new }
     ensures below { AreAllBelow planes.now h.now table.now below.new.items }
 {
     let place = 1 << planes.len();
@@ -100,16 +105,16 @@ fn split(
 
 /// Appends a point that is not below the plane to the one, with the new place if it is on it. Of a point that is below it
 /// appends the places to the other.
-fn split_one(
+fn split_one<const MOST: usize>(
     side: Side,
     corner: Meeting,
     planes: u128,
     place: u128,
-    kept: &mut Table,
-    below: &mut ArrayVec<u128, 256>,
+    kept: &mut Table<MOST>,
+    below: &mut ArrayVec<u128, MOST>,
 )
-    requires room { length kept.old.points < 256 }
-    requires room_below { length below.old.items < 256 }
+    requires room { length kept.old.points < MOST }
+    requires room_below { length below.old.items < MOST }
     ensures points { kept.new.points ≡ with_kept (is_not_below side) kept.old.points (reduced_point corner) }
     ensures planes { kept.new.planes ≡ with_kept (is_not_below side) kept.old.planes (kept_planes side planes place) }
     ensures below { below.new.items ≡ with_kept (is_below side) below.old.items planes }
@@ -122,18 +127,18 @@ fn split_one(
 }
 
 /// Puts the points at which edges cross the plane of `h` into a further table. False where there are too many.
-fn cross_all(
+fn cross_all<const MOST: usize>(
     planes: &Planes,
     h: &Half,
-    table: &Table,
+    table: &Table<MOST>,
     sides: &[Side],
     below: &[u128],
-    more: &mut Table,
+    more: &mut Table<MOST>,
 ) -> bool
-    requires sides { HasSides planes.now h.now table.now sides.now }
+    requires sides { HasSides MOST planes.now h.now table.now sides.now }
     requires below { AreAllBelow planes.now h.now table.now below.now }
-    requires more { IsTable (with_one planes.now h.now) more.old }
-    ensures { IsCrossedAll planes.now h.now table.now.points more.old more.new result }
+    requires more { IsTable MOST (with_one planes.now h.now) more.old }
+    ensures { IsCrossedAll MOST planes.now h.now table.now.points more.old more.new result }
 {
     let sets = table.planes();
     for i in 0..sides.len() {
@@ -145,19 +150,19 @@ fn cross_all(
 }
 
 /// Puts the points at which the edges from one vertex cross the plane of `h` into a further table, if it is above.
-fn cross_above(
+fn cross_above<const MOST: usize>(
     planes: &Planes,
     h: &Half,
     side: Side,
     set: u128,
     below: &[u128],
-    more: &mut Table,
+    more: &mut Table<MOST>,
 ) -> bool
     requires room { length planes.now < 64 }
     requires above { side ≡ Above → IsAbove planes.now h.now set }
     requires below { (low : ℕ) → Contains below.now low → IsBelow planes.now h.now low }
-    requires more { IsTable (with_one planes.now h.now) more.old }
-    ensures { IsCrossedAbove planes.now h.now below.now side set more.old more.new result }
+    requires more { IsTable MOST (with_one planes.now h.now) more.old }
+    ensures { IsCrossedAbove MOST planes.now h.now below.now side set more.old more.new result }
 {
     if side != Side::Above {
         return true;
@@ -166,12 +171,18 @@ fn cross_above(
 }
 
 /// Puts the points at which the edges from one vertex above the plane of `h` cross it into a further table.
-fn cross_from(planes: &Planes, h: &Half, set: u128, below: &[u128], more: &mut Table) -> bool
+fn cross_from<const MOST: usize>(
+    planes: &Planes,
+    h: &Half,
+    set: u128,
+    below: &[u128],
+    more: &mut Table<MOST>,
+) -> bool
     requires room { length planes.now < 64 }
     requires above { IsAbove planes.now h.now set }
     requires below { (low : ℕ) → Contains below.now low → IsBelow planes.now h.now low }
-    requires more { IsTable (with_one planes.now h.now) more.old }
-    ensures { IsCrossedFrom planes.now h.now below.now set more.old more.new result }
+    requires more { IsTable MOST (with_one planes.now h.now) more.old }
+    ensures { IsCrossedFrom MOST planes.now h.now below.now set more.old more.new result }
 {
     for low in below {
         if !cross(planes, h, set & *low, more) {
@@ -182,10 +193,10 @@ fn cross_from(planes: &Planes, h: &Half, set: u128, below: &[u128], more: &mut T
 }
 
 /// Puts the point at which the line of common planes crosses the plane of `h` into a further table, if they have a line.
-fn cross(planes: &Planes, h: &Half, common: u128, more: &mut Table) -> bool
+fn cross<const MOST: usize>(planes: &Planes, h: &Half, common: u128, more: &mut Table<MOST>) -> bool
     requires between { IsBetween planes.now h.now common }
-    requires more { IsTable (with_one planes.now h.now) more.old }
-    ensures { IsCrossed planes.now h.now common more.old more.new result }
+    requires more { IsTable MOST (with_one planes.now h.now) more.old }
+    ensures { IsCrossed MOST planes.now h.now common more.old more.new result }
 {
     // Most pairs of vertices have no edge: a line takes two planes.
     if !has_two(common) {

@@ -20,7 +20,11 @@ pub(crate) struct Found {
 }
 
 /// The first vertex of a table that is not on all planes of a set.
-pub(crate) fn first_vertex(planes: &Planes, table: &Table, set: u128) -> Option<usize>
+pub(crate) fn first_vertex<const MOST: usize>(
+    planes: &Planes,
+    table: &Table<MOST>,
+    set: u128,
+) -> Option<usize>
     requires { IsClip planes.now table.now }
     ensures some { IfSome result (λ i. IsFirstAt planes.now set table.now.points i) }
     ensures none { IfNone result (first_vertex (is_off planes.now set) (with_cube planes.now) ≡ None) }

@@ -8,18 +8,15 @@ use arrayvec::ArrayVec;
 use rp_space::{Meeting, Point};
 use std::marker::Model;
 
-/// The most rows of a table.
-const MOST_ROWS: usize = 256;
-
-/// Points, which are not put into lowest terms, and beside each the places of the planes through it.
+/// At most so many points, which are not put into lowest terms, and beside each the places of the planes through it.
 /// A contract sees the points in lowest terms, and the places.
 #[derive(Drop)]
-pub(crate) struct Table {
-    corners: ArrayVec<Meeting, 256>,
-    planes: ArrayVec<u128, 256>,
+pub(crate) struct Table<const MOST: usize> {
+    corners: ArrayVec<Meeting, MOST>,
+    planes: ArrayVec<u128, MOST>,
 }
 
-impl Model for Table {
+impl<const MOST: usize> Model for Table<MOST> {
     ghost use Rattle.std.specs.Prelude.{◌≡◌, length, map};
     ghost use Rattle.rp_geometry.specs.Geometry.{reduced_point};
     ghost use Rattle.rp_clip.specs.Tables.{Rows, rows_of};
@@ -31,9 +28,9 @@ impl Model for Table {
     ghost invariant = { λ t. length t.planes.items ≡ length t.corners.items };
 }
 
-impl Table {
+impl<const MOST: usize> Table<MOST> {
     /// The empty table.
-    pub(crate) fn new() -> Table
+    pub(crate) fn new() -> Table<MOST>
         ensures { result ≡ rows_of [] [] }
     {
         Table {
@@ -52,7 +49,7 @@ impl Table {
 
     /// Appends a row, for which there is room.
     pub(crate) fn push(&mut self, corner: Meeting, planes: u128)
-        requires { length self.old.points < 256 }
+        requires { length self.old.points < MOST }
         ensures points { self.new.points ≡ self.old.points ++ reduced_point corner ∷ [] }
         ensures planes { self.new.planes ≡ self.old.planes ++ planes ∷ [] }
     {
@@ -62,10 +59,10 @@ impl Table {
 
     /// Whether there is no room for a further row.
     fn is_full(&self) -> bool
-        ensures full { result ≡ true → length self.now.points ≡ 256 }
-        ensures room { result ≡ false → length self.now.points < 256 }
+        ensures full { result ≡ true → length self.now.points ≡ MOST }
+        ensures room { result ≡ false → length self.now.points < MOST }
     {
-        self.corners.len() == MOST_ROWS
+        self.corners.len() == MOST
     }
 
     /// Whether a row has exactly these places.
@@ -77,7 +74,7 @@ impl Table {
 
     /// Adds a row where none has these places. False where none has and the table is full.
     pub(crate) fn put(&mut self, corner: Meeting, planes: u128) -> bool
-        ensures { IsPut self.old (reduced_point corner) planes self.new result }
+        ensures { IsPut MOST self.old (reduced_point corner) planes self.new result }
     {
         if self.has(planes) {
             return true;
@@ -92,7 +89,7 @@ impl Table {
     /// The points, not in lowest terms.
     pub(crate) fn corners(&self) -> &[Meeting]
         ensures points { map reduced_point result.now ≡ self.now.points }
-        ensures fits { length result.now ≤ 256 }
+        ensures fits { length result.now ≤ MOST }
     {
         self.corners.as_slice()
     }
@@ -122,7 +119,7 @@ impl Table {
     }
 
     /// Becomes the same as another table.
-    pub(crate) fn copy_from(&mut self, other: &Table)
+    pub(crate) fn copy_from(&mut self, other: &Table<MOST>)
         ensures { self.new ≡ other.now }
     {
         let corners = other.corners();

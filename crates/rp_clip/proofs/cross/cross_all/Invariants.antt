@@ -3,4 +3,4 @@ use Rattle.rp_clip.proofs.cross.cross_all.Given as goal
 
 -- the crossings from the vertices so far are in the table
 abbrev pub invariant-loop-i : goal.invariant-loop-i
-invariant-loop-i l = IsFilledAll l.planes l.h l.table.points l.fn.more l.i l.more
+invariant-loop-i g l = IsFilledAll g.row.MOST l.planes l.h l.table.points l.fn.more l.i l.more

@@ -5,4 +5,4 @@ use Rattle.rp_clip.proofs.cross.sides_of.Given as goal
 
 -- the sides so far
 abbrev pub invariant-loop-corner : goal.invariant-loop-corner
-invariant-loop-corner l = record { so_far : l.sides.items ≡ map (side_of l.h) (map reduced_point (take l.corner-index l.corners)); few : length l.sides.items ≤ l.corner-index }
+invariant-loop-corner g l = record { so_far : l.sides.items ≡ map (side_of l.h) (map reduced_point (take l.corner-index l.corners)); few : length l.sides.items ≤ l.corner-index }

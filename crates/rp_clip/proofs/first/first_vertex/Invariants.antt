@@ -3,4 +3,4 @@ use Rattle.rp_clip.proofs.first.first_vertex.Given as goal
 
 -- the best of the vertices so far
 abbrev pub invariant-loop-i : goal.invariant-loop-i
-invariant-loop-i l = IsBest l.planes l.set l.table.points l.i l.best
+invariant-loop-i g l = IsBest l.planes l.set l.table.points l.i l.best

@@ -1,4 +1,4 @@
-use Rattle.std.proofs.Common.{◌∙◌}
+use Rattle.std.proofs.Common.{◌∙◌, arith}
 use Rattle.rp_clip.proofs.Taken.{row_below, weak_point_is, no_weak_point}
 use Rattle.rp_clip.proofs.Off.{known_none}
 use Rattle.rp_clip.proofs.inside.first_point.Goals as goal
@@ -7,7 +7,7 @@ pub returns-in_err-first : goal.returns-in_err-first
 returns-in_err-first c = c.from_residual.ensures ∙ no_weak_point c.args.planes.now c.requires.few (known_none c.first_vertex.result c.in_err-first.was c.first_vertex.ensures.none)
 
 pub point-requires : goal.point-requires
-point-requires c = row_below c.args.planes.now _ c.args.table.now.points c.in_ok-first.first c.in_ok-first.ensures.some
+point-requires c = (omega arith, row_below c.args.planes.now _ c.args.table.now.points c.in_ok-first.first c.in_ok-first.ensures.some)
 
 pub returns : goal.returns
 returns c = weak_point_is c.args.planes.now c.args.table.now.points c.in_ok-first.first c.point.result c.requires.few c.in_ok-first.ensures.some c.point.ensures

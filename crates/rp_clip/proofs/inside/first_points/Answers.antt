@@ -1,4 +1,4 @@
-use Rattle.std.proofs.Common.{◌∙◌}
+use Rattle.std.proofs.Common.{◌∙◌, arith}
 use Rattle.rp_clip.proofs.Taken.{row_below, places_below, no_inside, taken_first, next_room, next_smaller, taken_next, taken_all, none_taken}
 use Rattle.rp_clip.proofs.Off.{known_none}
 use Rattle.rp_clip.proofs.inside.first_points.Goals as goal
@@ -7,10 +7,10 @@ pub returns-in_err-first : goal.returns-in_err-first
 returns-in_err-first c = c.from_residual.ensures ∙ no_inside c.args.planes.now c.requires.few (known_none c.first_vertex.result c.in_err-first.was c.first_vertex.ensures.none)
 
 pub point-requires : goal.point-requires
-point-requires c = row_below c.args.planes.now _ c.args.table.now.points c.in_ok-first.first c.in_ok-first.ensures.some
+point-requires c = (omega arith, row_below c.args.planes.now _ c.args.table.now.points c.in_ok-first.first c.in_ok-first.ensures.some)
 
 pub places-flat-requires : goal.places-flat-requires
-places-flat-requires c = places_below c.args.planes.now c.args.table.now _ c.in_ok-first.first c.requires c.in_ok-first.ensures.some
+places-flat-requires c = (omega arith, places_below c.args.planes.now c.args.table.now _ c.in_ok-first.first c.requires c.in_ok-first.ensures.some)
 
 pub loop-flat-init : goal.loop-flat-init
 loop-flat-init c =
@@ -24,13 +24,13 @@ returns-in_err-next c =
     (known_none c.first_vertex-in-loop-flat.result c.in_err-next.was c.first_vertex-in-loop-flat.ensures.none)
 
 pub point-requires-in-loop-flat : goal.point-requires-in-loop-flat
-point-requires-in-loop-flat c = row_below c.args.planes.now _ c.args.table.now.points c.in_ok-next.next c.in_ok-next.ensures.some
+point-requires-in-loop-flat c = (omega arith, row_below c.args.planes.now _ c.args.table.now.points c.in_ok-next.next c.in_ok-next.ensures.some)
 
 pub push-requires-in-loop-flat : goal.push-requires-in-loop-flat
 push-requires-in-loop-flat c = next_room c.args.planes.now c.args.table.now c.loop-flat.flat c.in_ok-next.next c.loop-flat.taken c.requires c.loop-flat.invariant c.in_ok-next.ensures.some
 
 pub places-flat-requires-in-loop-flat : goal.places-flat-requires-in-loop-flat
-places-flat-requires-in-loop-flat c = places_below c.args.planes.now c.args.table.now _ c.in_ok-next.next c.requires c.in_ok-next.ensures.some
+places-flat-requires-in-loop-flat c = (omega arith, places_below c.args.planes.now c.args.table.now _ c.in_ok-next.next c.requires c.in_ok-next.ensures.some)
 
 pub loop-flat-smaller : goal.loop-flat-smaller
 loop-flat-smaller c =
