@@ -7,11 +7,12 @@ use Rattle.rp_algebra.proofs.Options.{some_not_none, same_some, known_some}
 use Rattle.rp_algebra.proofs.Tests.{false_not_true}
 use Rattle.rp_geometry.specs.Geometry.{RationalPoint, HalfSpace, with_cube}
 use Rattle.rp_geometry.specs.searches.Vertex.{meeting_point, vertices, first_vertex}
+use Rattle.rp_geometry.specs.laws.CellLaws.{AreHalfSpaces}
 use Rattle.rp_corners.specs.Bases.{Places, IsBefore, IsFirstBasis, IsGreedyBasis, IsPassingVertex}
 use Rattle.rp_corners.proofs.Bases.{greedy_basis_is_first_spec, vertex_has_greedy_basis_spec}
 use Rattle.rp_corners.proofs.Least.{before_other, first_vertex_has_least_basis_spec, no_first_where_none_passes_spec}
 use Rattle.rp_clip.specs.Clipped.{IsClip}
-use Rattle.rp_clip.specs.Firsts.{is_off_mask, is_off, IsBasisBefore, IsBetter, IsFirstAt, on, without, higher, worse, better}
+use Rattle.rp_clip.specs.Firsts.{is_off_mask, is_off, AreOn, HasFirst, IsBasisBefore, IsBehind, IsBetter, IsFirstAt, on, without, higher, worse, better}
 use Rattle.rp_clip.specs.Masks.{mask_of}
 use Rattle.rp_clip.specs.Meetings.{IsFirstOfSet, HasNoBasis, IsVertexSet}
 use Rattle.rp_clip.specs.declared.first.Found.{Found}
@@ -50,8 +51,8 @@ record Greedy (cell : List HalfSpace) (v : RationalPoint) : Type 0 where
   is_first : IsFirstOfSet cell (mask_of cell v) (set_places (length cell) places)
 
 -- it is there
-greedy_of : (cell : List HalfSpace) (t : Rows) (v : RationalPoint) → IsClip cell t → Contains (vertices cell) v → Greedy cell v
-greedy_of cell t v k c = let g = vertex_has_greedy_basis_spec cell v k.bounds c in record { places = g.0; greedy = g.1; is_first = greedy_is_first cell v g.0 k.few g.1 }
+greedy_of : (cell : List HalfSpace) (v : RationalPoint) → length cell ≤ 64 → AreHalfSpaces cell → Contains (vertices cell) v → Greedy cell v
+greedy_of cell v few bounds c = let g = vertex_has_greedy_basis_spec cell v bounds c in record { places = g.0; greedy = g.1; is_first = greedy_is_first cell v g.0 few g.1 }
 
 -- a set with a first triple has one
 has_basis : (cell : List HalfSpace) (set : ℕ) (b : Basis) → IsFirstOfSet cell set b → HasNoBasis cell set → ⊥
@@ -140,12 +141,12 @@ taken cell set points i best w b at off first before k = record {
     earlier (Some f) before k n v c e m o is d = k.least n v c e m o is (before_further c b f.basis d (before f refl))
 
 -- one vertex further
-best_next : (cell : List HalfSpace) (t : Rows) (set i : ℕ) (best new : Option Found) (mask : ℕ) (w : RationalPoint) → IsClip cell t → slice_get t.points i ≡ Some w → mask ≡ mask_of cell w
+best_next : {most : ℕ} (cell : List HalfSpace) (t : Rows) (set i : ℕ) (best new : Option Found) (mask : ℕ) (w : RationalPoint) → HasFirst most cell set t → slice_get t.points i ≡ Some w → mask ≡ mask_of cell w
     → IsBest cell set t.points i best → IsBetter cell set best i mask new → IsBest cell set t.points (i + 1) new
 best_next cell t set i best new mask w k at m is (on e r) =
     subst (λ (o : Option Found). IsBest cell set t.points (i + 1) o) (sym r) (stays_on cell set t.points i best w at (ap (is_off_mask set) (sym m) ∙ e) is)
 best_next cell t set i best new mask w k at m is (without e r) =
-    let g = greedy_of cell t w k (k.table.different.vertices w (get_contains t.points i w at)) in
+    let g = greedy_of cell w k.few k.bounds (k.table.different.vertices w (get_contains t.points i w at)) in
     absurd (has_basis cell mask (set_places (length cell) g.places) (subst (λ (n : ℕ). IsFirstOfSet cell n (set_places (length cell) g.places)) (sym m) g.is_first) e)
 best_next cell t set i best new mask w k at m is (worse b f first e not r) =
     subst (λ (o : Option Found). IsBest cell set t.points (i + 1) o) (sym (r ∙ e))
@@ -169,29 +170,29 @@ pub record TableRow (cell : List HalfSpace) (t : Rows) (planes : List ℕ) (i : 
   pub mask : slice_index_or planes i 0 ≡ mask_of cell point
 
 -- each place below the length has one
-table_row : (cell : List HalfSpace) (t : Rows) (planes : List ℕ) (i : ℕ) → IsClip cell t → planes ≡ t.planes → i < length planes → TableRow cell t planes i
-table_row cell t planes i k e l =
+table_row : {most : ℕ} (cell : List HalfSpace) (set : ℕ) (t : Rows) (planes : List ℕ) (i : ℕ) → HasFirst most cell set t → planes ≡ t.planes → i < length planes → TableRow cell t planes i
+table_row cell set t planes i k e l =
     let same : length planes ≡ length t.points = ap length (e ∙ k.table.planes) ∙ map_length (mask_of cell) t.points in
     let g = get_some t.points i (omega (arith, l, same)) in
     record { point = g.0; at = g.1; mask = mapped_at (mask_of cell) t.points planes i g.0 0 (e ∙ k.table.planes) g.1 }
 
 -- what the next step owes
-pub owes_vertex : (cell : List HalfSpace) (t : Rows) (planes : List ℕ) (i : ℕ) → IsClip cell t → planes ≡ t.planes → i < length planes → IsVertexSet cell (slice_index_or planes i 0)
-owes_vertex cell t planes i k e l =
-    let r = table_row cell t planes i k e l in
+pub owes_vertex : {most : ℕ} (cell : List HalfSpace) (set : ℕ) (t : Rows) (planes : List ℕ) (i : ℕ) → HasFirst most cell set t → planes ≡ t.planes → i < length planes → IsVertexSet cell (slice_index_or planes i 0)
+owes_vertex cell set t planes i k e l =
+    let r = table_row cell set t planes i k e l in
     record { few = k.few; bounds = k.bounds; vertex = r.point; is_vertex = k.table.different.vertices r.point (get_contains t.points i r.point r.at); exact = r.mask }
 
 -- one row further
-pub best_row : (cell : List HalfSpace) (t : Rows) (planes : List ℕ) (set i : ℕ) (best new : Option Found) → IsClip cell t → planes ≡ t.planes → i < length planes
+pub best_row : {most : ℕ} (cell : List HalfSpace) (t : Rows) (planes : List ℕ) (set i : ℕ) (best new : Option Found) → HasFirst most cell set t → planes ≡ t.planes → i < length planes
     → IsBest cell set t.points i best → IsBetter cell set best i (slice_index_or planes i 0) new → IsBest cell set t.points (i + 1) new
 best_row cell t planes set i best new k e l is b =
-    let r = table_row cell t planes i k e l in
+    let r = table_row cell set t planes i k e l in
     best_next cell t set i best new (slice_index_or planes i 0) r.point k r.at r.mask is b
 
 -- ---- at the end
 
 -- the best of all is the first vertex that is off the set
-pub best_is_first : (cell : List HalfSpace) (t : Rows) (planes : List ℕ) (set i : ℕ) (f : Found) → IsClip cell t → planes ≡ t.planes → length planes ≤ i → IsLeast cell set t.points i f
+pub best_is_first : {most : ℕ} (cell : List HalfSpace) (t : Rows) (planes : List ℕ) (set i : ℕ) (f : Found) → HasFirst most cell set t → planes ≡ t.planes → length planes ≤ i → IsLeast cell set t.points i f
     → IsFirstAt cell set t.points f.index
 best_is_first cell t planes set i f k e far is = record {
   point = is.point;
@@ -203,30 +204,44 @@ best_is_first cell t planes set i f k e far is = record {
     vertex = k.table.different.vertices is.point (get_contains t.points f.index is.point is.at)
 
     g : Greedy cell is.point
-    g = greedy_of cell t is.point k vertex
+    g = greedy_of cell is.point k.few k.bounds vertex
 
     same : length planes ≡ length t.points
     same = ap length (e ∙ k.table.planes) ∙ map_length (mask_of cell) t.points
 
     least : (w : RationalPoint) (q : Places) → IsPassingVertex (is_off cell set) cell w → IsFirstBasis (with_cube cell) w q → IsBefore q g.places → ⊥
     least w q passing first before =
-        let o = greedy_of cell t w k passing.0 in
+        let o = greedy_of cell w k.few k.bounds passing.0 in
         let others = greedy_basis_is_first_spec (with_cube cell) w o.places o.greedy in
-        let b = before_in_set (length cell) o.places g.places k.few (before_other q g.places o.places before (others.1 q first.0)) in
-        let at = place_in t.points w (k.complete w passing.0) in
-        let low = get_below t.points at.0 w at.1 in
-        is.least at.0 w (set_places (length cell) o.places) at.1 (omega (arith, low, far, same)) passing.1 o.is_first
-        (subst (λ (c : Basis). IsBasisBefore (set_places (length cell) o.places) c) (one_first cell (mask_of cell is.point) (set_places (length cell) g.places) f.basis g.is_first is.is_first) b)
+        let earlier = before_other q g.places o.places before (others.1 q first.0) in
+        ⊎_elim
+        (λ (c : Contains t.points w). among o earlier c)
+        (λ (b : IsBehind cell set t.points w). b is.point g.places o.places (get_contains t.points f.index is.point is.at) is.off g.greedy o.greedy earlier)
+        (k.others w passing.0 passing.1)
+      where
+        among : (o : Greedy cell w) → IsBefore o.places g.places → Contains t.points w → ⊥
+        among o earlier c =
+            let b = before_in_set (length cell) o.places g.places k.few earlier in
+            let at = place_in t.points w c in
+            let low = get_below t.points at.0 w at.1 in
+            is.least at.0 w (set_places (length cell) o.places) at.1 (omega (arith, low, far, same)) passing.1 o.is_first
+            (subst (λ (c : Basis). IsBasisBefore (set_places (length cell) o.places) c) (one_first cell (mask_of cell is.point) (set_places (length cell) g.places) f.basis g.is_first is.is_first) b)
 
--- where none is off the set there is no first one
-pub none_is_first : (cell : List HalfSpace) (t : Rows) (planes : List ℕ) (set i : ℕ) → IsClip cell t → planes ≡ t.planes → length planes ≤ i → NoneOff cell set t.points i → first_vertex (is_off cell set) (with_cube cell) ≡ None
-none_is_first cell t planes set i k e far none = no_first_where_none_passes_spec (is_off cell set) cell each
-  where
-    same : length planes ≡ length t.points
-    same = ap length (e ∙ k.table.planes) ∙ map_length (mask_of cell) t.points
+-- where no row was off the set, none is
+pub none_off : {most : ℕ} (cell : List HalfSpace) (t : Rows) (planes : List ℕ) (set i : ℕ) → HasFirst most cell set t → planes ≡ t.planes → length planes ≤ i → NoneOff cell set t.points i → AreOn cell set t.points
+none_off cell t planes set i k e far none w c =
+    let same : length planes ≡ length t.points = ap length (e ∙ k.table.planes) ∙ map_length (mask_of cell) t.points in
+    let at = place_in t.points w c in
+    let low = get_below t.points at.0 w at.1 in
+    none at.0 w at.1 (omega (arith, low, far, same))
 
-    each : (w : RationalPoint) → IsPassingVertex (is_off cell set) cell w → ⊥
-    each w passing =
-        let at = place_in t.points w (k.complete w passing.0) in
-        let low = get_below t.points at.0 w at.1 in
-        false_not_true (is_off cell set w) passing.1 (none at.0 w at.1 (omega (arith, low, far, same)))
+-- ---- a table of all vertices
+
+-- it has the first one
+pub clip_has_first : (cell : List HalfSpace) (set : ℕ) (t : Rows) → IsClip cell t → HasFirst 256 cell set t
+clip_has_first cell set t k = record { few = k.few; bounds = k.bounds; table = k.table; others = λ w c o. inl (k.complete w c) }
+
+-- where none of its rows is off the set there is no first one
+pub none_is_first : (cell : List HalfSpace) (t : Rows) (set : ℕ) → IsClip cell t → AreOn cell set t.points → first_vertex (is_off cell set) (with_cube cell) ≡ None
+none_is_first cell t set k none =
+    no_first_where_none_passes_spec (is_off cell set) cell (λ w passing. false_not_true (is_off cell set w) passing.1 (none w (k.complete w passing.0)))

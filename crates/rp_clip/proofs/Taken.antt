@@ -7,8 +7,7 @@ use Rattle.rp_geometry.specs.Geometry.{RationalPoint, HalfSpace, with_cube}
 use Rattle.rp_geometry.specs.searches.Vertex.{first_vertex, any_point, lifts, flat_half_spaces, complete_points, points_from, first_inside, first_weak_point}
 use Rattle.rp_convex.proofs.Progress.{room_for_next}
 use Rattle.rp_convex.proofs.WeakPoint.{found_is_vertex}
-use Rattle.rp_clip.specs.Clipped.{IsClip}
-use Rattle.rp_clip.specs.Firsts.{is_off, IsFirstAt}
+use Rattle.rp_clip.specs.Firsts.{is_off, HasFirst, IsFirstAt}
 use Rattle.rp_clip.specs.Masks.{mask_of}
 use Rattle.rp_clip.proofs.Flat.{AreSame, lifts_off, tests_agree, first_off_whole, same_first, same_next, same_empty, same_some_flat, smaller}
 use Rattle.rp_clip.proofs.HalfAt.{get_below}
@@ -24,7 +23,7 @@ pub row_below : (cell : List HalfSpace) (set : ℕ) (points : List RationalPoint
 row_below cell set points i k = get_below points i k.point k.at
 
 -- and of its places
-pub places_below : (cell : List HalfSpace) (t : Rows) (set i : ℕ) → IsClip cell t → IsFirstAt cell set t.points i → i < length t.planes
+pub places_below : {most : ℕ} (cell : List HalfSpace) (t : Rows) (set i : ℕ) → HasFirst most cell set t → IsFirstAt cell set t.points i → i < length t.planes
 places_below cell t set i k f =
     let e : length t.planes ≡ length t.points = ap length k.table.planes ∙ map_length (mask_of cell) t.points in
     let h = row_below cell set t.points i f in
@@ -35,7 +34,7 @@ read_is : (cell : List HalfSpace) (set : ℕ) (points : List RationalPoint) (i :
 read_is cell set points i p f e = same_some f.point p (sym f.at ∙ sym e)
 
 -- the places that are read
-mask_is : (cell : List HalfSpace) (t : Rows) (set i m : ℕ) (k : IsClip cell t) (f : IsFirstAt cell set t.points i) → Some m ≡ slice_get t.planes i → m ≡ mask_of cell f.point
+mask_is : {most : ℕ} (cell : List HalfSpace) (t : Rows) (set i m : ℕ) (k : HasFirst most cell set t) (f : IsFirstAt cell set t.points i) → Some m ≡ slice_get t.planes i → m ≡ mask_of cell f.point
 mask_is cell t set i m k f e =
     same_some m (mask_of cell f.point) (e ∙ ap (λ (xs : List ℕ). slice_get xs i) k.table.planes ∙ map_get (mask_of cell) t.points i ∙ ap (option_map (mask_of cell)) f.at)
 
@@ -71,7 +70,7 @@ pub record IsTaken (cell : List HalfSpace) (set : ℕ) (taken : List RationalPoi
   pub same : AreSame cell flat set
 
 -- the first point
-pub taken_first : (cell : List HalfSpace) (t : Rows) (i : ℕ) (p : RationalPoint) (m : ℕ) (before taken : List RationalPoint) (k : IsClip cell t) (f : IsFirstAt cell (2 ^ 128 - 1) t.points i)
+pub taken_first : {most : ℕ} (cell : List HalfSpace) (t : Rows) (i : ℕ) (p : RationalPoint) (m : ℕ) (before taken : List RationalPoint) (k : HasFirst most cell (2 ^ 128 - 1) t) (f : IsFirstAt cell (2 ^ 128 - 1) t.points i)
     → Some p ≡ slice_get t.points i → Some m ≡ slice_get t.planes i → before ≡ [] → taken ≡ before ++ p ∷ [] → IsTaken cell m taken
 taken_first cell t i p m before taken k f ep em eb et =
     let first = first_is cell t.points i k.few f in
@@ -89,17 +88,17 @@ next_is : (cell : List HalfSpace) (set i : ℕ) (points taken : List RationalPoi
 next_is cell set i points taken few s f = tests_agree (lifts s.flat) (is_off cell set) (with_cube cell) (λ p w. lifts_off cell s.flat set p few s.same w) ∙ f.is_first
 
 -- there is room for it
-pub next_room : (cell : List HalfSpace) (t : Rows) (set i : ℕ) (taken : List RationalPoint) → IsClip cell t → IsTaken cell set taken → IsFirstAt cell set t.points i → length taken < 4
+pub next_room : {most : ℕ} (cell : List HalfSpace) (t : Rows) (set i : ℕ) (taken : List RationalPoint) → HasFirst most cell set t → IsTaken cell set taken → IsFirstAt cell set t.points i → length taken < 4
 next_room cell t set i taken k s f = room_for_next (with_cube cell) s.flat taken f.point s.far.progress (next_is cell set i t.points taken k.few s f)
 
 -- with it the set becomes smaller
-pub next_smaller : (cell : List HalfSpace) (t : Rows) (set i m : ℕ) (taken : List RationalPoint) → IsClip cell t → IsTaken cell set taken → IsFirstAt cell set t.points i → Some m ≡ slice_get t.planes i → bit_and set m < set
+pub next_smaller : {most : ℕ} (cell : List HalfSpace) (t : Rows) (set i m : ℕ) (taken : List RationalPoint) → HasFirst most cell set t → IsTaken cell set taken → IsFirstAt cell set t.points i → Some m ≡ slice_get t.planes i → bit_and set m < set
 next_smaller cell t set i m taken k s f e =
     subst (λ (n : ℕ). bit_and set n < set) (sym (mask_is cell t set i m k f e))
     (smaller cell set f.point k.few s.same.small (found_is_vertex (is_off cell set) (with_cube cell) f.point f.is_first).passes)
 
 -- one point further
-pub taken_next : (cell : List HalfSpace) (t : Rows) (set i m : ℕ) (p : RationalPoint) (taken more : List RationalPoint) → IsClip cell t → (set ≡ 0 → ⊥) → IsTaken cell set taken → (f : IsFirstAt cell set t.points i)
+pub taken_next : {most : ℕ} (cell : List HalfSpace) (t : Rows) (set i m : ℕ) (p : RationalPoint) (taken more : List RationalPoint) → HasFirst most cell set t → (set ≡ 0 → ⊥) → IsTaken cell set taken → (f : IsFirstAt cell set t.points i)
     → Some p ≡ slice_get t.points i → Some m ≡ slice_get t.planes i → more ≡ taken ++ p ∷ [] → IsTaken cell (bit_and set m) more
 taken_next cell t set i m p taken more k n s f ep em et =
     let next = next_is cell set i t.points taken k.few s f in
@@ -126,7 +125,7 @@ stuck zero hs (h ∷ flat) taken l e = refl
 stuck (suc room) hs (h ∷ flat) taken l e = ap (λ (o : Option RationalPoint). elim o [ None ↦ None | Some q ↦ complete_points room hs (flat_half_spaces (h ∷ flat) (q ∷ [])) (taken ++ q ∷ []) ]) e
 
 -- with something left and no vertex found there is no certificate
-pub none_taken : (cell : List HalfSpace) (t : Rows) (set : ℕ) (taken : List RationalPoint) → IsClip cell t → (set ≡ 0 → ⊥) → IsTaken cell set taken → first_vertex (is_off cell set) (with_cube cell) ≡ None → None ≡ first_inside cell
+pub none_taken : {most : ℕ} (cell : List HalfSpace) (t : Rows) (set : ℕ) (taken : List RationalPoint) → HasFirst most cell set t → (set ≡ 0 → ⊥) → IsTaken cell set taken → first_vertex (is_off cell set) (with_cube cell) ≡ None → None ≡ first_inside cell
 unfolding first_inside
 none_taken cell t set taken k n s e =
     let none = tests_agree (lifts s.flat) (is_off cell set) (with_cube cell) (λ p w. lifts_off cell s.flat set p k.few s.same w) ∙ e in

@@ -1,10 +1,7 @@
 //! The first vertex of a table, in the order of the first three places of each.
-ghost use Rattle.std.specs.Prelude.{◌≡◌, ◌<◌, true, IfSome, IfNone, None, Some};
+ghost use Rattle.std.specs.Prelude.{◌≡◌, ◌<◌, true, IfSome, IfNone, Some};
 ghost use Rattle.std.specs.Int.{trailing_zeros, w128};
-ghost use Rattle.rp_geometry.specs.Geometry.{with_cube};
-ghost use Rattle.rp_geometry.specs.searches.Vertex.{first_vertex};
-ghost use Rattle.rp_clip.specs.Clipped.{IsClip};
-ghost use Rattle.rp_clip.specs.Firsts.{is_off, IsBetter, IsFirstAt};
+ghost use Rattle.rp_clip.specs.Firsts.{AreOn, HasFirst, IsBetter, IsFirstAt};
 ghost use Rattle.rp_clip.specs.Meetings.{IsVertexSet};
 ghost use Rattle.rp_clip.specs.declared.first.Found.{Found};
 
@@ -19,15 +16,15 @@ pub(crate) struct Found {
     pub(crate) basis: Basis,
 }
 
-/// The first vertex of a table that is not on all planes of a set.
+/// The first vertex of a cell that is not on all planes of a set, from a table that has it, if it has any that is not.
 pub(crate) fn first_vertex<const MOST: usize>(
     planes: &Planes,
     table: &Table<MOST>,
     set: u128,
 ) -> Option<usize>
-    requires { IsClip planes.now table.now }
+    requires { HasFirst MOST planes.now set table.now }
     ensures some { IfSome result (λ i. IsFirstAt planes.now set table.now.points i) }
-    ensures none { IfNone result (first_vertex (is_off planes.now set) (with_cube planes.now) ≡ None) }
+    ensures none { IfNone result (AreOn planes.now set table.now.points) }
 {
     let mut best: Option<Found> = None;
     let masks = table.planes();
