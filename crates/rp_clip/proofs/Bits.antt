@@ -20,7 +20,7 @@ pub none_from : (n k : ℕ) → n / 2 ^ k ≡ 0 → (i : ℕ) → k ≤ i → bi
 none_from n k e i h = bit_from n k i h ∙ ap (λ (x : ℕ). bit_at x (i - k)) e ∙ bit_at-zero (i - k)
 
 -- a bit of a number of 128 bits is below 128
-set_below : (n i : ℕ) → n < 2 ^ 128 → bit_at n i ≡ 1 → i < 128
+pub set_below : (n i : ℕ) → n < 2 ^ 128 → bit_at n i ≡ 1 → i < 128
 set_below n i h e = ⊎_elim (λ (l : i < 128). l) (λ (l : 128 ≤ i). absurd (one_not_zero (sym (bit_at_above n 128 i h l) ∙ e))) (cases_lt i 128)
   where
     one_not_zero : 0 ≡ suc 0 → ⊥

@@ -59,7 +59,7 @@ passes : (n : ℕ) → (n ≡ 0 → ⊥) → not (nat_eq n 0) ≡ true
 passes n e = grind (arith, nat_tests)
 
 -- where the test passes there is such a place
-off_place : (set mask : ℕ) → set < 2 ^ 128 → mask < 2 ^ 128 → is_off_mask set mask ≡ true → IsOffAt set mask
+pub off_place : (set mask : ℕ) → set < 2 ^ 128 → mask < 2 ^ 128 → is_off_mask set mask ≡ true → IsOffAt set mask
 off_place set mask hs hm e =
     let n = bit_and set (bit_not w128 mask) in
     let small : n < 2 ^ 128 = lt_of_le_of_lt (and_le_l set (bit_not w128 mask)) hs in
@@ -70,7 +70,7 @@ off_place set mask hs hm e =
     record { place = i; in_set = parts.0; not_in_mask = parts.1 }
 
 -- where there is such a place the test passes
-place_off : (set mask : ℕ) → mask < 2 ^ 128 → (o : IsOffAt set mask) → o.place < 128 → is_off_mask set mask ≡ true
+pub place_off : (set mask : ℕ) → mask < 2 ^ 128 → (o : IsOffAt set mask) → o.place < 128 → is_off_mask set mask ≡ true
 place_off set mask hm o low =
     let n = bit_and set (bit_not w128 mask) in
     let bit : bit_at n o.place ≡ 1 = bit_at_and set (bit_not w128 mask) o.place ∙ (λ k. min (o.in_set k) ((bit_at_not w128 mask o.place hm low ∙ ap (λ b. 1 - b) o.not_in_mask) k)) in

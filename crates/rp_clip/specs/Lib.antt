@@ -7,3 +7,4 @@ pub mod Masks
 pub mod Meetings
 pub mod Sides
 pub mod Tables
+pub mod Taken
