@@ -12,7 +12,7 @@ use Rattle.rp_corners.specs.Edges.{IsCrossing, IsKeptVertex}
 use Rattle.rp_corners.proofs.Corners.{meeting_is, is_meeting}
 use Rattle.rp_corners.proofs.Edges.{vertices_follow_edges_spec}
 use Rattle.rp_corners.proofs.Standing.{listed_contains, contains_listed}
-use Rattle.rp_clip.specs.Clipped.{Clipped, clipped, IsClip}
+use Rattle.rp_clip.specs.Clipped.{Clipped, clipped, HasVertices, IsClip}
 use Rattle.rp_clip.specs.Crossings.{HasMeetings, with_one, IsKeptTable, IsCrossedAll, IsRefilled}
 use Rattle.rp_clip.specs.Masks.{half_at, mask_of, IsIn}
 use Rattle.rp_clip.specs.Tables.{Rows, AreDistinct, AreVertices, HasMoreVertices}
@@ -93,34 +93,34 @@ found_at cell h t set i j f g v has ii jj ef eg e =
     turned : meeting_point g f h ≡ Some v
     turned = let m = meeting_is f g h v e in is_meeting g f h v (record { point = m.point; lowest = m.lowest; tight = (tight_symmetric v).first_two f g h m.tight })
 
--- a crossing stands in a table that has all
-crossing_found : {most : ℕ} (cell : List HalfSpace) (h : HalfSpace) (t kept new : Rows) (v : RationalPoint) → length cell ≤ 64 → ((u : RationalPoint) → Contains (vertices cell) u → Contains t.points u)
-    → IsCrossedAll most cell h t.points kept new true → IsCrossing cell h v → Contains new.points v
-crossing_found cell h t kept new v few complete k c =
+-- a crossing stands in a table that has those of an edge, where the other had both ends of it
+pub crossing_found : {most : ℕ} (cell : List HalfSpace) (h : HalfSpace) (t kept new : Rows) (v : RationalPoint) → length cell ≤ 64 → (c : IsCrossing cell h v) → Contains t.points c.above → Contains t.points c.below
+    → IsCrossedAll most cell h t.points kept new true → Contains new.points v
+crossing_found cell h t kept new v few c above below k =
     let e = c.crossed.edge in
     let i = listed_at cell c.one few e.first_listed in
     let j = listed_at cell c.two few e.second_listed in
     found_at cell h new (bit_and (mask_of cell c.above) (mask_of cell c.below)) i.place j.place c.one c.two v
-    (k.1 c.above (complete c.above e.first_vertex) c.crossed.positive c.below (complete c.below e.second_vertex) c.crossed.negative)
+    (k.1 c.above above c.crossed.positive c.below below c.crossed.negative)
     (both_in (mask_of cell c.above) (mask_of cell c.below) i.place (mask_in cell c.above i.place c.one few i.at e.first.0) (mask_in cell c.below i.place c.one few i.at e.first.1))
     (both_in (mask_of cell c.above) (mask_of cell c.below) j.place (mask_in cell c.above j.place c.two few j.at e.second.0) (mask_in cell c.below j.place c.two few j.at e.second.1))
     i.at j.at c.at
 
 -- the table with the crossings is that of the cell with the half-space
-pub added : (cell : List HalfSpace) (h : HalfSpace) (t kept new : Rows) → IsClip cell t → length cell < 64 → IsHalfSpace h → IsKeptTable 256 cell h t kept → IsCrossedAll 256 cell h t.points kept new true
-    → IsClip (with_one cell h) new
+pub added : {most : ℕ} (cell : List HalfSpace) (h : HalfSpace) (t kept new : Rows) → HasVertices most cell t → length cell < 64 → IsHalfSpace h → IsKeptTable most cell h t kept → IsCrossedAll most cell h t.points kept new true
+    → HasVertices most (with_one cell h) new
 added cell h t kept new k room bound keeps c = record {
   few = one_longer cell h room;
   bounds = all_append IsHalfSpace cell (h ∷ []) k.bounds (bound, tt);
   table = c.0.table;
   complete = λ v m. ⊎_elim
       (λ (s : IsKeptVertex cell h v). c.0.all v (keeps.kept v (k.complete v s.0) s.1))
-      (λ (s : IsCrossing cell h v). crossing_found cell h t kept new v k.few k.complete c s)
+      (λ (s : IsCrossing cell h v). crossing_found cell h t kept new v k.few s (k.complete s.above s.crossed.edge.first_vertex) (k.complete s.below s.crossed.edge.second_vertex) c)
       ((vertices_follow_edges_spec cell h v).0 m);
 }
 
 -- what the answer of all crossings says, where it is known
-crossed_true : (most : ℕ) (cell : List HalfSpace) (h : HalfSpace) (points : List RationalPoint) (old new : Rows) (r : Bool) → r ≡ true → IsCrossedAll most cell h points old new r → IsCrossedAll most cell h points old new true
+pub crossed_true : (most : ℕ) (cell : List HalfSpace) (h : HalfSpace) (points : List RationalPoint) (old new : Rows) (r : Bool) → r ≡ true → IsCrossedAll most cell h points old new r → IsCrossedAll most cell h points old new true
 crossed_true most cell h points old new r e c = subst (λ (b : Bool). IsCrossedAll most cell h points old new b) e c
 
 -- ---- as contracts see it

@@ -12,7 +12,7 @@ shifted_bit : (n k d : ℕ) → bit_at (n / 2 ^ k) d ≡ bit_at n (k + d)
 shifted_bit n k d = ap (λ (x : ℕ). x % 2) (shr-shr n k d)
 
 -- a bit from k on, as one of the number that was moved down
-bit_from : (n k i : ℕ) → k ≤ i → bit_at n i ≡ bit_at (n / 2 ^ k) (i - k)
+pub bit_from : (n k i : ℕ) → k ≤ i → bit_at n i ≡ bit_at (n / 2 ^ k) (i - k)
 bit_from n k i h = let e : k + (i - k) ≡ i = omega (arith, h) in sym (shifted_bit n k (i - k) ∙ ap (bit_at n) e)
 
 -- where nothing is left, there is no bit from k on

@@ -1,5 +1,5 @@
 -- The corners of the cube are the vertices of a cell with no half-spaces.
-use Rattle.std.proofs.Common.{◌≡◌, ℤ, Bool, true, false, List, [], ◌∷◌, ◌++◌, ◌≤◌, length, map, refl, sym, ap, ◌∙◌, subst, arith}
+use Rattle.std.proofs.Common.{◌≡◌, ℕ, ℤ, Bool, true, false, List, [], ◌∷◌, ◌++◌, ◌≤◌, length, map, refl, sym, ap, ◌∙◌, subst, arith}
 use Rattle.std.specs.Prelude.{Option, Some, None, option_map, not, ◌&&◌}
 use Rattle.std.specs.Option.{UnwrapsOrElse}
 use Rattle.std.specs.List.{Contains, list_any}
@@ -9,7 +9,7 @@ use Rattle.rp_algebra.proofs.Options.{none_not_some, same_some}
 use Rattle.rp_algebra.proofs.Tests.{false_not_true, and_true, and_first, and_second}
 use Rattle.rp_convex.proofs.Filter.{passes_some}
 use Rattle.rp_corners.proofs.Standing.{contains_listed}
-use Rattle.rp_clip.specs.Clipped.{IsClip}
+use Rattle.rp_clip.specs.Clipped.{HasVertices}
 use Rattle.rp_clip.specs.Masks.{mask_of}
 use Rattle.rp_clip.specs.Tables.{Rows, AreDistinct, AreDifferentVertices}
 use Rattle.rp_algebra.specs.Integer.{gcd_of, gcd}
@@ -89,14 +89,14 @@ corners_distinct : AreDistinct cube_corners
 corners_distinct = apart_distinct cube_corners refl
 
 -- the table of the corners is that of a cell with no half-spaces
-pub cube_clip : (t : Rows) → t.points ≡ cube_corners → t.planes ≡ map (mask_of []) cube_corners → IsClip [] t
-cube_clip t ep el = record {
+pub cube_clip : (most : ℕ) (t : Rows) → 8 ≤ most → t.points ≡ cube_corners → t.planes ≡ map (mask_of []) cube_corners → HasVertices most [] t
+cube_clip most t room ep el = record {
   few = omega arith;
   bounds = tt;
   table = record {
     different = subst (λ (xs : List RationalPoint). AreDifferentVertices [] xs) (sym ep) (record { distinct = corners_distinct; vertices = λ v c. subst (λ (xs : List RationalPoint). Contains xs v) (sym cube_vertices) c });
     planes = el ∙ ap (map (mask_of [])) (sym ep);
-    fits = subst (λ (xs : List RationalPoint). length xs ≤ 256) (sym ep) (omega arith);
+    fits = subst (λ (xs : List RationalPoint). length xs ≤ most) (sym ep) room;
   };
   complete = λ v c. subst (λ (xs : List RationalPoint). Contains xs v) (cube_vertices ∙ sym ep) c;
 }

@@ -58,7 +58,7 @@ kept_more cell h points i old new p room k at ep el = by_side (side_of h p) refl
     by_side Below e a b = kept_off cell h points i old new p k at (ap is_not_below e) a b
 
 -- a front as long as the list is the list
-take_whole : {A : Type 0} (xs : List A) (i : ℕ) → length xs ≤ i → take i xs ≡ xs
+pub take_whole : {A : Type 0} (xs : List A) (i : ℕ) → length xs ≤ i → take i xs ≡ xs
 take_whole [] zero h = refl
 take_whole [] (suc i) h = refl
 take_whole (x ∷ xs) zero h = absurd (omega (arith, h))
@@ -85,7 +85,7 @@ kept_all cell h t kept sides i s k far end =
     }
 
 -- the point that is read at a place, in lowest terms
-read_point : (points corners : List RationalPoint) (i : ℕ) (p q : RationalPoint) → map reduced_point corners ≡ points → p ≡ slice_index_or corners i p → i < length points → slice_get points i ≡ Some q
+pub read_point : (points corners : List RationalPoint) (i : ℕ) (p q : RationalPoint) → map reduced_point corners ≡ points → p ≡ slice_index_or corners i p → i < length points → slice_get points i ≡ Some q
     → reduced_point p ≡ q
 read_point points corners i p q e r l at =
     same_some (reduced_point p) q (ap (option_map reduced_point) (index_get corners i p few (sym r)) ∙ sym (map_get reduced_point corners i) ∙ ap (λ (xs : List RationalPoint). slice_get xs i) e ∙ at)

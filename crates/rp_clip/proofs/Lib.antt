@@ -23,3 +23,6 @@ pub mod Flat
 pub mod Taken
 -- faces
 mod CommonPlanes
+pub mod Orders
+pub mod Moved
+pub mod Polygons

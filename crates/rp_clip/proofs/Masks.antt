@@ -139,7 +139,7 @@ new_bit : (cell : List HalfSpace) (h : HalfSpace) (p : RationalPoint) → length
 new_bit cell h p l = mask_bit (cell ++ h ∷ []) p (length cell) (one_longer cell h l) ∙ ap (bit_of (is_through p)) (at_new cell h l)
 
 -- the bits of the other places
-old_bit : (cell : List HalfSpace) (h : HalfSpace) (p : RationalPoint) (i : ℕ) → length cell < 64 → (i ≡ length cell → ⊥) → bit_at (mask_of (cell ++ h ∷ []) p) i ≡ bit_of (is_through p) (half_at cell i)
+pub old_bit : (cell : List HalfSpace) (h : HalfSpace) (p : RationalPoint) (i : ℕ) → length cell < 64 → (i ≡ length cell → ⊥) → bit_at (mask_of (cell ++ h ∷ []) p) i ≡ bit_of (is_through p) (half_at cell i)
 old_bit cell h p i l n = mask_bit (cell ++ h ∷ []) p i (one_longer cell h l) ∙ ap (bit_of (is_through p)) (at_old cell h i n)
 
 -- a place of no half-space has no bit

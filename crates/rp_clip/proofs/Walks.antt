@@ -29,7 +29,7 @@ no_skip set from None k j l e p = one_not_zero (bit_at set j) e (k.none j l)
 no_skip set from (Some n) k j l e p = one_not_zero (bit_at set j) e (k.some.none j l p)
 
 -- the next place is one of the set, and not before
-next_here : (set from : ℕ) (o : Option ℕ) → IsNextFrom set from o → IfSome o (λ n. (from ≤ n) × IsIn set n)
+pub next_here : (set from : ℕ) (o : Option ℕ) → IsNextFrom set from o → IfSome o (λ n. (from ≤ n) × IsIn set n)
 next_here set from None k = tt
 next_here set from (Some n) k = (k.some.from_on, k.some.is_in)
 

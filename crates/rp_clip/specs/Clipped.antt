@@ -1,5 +1,5 @@
 -- Cells with their vertices, as contracts see them, and what is true of each.
-use Rattle.std.specs.Prelude.{◌≤◌, List, length}
+use Rattle.std.specs.Prelude.{ℕ, ◌≤◌, List, length}
 use Rattle.std.specs.List.{Contains}
 use Rattle.rp_geometry.specs.Geometry.{RationalPoint, HalfSpace}
 use Rattle.rp_geometry.specs.searches.Vertex.{vertices}
@@ -15,9 +15,13 @@ pub record Clipped : Type 0 where
 abbrev pub clipped : List HalfSpace → List RationalPoint → Clipped
 clipped halves points = record { halves = halves; points = points }
 
--- at most 64 half-spaces, and a table of exactly the vertices
-pub record IsClip (cell : List HalfSpace) (t : Rows) : Type 0 where
+-- at most 64 half-spaces, and a table of exactly the vertices, with room for so many
+pub record HasVertices (most : ℕ) (cell : List HalfSpace) (t : Rows) : Type 0 where
   pub few : length cell ≤ 64
   pub bounds : AreHalfSpaces cell
-  pub table : IsTable 256 cell t
+  pub table : IsTable most cell t
   pub complete : (v : RationalPoint) → Contains (vertices cell) v → Contains t.points v
+
+-- the same in a clip
+abbrev pub IsClip : List HalfSpace → Rows → Type 0
+IsClip cell t = HasVertices 256 cell t

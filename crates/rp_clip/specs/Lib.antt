@@ -5,6 +5,7 @@ pub mod Faces
 pub mod Firsts
 pub mod Masks
 pub mod Meetings
+pub mod Polygons
 pub mod Sides
 pub mod Tables
 pub mod Taken

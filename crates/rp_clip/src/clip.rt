@@ -199,17 +199,17 @@ impl Clip {
 
 /// Fills the table that does not count with the vertices of the cell of the other with one more half-space.
 /// False where there are too many.
-fn refill(
+pub(crate) fn refill<const MOST: usize>(
     planes: &Planes,
     h: &Half,
     is_second: bool,
-    first: &mut Table<256>,
-    second: &mut Table<256>,
+    first: &mut Table<MOST>,
+    second: &mut Table<MOST>,
 ) -> bool
-    requires table { IsTable 256 planes.now (counting is_second first.old second.old) }
+    requires table { IsTable MOST planes.now (counting is_second first.old second.old) }
     requires room { length planes.now < 64 }
     ensures same { counting is_second first.new second.new ≡ counting is_second first.old second.old }
-    ensures refilled { IsRefilled 256 planes.now h.now (counting is_second first.old second.old) (counting (not is_second) first.new second.new) result }
+    ensures refilled { IsRefilled MOST planes.now h.now (counting is_second first.old second.old) (counting (not is_second) first.new second.new) result }
 {
     if is_second {
         cross_over(planes, h, second, first)

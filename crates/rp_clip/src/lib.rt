@@ -9,8 +9,10 @@ mod faces;
 mod first;
 mod inside;
 mod meet;
+mod order;
 mod places;
 mod planes;
+mod polygon;
 mod table;
 
 pub use clip::Clip;

@@ -1,0 +1,212 @@
+//! The vertices of a cell on the plane of one of its half-spaces.
+ghost use Rattle.std.specs.Prelude.{◌≡◌, ◌<◌, ◌≤◌, ℕ, [], ◌∷◌, ◌++◌, length, true, Some};
+ghost use Rattle.std.specs.List.{Contains, slice_get};
+ghost use Rattle.rp_clip.specs.Polygons.{AreOnPlane, Covers, IsPolygon, IsPositiveAtAll, IsRenamed, IsSorted};
+
+use crate::clip::refill;
+use crate::corners::fill_cube;
+use crate::cross::cross_over;
+use crate::order::{covers, near_first};
+use crate::places::lowest_from;
+use crate::planes::Planes;
+use crate::table::Table;
+use rp_space::{Half, Meeting};
+use std::marker::Model;
+
+/// The polygon of a cell on the plane of its first half-space: the vertices there, each once, in no stated order, of which
+/// there are at most 32. A contract sees the half-spaces and the table of the vertices.
+///
+/// Of two tables one counts, as in a `Clip`.
+#[derive(Drop)]
+pub(crate) struct Polygon {
+    planes: Planes,
+    first: Table<32>,
+    second: Table<32>,
+    is_second: bool,
+}
+
+impl Model for Polygon {
+    ghost use Rattle.rp_clip.specs.Polygons.{Sided, sided, IsPolygon};
+    ghost use Rattle.rp_clip.specs.Tables.{counting};
+
+    ghost Value = { Sided };
+
+    ghost view = { λ s. sided s.planes (counting s.is_second s.first s.second) };
+
+    ghost invariant = { λ s. IsPolygon s.planes 0 (counting s.is_second s.first s.second) };
+}
+
+impl Polygon {
+    /// No half-space and no vertex.
+    pub(crate) fn new() -> Polygon {
+        Polygon {
+            planes: Planes::new(),
+            first: Table::new(),
+            second: Table::new(),
+            is_second: false,
+        }
+    }
+
+    /// Becomes that of the half-spaces at the places of a list. False where there is no room for it.
+    pub(crate) fn cut_by(&mut self, cell: &[Half], order: &[usize]) -> bool
+        requires few { length cell.now ≤ 64 }
+        requires places { Covers order.now (length cell.now) }
+        requires room { length order.now ≤ 64 }
+        ensures { result ≡ true → IsSorted cell.now order.now self.new.halves }
+    {
+        if order.is_empty() || !self.begin(cell[order[0]]) {
+            return false;
+        }
+        for rank in 1..order.len() {
+            if !self.add(cell[order[rank]]) {
+                return false;
+            }
+        }
+        true
+    }
+
+    /// Becomes that of one half-space. False where there is no room for it.
+    fn begin(&mut self, h: Half) -> bool
+        ensures { result ≡ true → self.new.halves ≡ h ∷ [] }
+    {
+        // Only for what `numbers` ensures, that they keep their bounds.
+        let _ = h.numbers();
+        self.planes.clear();
+        self.is_second = false;
+        fill_cube(&mut self.first);
+        if !cross_over(&self.planes, &h, &self.first, &mut self.second) {
+            return false;
+        }
+        self.planes.push(h);
+        keep_on_first(&self.planes, &self.second, &[h], &[0], 0, &mut self.first);
+        true
+    }
+
+    /// Adds a half-space at the end, of which there are fewer than 64. False where there is no room for its vertices.
+    fn add(&mut self, h: Half) -> bool
+        requires some { 0 < length self.old.halves }
+        requires few { length self.old.halves < 64 }
+        ensures { result ≡ true → self.new.halves ≡ self.old.halves ++ h ∷ [] }
+    {
+        // Only for what `numbers` ensures, that they keep their bounds.
+        let _ = h.numbers();
+        if is_positive_at_all(&h, self.table().corners()) {
+            self.planes.push(h);
+            return true;
+        }
+        if !refill(
+            &self.planes,
+            &h,
+            self.is_second,
+            &mut self.first,
+            &mut self.second,
+        ) {
+            return false;
+        }
+        self.planes.push(h);
+        self.is_second = !self.is_second;
+        true
+    }
+
+    /// The table of the vertices.
+    fn table(&self) -> &Table<32>
+        ensures { result.now ≡ self.now.table }
+    {
+        if self.is_second {
+            &self.second
+        } else {
+            &self.first
+        }
+    }
+}
+
+/// Whether a half-space is positive at all of the points.
+fn is_positive_at_all(h: &Half, corners: &[Meeting]) -> bool
+    ensures { result ≡ true → IsPositiveAtAll h.now corners.now }
+{
+    for corner in corners {
+        // Only for what `numbers` ensures, that the weight is positive.
+        let _ = corner.numbers();
+        if corner.side(h) <= 0 {
+            return false;
+        }
+    }
+    true
+}
+
+/// Fills a table with the vertices of a cell on the plane at a place, from a table of those of its half-spaces in another
+/// order, where this plane is the first one.
+fn keep_on_first(
+    sorted: &Planes,
+    from: &Table<32>,
+    cell: &[Half],
+    order: &[usize],
+    place: usize,
+    to: &mut Table<32>,
+)
+    requires polygon { IsPolygon sorted.now 0 from.now }
+    requires few { length cell.now ≤ 64 }
+    requires covers { Covers order.now (length cell.now) }
+    requires sorted { IsSorted cell.now order.now sorted.now }
+    requires place { slice_get order.now 0 ≡ Some place }
+    ensures polygon { IsPolygon cell.now place to.new }
+    ensures on { AreOnPlane cell.now place to.new.points }
+{
+    let corners = from.corners();
+    let sets = from.planes();
+    to.clear();
+    for i in 0..corners.len() {
+        if sets[i] & 1 == 1 {
+            to.push(corners[i], renamed(sets[i], order));
+        }
+    }
+}
+
+/// A set of places of half-spaces in the order of a list, as the places that the list has for them. The cube's stay.
+fn renamed(set: u128, order: &[usize]) -> u128
+    requires order { (i : ℕ) → Contains order.now i → i < 64 }
+    requires few { length order.now ≤ 64 }
+    ensures { IsRenamed order.now set result }
+{
+    let mut places = set >> 64 << 64;
+    let mut next = lowest_from(set, 0);
+    while let Some(rank) = next {
+        if rank as usize >= order.len() {
+            return places;
+        }
+        places |= 1 << order[rank as usize];
+        next = lowest_from(set, rank + 1);
+    }
+    places
+}
+
+/// Fills a table with the vertices of a cell on the plane of the half-space at a place. False where there is no room for them.
+pub(crate) fn fill_polygon(
+    cell: &[Half],
+    place: usize,
+    polygon: &mut Polygon,
+    corners: &mut Table<32>,
+) -> bool
+    requires few { length cell.now ≤ 64 }
+    requires place { place < length cell.now }
+    ensures polygon { result ≡ true → IsPolygon cell.now place corners.new }
+    ensures on { result ≡ true → AreOnPlane cell.now place corners.new.points }
+{
+    let order = near_first(cell, place);
+    let order = order.as_slice();
+    if !covers(order, cell.len()) || order.first() != Some(&place) {
+        return false;
+    }
+    if !polygon.cut_by(cell, order) {
+        return false;
+    }
+    keep_on_first(
+        &polygon.planes,
+        polygon.table(),
+        cell,
+        order,
+        place,
+        corners,
+    );
+    true
+}
