@@ -26,3 +26,4 @@ mod CommonPlanes
 pub mod Orders
 pub mod Moved
 pub mod Polygons
+pub mod Searched

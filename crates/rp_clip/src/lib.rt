@@ -13,9 +13,11 @@ mod order;
 mod places;
 mod planes;
 mod polygon;
+mod search;
 mod table;
 
 pub use clip::Clip;
+pub use search::{inside_on_polygons, weak_on_polygons};
 
 #[cfg(test)]
 mod tests;

@@ -38,6 +38,18 @@ impl Planes {
         }
     }
 
+    /// The half-spaces of a cell, of which there are at most 64.
+    pub(crate) fn of(cell: &[Half]) -> Planes
+        requires { length cell.now ≤ 64 }
+        ensures { result ≡ cell.now }
+    {
+        let mut planes = Planes::new();
+        for half in cell {
+            planes.push(*half);
+        }
+        planes
+    }
+
     /// The cell's half-spaces, in order.
     pub(crate) fn halves(&self) -> &[Half]
         ensures value { result.now ≡ self.now }
