@@ -10,9 +10,10 @@ ghost use Rattle.rp_geometry.specs.searches.ProofLine.{strict_line, weak_line, o
 ghost use Rattle.rp_cell.specs.Decisions.{line_of_strict, line_of_weak, DecidesStrict, DecidesWeak};
 
 use crate::held::Held;
+use rp_clip::{inside_on_polygons, weak_on_polygons};
 use rp_elim::{first_outside, first_outside_of_two};
 use rp_space::{Half, Inside, Outside, Point, keep_bounds};
-use rp_vertex::{first_inside, first_weak, inside_on_few_lines, weak_on_few_lines};
+use rp_vertex::{first_inside, first_weak};
 
 /// Whether a cell has a point.
 #[derive(Debug, Drop)]
@@ -39,6 +40,9 @@ const FEW_FOR_PAIRS: usize = 7;
 /// The fewest half-spaces of a cell that is held with its vertices to be decided: with fewer the searches are as fast.
 const FEW: usize = 12;
 
+/// The fewest half-spaces of a cell whose points are sought first, and refutations by two half-spaces then.
+const MANY: usize = 16;
+
 /// Whether a cell has a point: the first inside certificate exactly where it has one, else the first outside certificate.
 /// There always is one of the two (Motzkin's theorem of the alternative). A cell has at most 64 half-spaces.
 /// Takes no memory.
@@ -47,30 +51,33 @@ pub fn decide_strict(cell: &[Half]) -> Strict
     ensures decides { DecidesStrict cell.now result }
     ensures line { line_of_strict result ≡ strict_line cell.now }
 {
-    // Only so that it is known of all half-spaces that they keep their bounds.
-    keep_bounds(cell);
     if cell.len() < FEW_FOR_PAIRS {
         return search_strict(cell);
     }
+    if cell.len() < MANY {
+        return refute_first(cell);
+    }
+    match inside_on_polygons(cell) {
+        Some(points) => Strict::Inside(points),
+        None => refute_first(cell),
+    }
+}
+
+/// The same, by a refutation by two half-spaces, if there is one.
+fn refute_first(cell: &[Half]) -> Strict
+    requires { length cell.now ≤ 64 }
+    ensures decides { DecidesStrict cell.now result }
+    ensures line { line_of_strict result ≡ strict_line cell.now }
+{
+    // Only so that it is known of all half-spaces that they keep their bounds.
+    keep_bounds(cell);
     if let Some(terms) = first_outside_of_two(cell, true) {
         return Strict::Outside(terms);
     }
     if cell.len() < FEW {
         return search_strict(cell);
     }
-    try_strict(cell)
-}
-
-/// The same, by a search on a few lines, and over vertices where one of the points is on none of them.
-fn try_strict(cell: &[Half]) -> Strict
-    requires { length cell.now ≤ 64 }
-    ensures decides { DecidesStrict cell.now result }
-    ensures line { line_of_strict result ≡ strict_line cell.now }
-{
-    match inside_on_few_lines(cell) {
-        Some(points) => Strict::Inside(points),
-        None => hold_strict(cell),
-    }
+    hold_strict(cell)
 }
 
 /// The same, over vertices. It is apart so that nobody else makes room for them.
@@ -102,30 +109,33 @@ pub fn decide_weak(cell: &[Half]) -> Weak
     ensures decides { DecidesWeak cell.now result }
     ensures line { line_of_weak result ≡ weak_line cell.now }
 {
-    // Only so that it is known of all half-spaces that they keep their bounds.
-    keep_bounds(cell);
     if cell.len() < FEW_FOR_PAIRS {
         return search_weak(cell);
     }
+    if cell.len() < MANY {
+        return refute_weak_first(cell);
+    }
+    match weak_on_polygons(cell) {
+        Some(p) => Weak::At(p),
+        None => refute_weak_first(cell),
+    }
+}
+
+/// The same, by a refutation by two half-spaces, if there is one.
+fn refute_weak_first(cell: &[Half]) -> Weak
+    requires { length cell.now ≤ 64 }
+    ensures decides { DecidesWeak cell.now result }
+    ensures line { line_of_weak result ≡ weak_line cell.now }
+{
+    // Only so that it is known of all half-spaces that they keep their bounds.
+    keep_bounds(cell);
     if let Some(terms) = first_outside_of_two(cell, false) {
         return Weak::Outside(terms);
     }
     if cell.len() < FEW {
         return search_weak(cell);
     }
-    try_weak(cell)
-}
-
-/// The same, by a search on a few lines of the first plane, and over vertices where the first point is on none of them.
-fn try_weak(cell: &[Half]) -> Weak
-    requires { length cell.now ≤ 64 }
-    ensures decides { DecidesWeak cell.now result }
-    ensures line { line_of_weak result ≡ weak_line cell.now }
-{
-    match weak_on_few_lines(cell) {
-        Some(p) => Weak::At(p),
-        None => hold_weak(cell),
-    }
+    hold_weak(cell)
 }
 
 /// The same, over vertices. It is apart so that nobody else makes room for them.
