@@ -40,8 +40,12 @@ const FEW_FOR_PAIRS: usize = 7;
 /// The fewest half-spaces of a cell that is held with its vertices to be decided: with fewer the searches are as fast.
 const FEW: usize = 12;
 
-/// The fewest half-spaces of a cell whose points are sought first, and refutations by two half-spaces then.
+/// The fewest half-spaces of a cell whose points are sought on polygons: first on that of the first plane, and where it has
+/// none, after the refutations by two half-spaces, on those of the first few planes.
 const MANY: usize = 16;
+
+/// On so many planes the first point is sought.
+const FEW_PLANES: usize = 16;
 
 /// Whether a cell has a point: the first inside certificate exactly where it has one, else the first outside certificate.
 /// There always is one of the two (Motzkin's theorem of the alternative). A cell has at most 64 half-spaces.
@@ -57,7 +61,7 @@ pub fn decide_strict(cell: &[Half]) -> Strict
     if cell.len() < MANY {
         return refute_first(cell);
     }
-    match inside_on_polygons(cell) {
+    match inside_on_polygons(cell, 1) {
         Some(points) => Strict::Inside(points),
         None => refute_first(cell),
     }
@@ -77,7 +81,19 @@ fn refute_first(cell: &[Half]) -> Strict
     if cell.len() < FEW {
         return search_strict(cell);
     }
-    hold_strict(cell)
+    seek_strict(cell)
+}
+
+/// The same, by a search on the first few planes, and over vertices where none of these has one.
+fn seek_strict(cell: &[Half]) -> Strict
+    requires { length cell.now ≤ 64 }
+    ensures decides { DecidesStrict cell.now result }
+    ensures line { line_of_strict result ≡ strict_line cell.now }
+{
+    match inside_on_polygons(cell, FEW_PLANES) {
+        Some(points) => Strict::Inside(points),
+        None => hold_strict(cell),
+    }
 }
 
 /// The same, over vertices. It is apart so that nobody else makes room for them.
@@ -115,7 +131,7 @@ pub fn decide_weak(cell: &[Half]) -> Weak
     if cell.len() < MANY {
         return refute_weak_first(cell);
     }
-    match weak_on_polygons(cell) {
+    match weak_on_polygons(cell, 1) {
         Some(p) => Weak::At(p),
         None => refute_weak_first(cell),
     }
@@ -135,7 +151,19 @@ fn refute_weak_first(cell: &[Half]) -> Weak
     if cell.len() < FEW {
         return search_weak(cell);
     }
-    hold_weak(cell)
+    seek_weak(cell)
+}
+
+/// The same, by a search on the first few planes, and over vertices where none of these has one.
+fn seek_weak(cell: &[Half]) -> Weak
+    requires { length cell.now ≤ 64 }
+    ensures decides { DecidesWeak cell.now result }
+    ensures line { line_of_weak result ≡ weak_line cell.now }
+{
+    match weak_on_polygons(cell, FEW_PLANES) {
+        Some(p) => Weak::At(p),
+        None => hold_weak(cell),
+    }
 }
 
 /// The same, over vertices. It is apart so that nobody else makes room for them.

@@ -32,7 +32,7 @@ fn add_places(cell: &[Half], place: usize, limit: i64, near: bool, order: &mut A
 }
 
 /// How much the second half-space looks to the same side as the first: the product of their coefficients of x, y and z, over
-/// about the greatest of the second.
+/// about the greatest of the second, in 4096ths.
 fn nearness(face: &Half, other: &Half) -> i64 {
     let (a, b, c, _) = face.numbers();
     let (d, e, f, _) = other.numbers();
@@ -41,7 +41,9 @@ fn nearness(face: &Half, other: &Half) -> i64 {
         .wrapping_add(b.wrapping_mul(e))
         .wrapping_add(c.wrapping_mul(f));
     let size = d.unsigned_abs() | e.unsigned_abs() | f.unsigned_abs();
-    product.wrapping_shr(64 - size.leading_zeros())
+    product
+        .wrapping_shl(12)
+        .wrapping_shr(64 - size.leading_zeros())
 }
 
 /// Whether each place of a list is below a count, and each below it is in the list.

@@ -16,9 +16,10 @@ use std::marker::Model;
 /// The polygon of a cell on the plane of its first half-space: the vertices there, each once, in no stated order, of which
 /// there are at most 32. A contract sees the half-spaces and the table of the vertices.
 ///
-/// Of two tables one counts, as in a `Clip`.
+/// Of two tables one counts, as in a `Clip`. The corners of the cube are there to begin with.
 #[derive(Drop)]
 pub(crate) struct Polygon {
+    cube: Table<32>,
     planes: Planes,
     first: Table<32>,
     second: Table<32>,
@@ -26,6 +27,8 @@ pub(crate) struct Polygon {
 }
 
 impl Model for Polygon {
+    ghost use Rattle.std.specs.Prelude.{[]};
+    ghost use Rattle.rp_clip.specs.Clipped.{HasVertices};
     ghost use Rattle.rp_clip.specs.Polygons.{Sided, sided, IsPolygon};
     ghost use Rattle.rp_clip.specs.Tables.{counting};
 
@@ -33,13 +36,16 @@ impl Model for Polygon {
 
     ghost view = { λ s. sided s.planes (counting s.is_second s.first s.second) };
 
-    ghost invariant = { λ s. IsPolygon s.planes 0 (counting s.is_second s.first s.second) };
+    ghost invariant = { λ s. HasVertices 32 [] s.cube × IsPolygon s.planes 0 (counting s.is_second s.first s.second) };
 }
 
 impl Polygon {
     /// No half-space and no vertex.
     pub(crate) fn new() -> Polygon {
+        let mut cube = Table::new();
+        fill_cube(&mut cube);
         Polygon {
+            cube,
             planes: Planes::new(),
             first: Table::new(),
             second: Table::new(),
@@ -72,9 +78,9 @@ impl Polygon {
         // Only for what `numbers` ensures, that they keep their bounds.
         let _ = h.numbers();
         self.planes.clear();
+        self.first.clear();
         self.is_second = false;
-        fill_cube(&mut self.first);
-        if !cross_over(&self.planes, &h, &self.first, &mut self.second) {
+        if !cross_over(&self.planes, &h, &self.cube, &mut self.second) {
             return false;
         }
         self.planes.push(h);

@@ -11,10 +11,10 @@ use crate::polygon::{Polygon, fill_polygon};
 use crate::table::Table;
 use rp_space::{Half, Inside, Point, keep_bounds};
 
-/// The first inside certificate of a cell, found on the polygons of its planes, in order as long as points are wanted: of each
-/// the vertices on the plane are found, and no others. `None` tells nothing: there may be too many on one plane, or too few
-/// on all of them. A cell has at most 64 half-spaces. Takes no memory.
-pub fn inside_on_polygons(cell: &[Half]) -> Option<Inside>
+/// The first inside certificate of a cell, found on the polygons of its planes, one after the other as long as points are
+/// wanted: of each plane the vertices on it are found, and no others. `None` tells nothing: one plane may have too many
+/// vertices, or none of the first few planes has any. A cell has at most 64 half-spaces. Takes no memory.
+pub fn inside_on_polygons(cell: &[Half], few: usize) -> Option<Inside>
     requires { length cell.now ≤ 64 }
     ensures first { IfSome result (λ points. first_inside cell.now ≡ Some points) }
     ensures passes { IfSome result (λ points. IsTrue (is_inside_certificate cell.now points)) }
@@ -27,6 +27,9 @@ pub fn inside_on_polygons(cell: &[Half]) -> Option<Inside>
     let mut taken = Inside::new();
     let mut left = u128::MAX;
     for place in 0..cell.len() {
+        if place >= few && left == u128::MAX {
+            return None;
+        }
         if !fill_polygon(cell, place, &mut polygon, &mut corners) {
             return None;
         }
@@ -40,7 +43,7 @@ pub fn inside_on_polygons(cell: &[Half]) -> Option<Inside>
 
 /// The first weak point of a cell, found in the same way. `None` tells nothing. A cell has at most 64 half-spaces.
 /// Takes no memory.
-pub fn weak_on_polygons(cell: &[Half]) -> Option<Point>
+pub fn weak_on_polygons(cell: &[Half], few: usize) -> Option<Point>
     requires { length cell.now ≤ 64 }
     ensures first { IfSome result (λ p. first_weak_point cell.now ≡ Some p) }
     ensures passes { IfSome result (λ p. IsSolution false cell.now p) }
@@ -51,6 +54,9 @@ pub fn weak_on_polygons(cell: &[Half]) -> Option<Point>
     let mut polygon = Polygon::new();
     let mut corners = Table::new();
     for place in 0..cell.len() {
+        if place >= few {
+            return None;
+        }
         if !fill_polygon(cell, place, &mut polygon, &mut corners) {
             return None;
         }
