@@ -10,10 +10,10 @@ ghost use Rattle.rp_geometry.specs.searches.ProofLine.{strict_line, weak_line, o
 ghost use Rattle.rp_cell.specs.Decisions.{line_of_strict, line_of_weak, DecidesStrict, DecidesWeak};
 
 use crate::held::Held;
-use rp_clip::{inside_on_polygons, weak_on_polygons};
+use rp_clip::{inside_on_polygons, weak_on_polygon};
 use rp_elim::{first_outside, first_outside_of_two};
 use rp_space::{Half, Inside, Outside, Point, keep_bounds};
-use rp_vertex::{first_inside, first_weak};
+use rp_vertex::{first_inside, first_weak, inside_on_few_lines, weak_on_few_lines};
 
 /// Whether a cell has a point.
 #[derive(Debug, Drop)]
@@ -40,12 +40,8 @@ const FEW_FOR_PAIRS: usize = 7;
 /// The fewest half-spaces of a cell that is held with its vertices to be decided: with fewer the searches are as fast.
 const FEW: usize = 12;
 
-/// The fewest half-spaces of a cell whose points are sought on polygons: first on that of the first plane, and where it has
-/// none, after the refutations by two half-spaces, on those of the first few planes.
+/// The fewest half-spaces of a cell whose points are sought on polygons before all else, if the first plane has one.
 const MANY: usize = 16;
-
-/// On so many planes the first point is sought.
-const FEW_PLANES: usize = 16;
 
 /// Whether a cell has a point: the first inside certificate exactly where it has one, else the first outside certificate.
 /// There always is one of the two (Motzkin's theorem of the alternative). A cell has at most 64 half-spaces.
@@ -61,7 +57,7 @@ pub fn decide_strict(cell: &[Half]) -> Strict
     if cell.len() < MANY {
         return refute_first(cell);
     }
-    match inside_on_polygons(cell, 1) {
+    match inside_on_polygons(cell) {
         Some(points) => Strict::Inside(points),
         None => refute_first(cell),
     }
@@ -81,16 +77,16 @@ fn refute_first(cell: &[Half]) -> Strict
     if cell.len() < FEW {
         return search_strict(cell);
     }
-    seek_strict(cell)
+    try_strict(cell)
 }
 
-/// The same, by a search on the first few planes, and over vertices where none of these has one.
-fn seek_strict(cell: &[Half]) -> Strict
+/// The same, by a search on a few lines, and over vertices where one of the points is on none of them.
+fn try_strict(cell: &[Half]) -> Strict
     requires { length cell.now ≤ 64 }
     ensures decides { DecidesStrict cell.now result }
     ensures line { line_of_strict result ≡ strict_line cell.now }
 {
-    match inside_on_polygons(cell, FEW_PLANES) {
+    match inside_on_few_lines(cell) {
         Some(points) => Strict::Inside(points),
         None => hold_strict(cell),
     }
@@ -131,7 +127,7 @@ pub fn decide_weak(cell: &[Half]) -> Weak
     if cell.len() < MANY {
         return refute_weak_first(cell);
     }
-    match weak_on_polygons(cell, 1) {
+    match weak_on_polygon(cell) {
         Some(p) => Weak::At(p),
         None => refute_weak_first(cell),
     }
@@ -151,16 +147,16 @@ fn refute_weak_first(cell: &[Half]) -> Weak
     if cell.len() < FEW {
         return search_weak(cell);
     }
-    seek_weak(cell)
+    try_weak(cell)
 }
 
-/// The same, by a search on the first few planes, and over vertices where none of these has one.
-fn seek_weak(cell: &[Half]) -> Weak
+/// The same, by a search on a few lines of the first plane, and over vertices where the first point is on none of them.
+fn try_weak(cell: &[Half]) -> Weak
     requires { length cell.now ≤ 64 }
     ensures decides { DecidesWeak cell.now result }
     ensures line { line_of_weak result ≡ weak_line cell.now }
 {
-    match weak_on_polygons(cell, FEW_PLANES) {
+    match weak_on_few_lines(cell) {
         Some(p) => Weak::At(p),
         None => hold_weak(cell),
     }

@@ -47,7 +47,7 @@ empty_polygon cell t e f = subst (λ (hs : List HalfSpace). IsPolygon hs 0 t) (s
     no_plane v b = let t = in_mask [] v 0 (omega arith) b in none_not_some t.half (sym (at_cell [] 0 (omega arith)) ∙ t.at)
 
 -- a table of all vertices has those on the first plane
-whole_polygon : (cell : List HalfSpace) (t : Rows) → HasVertices 32 cell t → IsPolygon cell 0 t
+whole_polygon : (cell : List HalfSpace) (t : Rows) → HasVertices 16 cell t → IsPolygon cell 0 t
 whole_polygon cell t k = record { few = k.few; bounds = k.bounds; table = k.table; complete = λ v c b. k.complete v c }
 
 -- ---- one half-space more
@@ -69,7 +69,7 @@ ends_on cell h v some room b c =
     record { above = mask_in cell c.above 0 t.half few t.at both.0; below = mask_in cell c.below 0 t.half few t.at both.1 }
 
 -- the table with the crossings is that of the cell with the half-space
-pub polygon_added : (cell after : List HalfSpace) (h : HalfSpace) (t new : Rows) (r : Bool) → IsPolygon cell 0 t → 0 < length cell → length cell < 64 → IsHalfSpace h → IsRefilled 32 cell h t new r → r ≡ true
+pub polygon_added : (cell after : List HalfSpace) (h : HalfSpace) (t new : Rows) (r : Bool) → IsPolygon cell 0 t → 0 < length cell → length cell < 64 → IsHalfSpace h → IsRefilled 16 cell h t new r → r ≡ true
     → after ≡ cell ++ h ∷ [] → IsPolygon after 0 new
 polygon_added cell after h t new r k some room bound f is a = subst (λ (hs : List HalfSpace). IsPolygon hs 0 new) (sym a) (record {
   few = one_longer cell h room;
@@ -83,8 +83,8 @@ polygon_added cell after h t new r k some room bound f is a = subst (λ (hs : Li
       ((vertices_follow_edges_spec cell h v).0 m);
 })
   where
-    crossed : IsCrossedAll 32 cell h t.points f.kept new true
-    crossed = subst (λ (b : Bool). IsCrossedAll 32 cell h t.points f.kept new b) is f.crossed
+    crossed : IsCrossedAll 16 cell h t.points f.kept new true
+    crossed = subst (λ (b : Bool). IsCrossedAll 16 cell h t.points f.kept new b) is f.crossed
 
 -- where the half-space is positive at all of them, the table stays
 pub polygon_stays : (cell after : List HalfSpace) (h : HalfSpace) (t : Rows) → IsPolygon cell 0 t → 0 < length cell → length cell < 64 → IsHalfSpace h → ((v : RationalPoint) → Contains t.points v → pos 0 <ℤ side_value h v)
@@ -258,15 +258,15 @@ sorted_all cell order rank sorted far s = subst (λ (is : List ℕ). IsSorted ce
 -- ---- the first half-space
 
 -- the corners of the cube are those of no half-space
-pub cube_polygon : (cell : List HalfSpace) (t : Rows) → cell ≡ [] → HasVertices 32 [] t → IsPolygon cell 0 t
+pub cube_polygon : (cell : List HalfSpace) (t : Rows) → cell ≡ [] → HasVertices 16 [] t → IsPolygon cell 0 t
 cube_polygon cell t e k = subst (λ (hs : List HalfSpace). IsPolygon hs 0 t) (sym e) (whole_polygon [] t k)
 
 -- with one half-space
-pub first_polygon : (cell after : List HalfSpace) (h : HalfSpace) (t new : Rows) (r : Bool) → cell ≡ [] → HasVertices 32 [] t → IsHalfSpace h → IsRefilled 32 cell h t new r → r ≡ true → after ≡ cell ++ h ∷ [] → IsPolygon after 0 new
+pub first_polygon : (cell after : List HalfSpace) (h : HalfSpace) (t new : Rows) (r : Bool) → cell ≡ [] → HasVertices 16 [] t → IsHalfSpace h → IsRefilled 16 cell h t new r → r ≡ true → after ≡ cell ++ h ∷ [] → IsPolygon after 0 new
 first_polygon cell after h t new r e k bound f is a =
     subst (λ (hs : List HalfSpace). IsPolygon hs 0 new) (sym (a ∙ ap (λ hs. hs ++ h ∷ []) e))
     (whole_polygon (h ∷ []) new
-    (added [] h t g.kept new k (omega arith) bound g.keeps (crossed_true 32 [] h t.points g.kept new r is g.crossed)))
+    (added [] h t g.kept new k (omega arith) bound g.keeps (crossed_true 16 [] h t.points g.kept new r is g.crossed)))
   where
-    g : IsRefilled 32 [] h t new r
-    g = subst (λ (hs : List HalfSpace). IsRefilled 32 hs h t new r) e f
+    g : IsRefilled 16 [] h t new r
+    g = subst (λ (hs : List HalfSpace). IsRefilled 16 hs h t new r) e f

@@ -31,7 +31,7 @@ first_at_most p q (inl l) = omega (arith, l)
 first_at_most p q (inr (e, l)) = omega (arith, e)
 
 -- the polygon on a plane has the first vertex off a set, where no vertex on a plane of before is off it
-pub polygon_firsts : (cell : List HalfSpace) (t : Rows) (place set : ℕ) → place < length cell → IsPolygon cell place t → AreOnPlane cell place t.points → NoneBefore cell place set → HasFirsts 32 cell set t
+pub polygon_firsts : (cell : List HalfSpace) (t : Rows) (place set : ℕ) → place < length cell → IsPolygon cell place t → AreOnPlane cell place t.points → NoneBefore cell place set → HasFirsts 16 cell set t
 polygon_firsts cell t place set low k on before less within = record {
   few = k.few;
   bounds = k.bounds;

@@ -20,7 +20,7 @@ sided halves table = record { halves = halves; table = table }
 pub record IsPolygon (cell : List HalfSpace) (place : ℕ) (t : Rows) : Type 0 where
   pub few : length cell ≤ 64
   pub bounds : AreHalfSpaces cell
-  pub table : IsTable 32 cell t
+  pub table : IsTable 16 cell t
   pub complete : (v : RationalPoint) → Contains (vertices cell) v → IsIn (mask_of cell v) place → Contains t.points v
 
 -- each point is on the plane at a place

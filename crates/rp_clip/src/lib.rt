@@ -17,7 +17,7 @@ mod search;
 mod table;
 
 pub use clip::Clip;
-pub use search::{inside_on_polygons, weak_on_polygons};
+pub use search::{inside_on_polygons, weak_on_polygon};
 
 #[cfg(test)]
 mod tests;

@@ -14,21 +14,20 @@ pub(crate) fn near_first(cell: &[Half], place: usize) -> ArrayVec<usize, 64>
     let face = &cell[place];
     let half = nearness(face, face) / 2;
     let mut order = ArrayVec::new();
+    let mut far = ArrayVec::<usize, 64>::new();
     let _ = order.try_push(place);
-    add_places(cell, place, half, true, &mut order);
-    add_places(cell, place, half, false, &mut order);
-    order
-}
-
-/// Adds the places but one whose half-spaces are nearer to this one's than a limit, or those that are not.
-fn add_places(cell: &[Half], place: usize, limit: i64, near: bool, order: &mut ArrayVec<usize, 64>)
-    requires { place < length cell.now }
-{
     for i in 0..cell.len() {
-        if i != place && (nearness(&cell[place], &cell[i]) > limit) == near {
-            let _ = order.try_push(i);
+        let places = if nearness(face, &cell[i]) > half {
+            &mut order
+        } else {
+            &mut far
+        };
+        if i != place {
+            let _ = places.try_push(i);
         }
     }
+    let _ = order.try_extend_from_slice(far.as_slice());
+    order
 }
 
 /// How much the second half-space looks to the same side as the first: the product of their coefficients of x, y and z, over

@@ -14,15 +14,15 @@ use rp_space::{Half, Meeting};
 use std::marker::Model;
 
 /// The polygon of a cell on the plane of its first half-space: the vertices there, each once, in no stated order, of which
-/// there are at most 32. A contract sees the half-spaces and the table of the vertices.
+/// there are at most 16. A contract sees the half-spaces and the table of the vertices.
 ///
 /// Of two tables one counts, as in a `Clip`. The corners of the cube are there to begin with.
 #[derive(Drop)]
 pub(crate) struct Polygon {
-    cube: Table<32>,
+    cube: Table<16>,
     planes: Planes,
-    first: Table<32>,
-    second: Table<32>,
+    first: Table<16>,
+    second: Table<16>,
     is_second: bool,
 }
 
@@ -36,7 +36,7 @@ impl Model for Polygon {
 
     ghost view = { λ s. sided s.planes (counting s.is_second s.first s.second) };
 
-    ghost invariant = { λ s. HasVertices 32 [] s.cube × IsPolygon s.planes 0 (counting s.is_second s.first s.second) };
+    ghost invariant = { λ s. HasVertices 16 [] s.cube × IsPolygon s.planes 0 (counting s.is_second s.first s.second) };
 }
 
 impl Polygon {
@@ -115,7 +115,7 @@ impl Polygon {
     }
 
     /// The table of the vertices.
-    fn table(&self) -> &Table<32>
+    fn table(&self) -> &Table<16>
         ensures { result.now ≡ self.now.table }
     {
         if self.is_second {
@@ -144,11 +144,11 @@ fn is_positive_at_all(h: &Half, corners: &[Meeting]) -> bool
 /// order, where this plane is the first one.
 fn keep_on_first(
     sorted: &Planes,
-    from: &Table<32>,
+    from: &Table<16>,
     cell: &[Half],
     order: &[usize],
     place: usize,
-    to: &mut Table<32>,
+    to: &mut Table<16>,
 )
     requires polygon { IsPolygon sorted.now 0 from.now }
     requires few { length cell.now ≤ 64 }
@@ -191,7 +191,7 @@ pub(crate) fn fill_polygon(
     cell: &[Half],
     place: usize,
     polygon: &mut Polygon,
-    corners: &mut Table<32>,
+    corners: &mut Table<16>,
 ) -> bool
     requires few { length cell.now ≤ 64 }
     requires place { place < length cell.now }

@@ -12,9 +12,9 @@ use crate::table::Table;
 use rp_space::{Half, Inside, Point, keep_bounds};
 
 /// The first inside certificate of a cell, found on the polygons of its planes, one after the other as long as points are
-/// wanted: of each plane the vertices on it are found, and no others. `None` tells nothing: one plane may have too many
-/// vertices, or none of the first few planes has any. A cell has at most 64 half-spaces. Takes no memory.
-pub fn inside_on_polygons(cell: &[Half], few: usize) -> Option<Inside>
+/// wanted: of each plane the vertices on it are found, and no others. `None` tells nothing: the first plane may have no
+/// vertex, or one of them too many. A cell has at most 64 half-spaces. Takes no memory.
+pub fn inside_on_polygons(cell: &[Half]) -> Option<Inside>
     requires { length cell.now ≤ 64 }
     ensures first { IfSome result (λ points. first_inside cell.now ≡ Some points) }
     ensures passes { IfSome result (λ points. IsTrue (is_inside_certificate cell.now points)) }
@@ -27,9 +27,6 @@ pub fn inside_on_polygons(cell: &[Half], few: usize) -> Option<Inside>
     let mut taken = Inside::new();
     let mut left = u128::MAX;
     for place in 0..cell.len() {
-        if place >= few && left == u128::MAX {
-            return None;
-        }
         if !fill_polygon(cell, place, &mut polygon, &mut corners) {
             return None;
         }
@@ -37,13 +34,16 @@ pub fn inside_on_polygons(cell: &[Half], few: usize) -> Option<Inside>
         if left == 0 {
             return Some(taken);
         }
+        if left == u128::MAX {
+            return None;
+        }
     }
     None
 }
 
-/// The first weak point of a cell, found in the same way. `None` tells nothing. A cell has at most 64 half-spaces.
-/// Takes no memory.
-pub fn weak_on_polygons(cell: &[Half], few: usize) -> Option<Point>
+/// The first weak point of a cell, if it is on the first plane, and this has not too many vertices. `None` tells nothing.
+/// A cell has at most 64 half-spaces. Takes no memory.
+pub fn weak_on_polygon(cell: &[Half]) -> Option<Point>
     requires { length cell.now ≤ 64 }
     ensures first { IfSome result (λ p. first_weak_point cell.now ≡ Some p) }
     ensures passes { IfSome result (λ p. IsSolution false cell.now p) }
@@ -51,18 +51,10 @@ pub fn weak_on_polygons(cell: &[Half], few: usize) -> Option<Point>
     // Only so that it is known of all half-spaces that they keep their bounds.
     keep_bounds(cell);
     let planes = Planes::of(cell);
-    let mut polygon = Polygon::new();
     let mut corners = Table::new();
-    for place in 0..cell.len() {
-        if place >= few {
-            return None;
-        }
-        if !fill_polygon(cell, place, &mut polygon, &mut corners) {
-            return None;
-        }
-        if let Some(first) = first_vertex(&planes, &corners, u128::MAX) {
-            return Some(corners.point(first));
-        }
+    if cell.is_empty() || !fill_polygon(cell, 0, &mut Polygon::new(), &mut corners) {
+        return None;
     }
-    None
+    let first = first_vertex(&planes, &corners, u128::MAX)?;
+    Some(corners.point(first))
 }

@@ -14,7 +14,7 @@ take_from-left-requires c =
     let none = subst (λ (hs : List HalfSpace). NoneBefore hs c.loop-place.place c.loop-place.left) c.of-planes.ensures c.loop-place.invariant.none in (
       omega arith,
       (
-        subst (λ (hs : List HalfSpace). HasFirsts 32 hs c.loop-place.left c.fill_polygon.new.corners) (sym c.of-planes.ensures)
+        subst (λ (hs : List HalfSpace). HasFirsts 16 hs c.loop-place.left c.fill_polygon.new.corners) (sym c.of-planes.ensures)
             (polygon_firsts c.args.cell.now c.fill_polygon.new.corners c.loop-place.place c.loop-place.left c.loop-place-test.true (c.fill_polygon.ensures.polygon c.if-not-fill_polygon.false)
             (c.fill_polygon.ensures.on c.if-not-fill_polygon.false) none),
         c.loop-place.invariant.taken,

@@ -1,10 +1,10 @@
 use Rattle.std.proofs.Common.{◌≡◌, Some}
 use Rattle.rp_geometry.specs.searches.Vertex.{first_weak_point}
 use Rattle.rp_cell.proofs.Answered.{of_some, line_at}
-use Rattle.rp_cell.proofs.decide.seek_weak.Goals as goal
+use Rattle.rp_cell.proofs.decide.try_weak.Goals as goal
 
 first : (c : goal.In-Some) → first_weak_point c.args.cell.now ≡ Some c.in-Some.p
-first c = of_some (λ p. first_weak_point c.args.cell.now ≡ Some p) c.weak_on_polygons.result c.in-Some.p c.in-Some.is c.weak_on_polygons.ensures.first
+first c = of_some (λ p. first_weak_point c.args.cell.now ≡ Some p) c.weak_on_few_lines.result c.in-Some.p c.in-Some.is c.weak_on_few_lines.ensures.first
 
 pub returns-in-Some-clause-line : goal.returns-in-Some-clause-line
 returns-in-Some-clause-line c = line_at c.args.cell.now c.in-Some.p (first c)

@@ -4,14 +4,14 @@ use Rattle.rp_geometry.specs.searches.Certificate.{is_inside_certificate}
 use Rattle.rp_geometry.specs.searches.Vertex.{first_inside}
 use Rattle.rp_convex.proofs.Certified.{inside_certificate_shows_member_spec}
 use Rattle.rp_cell.proofs.Answered.{of_some, line_inside}
-use Rattle.rp_cell.proofs.decide.seek_strict.Goals as goal
+use Rattle.rp_cell.proofs.decide.try_strict.Goals as goal
 
 first : (c : goal.In-Some) → first_inside c.args.cell.now ≡ Some c.in-Some.points
-first c = of_some (λ points. first_inside c.args.cell.now ≡ Some points) c.inside_on_polygons.result c.in-Some.points c.in-Some.is c.inside_on_polygons.ensures.first
+first c = of_some (λ points. first_inside c.args.cell.now ≡ Some points) c.inside_on_few_lines.result c.in-Some.points c.in-Some.is c.inside_on_few_lines.ensures.first
 
 pub returns-in-Some-clause-decides : goal.returns-in-Some-clause-decides
 returns-in-Some-clause-decides c =
-    let passes = of_some (λ points. IsTrue (is_inside_certificate c.args.cell.now points)) c.inside_on_polygons.result c.in-Some.points c.in-Some.is c.inside_on_polygons.ensures.passes in
+    let passes = of_some (λ points. IsTrue (is_inside_certificate c.args.cell.now points)) c.inside_on_few_lines.result c.in-Some.points c.in-Some.is c.inside_on_few_lines.ensures.passes in
     (first c, passes, inside_certificate_shows_member_spec c.args.cell.now c.in-Some.points passes)
 
 pub returns-in-Some-clause-line : goal.returns-in-Some-clause-line
