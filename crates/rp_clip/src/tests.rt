@@ -1,6 +1,6 @@
 ghost use Rattle.std.specs.Prelude.{◌≡◌, ◌<◌, ◌≤◌, ◌+◌, length};
 
-use crate::Clip;
+use crate::{Clip, inside_on_polygons, weak_on_polygon};
 use rp_space::{Half, Point};
 use std::process::Abort;
 use std::test::Fail;
@@ -108,4 +108,61 @@ fn the_cube_alone_has_its_corners(rt: HostRuntime) -> Result<(), Fail> {
     assert_eq!(rt; points[2].numbers(), (-edge, edge, -edge, 1));
     assert_eq!(rt; points[3].numbers(), (edge, -edge, -edge, 1));
     Ok(())
+}
+
+/// The first points of a cell that has them on its first planes, as all its vertices tell, and as its polygons do.
+fn same_points(rt: &impl Abort, cell: &[Half]) -> usize
+    requires { length cell.now ≤ 32 }
+{
+    let mut clip = Clip::cube();
+    for half in cell {
+        assert!(rt; clip.add(*half));
+    }
+    let all = clip.first_inside().expect(rt, "no certificate");
+    let found = inside_on_polygons(cell).expect(rt, "none on the polygons");
+    assert_eq!(rt; found.items(), all.items());
+    let weak = weak_on_polygon(cell).expect(rt, "no weak point on the polygon");
+    assert_eq!(rt; weak.numbers(), all.items()[0].numbers());
+    found.items().len()
+}
+
+#[test]
+fn polygons_tell_the_same_as_all_vertices(rt: HostRuntime) {
+    let tetrahedron = [(1, 0, 0, 0), (0, 1, 0, 0), (0, 0, 1, 0), (-2, -3, -5, 7)];
+    assert_eq!(rt;
+        same_points(&rt, &tetrahedron.map(|numbers| half(&rt, numbers))),
+        4
+    );
+    // The first plane passes through an edge, and the second is as the first.
+    let roof = [
+        (1, 1, 0, 0),
+        (1, 1, 0, 0),
+        (1, -1, 0, 0),
+        (0, 0, 1, 16777216),
+    ];
+    assert_eq!(rt;
+        same_points(&rt, &roof.map(|numbers| half(&rt, numbers))),
+        4
+    );
+    // The first two planes have an edge alone.
+    let edge = [
+        (1, 1, 0, 0),
+        (1, 2, 0, 0),
+        (1, 0, 0, 0),
+        (0, 1, 0, 0),
+        (0, 0, -1, 5),
+    ];
+    assert_eq!(rt;
+        same_points(&rt, &edge.map(|numbers| half(&rt, numbers))),
+        3
+    );
+}
+
+#[test]
+fn polygons_tell_nothing_where_the_first_plane_has_no_vertex(rt: HostRuntime) {
+    let far = [half(&rt, (1, 0, 0, 9)), half(&rt, (1, 0, 0, 0))];
+    assert!(rt; inside_on_polygons(&far).is_none());
+    assert!(rt; weak_on_polygon(&far).is_none());
+    assert!(rt; inside_on_polygons(&[]).is_none());
+    assert!(rt; weak_on_polygon(&[]).is_none());
 }
