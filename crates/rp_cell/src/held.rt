@@ -16,13 +16,16 @@ use rp_clip::Clip;
 use rp_space::{Half, Outside, System, joined};
 use std::marker::Model;
 
+/// Room for all vertices of a cell of 64 half-spaces in the cube: a body of 70 faces has at most 136 (Euler).
+const ROOM: usize = 136;
+
 /// A cell of at most 64 half-spaces, held with its vertices, so that what is asked of it, and of it with further
 /// half-spaces, need not search for them. A contract sees the list of its half-spaces. Takes no memory. It is large: `hold`
 /// serves better than a new one.
 #[derive(Drop)]
 pub struct Held {
     cell: System,
-    clip: Clip,
+    clip: Clip<ROOM>,
     /// Whether the clip has the whole cell: else one of the half-spaces would have made too many vertices for it.
     whole: bool,
     /// So many half-spaces from the front have a common point, if this is not 0. Where the cell has none, the next one is
@@ -248,7 +251,7 @@ impl Held {
 }
 
 /// Adds a half-space to a clip, if it has the whole cell. Whether it has the whole cell then.
-fn add_if(whole: bool, clip: &mut Clip, half: Half) -> bool
+fn add_if(whole: bool, clip: &mut Clip<ROOM>, half: Half) -> bool
     requires { whole ≡ true → length clip.old.halves < 64 }
     ensures was { result ≡ true → whole ≡ true }
     ensures added { result ≡ true → clip.new.halves ≡ clip.old.halves ++ half ∷ [] }

@@ -12,7 +12,7 @@ use Rattle.rp_corners.specs.Edges.{IsCrossing, IsKeptVertex}
 use Rattle.rp_corners.proofs.Corners.{meeting_is, is_meeting}
 use Rattle.rp_corners.proofs.Edges.{vertices_follow_edges_spec}
 use Rattle.rp_corners.proofs.Standing.{listed_contains, contains_listed}
-use Rattle.rp_clip.specs.Clipped.{Clipped, clipped, HasVertices, IsClip}
+use Rattle.rp_clip.specs.Clipped.{Clipped, clipped, HasVertices}
 use Rattle.rp_clip.specs.Crossings.{HasMeetings, with_one, IsKeptTable, IsCrossedAll, IsRefilled}
 use Rattle.rp_clip.specs.Masks.{half_at, mask_of, IsIn}
 use Rattle.rp_clip.specs.Tables.{Rows, AreDistinct, AreVertices, HasMoreVertices}
@@ -60,12 +60,12 @@ at_most {A} (x ∷ xs) ys d h =
 -- ---- the vertices of the table
 
 -- a table of a clip has the vertices, each once
-pub clip_vertices : (cell : List HalfSpace) (t : Rows) → IsClip cell t → AreVertices cell t.points
+pub clip_vertices : {most : ℕ} (cell : List HalfSpace) (t : Rows) → HasVertices most cell t → AreVertices cell t.points
 clip_vertices cell t k = record { distinct = k.table.different.distinct; exact = λ v. (k.table.different.vertices v, k.complete v) }
 
--- no cell with a clip has more than 256 vertices
-not_more : (cell : List HalfSpace) (t : Rows) → IsClip cell t → HasMoreVertices 256 cell → ⊥
-not_more cell t k m =
+-- no cell with a clip has more vertices than there is room for
+not_more : (most : ℕ) (cell : List HalfSpace) (t : Rows) → HasVertices most cell t → HasMoreVertices most cell → ⊥
+not_more most cell t k m =
     let d = m.1 in
     let n = at_most m.0 t.points d.distinct (λ v c. contains_listed v t.points (k.complete v (d.vertices v c))) in
     let f = k.table.fits in
@@ -126,16 +126,16 @@ crossed_true most cell h points old new r e c = subst (λ (b : Bool). IsCrossedA
 -- ---- as contracts see it
 
 -- the clip with the half-space, as the code has it
-pub added_here : (cell after : List HalfSpace) (h : HalfSpace) (t new : Rows) (seen : Clipped) (r : Bool) → IsClip cell t → clipped cell t.points ≡ seen → length seen.halves < 64
-    → IsHalfSpace h → IsRefilled 256 cell h t new r → r ≡ true → after ≡ cell ++ h ∷ [] → IsClip after new
-added_here cell after h t new seen r k e room bound f is a =
-    subst (λ (hs : List HalfSpace). IsClip hs new) (sym a)
-    (added cell h t f.kept new k (subst (λ (s : Clipped). length s.halves < 64) (sym e) room) bound f.keeps (crossed_true 256 cell h t.points f.kept new r is f.crossed))
+pub added_here : (most : ℕ) (cell after : List HalfSpace) (h : HalfSpace) (t new : Rows) (seen : Clipped) (r : Bool) → HasVertices most cell t → clipped cell t.points ≡ seen → length seen.halves < 64
+    → IsHalfSpace h → IsRefilled most cell h t new r → r ≡ true → after ≡ cell ++ h ∷ [] → HasVertices most after new
+added_here most cell after h t new seen r k e room bound f is a =
+    subst (λ (hs : List HalfSpace). HasVertices most hs new) (sym a)
+    (added cell h t f.kept new k (subst (λ (s : Clipped). length s.halves < 64) (sym e) room) bound f.keeps (crossed_true most cell h t.points f.kept new r is f.crossed))
 
--- a cell that has a clip has no more than 256 vertices
-pub full_never : (cell after : List HalfSpace) (h : HalfSpace) (t : Rows) (seen : Clipped) (points : List RationalPoint) → clipped cell points ≡ seen → after ≡ cell ++ h ∷ [] → IsClip after t
-    → (true ≡ false) ↔ HasMoreVertices 256 (seen.halves ++ h ∷ [])
-full_never cell after h t seen points e a k = (
+-- nor is that said
+pub full_never : (most : ℕ) (cell after : List HalfSpace) (h : HalfSpace) (t : Rows) (seen : Clipped) (points : List RationalPoint) → clipped cell points ≡ seen → after ≡ cell ++ h ∷ [] → HasVertices most after t
+    → (true ≡ false) ↔ HasMoreVertices most (seen.halves ++ h ∷ [])
+full_never most cell after h t seen points e a k = (
   λ f. absurd (cc),
-  λ m. absurd (not_more after t k (subst (λ (hs : List HalfSpace). HasMoreVertices 256 hs) (ap (λ (s : Clipped). s.halves ++ h ∷ []) (sym e) ∙ sym a) m)),
+  λ m. absurd (not_more most after t k (subst (λ (hs : List HalfSpace). HasMoreVertices most hs) (ap (λ (s : Clipped). s.halves ++ h ∷ []) (sym e) ∙ sym a) m)),
 )

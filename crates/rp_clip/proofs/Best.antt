@@ -11,7 +11,7 @@ use Rattle.rp_geometry.specs.laws.CellLaws.{AreHalfSpaces}
 use Rattle.rp_corners.specs.Bases.{Places, IsBefore, IsFirstBasis, IsGreedyBasis, IsPassingVertex}
 use Rattle.rp_corners.proofs.Bases.{greedy_basis_is_first_spec, vertex_has_greedy_basis_spec}
 use Rattle.rp_corners.proofs.Least.{before_other, first_vertex_has_least_basis_spec, no_first_where_none_passes_spec}
-use Rattle.rp_clip.specs.Clipped.{IsClip}
+use Rattle.rp_clip.specs.Clipped.{HasVertices}
 use Rattle.rp_clip.specs.Firsts.{is_off_mask, is_off, AreOn, HasFirst, IsBasisBefore, IsBehind, IsBetter, IsFirstAt, on, without, higher, worse, better}
 use Rattle.rp_clip.specs.Masks.{mask_of}
 use Rattle.rp_clip.specs.Meetings.{IsFirstOfSet, HasNoBasis, IsVertexSet}
@@ -238,10 +238,10 @@ none_off cell t planes set i k e far none w c =
 -- ---- a table of all vertices
 
 -- it has the first one
-pub clip_has_first : (cell : List HalfSpace) (set : ℕ) (t : Rows) → IsClip cell t → HasFirst 256 cell set t
-clip_has_first cell set t k = record { few = k.few; bounds = k.bounds; table = k.table; others = λ w c o. inl (k.complete w c) }
+pub clip_has_first : (most : ℕ) (cell : List HalfSpace) (set : ℕ) (t : Rows) → HasVertices most cell t → HasFirst most cell set t
+clip_has_first most cell set t k = record { few = k.few; bounds = k.bounds; table = k.table; others = λ w c o. inl (k.complete w c) }
 
 -- where none of its rows is off the set there is no first one
-pub none_is_first : (cell : List HalfSpace) (t : Rows) (set : ℕ) → IsClip cell t → AreOn cell set t.points → first_vertex (is_off cell set) (with_cube cell) ≡ None
+pub none_is_first : {most : ℕ} (cell : List HalfSpace) (t : Rows) (set : ℕ) → HasVertices most cell t → AreOn cell set t.points → first_vertex (is_off cell set) (with_cube cell) ≡ None
 none_is_first cell t set k none =
     no_first_where_none_passes_spec (is_off cell set) cell (λ w passing. false_not_true (is_off cell set w) passing.1 (none w (k.complete w passing.0)))

@@ -26,7 +26,7 @@ use Rattle.rp_convex.proofs.Move.{IsWeak}
 use Rattle.rp_convex.proofs.Vertex.{weak_true, vertex_is_as_great_spec}
 use Rattle.rp_corners.proofs.Corners.{vertex_corner}
 use Rattle.rp_corners.proofs.Standing.{contains_listed, listed_contains}
-use Rattle.rp_clip.specs.Clipped.{IsClip}
+use Rattle.rp_clip.specs.Clipped.{HasVertices}
 use Rattle.rp_clip.specs.Faces.{common_with, common_of, HasSide}
 use Rattle.rp_clip.specs.Masks.{half_at, mask_of, IsIn}
 use Rattle.rp_clip.specs.Tables.{Rows}
@@ -146,11 +146,11 @@ common_is cell set common (v ∷ vs) few w h =
     common_is cell set (common_with set common (mask_of cell v)) vs few (λ u l. w u (later l)) (common_step cell set common v few (w v first) h)
 
 -- the vertices of a clip are in the weak system
-clip_weak : (cell : List HalfSpace) (t : Rows) → IsClip cell t → (v : RationalPoint) → Listed v t.points → IsWeak (with_cube cell) v
+clip_weak : {most : ℕ} (cell : List HalfSpace) (t : Rows) → HasVertices most cell t → (v : RationalPoint) → Listed v t.points → IsWeak (with_cube cell) v
 clip_weak cell t k v l = (vertex_corner cell v (k.table.different.vertices v (listed_contains v t.points l))).weak
 
 -- what the vertices of a clip on the planes of a set have in common
-pub clip_common : (cell : List HalfSpace) (t : Rows) (set : ℕ) → IsClip cell t → HasCommon cell (common_of set (2 ^ 128 - 1) t.planes)
+pub clip_common : {most : ℕ} (cell : List HalfSpace) (t : Rows) (set : ℕ) → HasVertices most cell t → HasCommon cell (common_of set (2 ^ 128 - 1) t.planes)
 clip_common cell t set k =
     subst (λ (ms : List ℕ). HasCommon cell (common_of set (2 ^ 128 - 1) ms)) (sym k.table.planes)
     (common_is cell set (2 ^ 128 - 1) t.points k.few (clip_weak cell t k) (none refl))
@@ -191,7 +191,7 @@ record HasGreat (cell : List HalfSpace) (t : Rows) (f : HalfSpace) : Type 0 wher
   pub positive : pos 0 <ℤ side_value f vertex
 
 -- where a half-space is positive strictly inside, it is so at a vertex
-some_positive : (cell : List HalfSpace) (t : Rows) (p : RationalPoint) (f : HalfSpace) → IsClip cell t → IsStrict (with_cube cell) p → pos 0 <ℤ side_value f p → HasGreat cell t f
+some_positive : {most : ℕ} (cell : List HalfSpace) (t : Rows) (p : RationalPoint) (f : HalfSpace) → HasVertices most cell t → IsStrict (with_cube cell) p → pos 0 <ℤ side_value f p → HasGreat cell t f
 some_positive cell t p f k s above =
     let w = strict_is_weak (with_cube cell) p s in
     let g = vertex_is_as_great_spec cell k.bounds p w.point (weak_true (with_cube cell) p w) f in
@@ -210,7 +210,7 @@ some_positive cell t p f k s above =
     listed_map f x (y ∷ ys) (later l) = later (listed_map f x ys l)
 
 -- where no plane is common, the cell has a point
-pub inside_shown : (cell : List HalfSpace) (t : Rows) → IsClip cell t → common_of 0 (2 ^ 128 - 1) t.planes ≡ 0 → IsNonempty (shape_of_cell cell)
+pub inside_shown : {most : ℕ} (cell : List HalfSpace) (t : Rows) → HasVertices most cell t → common_of 0 (2 ^ 128 - 1) t.planes ≡ 0 → IsNonempty (shape_of_cell cell)
 inside_shown cell t k e = shown (clip_common cell t 0 k)
   where
     shown : HasCommon cell (common_of 0 (2 ^ 128 - 1) t.planes) → IsNonempty (shape_of_cell cell)
@@ -226,7 +226,7 @@ inside_shown cell t k e = shown (clip_common cell t 0 k)
     )
 
 -- where the cell has a point, no plane is common
-pub inside_needed : (cell : List HalfSpace) (t : Rows) → IsClip cell t → IsNonempty (shape_of_cell cell) → common_of 0 (2 ^ 128 - 1) t.planes ≡ 0
+pub inside_needed : {most : ℕ} (cell : List HalfSpace) (t : Rows) → HasVertices most cell t → IsNonempty (shape_of_cell cell) → common_of 0 (2 ^ 128 - 1) t.planes ≡ 0
 inside_needed cell t k n =
     let m = member_moves_inside_spec cell k.bounds n in
     let s = strict_of cell m.0 m.1.0 m.1.1 in
@@ -296,7 +296,7 @@ elsewhere cell place g few l c =
     dropped_at (suc n) (y ∷ ys) x m = let r = dropped_at n ys x m in (suc r.0, omega (arith, r.1), r.2)
 
 -- where the vertices on a plane have no other plane in common, the half-space has a side of its own
-pub side_shown : (cell : List HalfSpace) (t : Rows) (place set : ℕ) → IsClip cell t → place < length cell → set ≡ 2 ^ place → common_of set (2 ^ 128 - 1) t.planes ≡ set → HasSide cell place
+pub side_shown : {most : ℕ} (cell : List HalfSpace) (t : Rows) (place set : ℕ) → HasVertices most cell t → place < length cell → set ≡ 2 ^ place → common_of set (2 ^ 128 - 1) t.planes ≡ set → HasSide cell place
 side_shown cell t place set k l e f = shown (subst (λ (m : ℕ). HasCommon cell m) (f ∙ e) (clip_common cell t set k))
   where
     shown : HasCommon cell (2 ^ place) → HasSide cell place
@@ -318,7 +318,7 @@ side_shown cell t place set k l e f = shown (subst (λ (m : ℕ). HasCommon cell
 -- ---- what the code asks
 
 -- whether no plane is common, as the code tests it
-pub has_inside_is : (cell : List HalfSpace) (t : Rows) (masks : List ℕ) (common : ℕ) → IsClip cell t → masks ≡ t.planes → common ≡ common_of 0 (2 ^ 128 - 1) masks → (nat_eq common 0 ≡ true) ↔ IsNonempty (shape_of_cell cell)
+pub has_inside_is : {most : ℕ} (cell : List HalfSpace) (t : Rows) (masks : List ℕ) (common : ℕ) → HasVertices most cell t → masks ≡ t.planes → common ≡ common_of 0 (2 ^ 128 - 1) masks → (nat_eq common 0 ≡ true) ↔ IsNonempty (shape_of_cell cell)
 has_inside_is cell t masks common k e f = (λ h. inside_shown cell t k (sym same ∙ equal common h), λ n. equals common (same ∙ inside_needed cell t k n))
   where
     same : common ≡ common_of 0 (2 ^ 128 - 1) t.planes
@@ -331,7 +331,7 @@ has_inside_is cell t masks common k e f = (λ h. inside_shown cell t k (sym same
     equals n h = grind (arith, nat_tests)
 
 -- whether the vertices on a plane have no other in common, as the code tests it
-pub has_side_is : (cell : List HalfSpace) (t : Rows) (masks : List ℕ) (place common : ℕ) → IsClip cell t → masks ≡ t.planes → place < length cell → common ≡ common_of (1 * 2 ^ place % 2 ^ 128) (2 ^ 128 - 1) masks
+pub has_side_is : {most : ℕ} (cell : List HalfSpace) (t : Rows) (masks : List ℕ) (place common : ℕ) → HasVertices most cell t → masks ≡ t.planes → place < length cell → common ≡ common_of (1 * 2 ^ place % 2 ^ 128) (2 ^ 128 - 1) masks
     → nat_eq common (1 * 2 ^ place % 2 ^ 128) ≡ true → HasSide cell place
 has_side_is cell t masks place common k e l f h =
     side_shown cell t place (1 * 2 ^ place % 2 ^ 128) k l (one_shl place 128 (omega (arith, l, k.few)))

@@ -21,7 +21,3 @@ pub record HasVertices (most : ℕ) (cell : List HalfSpace) (t : Rows) : Type 0 
   pub bounds : AreHalfSpaces cell
   pub table : IsTable most cell t
   pub complete : (v : RationalPoint) → Contains (vertices cell) v → Contains t.points v
-
--- the same in a clip
-abbrev pub IsClip : List HalfSpace → Rows → Type 0
-IsClip cell t = HasVertices 256 cell t

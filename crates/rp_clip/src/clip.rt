@@ -7,7 +7,7 @@ ghost use Rattle.rp_geometry.specs.searches.Certificate.{is_inside_certificate};
 ghost use Rattle.rp_geometry.specs.searches.Vertex.{first_inside, first_weak_point};
 ghost use Rattle.rp_geometry.specs.laws.CellLaws.{IsSolution};
 ghost use Rattle.rp_clip.specs.CubeCorners.{cube_corners};
-ghost use Rattle.rp_clip.specs.Clipped.{clipped, IsClip};
+ghost use Rattle.rp_clip.specs.Clipped.{clipped, HasVertices};
 ghost use Rattle.rp_clip.specs.Crossings.{IsRefilled};
 ghost use Rattle.rp_clip.specs.Faces.{HasSide};
 ghost use Rattle.rp_clip.specs.Tables.{counting, IsTable, AreVertices, HasMoreVertices};
@@ -28,27 +28,28 @@ use std::marker::Model;
 /// There are two tables, of which one counts: `add` fills the other, which counts then, so that no table is moved. A clip
 /// is large, so `clear` and `copy_from` serve better than a new one.
 #[derive(Drop)]
-pub struct Clip {
+pub struct Clip<const MOST: usize> {
     planes: Planes,
-    first: Table<256>,
-    second: Table<256>,
+    first: Table<MOST>,
+    second: Table<MOST>,
     is_second: bool,
 }
 
-impl Model for Clip {
-    ghost use Rattle.rp_clip.specs.Clipped.{Clipped, clipped, IsClip};
+impl<const MOST: usize> Model for Clip<MOST> {
+    ghost use Rattle.rp_clip.specs.Clipped.{Clipped, clipped, HasVertices};
     ghost use Rattle.rp_clip.specs.Tables.{counting};
 
     ghost Value = { Clipped };
 
     ghost view = { λ s. clipped s.planes (counting s.is_second s.first s.second).points };
 
-    ghost invariant = { λ s. IsClip s.planes (counting s.is_second s.first s.second) };
+    ghost invariant = { λ s. HasVertices MOST s.planes (counting s.is_second s.first s.second) };
 }
 
-impl Clip {
+impl<const MOST: usize> Clip<MOST> {
     /// No half-spaces, and the eight corners of the closed cube.
-    pub fn cube() -> Clip
+    pub fn cube() -> Clip<MOST>
+        requires { 8 ≤ MOST }
         ensures value { result ≡ clipped [] cube_corners }
         ensures vertices { AreVertices [] result.points }
     {
@@ -64,6 +65,7 @@ impl Clip {
 
     /// Takes all half-spaces out, so that the eight corners of the closed cube are left.
     pub fn clear(&mut self)
+        requires { 8 ≤ MOST }
         ensures value { self.new ≡ clipped [] cube_corners }
         ensures vertices { AreVertices [] self.new.points }
     {
@@ -73,12 +75,12 @@ impl Clip {
     }
 
     /// Adds a half-space at the end, where there are fewer than 64; the points become the vertices with it. False exactly
-    /// where there would be more than 256 vertices, and then all is as before.
+    /// where there would be more than `MOST` vertices, and then all is as before.
     pub fn add(&mut self, h: Half) -> bool
         requires { length self.old.halves < 64 }
         ensures added { result ≡ true → self.new.halves ≡ self.old.halves ++ h ∷ [] }
         ensures refused { result ≡ false → self.new ≡ self.old }
-        ensures full { (result ≡ false) ↔ HasMoreVertices 256 (self.old.halves ++ h ∷ []) }
+        ensures full { (result ≡ false) ↔ HasMoreVertices MOST (self.old.halves ++ h ∷ []) }
         ensures vertices { AreVertices self.new.halves self.new.points }
     {
         // Only for what `numbers` ensures, that they keep their bounds.
@@ -109,13 +111,13 @@ impl Clip {
     pub fn corners(&self) -> &[Meeting]
         ensures value { map reduced_point result.now ≡ self.now.points }
         ensures vertices { AreVertices self.now.halves (map reduced_point result.now) }
-        ensures fits { length result.now ≤ 256 }
+        ensures fits { length result.now ≤ MOST }
     {
         self.table().corners()
     }
 
     /// The vertices, each once. They are put into lowest terms here.
-    pub fn vertices(&self) -> ArrayVec<Point, 256>
+    pub fn vertices(&self) -> ArrayVec<Point, MOST>
         ensures value { result.items ≡ self.now.points }
         ensures vertices { AreVertices self.now.halves result.items }
     {
@@ -160,7 +162,7 @@ impl Clip {
     }
 
     /// The same value.
-    pub fn copy(&self) -> Clip
+    pub fn copy(&self) -> Clip<MOST>
         ensures { result ≡ self.now }
     {
         let mut planes = Planes::new();
@@ -176,7 +178,7 @@ impl Clip {
     }
 
     /// Becomes the same as another clip. Copies what is there, and not all the room.
-    pub fn copy_from(&mut self, other: &Clip)
+    pub fn copy_from(&mut self, other: &Clip<MOST>)
         ensures { self.new ≡ other.now }
     {
         self.planes.copy_from(&other.planes);
@@ -185,8 +187,8 @@ impl Clip {
     }
 
     /// The table of the vertices.
-    fn table(&self) -> &Table<256>
-        ensures clip { IsClip self.now.halves result.now }
+    fn table(&self) -> &Table<MOST>
+        ensures clip { HasVertices MOST self.now.halves result.now }
         ensures points { result.now.points ≡ self.now.points }
     {
         if self.is_second {
@@ -219,8 +221,8 @@ pub(crate) fn refill<const MOST: usize>(
 }
 
 /// Points put into lowest terms.
-fn points_of(corners: &[Meeting]) -> ArrayVec<Point, 256>
-    requires { length corners.now ≤ 256 }
+fn points_of<const MOST: usize>(corners: &[Meeting]) -> ArrayVec<Point, MOST>
+    requires { length corners.now ≤ MOST }
     ensures { result.items ≡ map reduced_point corners.now }
 {
     let mut points = ArrayVec::new();

@@ -10,7 +10,7 @@ fn needs_send_sync<T: Send + Sync>() {}
 
 #[test]
 fn types_cross_threads() {
-    needs_send_sync::<Clip>();
+    needs_send_sync::<Clip<256>>();
 }
 
 /// The half-space of four numbers, which are within their bounds.
@@ -26,12 +26,16 @@ fn point(rt: &impl Abort, numbers: (i128, i128, i128, i128)) -> Point {
 }
 
 /// The clip of three half-spaces, which has this many vertices after each.
-fn clip_of_three(rt: &impl Abort, numbers: [(i64, i64, i64, i64); 3], counts: [usize; 3]) -> Clip
+fn clip_of_three(
+    rt: &impl Abort,
+    numbers: [(i64, i64, i64, i64); 3],
+    counts: [usize; 3],
+) -> Clip<256>
     ensures { length result.halves ≡ 3 }
 {
     let [first, second, third] = numbers;
     let [one, two, three] = counts;
-    let mut clip = Clip::cube();
+    let mut clip = Clip::<256>::cube();
     assert!(rt; clip.add(half(rt, first)));
     assert_eq!(rt; clip.corners().len(), one);
     assert!(rt; clip.add(half(rt, second)));
@@ -52,7 +56,7 @@ fn a_tetrahedron_has_its_four_corners(rt: HostRuntime) -> Result<(), Fail> {
     assert!(rt; vertices.contains(&point(&rt, (7, 0, 0, 2))));
     assert!(rt; vertices.contains(&point(&rt, (0, 7, 0, 3))));
     assert!(rt; vertices.contains(&point(&rt, (0, 0, 7, 5))));
-    let mut other = Clip::cube();
+    let mut other = Clip::<256>::cube();
     other.copy_from(&clip.copy());
     let inside = other.first_inside().ok_or("no certificate")?;
     let points = inside.items();
@@ -81,13 +85,13 @@ fn a_roof_through_edges_keeps_each_corner_once(rt: HostRuntime) {
 #[test]
 fn a_half_space_and_its_complement_have_no_common_point(rt: HostRuntime) {
     let above = half(&rt, (0, 0, 1, -4));
-    let mut flat = Clip::cube();
+    let mut flat = Clip::<256>::cube();
     assert!(rt; flat.add(above));
     assert!(rt; flat.add(above.not()));
     assert!(rt; flat.first_inside().is_none());
     assert!(rt; flat.first_weak().is_some());
     assert_eq!(rt; flat.vertices().len(), 4);
-    let mut apart = Clip::cube();
+    let mut apart = Clip::<256>::cube();
     assert!(rt; apart.add(above));
     assert!(rt; apart.add(half(&rt, (0, 0, -1, 3))));
     assert!(rt; apart.first_inside().is_none());
@@ -98,7 +102,7 @@ fn a_half_space_and_its_complement_have_no_common_point(rt: HostRuntime) {
 #[test]
 fn the_cube_alone_has_its_corners(rt: HostRuntime) -> Result<(), Fail> {
     let edge = 16777216;
-    let cube = Clip::cube();
+    let cube = Clip::<256>::cube();
     assert_eq!(rt; cube.vertices().len(), 8);
     let inside = cube.first_inside().ok_or("no certificate")?;
     let points = inside.items();
@@ -114,7 +118,7 @@ fn the_cube_alone_has_its_corners(rt: HostRuntime) -> Result<(), Fail> {
 fn same_points(rt: &impl Abort, cell: &[Half]) -> usize
     requires { length cell.now ≤ 32 }
 {
-    let mut clip = Clip::cube();
+    let mut clip = Clip::<256>::cube();
     for half in cell {
         assert!(rt; clip.add(*half));
     }

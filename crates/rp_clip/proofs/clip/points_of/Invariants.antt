@@ -4,4 +4,4 @@ use Rattle.rp_clip.proofs.clip.points_of.Given as goal
 
 -- the points so far
 abbrev pub invariant-loop-corner : goal.invariant-loop-corner
-invariant-loop-corner l = record { so_far : l.points.items ≡ map reduced_point (take l.corner-index l.corners); few : length l.points.items ≤ l.corner-index }
+invariant-loop-corner g l = record { so_far : l.points.items ≡ map reduced_point (take l.corner-index l.corners); few : length l.points.items ≤ l.corner-index }

@@ -1,13 +1,13 @@
-use Rattle.std.proofs.Common.{List, [], subst, sym, arith}
+use Rattle.std.proofs.Common.{List, [], subst, sym}
 use Rattle.rp_geometry.specs.Geometry.{HalfSpace}
-use Rattle.rp_clip.specs.Clipped.{IsClip}
+use Rattle.rp_clip.specs.Clipped.{HasVertices}
 use Rattle.rp_clip.proofs.Added.{clip_vertices}
 use Rattle.rp_clip.proofs.CubeCorners.{cube_clip}
 use Rattle.rp_clip.proofs.clip.Clip.clear.Goals as goal
 
 pub invariant_of-self : goal.invariant_of-self
-invariant_of-self c =
-    subst (λ (hs : List HalfSpace). IsClip hs c.fill_cube.new.table) (sym c.clear.ensures) (cube_clip 256 c.fill_cube.new.table (omega arith) c.fill_cube.ensures.points c.fill_cube.ensures.planes)
+invariant_of-self g c =
+    subst (λ (hs : List HalfSpace). HasVertices g.row.MOST hs c.fill_cube.new.table) (sym c.clear.ensures) (cube_clip g.row.MOST c.fill_cube.new.table c.requires c.fill_cube.ensures.points c.fill_cube.ensures.planes)
 
 pub returns-clause-vertices : goal.returns-clause-vertices
-returns-clause-vertices c = clip_vertices [] c.fill_cube.new.table (cube_clip 256 c.fill_cube.new.table (omega arith) c.fill_cube.ensures.points c.fill_cube.ensures.planes)
+returns-clause-vertices g c = clip_vertices [] c.fill_cube.new.table (cube_clip g.row.MOST c.fill_cube.new.table c.requires c.fill_cube.ensures.points c.fill_cube.ensures.planes)

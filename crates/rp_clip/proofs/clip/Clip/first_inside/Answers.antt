@@ -5,7 +5,7 @@ use Rattle.rp_clip.specs.Clipped.{Clipped}
 use Rattle.rp_clip.proofs.clip.Clip.first_inside.Goals as goal
 
 pub returns-clause-passes : goal.returns-clause-passes
-returns-clause-passes c = inside_passes c.args.self.now.halves c.first_points.result c.table.ensures.clip.bounds (c.first_points.ensures ∙ ap (λ (s : Clipped). first_inside s.halves) c.self.view_is)
+returns-clause-passes g c = inside_passes c.args.self.now.halves c.first_points.result c.table.ensures.clip.bounds (c.first_points.ensures ∙ ap (λ (s : Clipped). first_inside s.halves) c.self.view_is)
 
 pub returns-clause-none : goal.returns-clause-none
-returns-clause-none c = inside_none c.args.self.now.halves c.first_points.result c.table.ensures.clip.bounds (c.first_points.ensures ∙ ap (λ (s : Clipped). first_inside s.halves) c.self.view_is)
+returns-clause-none g c = inside_none c.args.self.now.halves c.first_points.result c.table.ensures.clip.bounds (c.first_points.ensures ∙ ap (λ (s : Clipped). first_inside s.halves) c.self.view_is)

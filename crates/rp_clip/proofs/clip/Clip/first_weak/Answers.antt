@@ -5,7 +5,7 @@ use Rattle.rp_clip.specs.Clipped.{Clipped}
 use Rattle.rp_clip.proofs.clip.Clip.first_weak.Goals as goal
 
 pub returns-clause-passes : goal.returns-clause-passes
-returns-clause-passes c = weak_passes c.args.self.now.halves c.first_point.result c.table.ensures.clip.bounds (c.first_point.ensures ∙ ap (λ (s : Clipped). first_weak_point s.halves) c.self.view_is)
+returns-clause-passes g c = weak_passes c.args.self.now.halves c.first_point.result c.table.ensures.clip.bounds (c.first_point.ensures ∙ ap (λ (s : Clipped). first_weak_point s.halves) c.self.view_is)
 
 pub returns-clause-none : goal.returns-clause-none
-returns-clause-none c = weak_none c.args.self.now.halves c.first_point.result c.table.ensures.clip.bounds (c.first_point.ensures ∙ ap (λ (s : Clipped). first_weak_point s.halves) c.self.view_is)
+returns-clause-none g c = weak_none c.args.self.now.halves c.first_point.result c.table.ensures.clip.bounds (c.first_point.ensures ∙ ap (λ (s : Clipped). first_weak_point s.halves) c.self.view_is)
