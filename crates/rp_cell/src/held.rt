@@ -104,7 +104,7 @@ impl Held {
     pub fn copy_from(&mut self, other: &Held)
         ensures { self.new ≡ other.now }
     {
-        self.cell = joined(other.halves(), &[]);
+        refill(&mut self.cell, other.halves());
         self.clip.copy_from(&other.clip);
         self.whole = other.whole;
         self.inner = other.inner;
@@ -257,4 +257,15 @@ fn add_if(whole: bool, clip: &mut Clip<ROOM>, half: Half) -> bool
     ensures added { result ≡ true → clip.new.halves ≡ clip.old.halves ++ half ∷ [] }
 {
     whole && clip.add(half)
+}
+
+/// Fills a list with half-spaces, of which there are at most 64.
+fn refill(list: &mut System, halves: &[Half])
+    requires { length halves.now ≤ 64 }
+    ensures { list.new.items ≡ halves.now }
+{
+    list.clear();
+    for half in halves {
+        list.push(*half);
+    }
 }
