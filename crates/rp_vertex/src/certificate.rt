@@ -40,7 +40,7 @@ pub fn first_inside(cell: &[Half]) -> Option<Inside>
     first_points(way_of(cell), system.as_slice())
 }
 
-/// The same, by a search over all triples of planes: to compare the times.
+/// The same, by a search over all triples of planes, which passes over none: to compare the times.
 pub fn first_inside_over_triples(cell: &[Half]) -> Option<Inside>
     requires { length cell.now ≤ 64 }
     ensures first { result ≡ first_inside cell.now }
@@ -48,7 +48,7 @@ pub fn first_inside_over_triples(cell: &[Half]) -> Option<Inside>
     ensures none { IsNone result ↔ IsEmpty (shape_of_cell cell.now) }
 {
     let system = with_cube(cell);
-    first_points(Way::Triples, system.as_slice())
+    first_points(Way::Plain, system.as_slice())
 }
 
 /// The first weak point of a cell: the first vertex of the cell with the domain cube. No half-space of the cell and of the

@@ -27,7 +27,9 @@ pub(crate) enum Wanted<'a> {
 /// How the search goes.
 #[derive(Clone, Copy)]
 pub(crate) enum Way {
-    /// All third planes are tried for each two.
+    /// All triples of planes are tried.
+    Plain,
+    /// All third planes are tried for each two that may have a wanted vertex.
     Triples,
     /// Those that meet what the list leaves of the line of the two.
     Lines,
@@ -68,7 +70,7 @@ pub(crate) fn vertex_on_few(
     for place in 0..system.len() {
         let f = &system[place];
         let others = &system[place + 1..];
-        if !has_none(wanted, system, f, others) {
+        if !has_none(way, wanted, system, f, others) {
             return first_on_few(way, wanted, system, order, f, others);
         }
     }
@@ -76,10 +78,10 @@ pub(crate) fn vertex_on_few(
 }
 
 /// Whether it is known at once that no vertex on the plane of `f` and two planes of `others` is wanted.
-fn has_none(wanted: Wanted, system: &[Half], f: &Half, others: &[Half]) -> bool
+fn has_none(way: Way, wanted: Wanted, system: &[Half], f: &Half, others: &[Half]) -> bool
     ensures { result ≡ true → first_of_pairs (vertex_at (is_wanted wanted.entry) system.now f.now) others.now ≡ None }
 {
-    lie_within(wanted, f, f)
+    is_passed_over(way, wanted, f, f)
 }
 
 /// On how many lines of one plane a vertex is sought: the first one on a few, since there may be none on the plane, and a
@@ -129,7 +131,7 @@ fn first_with_one(
     requires { HasCube system.now }
     ensures { result ≡ first_of_pairs (vertex_at (is_wanted wanted.entry) system.now f.now) others.now }
 {
-    if has_none(wanted, system, f, others) {
+    if has_none(way, wanted, system, f, others) {
         return None;
     }
     for i in 0..others.len() {
@@ -154,12 +156,22 @@ fn first_on_both(
     requires { HasCube system.now }
     ensures { result ≡ first_of (vertex_at (is_wanted wanted.entry) system.now f.now g.now) others.now }
 {
-    if lie_within(wanted, f, g) {
+    if is_passed_over(way, wanted, f, g) {
         return None;
     }
     let pair = Pair::new(f, g);
     let line = line_by(way, system, &pair, order);
     first_with_two(wanted, system, &pair, &line, others)
+}
+
+/// Whether the line of two planes is passed over, since no vertex on both is wanted.
+fn is_passed_over(way: Way, wanted: Wanted, f: &Half, g: &Half) -> bool
+    ensures { result ≡ true → lie_within wanted.entry f.now g.now ≡ true }
+{
+    match way {
+        Way::Plain => false,
+        Way::Triples | Way::Lines => lie_within(wanted, f, g),
+    }
 }
 
 /// Whether no vertex on both planes is wanted, since those wanted are to lift nothing but these two.
@@ -185,7 +197,7 @@ fn line_by(way: Way, system: &[Half], pair: &Pair, order: &mut Order) -> Line
     ensures { HoldsVertices system.now pair.now result }
 {
     match way {
-        Way::Triples => Line::Unknown,
+        Way::Plain | Way::Triples => Line::Unknown,
         Way::Lines => line_of(system, pair, order),
     }
 }
