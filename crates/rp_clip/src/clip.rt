@@ -53,14 +53,14 @@ impl<const MOST: usize> Clip<MOST> {
         ensures value { result ≡ clipped [] cube_corners }
         ensures vertices { AreVertices [] result.points }
     {
-        let mut first = Table::new();
-        fill_cube(&mut first);
-        Clip {
+        let mut clip = Clip {
             planes: Planes::new(),
-            first,
+            first: Table::new(),
             second: Table::new(),
             is_second: false,
-        }
+        };
+        fill_cube(&mut clip.first);
+        clip
     }
 
     /// Takes all half-spaces out, so that the eight corners of the closed cube are left.
