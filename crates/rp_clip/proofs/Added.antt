@@ -6,7 +6,7 @@ use Rattle.std.proofs.lemmas.Bool.{cases_order}
 use Rattle.rp_algebra.proofs.Listed.{Listed, first, later, all_append}
 use Rattle.rp_algebra.proofs.Options.{same_some}
 use Rattle.rp_geometry.specs.Geometry.{RationalPoint, HalfSpace, IsHalfSpace}
-use Rattle.rp_geometry.specs.searches.Vertex.{vertices, meeting_point}
+use Rattle.rp_geometry.specs.searches.Vertex.{meeting_point}
 use Rattle.rp_convex.proofs.Vertex.{AreTightAt, tight_symmetric}
 use Rattle.rp_corners.specs.Edges.{IsCrossing, IsKeptVertex}
 use Rattle.rp_corners.proofs.Corners.{meeting_is, is_meeting}

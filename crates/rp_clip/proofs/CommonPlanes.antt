@@ -4,9 +4,7 @@ use Rattle.std.specs.Prelude.{Some, min, bit_and, ◌↔◌}
 use Rattle.std.specs.Int.{bit_at, trailing_zeros, w128}
 use Rattle.std.specs.Int.Bits.{and_zero_r}
 use Rattle.std.specs.List.{Contains, slice_get}
-use Rattle.std.proofs.lemmas.Bool.{cases_lt}
 use Rattle.std.proofs.lemmas.Bool.Decides.{nat_tests}
-use Rattle.std.proofs.lemmas.Int.{ints}
 use Rattle.std.proofs.lemmas.Nat.{one_shl, and_le_l, and_le_r}
 use Rattle.std.proofs.lemmas.Nat.Bits.{same_from_bits_below, bit_at-lt, bit_at-zero, bit_at_ones, bit_at-pow_same, bit_at-pow_other, bit_at_and, bit_at-trailing_zeros}
 use Rattle.rp_algebra.proofs.IntLaws.{le_or_lt_ℤ, nonneg_of_pos_ℤ}

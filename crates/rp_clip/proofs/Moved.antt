@@ -1,5 +1,5 @@
 -- The half-spaces of a cell in another order: the vertices are the same, and the planes through each, at other places.
-use Rattle.std.proofs.Common.{◌≡◌, ℕ, zero, suc, ◌<◌, ◌≤◌, ⊎_elim, List, [], ◌∷◌, ◌++◌, length, refl, sym, ap, ◌∙◌, subst, arith}
+use Rattle.std.proofs.Common.{◌≡◌, ℕ, zero, suc, ◌<◌, ◌≤◌, ⊎_elim, List, [], ◌∷◌, length, refl, sym, ap, ◌∙◌, arith}
 use Rattle.std.specs.Prelude.{Some}
 use Rattle.std.specs.Int.{bit_at}
 use Rattle.std.specs.List.{Contains, slice_get}
@@ -11,7 +11,7 @@ use Rattle.rp_geometry.specs.Geometry.{RationalPoint, HalfSpace, IsHalfSpace, cu
 use Rattle.rp_geometry.specs.searches.Vertex.{vertices}
 use Rattle.rp_geometry.specs.laws.CellLaws.{AreHalfSpaces}
 use Rattle.rp_corners.proofs.Corners.{vertex_corner, corner_vertex}
-use Rattle.rp_clip.specs.Masks.{half_at, is_through, mask_of, IsIn}
+use Rattle.rp_clip.specs.Masks.{is_through, mask_of, IsIn}
 use Rattle.rp_clip.specs.Polygons.{Covers, IsSorted, IsRenamed}
 use Rattle.rp_clip.proofs.Filled.{place_in}
 use Rattle.rp_clip.proofs.HalfAt.{at_cell, at_cube, get_below}

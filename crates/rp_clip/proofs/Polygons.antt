@@ -1,6 +1,6 @@
 -- The vertices of a cell on one plane, with one half-space more, and in another order.
-use Rattle.std.proofs.Common.{◌≡◌, ℕ, ◌+◌, ◌*◌, ◌%◌, ◌^◌, ◌<◌, ◌≤◌, ⊎_elim, Bool, true, false, ℤ, pos, ◌≤ℤ◌, ◌<ℤ◌, inl, List, [], ◌∷◌, ◌++◌, length, take, map, refl, sym, ap, ◌∙◌, subst, arith, nat_eq, length-append}
-use Rattle.std.specs.Prelude.{Some, None, bit_and, option_map, slice_index_or}
+use Rattle.std.proofs.Common.{◌≡◌, ℕ, ◌+◌, ◌<◌, ◌≤◌, ⊎_elim, Bool, true, false, ℤ, pos, ◌≤ℤ◌, ◌<ℤ◌, inl, List, [], ◌∷◌, ◌++◌, length, take, map, refl, sym, ap, ◌∙◌, subst, arith, nat_eq, length-append}
+use Rattle.std.specs.Prelude.{Some, bit_and, slice_index_or}
 use Rattle.std.specs.Int.{bit_at}
 use Rattle.std.specs.List.{Contains, slice_get, filter}
 use Rattle.std.proofs.lemmas.Bool.Decides.{nat_tests}
@@ -11,14 +11,13 @@ use Rattle.rp_algebra.proofs.Listed.{first, later, all_append}
 use Rattle.rp_algebra.proofs.Numbers.{above_not_zero}
 use Rattle.rp_algebra.proofs.Options.{none_not_some, same_some}
 use Rattle.rp_geometry.specs.Geometry.{RationalPoint, HalfSpace, IsHalfSpace, IsPoint, side_value, reduced_point}
-use Rattle.rp_geometry.specs.searches.Vertex.{vertices}
 use Rattle.rp_corners.specs.Edges.{IsCrossing, IsKeptVertex}
 use Rattle.rp_corners.proofs.Edges.{vertices_follow_edges_spec, crossing_keeps_planes_spec}
 use Rattle.rp_corners.proofs.Standing.{listed_contains, contains_listed}
 use Rattle.rp_clip.specs.Clipped.{HasVertices}
-use Rattle.rp_clip.specs.Crossings.{with_one, IsKeptTable, IsCrossedAll, IsRefilled}
-use Rattle.rp_clip.specs.Masks.{half_at, mask_of, IsIn}
-use Rattle.rp_clip.specs.Polygons.{IsPolygon, AreOnPlane, Covers, IsSorted, IsPositiveAtAll, IsRenamed}
+use Rattle.rp_clip.specs.Crossings.{with_one, IsCrossedAll, IsRefilled}
+use Rattle.rp_clip.specs.Masks.{mask_of, IsIn}
+use Rattle.rp_clip.specs.Polygons.{IsPolygon, AreOnPlane, Covers, IsSorted, IsPositiveAtAll}
 use Rattle.rp_clip.specs.Tables.{Rows, rows_of, IsTable, AreDifferentVertices}
 use Rattle.rp_clip.specs.declared.cross.Side.TheVariants.{Above}
 use Rattle.rp_clip.proofs.Added.{added, crossed_true, crossing_found}
@@ -27,10 +26,9 @@ use Rattle.rp_clip.proofs.HalfAt.{at_cell}
 use Rattle.rp_clip.proofs.Kept.{read_point, take_whole}
 use Rattle.rp_clip.proofs.Orders.{nothing_in}
 use Rattle.rp_clip.proofs.Lists.{filter_distinct, filter_from, filter_keeps, filter_push_true, filter_push_false, map_push, push_cases, take_more}
-use Rattle.rp_clip.proofs.Masks.{in_mask, mask_in, mask_stays, old_bit, mask_bit, bit_of, one_longer}
-use Rattle.rp_clip.proofs.Moved.{vertices_to, vertices_from, bounds_to, bit_moved, mask_renamed}
+use Rattle.rp_clip.proofs.Masks.{in_mask, mask_in, mask_stays, old_bit, mask_bit, one_longer}
+use Rattle.rp_clip.proofs.Moved.{vertices_to, vertices_from, bounds_to, bit_moved}
 use Rattle.rp_clip.proofs.Sides.{get_some, mapped_at, reduced_side, known_side, map_length}
-use Rattle.rp_clip.proofs.Walks.{one_not_zero}
 
 -- ---- no half-space
 

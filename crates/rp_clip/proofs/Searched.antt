@@ -1,15 +1,14 @@
 -- The first vertices, from the polygon on one plane after the other.
-use Rattle.std.proofs.Common.{◌≡◌, ℕ, ◌+◌, ◌<◌, ◌≤◌, ◌⊎◌, inl, inr, ⊎_elim, Bool, true, false, List, length, refl, sym, ap, ◌∙◌, subst, arith}
-use Rattle.std.specs.Prelude.{Some}
+use Rattle.std.proofs.Common.{◌≡◌, ℕ, ◌+◌, ◌<◌, ◌≤◌, inl, inr, ⊎_elim, Bool, true, false, List, length, refl, sym, ◌∙◌, subst, arith}
 use Rattle.std.specs.Int.{bit_at}
-use Rattle.std.specs.List.{Contains, slice_get}
+use Rattle.std.specs.List.{Contains}
 use Rattle.std.proofs.lemmas.Bool.{cases_order}
 use Rattle.rp_algebra.proofs.Tests.{false_not_true}
-use Rattle.rp_geometry.specs.Geometry.{RationalPoint, HalfSpace, with_cube, cube_half_spaces}
+use Rattle.rp_geometry.specs.Geometry.{RationalPoint, HalfSpace, cube_half_spaces}
 use Rattle.rp_geometry.specs.searches.Vertex.{vertices}
-use Rattle.rp_corners.specs.Bases.{Places, IsBefore, IsGreedyBasis}
+use Rattle.rp_corners.specs.Bases.{Places, IsBefore}
 use Rattle.rp_clip.specs.Firsts.{is_off, AreOn, IsBehind}
-use Rattle.rp_clip.specs.Masks.{half_at, mask_of, IsIn}
+use Rattle.rp_clip.specs.Masks.{mask_of, IsIn}
 use Rattle.rp_clip.specs.Polygons.{IsPolygon, AreOnPlane}
 use Rattle.rp_clip.specs.Tables.{Rows}
 use Rattle.rp_clip.specs.Taken.{IsWithin, HasFirsts}

@@ -158,7 +158,7 @@ fn polygons_tell_the_same_as_all_vertices(rt: HostRuntime) {
     ];
     assert_eq!(rt;
         same_points(&rt, &edge.map(|numbers| half(&rt, numbers))),
-        3
+        4
     );
 }
 

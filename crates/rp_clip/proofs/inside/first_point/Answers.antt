@@ -1,4 +1,4 @@
-use Rattle.std.proofs.Common.{◌-◌, ◌^◌, ◌∙◌, arith, rules}
+use Rattle.std.proofs.Common.{◌-◌, ◌^◌, ◌∙◌, rules}
 use Rattle.rp_clip.proofs.Taken.{row_below, weak_point_is, no_weak_point}
 use Rattle.rp_clip.proofs.Best.{clip_has_first, none_is_first}
 use Rattle.rp_clip.proofs.Off.{known_none}

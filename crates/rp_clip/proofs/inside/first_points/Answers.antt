@@ -1,4 +1,4 @@
-use Rattle.rp_clip.proofs.Best.{clip_has_first, none_is_first}
+use Rattle.rp_clip.proofs.Best.{none_is_first}
 use Rattle.rp_clip.proofs.Taken.{taken_all, none_taken}
 use Rattle.rp_clip.proofs.inside.first_points.Goals as goal
 

@@ -1,4 +1,4 @@
-use Rattle.std.proofs.Common.{List, sym, ap, subst, map, arith}
+use Rattle.std.proofs.Common.{List, sym, subst, map, arith}
 use Rattle.std.specs.List.{Contains}
 use Rattle.std.proofs.lemmas.Int.{ints}
 use Rattle.rp_geometry.specs.Geometry.{RationalPoint, reduced_point}

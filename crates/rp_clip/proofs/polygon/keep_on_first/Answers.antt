@@ -3,7 +3,7 @@ use Rattle.rp_geometry.specs.Geometry.{reduced_point}
 use Rattle.rp_clip.specs.Tables.{Rows}
 use Rattle.rp_clip.specs.Polygons.{IsRenamed}
 use Rattle.rp_clip.proofs.Moved.{as_long, mask_renamed}
-use Rattle.rp_clip.proofs.Polygons.{IsMoved, IsKeptOn, row_read, keep_none, keep_one, keep_not, kept_polygon}
+use Rattle.rp_clip.proofs.Polygons.{IsKeptOn, row_read, keep_one, keep_not, kept_polygon}
 use Rattle.rp_clip.proofs.Sides.{map_length}
 use Rattle.rp_clip.proofs.polygon.keep_on_first.Goals as goal
 use Rattle.rp_clip.proofs.polygon.keep_on_first.Goals.{then-sets-i-eq1, else-sets-i-eq1}

@@ -1,5 +1,4 @@
-use Rattle.std.proofs.Common.{ℕ, ◌<◌, sym, subst, arith}
-use Rattle.std.specs.Prelude.{Option}
+use Rattle.std.proofs.Common.{arith}
 use Rattle.rp_clip.proofs.Filled.{stands}
 use Rattle.rp_clip.proofs.Lists.{get_contains}
 use Rattle.rp_clip.proofs.Orders.{renaming_none, renaming_next, renaming_past}

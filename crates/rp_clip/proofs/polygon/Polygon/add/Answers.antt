@@ -1,7 +1,7 @@
-use Rattle.std.proofs.Common.{◌<◌, List, length, map, sym, ap, ◌∙◌, subst}
+use Rattle.std.proofs.Common.{◌<◌, List, length, sym, ap, ◌∙◌, subst}
 use Rattle.std.specs.Prelude.{not}
 use Rattle.std.specs.List.{Contains}
-use Rattle.rp_geometry.specs.Geometry.{RationalPoint, reduced_point}
+use Rattle.rp_geometry.specs.Geometry.{RationalPoint}
 use Rattle.rp_clip.specs.Polygons.{Sided}
 use Rattle.rp_clip.specs.Tables.{counting}
 use Rattle.rp_clip.proofs.Polygons.{polygon_added, polygon_stays}

@@ -1,4 +1,4 @@
-use Rattle.std.proofs.Common.{◌+◌, ◌*◌, ◌<◌, ◌≤◌, ℕ, ◌≡◌, List, length, Fits, w64, sym, arith, rules}
+use Rattle.std.proofs.Common.{◌*◌, ◌<◌, ◌≤◌, ℕ, List, length, Fits, w64, sym, arith, rules}
 use Rattle.std.specs.Prelude.{slice_index_or}
 use Rattle.rp_clip.specs.Polygons.{Covers}
 use Rattle.rp_clip.proofs.Filled.{stands}
