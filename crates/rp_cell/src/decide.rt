@@ -40,7 +40,8 @@ const FEW_FOR_PAIRS: usize = 7;
 /// The fewest half-spaces of a cell that is held with its vertices to be decided: with fewer the searches are as fast.
 const FEW: usize = 12;
 
-/// The fewest half-spaces of a cell whose points are sought on polygons before all else, if the first plane has one.
+/// The fewest half-spaces of a cell whose points are sought on polygons before all else, as long as its first plane has a
+/// vertex.
 const MANY: usize = 16;
 
 /// Whether a cell has a point: the first inside certificate exactly where it has one, else the first outside certificate.

@@ -22,7 +22,8 @@ use arrayvec::ArrayVec;
 use rp_space::{Half, Inside, Meeting, Point};
 use std::marker::Model;
 
-/// A cell of at most 64 half-spaces with the vertices of its weak system, each once, in no stated order.
+/// A cell of at most 64 half-spaces with the vertices of its weak system, each once, in no stated order. There is room for
+/// `MOST` of them, which are at least the eight corners of the cube.
 /// A contract sees the half-spaces in order and the vertices in lowest terms. No call takes memory.
 ///
 /// There are two tables, of which one counts: `add` fills the other, which counts then, so that no table is moved. A clip

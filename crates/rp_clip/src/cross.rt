@@ -33,7 +33,7 @@ impl Default for Side {
 }
 
 /// Fills a further table with the vertices that a cell of fewer than 64 half-spaces has with one more: those of the cell that
-/// are not below its plane, and then the points at which edges cross it. False where there are more than its room.
+/// are not below its plane, and then the points at which edges cross it. False where it has no room for them.
 pub(crate) fn cross_over<const MOST: usize>(
     planes: &Planes,
     h: &Half,

@@ -1,5 +1,6 @@
 //! The vertices of a weak system, kept while half-spaces are added one after the other, each with the planes that pass
 //! through it: a new half-space drops the vertices on its negative side, and adds the points where edges cross its plane.
+//! For the first certificates of a cell the vertices on one plane after the other do.
 #![tactic(auto)]
 
 mod clip;
