@@ -7,7 +7,7 @@ use Rattle.std.proofs.lemmas.Bool.{cases_lt}
 use Rattle.std.proofs.lemmas.Nat.Bits.{bit_at_and}
 use Rattle.rp_algebra.specs.Integer.{is_zero}
 use Rattle.rp_algebra.proofs.Listed.{Listed, listed_left, listed_right, listed_cases, place_of}
-use Rattle.rp_algebra.proofs.Options.{none_not_some, same_some}
+use Rattle.rp_algebra.proofs.Options.{same_some}
 use Rattle.rp_algebra.proofs.Tests.{is_zero_true, is_zero_false}
 use Rattle.rp_algebra.proofs.Numbers.{zero_or_not}
 use Rattle.rp_geometry.specs.Geometry.{RationalPoint, HalfSpace, IsPoint, SamePlace, side_value, with_cube, cube_half_spaces, reduced_point}
@@ -18,8 +18,8 @@ use Rattle.rp_corners.proofs.Between.{crossing, crossing_weak}
 use Rattle.rp_corners.proofs.Corners.{meeting_is, is_meeting, vertex_corner}
 use Rattle.rp_corners.proofs.Edges.{not_parallel, apart, at_crossing, vertices_follow_edges_spec, crossing_keeps_planes_spec}
 use Rattle.rp_corners.proofs.Standing.{listed_contains, contains_listed}
-use Rattle.rp_clip.specs.Masks.{half_at, is_through, mask_of, IsIn, HasHalfSpaces, HasNoTwo}
-use Rattle.rp_clip.specs.Meetings.{ArePlaces, IsFirstMet, MeetNowhere}
+use Rattle.rp_clip.specs.Masks.{half_at, is_through, mask_of, IsIn, HasHalfSpaces}
+use Rattle.rp_clip.specs.Meetings.{ArePlaces, IsFirstMet}
 use Rattle.rp_clip.specs.Tables.{Rows, AreDifferentVertices, HasMoreVertices, IsTable, IsPut}
 use Rattle.rp_clip.specs.Crossings.{IsBetween, with_one, IsGrown, IsCrossed}
 use Rattle.rp_clip.specs.declared.meet.Met.{Met}
@@ -233,11 +233,3 @@ crossed_put cell h set old new m planes false b t k e put =
     let v = reduced_point m.at in
     let at = sym k.met.at in
     put_full cell h old new v planes t (crossing_vertex cell h set m.first m.second k.met.one k.met.two v b a at) (crossing_mask cell h set m.first m.second k.met.one k.met.two v b a at ∙ sym e) put
-
--- where no planes of the set meet that of h, there is nothing to put
-crossed_none : {most : ℕ} (cell : List HalfSpace) (h : HalfSpace) (set : ℕ) (old : Rows) → IsTable most (with_one cell h) old → MeetNowhere cell set 0 h → IsCrossed most cell h set old old true
-crossed_none cell h set old t none = (record { table = t; all = λ u k. k }, λ i j f g v a e. absurd (none_not_some v (sym (none i j f g a) ∙ e)))
-
--- nor where there are no two planes
-pub crossed_nowhere : {most : ℕ} (cell : List HalfSpace) (h : HalfSpace) (set : ℕ) (old : Rows) → IsTable most (with_one cell h) old → HasNoTwo set → IsCrossed most cell h set old old true
-crossed_nowhere cell h set old t none = crossed_none cell h set old t (λ i j f g a. absurd (none i j a.rises a.first_in a.second_in))

@@ -8,9 +8,9 @@ use Rattle.rp_algebra.proofs.Options.{same_some}
 use Rattle.rp_geometry.specs.Geometry.{RationalPoint, HalfSpace, side_value}
 use Rattle.rp_corners.proofs.Standing.{contains_listed}
 use Rattle.rp_clip.specs.Masks.{mask_of}
-use Rattle.rp_clip.specs.Crossings.{HasSides, IsAbove, IsBelow, AreAllBelow, IsBetween, HasMeetings, HasMeetingsOf, with_one, IsGrown, IsCrossed, IsCrossedFrom, IsCrossedAbove, IsCrossedAll}
+use Rattle.rp_clip.specs.Crossings.{HasSides, IsAbove, IsBelow, AreAllBelow, IsBetween, HasMeetings, HasMeetingsOf, IsGrown, IsCrossed, IsCrossedFrom, IsCrossedAbove, IsCrossedAll}
 use Rattle.rp_clip.specs.Sides.{side_of}
-use Rattle.rp_clip.specs.Tables.{Rows, IsTable}
+use Rattle.rp_clip.specs.Tables.{Rows}
 use Rattle.rp_clip.specs.declared.cross.Side.{Side}
 use Rattle.rp_clip.specs.declared.cross.Side.TheVariants.{Above}
 use Rattle.rp_clip.proofs.HalfAt.{get_below, get_index}
@@ -21,10 +21,6 @@ use Rattle.rp_clip.proofs.Sides.{Row, row, get_some, map_length, known_side, abo
 -- a table that has grown twice has grown
 grown_on : {most : ℕ} (cell : List HalfSpace) (h : HalfSpace) (a b c : Rows) → IsGrown most cell h a b → IsGrown most cell h b c → IsGrown most cell h a c
 grown_on cell h a b c k l = record { table = l.table; all = λ v m. l.all v (k.all v m) }
-
--- a table that is as it was has grown
-grown_same : {most : ℕ} (cell : List HalfSpace) (h : HalfSpace) (t : Rows) → IsTable most (with_one cell h) t → IsGrown most cell h t t
-grown_same cell h t k = record { table = k; all = λ v m. m }
 
 -- meetings that a table has stay in it
 meetings_stay : {most : ℕ} (cell : List HalfSpace) (h : HalfSpace) (set : ℕ) (a b : Rows) → IsGrown most cell h a b → HasMeetings cell h set a → HasMeetings cell h set b

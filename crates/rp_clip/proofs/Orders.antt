@@ -1,6 +1,6 @@
 -- The places of a cell in another order.
 use Rattle.std.proofs.Common.{◌≡◌, ℕ, ◌+◌, ◌-◌, ◌*◌, ◌/◌, ◌%◌, ◌^◌, ◌<◌, ◌≤◌, ◌⊎◌, inl, inr, ⊎_elim, List, [], ◌∷◌, ◌++◌, length, take, sym, ap, ◌∙◌, subst, arith}
-use Rattle.std.specs.Prelude.{Option, Some, None, IfSome, bit_or}
+use Rattle.std.specs.Prelude.{Option, Some, IfSome, bit_or}
 use Rattle.std.specs.Int.{bit_at, w128}
 use Rattle.std.specs.List.{Contains, slice_get}
 use Rattle.std.proofs.lemmas.Bool.{cases_order}
@@ -135,10 +135,7 @@ renaming_next order set renamed rank place old next was l e k s = record {
     fits : place < 128
     fits = omega (arith, l)
 
--- at the end, where no place is left, or none of the list
-pub renaming_all : (order : List ℕ) (set renamed : ℕ) (next : Option ℕ) → next ≡ None → IsRenaming order set renamed next → IsRenamed order set renamed
-renaming_all order set renamed next e s = record { cell = s.cell; ranked = λ r i b o. s.ranked r i b o (subst (λ (n : Option ℕ). IsPast n r) (sym e) tt); cube_from = s.cube_from; cube_to = s.cube_to }
-
+-- at the end, where the places that are left are none of the list
 pub renaming_past : (order : List ℕ) (set renamed rank : ℕ) (next : Option ℕ) → next ≡ Some rank → length order ≤ rank → IsRenaming order set renamed next → IsRenamed order set renamed
 renaming_past order set renamed rank next e far s = record {
   cell = s.cell;

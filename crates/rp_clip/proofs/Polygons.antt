@@ -145,10 +145,6 @@ pub record IsKeptOn (cell sorted : List HalfSpace) (points : List RationalPoint)
   pub planes_are : to.planes ≡ map (mask_of cell) to.points
   pub few : length to.points ≤ i
 
--- at first
-pub keep_none : (cell sorted : List HalfSpace) (points : List RationalPoint) (to : Rows) → to ≡ rows_of [] [] → IsKeptOn cell sorted points 0 to
-keep_none cell sorted points to e = subst (λ (r : Rows). IsKeptOn cell sorted points 0 r) (sym e) (record { points_are = refl; planes_are = refl; few = omega arith })
-
 -- a point on the plane
 pub keep_one : (cell sorted : List HalfSpace) (points : List RationalPoint) (i : ℕ) (old new : Rows) (p : RationalPoint) (set renamed : ℕ) → IsKeptOn cell sorted points i old → slice_get points i ≡ Some p
     → set ≡ mask_of sorted p → bit_and set 1 ≡ 1 → mask_of cell p ≡ renamed → new.points ≡ old.points ++ p ∷ [] → new.planes ≡ old.planes ++ renamed ∷ [] → IsKeptOn cell sorted points (i + 1) new
@@ -254,10 +250,6 @@ pub sorted_all : (cell : List HalfSpace) (order : List ℕ) (rank : ℕ) (sorted
 sorted_all cell order rank sorted far s = subst (λ (is : List ℕ). IsSorted cell is sorted) (take_whole order rank far) s.sorts
 
 -- ---- the first half-space
-
--- the corners of the cube are those of no half-space
-pub cube_polygon : (cell : List HalfSpace) (t : Rows) → cell ≡ [] → HasVertices 16 [] t → IsPolygon cell 0 t
-cube_polygon cell t e k = subst (λ (hs : List HalfSpace). IsPolygon hs 0 t) (sym e) (whole_polygon [] t k)
 
 -- with one half-space
 pub first_polygon : (cell after : List HalfSpace) (h : HalfSpace) (t new : Rows) (r : Bool) → cell ≡ [] → HasVertices 16 [] t → IsHalfSpace h → IsRefilled 16 cell h t new r → r ≡ true → after ≡ cell ++ h ∷ [] → IsPolygon after 0 new

@@ -126,10 +126,6 @@ state cell set [] few k = inl (refl, k.left)
 state cell set (p ∷ points) few k =
     inr (subst (λ (n : ℕ). IsFlat cell n (p ∷ points)) (sym k.left) (flat_further cell (bit_and (2 ^ 128 - 1) (mask_of cell p)) (p ∷ []) points few (flat_first cell p few k.taken.0) k.taken.1))
 
--- before anything is taken
-pub none_yet : (cell : List HalfSpace) (taken : List RationalPoint) → taken ≡ [] → IsTakenTo cell (2 ^ 128 - 1) taken
-none_yet cell taken e = subst (λ (ps : List RationalPoint). IsTakenTo cell (2 ^ 128 - 1) ps) (sym e) (record { taken = tt; left = refl })
-
 -- one more at the end of a list
 taken_end : (cell : List HalfSpace) (set : ℕ) (points : List RationalPoint) (p : RationalPoint) → AreTaken cell set points → first_vertex (is_off cell (left_of cell set points)) (with_cube cell) ≡ Some p
     → AreTaken cell set (points ++ p ∷ [])

@@ -14,7 +14,7 @@ use Rattle.rp_forms.proofs.First.{first_tester_is_right_spec}
 use Rattle.rp_forms.proofs.Forms.{form_is_right_spec}
 use Rattle.rp_region.specs.declared.fault.OpFault.{OpFault}
 use Rattle.rp_region.specs.Makes.{IsFaultOf, Makes, OnlyTells}
-use Rattle.rp_region.proofs.Grows.{then_tells, pass_tells, count_tells, part_tells, few_tells, join_each_tells, subtract_tells}
+use Rattle.rp_region.proofs.Grows.{then_tells, pass_tells, count_tells, part_tells, few_tells, join_each_tells, subtract_tells, outside_tells}
 use Rattle.rp_region.proofs.Left.{IsLeft, all_left, next_left, fault_left, makes_left}
 
 -- ---- forms only append proof lines
@@ -30,10 +30,6 @@ join_tells ps qs = then_tells (count_tests (length ps * length qs)) (λ _. join_
 -- a union
 pub union_tells : (ps qs : List Part) → OnlyTells (if_at_most {W = Work} most_parts (ps ++ qs))
 union_tells ps qs = few_tells most_parts (ps ++ qs)
-
--- a complement
-pub outside_tells : (ps : List Part) → OnlyTells (subtract_from_whole first_tester ps)
-outside_tells ps = subtract_tells (whole_part ∷ []) ps
 
 -- two operands, and what is made of their forms
 abbrev pub of_two : Meaning (List Part) → Expression → Expression → (List Part → List Part → Walk Work (List Part)) → Walk Work (List Part)

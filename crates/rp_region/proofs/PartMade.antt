@@ -1,6 +1,5 @@
 -- What is left of a part test of a cell with a member after each of its lines.
 use Rattle.std.proofs.Common.{◌≡◌, ℕ, ◌<◌, ◌≤◌, Bool, true, false, List, [], ◌∷◌, ◌++◌, length, refl, sym, ap, ◌∙◌, append_assoc, arith}
-use Rattle.std.proofs.lemmas.List.{append-nil}
 use Rattle.std.specs.Prelude.{nat_le, Option, Some, None, is_some}
 use Rattle.rp_geometry.specs.Geometry.{RationalPoint, HalfSpace, box_half_spaces}
 use Rattle.rp_geometry.specs.sets.Shape.{Part}
@@ -27,10 +26,6 @@ line_told line w v e = ap (λ u. done tt u) (sym e)
 -- lines are told one after the other
 pub told_apart : {A : Type 0} (a b : List ProofLine) (next : Unit {0} → Walk Work A) → (telling (a ++ b) >>= next) ≡ (telling a >>= λ _. telling b >>= next)
 told_apart a b next = λ i w. next tt (record { tests = w.tests; proofs = sym (append_assoc w.proofs a b) i })
-
--- without lines nothing is told
-pub nothing_told : (w : Work) → with_lines w [] ≡ w
-nothing_told w = λ i. record { tests = w.tests; proofs = append-nil w.proofs i }
 
 -- ---- the part test of a cell with a member
 

@@ -4,10 +4,10 @@ use Rattle.rp_geometry.specs.parts.Parts.{most_parts}
 use Rattle.rp_walks.specs.Walk.{first_tester}
 use Rattle.rp_walks.specs.Form.{if_at_most, join, subtract, subtract_from_whole, form}
 use Rattle.rp_model.specs.states.State.{parts_in}
-use Rattle.rp_region.proofs.Grows.{subtract_tells}
+use Rattle.rp_region.proofs.Grows.{subtract_tells, outside_tells}
 use Rattle.rp_syntax.specs.declared.command.Expr.{Expr}
 use Rattle.rp_syntax.specs.Views.{expression_of}
-use Rattle.rp_machine.proofs.Formed.{of_two, of_one, join_tells, union_tells, outside_tells, first_fails, second_fails, both_made, operand_fails, one_made}
+use Rattle.rp_machine.proofs.Formed.{of_two, of_one, join_tells, union_tells, first_fails, second_fails, both_made, operand_fails, one_made}
 use Rattle.rp_machine.proofs.machine.Machine.+formed.Goals as goal
 
 pub returns-in_err-first-in-And : goal.returns-in_err-first-in-And
