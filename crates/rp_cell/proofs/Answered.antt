@@ -18,6 +18,11 @@ use Rattle.rp_convex.proofs.WeakPoint.{weak_point_is_found_spec}
 pub of_some : {A : Type 0} (P : A → Type 0) (o : Option A) (x : A) → o ≡ Some x → IfSome o P → P x
 of_some P o x e h = subst (λ r. IfSome r P) e h
 
+-- what follows of an answer that is some
+pub if_some : {A : Type 0} (P Q : A → Type 0) (o : Option A) → ((x : A) → o ≡ Some x → P x → Q x) → IfSome o P → IfSome o Q
+if_some P Q (Some x) f h = f x refl h
+if_some P Q None f h = h
+
 -- an answer that is not none is some
 some_unless : {A : Type 0} (o : Option A) → (IsNone o → ⊥) → IsSome o
 some_unless (Some x) n = refl

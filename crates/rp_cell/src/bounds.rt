@@ -2,17 +2,17 @@
 ghost use Rattle.std.specs.Prelude.{◌≡◌, ◌≤◌, [], ◌∷◌, ◌++◌, true, ◌||◌, length, map};
 ghost use Rattle.rp_geometry.specs.Geometry.{box_half_spaces, complement, cube_half_spaces, is_box_in_bounds, is_listed};
 ghost use Rattle.rp_geometry.specs.sets.Shape.{shape_of_cell};
-ghost use Rattle.rp_geometry.specs.sets.Sets.{IsNonempty, IsEmpty};
+ghost use Rattle.rp_geometry.specs.sets.Sets.{IsNonempty, IsEmpty, SameMembers};
 ghost use Rattle.rp_geometry.specs.parts.LeastBox.{IsLeastBox, least_box};
 ghost use Rattle.rp_geometry.specs.parts.PartTest.{side_lines};
 ghost use Rattle.rp_geometry.specs.searches.ProofLine.{outside_terms};
 ghost use Rattle.rp_space.specs.Boxes.{integer_box};
 ghost use Rattle.rp_cell.specs.Lines.{side_line_of};
 
+use crate::held::Held;
 use crate::side_proofs::SideProofs;
 use rp_elim::first_outside_through;
 use rp_space::{Half, IntBox, Outside, box_halves, cube, keep_bounds};
-use rp_vertex::box_of_vertices;
 
 /// The least box of a cell, and what shows of its sides that no member lies beyond them.
 #[derive(Debug, Drop)]
@@ -33,7 +33,9 @@ pub fn box_of(cell: &[Half]) -> IntBox
     ensures least { IsLeastBox cell.now (integer_box result) }
     ensures bounds { is_box_in_bounds (integer_box result) ≡ true }
 {
-    box_of_vertices(cell)
+    // Only so that it is known of all half-spaces that they keep their bounds.
+    keep_bounds(cell);
+    Held::new(cell).bounds()
 }
 
 /// The least whole box round a cell that has a member, with the first outside certificate of the cell and the complement
@@ -47,7 +49,40 @@ pub fn sides_of(cell: &[Half]) -> Sides
     ensures bounds { is_box_in_bounds (integer_box result.bounds) ≡ true }
     ensures lines { map side_line_of result.proofs ≡ side_lines cell.now (box_half_spaces (least_box cell.now)) }
 {
-    let bounds = box_of(cell);
+    sides_in(cell, box_of(cell))
+}
+
+impl Held {
+    /// The least whole box round a slim cell of the cell, with its certificates, as `sides_of` answers: the box of the
+    /// vertices that are held.
+    pub fn sides(&self, slim: &[Half]) -> Sides
+        requires few { length slim.now ≤ 32 }
+        requires member { IsNonempty (shape_of_cell slim.now) }
+        requires same { SameMembers (shape_of_cell slim.now) (shape_of_cell self.now) }
+        ensures value { integer_box result.bounds ≡ least_box slim.now }
+        ensures least { IsLeastBox slim.now (integer_box result.bounds) }
+        ensures bounds { is_box_in_bounds (integer_box result.bounds) ≡ true }
+        ensures lines { map side_line_of result.proofs ≡ side_lines slim.now (box_half_spaces (least_box slim.now)) }
+    {
+        // Only so that it is known of all half-spaces that they keep their bounds.
+        keep_bounds(self.halves());
+        keep_bounds(slim);
+        sides_in(slim, self.bounds())
+    }
+}
+
+/// A box, which is the least round a cell that has a member, with the certificates of its sides, as `sides_of` answers.
+fn sides_in(cell: &[Half], bounds: IntBox) -> Sides
+    requires few { length cell.now ≤ 32 }
+    requires member { IsNonempty (shape_of_cell cell.now) }
+    requires value { integer_box bounds ≡ least_box cell.now }
+    requires least { IsLeastBox cell.now (integer_box bounds) }
+    requires bounds { is_box_in_bounds (integer_box bounds) ≡ true }
+    ensures value { integer_box result.bounds ≡ least_box cell.now }
+    ensures least { IsLeastBox cell.now (integer_box result.bounds) }
+    ensures bounds { is_box_in_bounds (integer_box result.bounds) ≡ true }
+    ensures lines { map side_line_of result.proofs ≡ side_lines cell.now (box_half_spaces (least_box cell.now)) }
+{
     let mut proofs = SideProofs::new();
     for side in &box_halves(&bounds) {
         if !is_given(cell, side) {

@@ -1,12 +1,13 @@
 //! Whether a cell has a point, and whether its weak system has one.
-ghost use Rattle.std.specs.Prelude.{◌≡◌, ◌≤◌, true, false, length, IsTrue, Some};
-ghost use Rattle.rp_geometry.specs.Geometry.{RationalPoint};
+ghost use Rattle.std.specs.Prelude.{◌≡◌, ◌≤◌, true, false, length, IsTrue, IfSome, Some};
+ghost use Rattle.rp_geometry.specs.Geometry.{RationalPoint, with_cube};
 ghost use Rattle.rp_geometry.specs.sets.Shape.{shape_of_cell};
 ghost use Rattle.rp_geometry.specs.sets.Sets.{IsEmpty};
 ghost use Rattle.rp_geometry.specs.laws.CellLaws.{IsSolution};
 ghost use Rattle.rp_geometry.specs.searches.Certificate.{is_outside_certificate};
 ghost use Rattle.rp_geometry.specs.searches.Elimination.{first_outside};
 ghost use Rattle.rp_geometry.specs.searches.ProofLine.{strict_line, weak_line, out_line, apart_line};
+ghost use Rattle.rp_elim.specs.FewTerms.{first_of_two};
 ghost use Rattle.rp_cell.specs.Decisions.{line_of_strict, line_of_weak, DecidesStrict, DecidesWeak};
 
 use crate::held::Held;
@@ -70,9 +71,7 @@ fn refute_first(cell: &[Half]) -> Strict
     ensures decides { DecidesStrict cell.now result }
     ensures line { line_of_strict result ≡ strict_line cell.now }
 {
-    // Only so that it is known of all half-spaces that they keep their bounds.
-    keep_bounds(cell);
-    if let Some(terms) = first_outside_of_two(cell, true) {
+    if let Some(terms) = refute_by_two(cell) {
         return Strict::Outside(terms);
     }
     if cell.len() < FEW {
@@ -182,6 +181,21 @@ pub(crate) fn search_weak(cell: &[Half]) -> Weak
         Some(p) => Weak::At(p),
         None => Weak::Outside(refute_weak(cell)),
     }
+}
+
+/// The first outside certificate of a cell where it has at most two terms: then the cell has no point. With `None` that is not
+/// known. Nothing else is searched for. A cell has at most 64 half-spaces. Takes no memory.
+pub fn refute_by_two(cell: &[Half]) -> Option<Outside>
+    requires { length cell.now ≤ 64 }
+    ensures found { result ≡ first_of_two true (with_cube cell.now) }
+    ensures first { IfSome result (λ terms. first_outside true cell.now ≡ Some terms) }
+    ensures passes { IfSome result (λ terms. IsTrue (is_outside_certificate true cell.now terms)) }
+    ensures empty { IfSome result (λ _. IsEmpty (shape_of_cell cell.now)) }
+    ensures line { IfSome result (λ terms. out_line terms ≡ strict_line cell.now) }
+{
+    // Only so that it is known of all half-spaces that they keep their bounds.
+    keep_bounds(cell);
+    first_outside_of_two(cell, true)
 }
 
 /// The first outside certificate of a cell that is known to have no point. Points are not searched for.

@@ -1,19 +1,22 @@
 //! Cells held with their vertices.
 ghost use Rattle.std.specs.Prelude.{◌≡◌, ◌+◌, ◌<◌, ◌≤◌, [], ◌∷◌, ◌++◌, true, false, length, Some, IsTrue, IfOk, IfSome, map};
-ghost use Rattle.rp_geometry.specs.Geometry.{RationalPoint};
+ghost use Rattle.rp_geometry.specs.Geometry.{RationalPoint, is_box_in_bounds};
+ghost use Rattle.rp_geometry.specs.parts.LeastBox.{least_box};
 ghost use Rattle.rp_geometry.specs.sets.Shape.{shape_of_cell};
 ghost use Rattle.rp_geometry.specs.sets.Sets.{IsEmpty, IsNonempty};
 ghost use Rattle.rp_geometry.specs.searches.Certificate.{is_outside_certificate};
 ghost use Rattle.rp_geometry.specs.searches.Elimination.{first_outside};
 ghost use Rattle.rp_geometry.specs.searches.ProofLine.{strict_line, weak_line, out_line};
 ghost use Rattle.rp_geometry.specs.laws.CellLaws.{IsSolution};
+ghost use Rattle.rp_space.specs.Boxes.{integer_box};
 ghost use Rattle.rp_clip.specs.Faces.{HasSide};
 ghost use Rattle.rp_cell.specs.Decisions.{line_of_strict, line_of_weak, DecidesStrict, DecidesWeak};
 
 use crate::decide::{Strict, Weak, search_strict, search_weak};
 use crate::refute::{refute_last, refute_strict_at, refute_weak_at};
 use rp_clip::Clip;
-use rp_space::{Half, Outside, System, joined};
+use rp_space::{Half, IntBox, Outside, System, joined};
+use rp_vertex::{box_of_points, box_of_vertices};
 use std::marker::Model;
 
 /// Room for all vertices of a cell of 64 half-spaces in the cube: a body of 70 faces has at most 136 (Euler).
@@ -186,6 +189,17 @@ impl Held {
         ensures { result ≡ true → HasSide self.now place }
     {
         self.whole && self.clip.has_side(place)
+    }
+
+    /// The least whole box round the cell, if it has a member: the box of its vertices.
+    pub(crate) fn bounds(&self) -> IntBox
+        ensures value { integer_box result ≡ least_box self.now }
+        ensures bounds { is_box_in_bounds (integer_box result) ≡ true }
+    {
+        if !self.whole {
+            return box_of_vertices(self.halves());
+        }
+        box_of_points(self.clip.corners())
     }
 
     /// Whether the cell has a point, as `decide_strict` answers.

@@ -10,7 +10,9 @@ mod side_proofs;
 mod slimming;
 
 pub use bounds::{Sides, box_of, sides_of};
-pub use decide::{Strict, Weak, decide_strict, decide_weak, refute_strict, refute_weak};
+pub use decide::{
+    Strict, Weak, decide_strict, decide_weak, refute_by_two, refute_strict, refute_weak,
+};
 pub use held::Held;
 pub use side_proofs::SideProofs;
 pub use slimming::{Cell, Drops, Slimmed, slim};

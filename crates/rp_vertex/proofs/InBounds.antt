@@ -10,7 +10,7 @@ use Rattle.rp_algebra.proofs.Listed.{Listed, first, later, listed_right}
 use Rattle.rp_algebra.proofs.Numbers.{opposite_within}
 use Rattle.rp_algebra.proofs.Reify.{by_ring_at, reify}
 use Rattle.rp_algebra.proofs.Rounding.{floor_below, floor_greatest}
-use Rattle.rp_algebra.proofs.Tests.{and_first, and_second, and_true, at_most_true}
+use Rattle.rp_algebra.proofs.Tests.{and_first, and_second, and_true, at_most_is, at_most_true}
 use Rattle.rp_geometry.specs.Geometry.{RationalPoint, HalfSpace, IntegerBox, IsPoint, half_edge, cube_bound, cube_half_spaces, side_value, with_cube, is_within_bound, is_box_in_bounds, is_in_closed_range, is_closed_cube_point, all_nonnegative, reduced_point}
 use Rattle.rp_geometry.specs.parts.LeastBox.{box_of_vertex, box_of_vertices, box_union}
 use Rattle.rp_geometry.specs.searches.Vertex.{any_point, vertices}
@@ -136,24 +136,39 @@ vertices_in_bounds cell =
 
 -- ---- lowest terms
 
+-- a multiple of both sides
+moved : (c w k : ℤ) → c *ℤ (w *ℤ k) ≡ k *ℤ (c *ℤ w)
+moved c w k = by_ring_at (c ∷ w ∷ k ∷ []) (search reify depth 40 fits 100000) tt
+
+-- a bound of a quotient from below is one of its multiple
+scaled_over : (c v w k : ℤ) → pos 0 <ℤ k → (c *ℤ w) ≤ℤ v → (c *ℤ (w *ℤ k)) ≤ℤ (v *ℤ k)
+scaled_over c v w k hk h = subst (λ (t : ℤ). t ≤ℤ (v *ℤ k)) (sym (moved c w k)) (subst (λ (t : ℤ). (k *ℤ (c *ℤ w)) ≤ℤ t) (mul_comm_ℤ k v) (mul_le_mul_left_ℤ k (c *ℤ w) v (nonneg_of_pos_ℤ k hk) h))
+
+-- and one from above
+scaled_under : (c v w k : ℤ) → pos 0 <ℤ k → v ≤ℤ (c *ℤ w) → (v *ℤ k) ≤ℤ (c *ℤ (w *ℤ k))
+scaled_under c v w k hk h = subst (λ (t : ℤ). (v *ℤ k) ≤ℤ t) (sym (moved c w k)) (subst (λ (t : ℤ). t ≤ℤ (k *ℤ (c *ℤ w))) (mul_comm_ℤ k v) (mul_le_mul_left_ℤ k v (c *ℤ w) (nonneg_of_pos_ℤ k hk) h))
+
+-- a quotient of the closed range stays there as a multiple
+range_scaled : (v w k : ℤ) → pos 0 <ℤ k → is_in_closed_range v w ≡ true → is_in_closed_range (v *ℤ k) (w *ℤ k) ≡ true
+range_scaled v w k hk e =
+    let m = neg_ℤ cube_bound in
+    let n = cube_bound in
+    and_true (int_le (m *ℤ (w *ℤ k)) (v *ℤ k)) (int_le (v *ℤ k) (n *ℤ (w *ℤ k)))
+    (at_most_true (m *ℤ (w *ℤ k)) (v *ℤ k) (scaled_over m v w k hk (at_most_is (m *ℤ w) v (and_first (int_le (m *ℤ w) v) (int_le v (n *ℤ w)) e))))
+    (at_most_true (v *ℤ k) (n *ℤ (w *ℤ k)) (scaled_under n v w k hk (at_most_is v (n *ℤ w) (and_second (int_le (m *ℤ w) v) (int_le v (n *ℤ w)) e))))
+
 -- the floor of a quotient is that of its multiple
 floor_scaled : (v w k : ℤ) → pos 0 <ℤ w → pos 0 <ℤ k → pos 0 <ℤ (w *ℤ k) → floor_of (v *ℤ k) (w *ℤ k) ≡ floor_of v w
 floor_scaled v w k hw hk hwk =
     let f = floor_of (v *ℤ k) (w *ℤ k) in
     let g = floor_of v w in
-    both f g (floor_greatest f v w hw (less f v w k hk (floor_below (v *ℤ k) (w *ℤ k) hwk))) (floor_greatest g (v *ℤ k) (w *ℤ k) hwk (more g v w k hk (floor_below v w hw)))
+    both f g (floor_greatest f v w hw (less f v w k hk (floor_below (v *ℤ k) (w *ℤ k) hwk))) (floor_greatest g (v *ℤ k) (w *ℤ k) hwk (scaled_over g v w k hk (floor_below v w hw)))
   where
     both : (a b : ℤ) → a ≤ℤ b → b ≤ℤ a → a ≡ b
     both a b h k = omega (arith, ints)
 
-    moved : (c w k : ℤ) → c *ℤ (w *ℤ k) ≡ k *ℤ (c *ℤ w)
-    moved c w k = by_ring_at (c ∷ w ∷ k ∷ []) (search reify depth 40 fits 100000) tt
-
     less : (c v w k : ℤ) → pos 0 <ℤ k → (c *ℤ (w *ℤ k)) ≤ℤ (v *ℤ k) → (c *ℤ w) ≤ℤ v
     less c v w k hk h = le_of_mul_le_left_ℤ k (c *ℤ w) v hk (subst (λ (t : ℤ). t ≤ℤ (k *ℤ v)) (moved c w k) (subst (λ (t : ℤ). (c *ℤ (w *ℤ k)) ≤ℤ t) (mul_comm_ℤ v k) h))
-
-    more : (c v w k : ℤ) → pos 0 <ℤ k → (c *ℤ w) ≤ℤ v → (c *ℤ (w *ℤ k)) ≤ℤ (v *ℤ k)
-    more c v w k hk h = subst (λ (t : ℤ). t ≤ℤ (v *ℤ k)) (sym (moved c w k)) (subst (λ (t : ℤ). (k *ℤ (c *ℤ w)) ≤ℤ t) (mul_comm_ℤ k v) (mul_le_mul_left_ℤ k (c *ℤ w) v (nonneg_of_pos_ℤ k hk) h))
 
 -- the ceiling too
 ceiling_scaled : (v w k : ℤ) → pos 0 <ℤ w → pos 0 <ℤ k → pos 0 <ℤ (w *ℤ k) → ceiling_of (v *ℤ k) (w *ℤ k) ≡ ceiling_of v w
@@ -179,3 +194,26 @@ box_of_reduced p w =
       y2 = ((λ j. ceiling_of (y j) (u j)) ∙ ceiling_scaled r.y r.w k m.point hk wk) i;
       z2 = ((λ j. ceiling_of (z j) (u j)) ∙ ceiling_scaled r.z r.w k m.point hk wk) i;
     }
+
+-- what lies in the closed cube in lowest terms lies there before
+pub in_cube_before : (p : RationalPoint) → IsPoint p → is_closed_cube_point (reduced_point p) ≡ true → is_closed_cube_point p ≡ true
+in_cube_before p w e =
+    let r = reduced_point p in
+    let m = reduced_is p w in
+    let k = m.multiple.factor in
+    let wk : pos 0 <ℤ (r.w *ℤ k) = subst (λ (t : ℤ). pos 0 <ℤ t) (sym m.multiple.w) w in
+    let hk = pos_of_mul_pos_ℤ r.w k (nonneg_of_pos_ℤ r.w m.point) wk in
+    let first_two = and_first (is_in_closed_range r.x r.w && is_in_closed_range r.y r.w) (is_in_closed_range r.z r.w) e in
+    let x = range_scaled r.x r.w k hk (and_first (is_in_closed_range r.x r.w) (is_in_closed_range r.y r.w) first_two) in
+    let y = range_scaled r.y r.w k hk (and_second (is_in_closed_range r.x r.w) (is_in_closed_range r.y r.w) first_two) in
+    let z = range_scaled r.z r.w k hk (and_second (is_in_closed_range r.x r.w && is_in_closed_range r.y r.w) (is_in_closed_range r.z r.w) e) in
+    and_true (is_in_closed_range p.x p.w && is_in_closed_range p.y p.w) (is_in_closed_range p.z p.w)
+    (and_true (is_in_closed_range p.x p.w) (is_in_closed_range p.y p.w)
+    ((λ i. is_in_closed_range (sym m.multiple.x i) (sym m.multiple.w i)) ∙ x)
+    ((λ i. is_in_closed_range (sym m.multiple.y i) (sym m.multiple.w i)) ∙ y))
+    ((λ i. is_in_closed_range (sym m.multiple.z i) (sym m.multiple.w i)) ∙ z)
+
+-- a vertex of a cell lies in the closed cube
+pub vertex_in_cube : (cell : List HalfSpace) (v : RationalPoint) → Listed v (vertices cell) → is_closed_cube_point v ≡ true
+unfolding vertices
+vertex_in_cube cell v l = weak_in_cube cell v (listed_is_vertex any_point (with_cube cell) v l).weak

@@ -1,13 +1,15 @@
 -- The least box of a list of vertices, joined one after the other.
-use Rattle.std.proofs.Common.{◌≡◌, ℕ, ◌+◌, ◌-◌, suc, ◌<◌, ℤ, List, [], ◌∷◌, ◌++◌, length, get_or, take, drop, refl, sym, ap, ◌∙◌, add-one, arith}
+use Rattle.std.proofs.Common.{◌≡◌, ℕ, ◌+◌, ◌-◌, suc, ◌<◌, ℤ, List, [], ◌∷◌, ◌++◌, ◌≤◌, length, map, get_or, take, drop, refl, sym, ap, ◌∙◌, subst, add-one, arith, Contains}
 use Rattle.std.specs.Prelude.{Option, Some, None, filter_map, option_map, unwrap_or}
 use Rattle.std.specs.Int.{int_min, int_max}
 use Rattle.std.specs.List.{cons_option}
 use Rattle.std.specs.Option.{option_to_list}
 use Rattle.std.proofs.Math.Seq.{drop-cons}
+use Rattle.std.proofs.lemmas.List.{drop_all, get_or-map, length-map}
+use Rattle.std.proofs.lemmas.List.Elements.{Contains-get_or}
 use Rattle.std.proofs.lemmas.Grind.{common_steps}
 use Rattle.std.proofs.lemmas.Int.{ints, clamps}
-use Rattle.rp_geometry.specs.Geometry.{RationalPoint, HalfSpace, IntegerBox, cube_box, with_cube}
+use Rattle.rp_geometry.specs.Geometry.{RationalPoint, HalfSpace, IntegerBox, cube_box, reduced_point, with_cube}
 use Rattle.rp_geometry.specs.parts.LeastBox.{box_of_vertex, box_of_vertices, box_union}
 use Rattle.rp_geometry.specs.searches.Search.{all_of_pairs, all_of_triples}
 use Rattle.rp_geometry.specs.searches.Vertex.{any_point, vertex_at, vertices}
@@ -92,6 +94,16 @@ first_more F xs i x o later all h e f k =
     ap (λ (l : Option IntegerBox). joined l (all_of_triples F (drop (i + 1) xs))) (f ∙ ap (λ ys. joined o (all_of_pairs (F x) ys)) (slice_is xs (i + 1))) ∙ sym (joined_append (all_of_pairs (F x) (drop (i + 1) xs)) (all_of_triples F (drop (i + 1) xs)) o)
     ∙ ap (λ ys. joined o (all_of_triples F ys)) (sym (from_place xs i x h e)) ∙ k
 
+-- a point of a list stands in it in lowest terms
+pub reduced_stands : (ps : List RationalPoint) (i : ℕ) (p : RationalPoint) → i < length ps → p ≡ get_or ps i p → Contains (map reduced_point ps) (reduced_point p)
+reduced_stands ps i p h e = subst (λ (q : RationalPoint). Contains (map reduced_point ps) q) (get_or-map reduced_point ps i p (reduced_point p) h ∙ ap reduced_point (sym e)) (Contains-get_or (map reduced_point ps) i (reduced_point p) (subst (λ (n : ℕ). i < n) (sym (length-map ps reduced_point)) h))
+
+-- what is joined so far, with the points of a list from one place on in lowest terms
+pub point_more : (ps : List RationalPoint) (i : ℕ) (p : RationalPoint) (o later all : Option IntegerBox) → i < length ps → p ≡ get_or ps i p
+    → later ≡ Some (join_vertex o (reduced_point p)) → joined o (map reduced_point (drop i ps)) ≡ all → joined later (map reduced_point (drop (i + 1) ps)) ≡ all
+point_more ps i p o later all h e f k =
+    ap (λ (l : Option IntegerBox). joined l (map reduced_point (drop (i + 1) ps))) f ∙ ap (λ qs. joined o (map reduced_point qs)) (sym (from_place ps i p h e)) ∙ k
+
 -- ---- the result
 
 -- the box of what is there, or of what stands for it
@@ -106,3 +118,10 @@ unfolding vertices
 joined_box cell hs o d r e f g h =
     ap integer_box h ∙ box_or o d ∙ (λ i. unwrap_or (f i) (g i)) ∙ joined_all (all_of_triples (vertex_at any_point hs) hs)
     ∙ ap (λ (ks : List HalfSpace). box_of_vertices (all_of_triples (vertex_at any_point ks) ks)) e
+
+-- what all points of a list are joined to is their box
+pub joined_points : (ps : List RationalPoint) (i : ℕ) (o : Option IntBox) (d r : IntBox) → length ps ≤ i → joined (option_map integer_box o) (map reduced_point (drop i ps)) ≡ joined None (map reduced_point ps)
+    → integer_box d ≡ cube_box → r ≡ unwrap_or o d → integer_box r ≡ box_of_vertices (map reduced_point ps)
+joined_points ps i o d r over f g h =
+    ap integer_box h ∙ box_or o d
+    ∙ (λ j. unwrap_or ((ap (λ qs. joined (option_map integer_box o) (map reduced_point qs)) (sym (drop_all i ps over)) ∙ f) j) (g j)) ∙ joined_all (map reduced_point ps)

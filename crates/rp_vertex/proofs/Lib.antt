@@ -1,4 +1,4 @@
-mod InBounds
+pub mod InBounds
 mod Joined
 mod Lines
 mod Rounded

@@ -1,15 +1,16 @@
 //! The least box with whole corners that holds the vertices of a cell.
-ghost use Rattle.std.specs.Prelude.{◌≡◌, ◌≤◌, ◌<◌, ◌^◌, true, None, length, filter_map, option_map, pos, ◌<ℤ◌, unsigned_abs};
+ghost use Rattle.std.specs.Prelude.{◌≡◌, ◌≤◌, ◌<◌, ◌^◌, true, None, length, map, filter_map, option_map, pos, ◌<ℤ◌, unsigned_abs};
+ghost use Rattle.std.specs.List.{Contains};
 ghost use Rattle.std.specs.Option.{option_to_list};
 ghost use Rattle.rp_algebra.specs.Integer.{floor_of, ceiling_of};
 ghost use Rattle.rp_algebra.specs.Within.{IsWithin};
-ghost use Rattle.rp_geometry.specs.Geometry.{half_edge, is_box_in_bounds, is_closed_cube_point, is_in_closed_range};
+ghost use Rattle.rp_geometry.specs.Geometry.{RationalPoint, half_edge, is_box_in_bounds, is_closed_cube_point, is_in_closed_range, reduced_point};
 ghost use Rattle.rp_geometry.specs.laws.CellLaws.{AreHalfSpaces};
 ghost use Rattle.rp_geometry.specs.parts.LeastBox.{box_of_vertex, box_of_vertices};
 ghost use Rattle.rp_geometry.specs.searches.Search.{all_of_pairs, all_of_triples};
 ghost use Rattle.rp_geometry.specs.searches.Vertex.{any_point, vertex_at, vertices};
 ghost use Rattle.rp_space.specs.Boxes.{integer_box};
-ghost use Rattle.rp_vertex.specs.Joined.{HasCube, joined};
+ghost use Rattle.rp_vertex.specs.Joined.{HasCube, join_vertex, joined};
 ghost use Rattle.rp_vertex.specs.Line.{HoldsVertices};
 
 use crate::line::{Line, line_of};
@@ -28,6 +29,21 @@ pub fn box_of_vertices(cell: &[Half]) -> IntBox
 {
     let system = with_cube(cell);
     box_of_system(system.as_slice()).unwrap_or(IntBox::cube())
+}
+
+/// The least box with whole corners that holds points of the closed cube, which need not be in lowest terms: each coordinate
+/// of each is rounded down and up. Where there is none, it is the cube's box. Takes no memory.
+pub fn box_of_points(points: &[Meeting]) -> IntBox
+    requires { (p : RationalPoint) → Contains (map reduced_point points.now) p → is_closed_cube_point p ≡ true }
+    ensures { integer_box result ≡ box_of_vertices (map reduced_point points.now) }
+{
+    let mut bounds = None;
+    for p in points {
+        // Only for what `numbers` ensures, that the weight is positive.
+        let _ = p.numbers();
+        bounds = Some(joined_with_point(bounds, p));
+    }
+    bounds.unwrap_or(IntBox::cube())
 }
 
 /// The least box that holds the vertices of a list of half-spaces; none where there is no vertex.
@@ -115,10 +131,20 @@ fn joined_with_three(
     if !are_nonnegative(system, &p) {
         return bounds;
     }
-    let vertex = box_of_vertex(&p);
+    Some(joined_with_point(bounds, &p))
+}
+
+/// The least box that holds a box, if there is one yet, and a point of the closed cube.
+fn joined_with_point(bounds: Option<IntBox>, p: &Meeting) -> IntBox
+    requires { is_closed_cube_point p.now ≡ true }
+    ensures { integer_box result ≡ join_vertex (option_map integer_box bounds) (reduced_point p.now) }
+{
+    // Only for what `numbers` ensures, that the weight is positive.
+    let _ = p.numbers();
+    let vertex = box_of_vertex(p);
     match bounds {
-        Some(others) => Some(others.union(&vertex)),
-        None => Some(vertex),
+        Some(others) => others.union(&vertex),
+        None => vertex,
     }
 }
 

@@ -9,7 +9,7 @@ mod line;
 mod order;
 mod search;
 
-pub use bounds::box_of_vertices;
+pub use bounds::{box_of_points, box_of_vertices};
 pub use certificate::{
     first_inside, first_inside_over_triples, first_weak, inside_on_few_lines, weak_on_few_lines,
 };

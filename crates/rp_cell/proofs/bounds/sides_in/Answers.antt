@@ -6,8 +6,8 @@ use Rattle.rp_geometry.specs.searches.Certificate.{Multiple}
 use Rattle.rp_space.specs.Boxes.{integer_box}
 use Rattle.rp_cell.specs.Lines.{side_line_of}
 use Rattle.rp_cell.proofs.Beyond.{stands, none_beyond, lines_given, lines_told, lines_end}
-use Rattle.rp_cell.proofs.bounds.sides_of.Goals as goal
-use Rattle.rp_cell.proofs.bounds.sides_of.Goals.{then-not-is_given, else-not-is_given}
+use Rattle.rp_cell.proofs.bounds.sides_in.Goals as goal
+use Rattle.rp_cell.proofs.bounds.sides_in.Goals.{then-not-is_given, else-not-is_given}
 
 pub side_proof-requires-clause-none : goal.side_proof-requires-clause-none
 side_proof-requires-clause-none c =
@@ -15,8 +15,8 @@ side_proof-requires-clause-none c =
     let i = c.loop-side.side-index in
     let side = get_or sides i c.side-item.result in
     let below : i < length sides = omega (arith, c.loop-side-test.true, c.type_inv.side-items) in
-    let b = c.box_of-bounds.ensures in
-    none_beyond c.args.cell.now (integer_box c.box_of-bounds.result) side b.least.holds_all b.bounds
+    let b = c.requires in
+    none_beyond c.args.cell.now (integer_box c.args.bounds) side b.least.holds_all b.bounds
     (subst (λ (hs : List HalfSpace). Listed side hs) c.box_halves.ensures (stands sides i side below (ap (get_or sides i) c.side-item.is)))
 
 pub loop-side-preserved : goal.loop-side-preserved
@@ -55,4 +55,4 @@ returns-clause-lines c =
     let six : length sides ≡ 6 = ap length c.box_halves.ensures in
     let over : length sides ≤ c.loop-side.side-index = omega (arith, c.loop-side-test.false, six) in
     lines_end c.args.cell.now sides c.loop-side.side-index (map side_line_of c.loop-side.proofs) (side_lines c.args.cell.now sides) over c.loop-side.invariant.lines
-    ∙ ap (side_lines c.args.cell.now) (c.box_halves.ensures ∙ ap box_half_spaces c.box_of-bounds.ensures.value)
+    ∙ ap (side_lines c.args.cell.now) (c.box_halves.ensures ∙ ap box_half_spaces c.requires.value)

@@ -1,7 +1,7 @@
 use Rattle.std.proofs.Common.{◌≡◌, ◌≤◌, ◌++◌, length, drop, map}
 use Rattle.rp_geometry.specs.parts.PartTest.{side_lines}
 use Rattle.rp_cell.specs.Lines.{side_line_of}
-use Rattle.rp_cell.proofs.bounds.sides_of.Given as goal
+use Rattle.rp_cell.proofs.bounds.sides_in.Given as goal
 
 -- what is told so far, with the lines of the sides that are left, is all
 abbrev pub invariant-loop-side : goal.invariant-loop-side
