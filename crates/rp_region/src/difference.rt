@@ -68,29 +68,26 @@ fn subtract_pair(
         return Ok(());
     }
     count_test(work)?;
-    match work.strict(alloc, part.halves(), other.halves())? {
-        Some(_) => carve(alloc, left, part.halves(), other.halves(), front, work),
-        None => {
-            left.push(part)?;
-            Ok(())
-        }
+    let meets = front.meets(part.halves(), other.halves(), work)?;
+    if !meets {
+        left.push(part)?;
+        return Ok(());
     }
+    carve(alloc, left, other.halves(), front, work)
 }
 
-/// What is left of a cell outside some half-spaces, piece by piece: outside each of them, inside those before.
+/// What is left of the held cell outside some half-spaces, piece by piece: outside each of them, inside those before.
 fn carve(
     alloc: Global,
     left: &mut Listed<Part>,
-    cell: &[Half],
     halves: &[Half],
     front: &mut Front,
     work: &mut Work,
 ) -> Result<(), OpFault>
-    requires cell { length cell.now ≤ most_half_spaces }
+    requires cell { length front.old ≤ most_half_spaces }
     requires halves { length halves.now ≤ most_half_spaces }
-    ensures { Makes (λ _. left.new.items) result work.old work.new (carve first_tester left.old.items cell.now [] halves.now) }
+    ensures { Makes (λ _. left.new.items) result work.old work.new (carve first_tester left.old.items front.old [] halves.now) }
 {
-    front.hold(cell);
     for half in halves {
         carve_one(alloc, left, half, front, work)?;
         front.push(*half);

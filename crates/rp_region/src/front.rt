@@ -1,16 +1,17 @@
 //! A cell that stays while others are made of it.
-ghost use Rattle.std.specs.Prelude.{◌≡◌, ◌+◌, ◌<◌, ◌≤◌, [], ◌∷◌, ◌++◌, length, IfOk};
+ghost use Rattle.std.specs.Prelude.{◌≡◌, ◌+◌, ◌<◌, ◌≤◌, [], ◌∷◌, ◌++◌, true, length, IfOk};
 ghost use Rattle.rp_geometry.specs.parts.Parts.{IsPart};
 ghost use Rattle.rp_walks.specs.FormLaws.{IsMadeOf};
-ghost use Rattle.rp_walks.specs.Walk.{part_test};
-ghost use Rattle.rp_region.specs.Makes.{Makes};
+ghost use Rattle.rp_walks.specs.Walk.{strict_test, part_test};
+ghost use Rattle.rp_region.specs.Makes.{op_result, Makes};
 
 use crate::fault::OpFault;
 use crate::part::Part;
 use crate::work::Work;
-use rp_cell::Held;
-use rp_space::Half;
-use std::alloc::Global;
+use rp_cell::{Held, refute_by_two};
+use rp_cert::Proof;
+use rp_space::{Half, joined};
+use std::alloc::{AllocError, Global};
 use std::marker::Model;
 
 /// A cell that is held with its vertices, to be tested with further half-spaces behind its own: what it shares with these
@@ -56,6 +57,28 @@ impl Front {
         ensures { self.new ≡ self.old ++ half ∷ [] }
     {
         self.cell.push(half);
+    }
+
+    /// A strict test of a cell with further half-spaces behind its own: at most 64 together. Whether it has a point, and then
+    /// the cell is held. Its line is appended; it isn't counted.
+    pub(crate) fn meets(
+        &mut self,
+        cell: &[Half],
+        more: &[Half],
+        work: &mut Work,
+    ) -> Result<bool, AllocError>
+        requires { length cell.now + length more.now ≤ 64 }
+        ensures makes { Makes (λ has_one. has_one) (op_result result) work.old work.new (strict_test (cell.now ++ more.now)) }
+        ensures held { IfOk result (λ has_one. has_one ≡ true → self.new ≡ cell.now) }
+    {
+        if let Some(terms) = refute_by_two(joined(cell, more).as_slice()) {
+            work.tell(Proof::Out(terms))?;
+            return Ok(false);
+        }
+        self.hold(cell);
+        self.longer.copy_from(&self.cell);
+        self.longer.extend(more);
+        work.held_test(&self.longer)
     }
 
     /// A part test of the cell with further half-spaces behind its own: at most 64 together. The part of its slim cell, and

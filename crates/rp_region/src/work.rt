@@ -18,7 +18,7 @@ use crate::fault::OpFault;
 use crate::part::Part;
 use rp_cell::{
     Drops, Held, SideProofs, Sides, Slimmed, Strict, Weak, decide_strict, decide_weak,
-    refute_strict, refute_weak, sides_of,
+    refute_strict, refute_weak,
 };
 use rp_cert::{Proof, Proofs};
 use rp_space::{Half, Inside, Point, joined};
@@ -97,7 +97,7 @@ impl Work {
     }
 
     /// Appends a proof line. Answers `AllocError` only for want of memory; then all is as before.
-    fn tell(&mut self, proof: Proof) -> Result<(), AllocError>
+    pub(crate) fn tell(&mut self, proof: Proof) -> Result<(), AllocError>
         ensures ok { OnOk result (self.new ≡ with_lines self.old (line_of proof ∷ [])) }
         ensures err { OnErr result (self.new ≡ self.old) }
     {
@@ -222,6 +222,22 @@ impl Work {
         self.tell(Proof::Apart(refute_weak(cell)))
     }
 
+    /// A strict test of a cell that is held: whether it has a point. Its line is appended; it isn't counted.
+    pub(crate) fn held_test(&mut self, cell: &Held) -> Result<bool, AllocError>
+        ensures { Makes (λ has_one. has_one) (op_result result) self.old self.new (strict_test cell.now) }
+    {
+        match cell.strict() {
+            Strict::Inside(points) => {
+                self.tell(Proof::In(points))?;
+                Ok(true)
+            }
+            Strict::Outside(terms) => {
+                self.tell(Proof::Out(terms))?;
+                Ok(false)
+            }
+        }
+    }
+
     /// A part test of a cell that is held: the part of its slim cell, and `None` exactly where the cell has no point. Its lines
     /// are appended; it isn't counted. `Limit` exactly where the slim cell has more than 32 half-spaces.
     pub(crate) fn held_part(&mut self, alloc: Global, cell: &Held) -> Result<Option<Part>, OpFault>
@@ -255,7 +271,7 @@ impl Work {
         }
         self.tell(Proof::In(points))?;
         self.tell_drops(dropped)?;
-        let Sides { bounds, proofs } = sides_of(kept.items());
+        let Sides { bounds, proofs } = cell.sides(kept.items());
         self.tell(Proof::Bounds(bounds))?;
         self.tell_sides(proofs)?;
         Ok(Part::of_slim(kept, bounds))

@@ -10,7 +10,7 @@ use Rattle.rp_region.proofs.difference.carve.Goals as goal
 pub returns-in_err-carve_one : goal.returns-in_err-carve_one
 returns-in_err-carve_one c =
     let p = err_from_is_err_and c.from_residual.result c.from_residual.ensures.1 in
-    let cell = c.args.cell.now in
+    let cell = c.args.front.now in
     let halves = c.args.halves.now in
     let before = take c.loop-half.half-index halves in
     let half = c.half-item.result in
@@ -24,7 +24,7 @@ returns-in_err-carve_one c =
 
 pub loop-half-preserved : goal.loop-half-preserved
 loop-half-preserved c =
-    let cell = c.args.cell.now in
+    let cell = c.args.front.now in
     let halves = c.args.halves.now in
     let before = take c.loop-half.half-index halves in
     let half = c.half-item.result in

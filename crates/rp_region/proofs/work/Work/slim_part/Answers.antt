@@ -66,19 +66,19 @@ returns-in_err-tell_sides-clause-makes c =
     let v = c.tell_drops.new.self in
     let x = c.tell-2.new.self in
     let kept = c.items-2.ensures ∙ c.in_ok-kept.ensures.kept in
-    let bounds = c.sides_of-proofs.ensures.value ∙ ap least_box kept in
+    let bounds = c.sides-proofs.ensures.value ∙ ap least_box kept in
     let few = few_kept c.in_ok-kept.field-0.kept.items c.items.result.now cell c.items.ensures c.in_ok-kept.ensures.kept c.if-items-gt-MAX_HALVES.false in
     rw (p.1, p.2)
     (sides_cut cell points c.requires.found c.requires.line few (line_told (in_line points) c.args.self.now u c.in_ok-tell.ensures.ok)
     ((λ i. telling (sym c.in_ok-kept.ensures.lines i) u) ∙ c.in_ok-tell_drops.ensures)
     (line_told (box_line (least_box (slimmed cell).kept)) v x (c.in_ok-tell-2.ensures.ok ∙ ap (λ b. with_lines v (box_line b ∷ [])) bounds))
-    (subst (λ lines. IsCutShort x c.tell_sides.new.self (telling lines x)) (c.sides_of-proofs.ensures.lines ∙ ap (λ hs. side_lines hs (box_half_spaces (least_box hs))) kept) c.in_err-tell_sides.ensures))
+    (subst (λ lines. IsCutShort x c.tell_sides.new.self (telling lines x)) (c.sides-proofs.ensures.lines ∙ ap (λ hs. side_lines hs (box_half_spaces (least_box hs))) kept) c.in_err-tell_sides.ensures))
 
 pub of_slim-requires : goal.of_slim-requires
 unfolding part_of
 of_slim-requires c =
     let kept = c.in_ok-kept.ensures.kept in
-    let bounds = c.sides_of-proofs.ensures.value ∙ ap least_box (c.items-2.ensures ∙ kept) in
+    let bounds = c.sides-proofs.ensures.value ∙ ap least_box (c.items-2.ensures ∙ kept) in
     subst (λ (p : Part). IsPart p) (λ i. record { cell = sym kept i; bounds = sym bounds i })
     (c.in_ok-kept.ensures.part c.requires.member (subst (λ (hs : List HalfSpace). length hs ≤ most_half_spaces) c.items.ensures c.if-items-gt-MAX_HALVES.false))
 
@@ -93,10 +93,10 @@ returns-clause-makes c =
     let y = c.tell_sides.new.self in
     let slim = c.in_ok-kept.ensures.kept in
     let kept = c.items-2.ensures ∙ slim in
-    let bounds = c.sides_of-proofs.ensures.value ∙ ap least_box kept in
+    let bounds = c.sides-proofs.ensures.value ∙ ap least_box kept in
     let few = few_kept c.in_ok-kept.field-0.kept.items c.items.result.now cell c.items.ensures slim c.if-items-gt-MAX_HALVES.false in
     part_told cell points c.requires.found c.requires.line few c.args.self.now u v x y (line_told (in_line points) c.args.self.now u c.in_ok-tell.ensures.ok)
     ((λ i. telling (sym c.in_ok-kept.ensures.lines i) u) ∙ c.in_ok-tell_drops.ensures)
     (line_told (box_line (least_box (slimmed cell).kept)) v x (c.in_ok-tell-2.ensures.ok ∙ ap (λ b. with_lines v (box_line b ∷ [])) bounds))
-    ((λ i. telling (sym (c.sides_of-proofs.ensures.lines ∙ ap (λ hs. side_lines hs (box_half_spaces (least_box hs))) kept) i) x) ∙ c.in_ok-tell_sides.ensures)
+    ((λ i. telling (sym (c.sides-proofs.ensures.lines ∙ ap (λ hs. side_lines hs (box_half_spaces (least_box hs))) kept) i) x) ∙ c.in_ok-tell_sides.ensures)
     ∙ (λ i. done (Some (record { cell = sym slim i; bounds = sym bounds i })) y) ∙ ap (λ (p : Part). done (Some p) y) (sym c.of_slim.ensures)
