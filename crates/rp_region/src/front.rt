@@ -71,6 +71,7 @@ impl Front {
         ensures makes { Makes (λ has_one. has_one) (op_result result) work.old work.new (strict_test (cell.now ++ more.now)) }
         ensures held { IfOk result (λ has_one. has_one ≡ true → self.new ≡ cell.now) }
     {
+        // Two half-spaces tell most neighbours apart, and then the cell need not be held.
         if let Some(terms) = refute_by_two(joined(cell, more).as_slice()) {
             work.tell(Proof::Out(terms))?;
             return Ok(false);
