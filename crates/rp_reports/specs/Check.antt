@@ -1,10 +1,11 @@
 -- What a reader of reports accepts: the rows again, with the answers of the tests taken from the proof lines.
-use Rattle.std.specs.Prelude.{◌≡◌, ℕ, zero, suc, ◌+◌, ◌-◌, ◌<◌, ◌≤◌, Bool, true, false, ◌&&◌, ◌||◌, not, ◌==◌, nat_lt, nat_le, int_lt, IsTrue, List, [], ◌∷◌, ◌++◌, map, length, take, drop, Option, Some, None, is_none}
+use Rattle.std.specs.Prelude.{◌≡◌, ℕ, zero, suc, ◌+◌, ◌-◌, ◌<◌, ◌≤◌, Bool, true, false, ◌&&◌, ◌||◌, not, ◌==◌, nat_lt, nat_le, int_lt, IsTrue, ℤ, List, [], ◌∷◌, ◌++◌, map, length, take, drop, Option, Some, None, is_none}
 use Rattle.std.specs.List.{AllByRecursion, list_all}
 use Rattle.rp_geometry.specs.Geometry.{HalfSpace, IntegerBox, complement, half_space_eq, is_listed, box_half_spaces, cube_half_spaces}
 use Rattle.rp_geometry.specs.sets.Shape.{Part}
 use Rattle.rp_geometry.specs.searches.Certificate.{is_inside_certificate, is_weak_point, is_outside_certificate}
 use Rattle.rp_geometry.specs.searches.ProofLine.{ProofLine, in_line, out_line, at_line, apart_line, drop_line, box_line}
+use Rattle.rp_geometry.specs.sections.Slice.{Slice, is_slice, slice_of}
 use Rattle.rp_walks.specs.Walk.{pass, stop, ◌>>=◌, ◌>>◌, limit_met, limit_told, line_wrong, taken_wrong, Outcome, done, stopped, Walk, Tester, most_tests}
 use Rattle.rp_geometry.specs.parts.Parts.{most_half_spaces}
 use Rattle.rp_language.specs.Name.{label_eq}
@@ -12,9 +13,11 @@ use Rattle.rp_language.specs.Expression.{Command, expressions_of, first_unknown_
 use Rattle.rp_model.specs.states.State.{PlainState, opening, changed, parts_in}
 use Rattle.rp_model.specs.commands.Verdict.{refused, Refusal, limit}
 use Rattle.rp_model.specs.commands.Row.{Reply, row}
-use Rattle.rp_language.specs.Grammar.{Fault, too_long, Reading, blank, command, bad, reading}
+use Rattle.rp_language.specs.Grammar.{Version, one, two, Fault, too_long, Reading, blank, command, bad, reading}
 use Rattle.rp_reports.specs.Text.{verdict_text, line_end}
 use Rattle.rp_reports.specs.ProofText.{proof_read, Echo, echo_read}
+use Rattle.rp_reports.specs.SliceText.{slice_read}
+use Rattle.rp_reports.specs.Report.{report_mark, version_by, body_of}
 
 -- the report lines still to come, the number of the next one, and the number of tests counted in a command
 pub record Trail : Type 0 where
@@ -143,9 +146,30 @@ follow_part cell = do
   inside ← follow_strict cell
   part_if inside cell
 
+-- ---- slices
+
+-- the next line as one that shows a slice
+abbrev pub next_slice : List (List ℕ) → Option Slice
+next_slice [] = None
+next_slice (line ∷ lines) = slice_read line
+
+-- the slice of a cell that a line shows, if it passes; else the one that is found, which is not what the line says
+abbrev pub slice_told : ℤ → List HalfSpace → Option Slice → Slice
+slice_told z cell None = slice_of z cell
+slice_told z cell (Some s) = elim (is_slice z cell s) [ true ↦ s | false ↦ slice_of z cell ]
+
+-- the slices of parts that the lines show, each for its part
+abbrev pub slices_told : ℤ → List Part → List (List ℕ) → List Slice
+slices_told z [] lines = []
+slices_told z (p ∷ ps) lines = slice_told z p.cell (next_slice lines) ∷ slices_told z ps (drop 1 lines)
+
+-- the slices that the report shows behind the line that says how many there are; no line is taken yet
+unfoldable pub follow_slices : ℤ → List Part → Walk Trail (List Slice)
+follow_slices z ps t = done (slices_told z ps (drop 1 t.lines)) t
+
 -- tests answered by the lines of a report
 abbrev pub line_tester : Tester Trail
-line_tester = record { count = follow_count; strict = follow_strict; weak = follow_weak; part = follow_part }
+line_tester = record { count = follow_count; strict = follow_strict; weak = follow_weak; part = follow_part; slices = follow_slices }
 
 -- ---- whole answers
 
@@ -225,10 +249,10 @@ may_be_echoed _ = true
 abbrev pub follow_text : ℕ → PlainState → Reading → Walk Trail PlainState
 follow_text n s r t = elim (may_be_echoed r) [ true ↦ follow_reading n s r (taken t) | false ↦ stopped line_wrong t ]
 
--- the answer to an echo, with its text or without one; the echo is the next line
-abbrev pub follow_echo : ℕ → PlainState → Option (List ℕ) → Walk Trail PlainState
-follow_echo n s None t = follow_fault s too_long (taken t)
-follow_echo n s (Some text) t = follow_text n s (reading text) t
+-- the answer to an echo, with its text, which is read by the version, or without one; the echo is the next line
+abbrev pub follow_echo : Version → ℕ → PlainState → Option (List ℕ) → Walk Trail PlainState
+follow_echo v n s None t = follow_fault s too_long (taken t)
+follow_echo v n s (Some text) t = follow_text n s (reading v text) t
 
 -- the state after answers, and the number of the last one
 pub record Progress : Type 0 where
@@ -240,12 +264,12 @@ abbrev pub with_no_tests : Trail → Trail
 with_no_tests t = record { lines = t.lines; number = t.number; tests = 0 }
 
 -- an answer whose echo is read so: its number is above all earlier ones
-abbrev pub follow_numbered : Progress → Option Echo → Walk Trail Progress
-follow_numbered q None = stop line_wrong
-follow_numbered q (Some e) = elim (nat_lt q.last e.number) [
+abbrev pub follow_numbered : Version → Progress → Option Echo → Walk Trail Progress
+follow_numbered v q None = stop line_wrong
+follow_numbered v q (Some e) = elim (nat_lt q.last e.number) [
   | false ↦ stop line_wrong
   | true ↦ do
-    s ← λ t. follow_echo e.number q.state e.text (with_no_tests t)
+    s ← λ t. follow_echo v e.number q.state e.text (with_no_tests t)
     pass (record { last = e.number; state = s })
 ]
 
@@ -255,8 +279,8 @@ next_echo [] = None
 next_echo (line ∷ lines) = echo_read line
 
 -- the next answer
-unfoldable pub follow_answer : Progress → Walk Trail Progress
-follow_answer q t = follow_numbered q (next_echo t.lines) t
+unfoldable pub follow_answer : Version → Progress → Walk Trail Progress
+follow_answer v q t = follow_numbered v q (next_echo t.lines) t
 
 -- what the check finds: all answers are accepted, or the number of the first wrong line
 pub data Finding : Type 0 where
@@ -268,16 +292,25 @@ abbrev pub is_at_end : Trail → Bool
 is_at_end t = length t.lines == 0
 
 -- whole answers, possibly none, until no line is left; room bounds how many
-abbrev pub find_wrong : ℕ → Progress → Trail → Finding
-find_wrong zero q t = elim (is_at_end t) [ true ↦ all_accepted | false ↦ wrong_at t.number ]
-find_wrong (suc room) q t = elim (is_at_end t) [
+abbrev pub find_wrong : Version → ℕ → Progress → Trail → Finding
+find_wrong v zero q t = elim (is_at_end t) [ true ↦ all_accepted | false ↦ wrong_at t.number ]
+find_wrong v (suc room) q t = elim (is_at_end t) [
   | true ↦ all_accepted
-  | false ↦ elim (follow_answer q t) [ done further rest ↦ find_wrong room further rest | stopped e rest ↦ wrong_at rest.number ]
+  | false ↦ elim (follow_answer v q t) [ done further rest ↦ find_wrong v room further rest | stopped e rest ↦ wrong_at rest.number ]
 ]
 
--- what the check finds in the lines of a report
+-- the number of the first line of a report that belongs to an answer: the mark of the second version stands before it
+abbrev pub first_line_number : Version → ℕ
+first_line_number one = 1
+first_line_number two = 2
+
+-- what the check finds in the lines of a report, whose echoed texts are read by the version
+abbrev pub finding_by : Version → List (List ℕ) → Finding
+finding_by v lines = find_wrong v (length lines) (record { last = 0; state = opening }) (record { lines = body_of v lines; number = first_line_number v; tests = 0 })
+
+-- the same by the version that the report itself tells
 unfoldable pub finding : List (List ℕ) → Finding
-finding lines = find_wrong (length lines) (record { last = 0; state = opening }) (record { lines = lines; number = 1; tests = 0 })
+finding lines = finding_by (version_by report_mark lines) lines
 
 -- nothing wrong was found
 abbrev pub is_accepting : Finding → Bool

@@ -2,8 +2,10 @@ pub mod Text
 pub mod Report
 pub mod Machine
 pub mod ProofText
+pub mod SliceText
 pub mod Check
 pub mod TrueReport
 pub mod Made
+pub mod Upgrade
 pub mod Output
 pub mod laws

@@ -5,9 +5,9 @@ use Rattle.rp_model.specs.states.State.{PlainState, opening, Change, nothing_cha
 use Rattle.rp_model.specs.commands.Verdict.{Verdict, refused, limit}
 use Rattle.rp_model.specs.commands.Row.{Reply}
 use Rattle.rp_model.specs.commands.Rule.{walked, proofs_of}
-use Rattle.rp_language.specs.Grammar.{Reading, blank, command, bad, reading}
+use Rattle.rp_language.specs.Grammar.{Version, Reading, blank, command, bad, reading}
 use Rattle.rp_reports.specs.Text.{Answer, answer_lines}
-use Rattle.rp_reports.specs.Report.{script_lines, blank_answer, bad_answer}
+use Rattle.rp_reports.specs.Report.{marked, report_mark, script_version, script_body, blank_answer, bad_answer}
 
 -- the verdict lines of a walked row
 abbrev pub verdicts_walked : Outcome Work Reply → List Verdict
@@ -30,19 +30,30 @@ abbrev pub state_read : PlainState → ℕ → Reading → PlainState
 state_read s n (command c) = changed n s (change_walked (walked s c))
 state_read s n _ = s
 
--- the answer to a line
-unfoldable pub step_answer : PlainState → ℕ → List ℕ → Answer
-step_answer s n line = answer_read s n line (reading line)
+-- the answer to a line of a script of a version
+unfoldable pub step_answer : Version → PlainState → ℕ → List ℕ → Answer
+step_answer v s n line = answer_read s n line (reading v line)
 
 -- the state after a line
-unfoldable pub step_state : PlainState → ℕ → List ℕ → PlainState
-step_state s n line = state_read s n (reading line)
+unfoldable pub step_state : Version → PlainState → ℕ → List ℕ → PlainState
+step_state v s n line = state_read s n (reading v line)
 
 -- the report lines of all lines from a state on
-abbrev pub lines_from : Bool → PlainState → ℕ → List (List ℕ) → List (List ℕ)
-lines_from brief s n [] = []
-lines_from brief s n (line ∷ lines) = answer_lines brief (step_answer s n line) ++ lines_from brief (step_state s n line) (suc n) lines
+abbrev pub lines_from : Version → Bool → PlainState → ℕ → List (List ℕ) → List (List ℕ)
+lines_from v brief s n [] = []
+lines_from v brief s n (line ∷ lines) = answer_lines brief (step_answer v s n line) ++ lines_from v brief (step_state v s n line) (suc n) lines
 
 -- the report lines of a script, as they are computed
 unfoldable pub report : Bool → List ℕ → List (List ℕ)
-report brief bytes = lines_from brief opening 1 (script_lines bytes)
+report brief bytes = marked report_mark (script_version bytes) (lines_from (script_version bytes) brief opening 1 (script_body bytes))
+
+-- ---- what a machine is seen as
+
+-- what a machine is between two lines: the version of its script, which no line changes, and what it keeps
+pub record Running : Type 0 where
+  pub version : Version
+  pub state : PlainState
+
+-- the machine after a line
+abbrev pub after_line : Running → ℕ → List ℕ → Running
+after_line m n line = record { version = m.version; state = step_state m.version m.state n line }

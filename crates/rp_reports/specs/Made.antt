@@ -2,6 +2,7 @@
 use Rattle.std.specs.Prelude.{ℕ, zero, suc, ◌+◌, ◌*◌, ◌/◌, ◌%◌, ◌^◌, Bool, true, false, List, [], ◌∷◌, ◌++◌, length, codes, count_by}
 use Rattle.std.specs.List.{flat_map}
 use Rattle.std.specs.Fmt.{decimal}
+use Rattle.rp_language.specs.Grammar.{one}
 use Rattle.rp_model.specs.states.State.{PlainState, opening, live_lots}
 use Rattle.rp_model.specs.commands.Verdict.{Verdict}
 use Rattle.rp_reports.specs.Text.{Answer}
@@ -44,10 +45,10 @@ pub record Run : Type 0 where
 abbrev pub with_answer : Answer → Run → Run
 with_answer a r = record { answers = a ∷ r.answers; state = r.state }
 
--- the run of lines, from a state on
+-- the run of lines of the first version, from a state on
 unfoldable pub run_from : PlainState → ℕ → List (List ℕ) → Run
 run_from s n [] = record { answers = []; state = s }
-run_from s n (line ∷ lines) = with_answer (step_answer s n line) (run_from (step_state s n line) (suc n) lines)
+run_from s n (line ∷ lines) = with_answer (step_answer one s n line) (run_from (step_state one s n line) (suc n) lines)
 
 -- the verdict is a refusal
 abbrev pub is_refusal : Verdict → Bool

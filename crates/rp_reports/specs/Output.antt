@@ -4,10 +4,11 @@ use Rattle.std.specs.List.{list_any, flat_map, slice_split}
 use Rattle.std.specs.Prelude.{◌==◌}
 use Rattle.std.specs.Fmt.{decimal}
 use Rattle.std.specs.Str.{bytes_eq}
-use Rattle.rp_language.specs.Grammar.{Reading, command, bad, reading, spelling, natural_spelled}
+use Rattle.rp_language.specs.Grammar.{Version, Reading, command, bad, reading, spelling, natural_spelled}
 use Rattle.rp_reports.specs.Text.{line_end}
-use Rattle.rp_reports.specs.Report.{script_lines, last_line, IsReport, IsBriefReport}
+use Rattle.rp_reports.specs.Report.{script_mark, marked, script_version, script_body, last_line, IsReport, IsBriefReport}
 use Rattle.rp_reports.specs.Check.{is_accepted, IsFirstWrong}
+use Rattle.rp_reports.specs.Upgrade.{upgraded_script}
 use Rattle.rp_reports.specs.Made.{made_script, trial_lines}
 
 -- what the program is asked to do
@@ -16,6 +17,7 @@ pub data Task : Type 0 where
   run_brief : Task
   check_report : Task
   spell_script : Task
+  upgrade_script : Task
   make_script : ℕ → ℕ → Task
   try_script : ℕ → ℕ → Task
 
@@ -35,7 +37,10 @@ task_of_one word =
       | true ↦ Some run_script
       | false ↦ elim (bytes_eq word (codes "check")) [
         | true ↦ Some check_report
-        | false ↦ elim (bytes_eq word (codes "script")) [ true ↦ Some spell_script | false ↦ None ]
+        | false ↦ elim (bytes_eq word (codes "script")) [
+          | true ↦ Some spell_script
+          | false ↦ elim (bytes_eq word (codes "upgrade")) [ true ↦ Some upgrade_script | false ↦ None ]
+        ]
       ]
     ]
 
@@ -68,23 +73,23 @@ most_report_bytes = 67108864
 
 -- ---- every command in its one spelling
 
--- the spelling of a command, and no line for any other reading
-abbrev pub spelled_lines : Reading → List (List ℕ)
-spelled_lines (command c) = spelling c ∷ []
-spelled_lines _ = []
+-- the spelling of a command in a version, and no line for any other reading
+abbrev pub spelled_lines : Version → Reading → List (List ℕ)
+spelled_lines v (command c) = spelling v c ∷ []
+spelled_lines v _ = []
 
--- all commands of a script in their spellings
+-- all commands of a script in the spellings of its version, behind its mark
 abbrev pub spelled_script : List ℕ → List (List ℕ)
-spelled_script bytes = flat_map (λ line. spelled_lines (reading line)) (script_lines bytes)
+spelled_script bytes = let v = script_version bytes in marked script_mark v (flat_map (λ line. spelled_lines v (reading v line)) (script_body bytes))
 
 -- the line is no command and not blank
 abbrev pub is_bad_reading : Reading → Bool
 is_bad_reading (bad f) = true
 is_bad_reading _ = false
 
--- some line of a script is bad
+-- some line of the body of a script is bad
 abbrev pub has_bad_line : List ℕ → Bool
-has_bad_line bytes = list_any (λ line. is_bad_reading (reading line)) (script_lines bytes)
+has_bad_line bytes = list_any (λ line. is_bad_reading (reading (script_version bytes) line)) (script_body bytes)
 
 -- ---- the lines of a report that is checked: no carriage return is taken away
 
@@ -110,6 +115,7 @@ IsOutput run_script bytes lines = IsReport bytes lines
 IsOutput run_brief bytes lines = IsBriefReport bytes lines
 IsOutput check_report bytes lines = IsFound (report_lines bytes) lines
 IsOutput spell_script bytes lines = lines ≡ spelled_script bytes
+IsOutput upgrade_script bytes lines = lines ≡ upgraded_script bytes
 IsOutput (make_script n seed) bytes lines = lines ≡ made_script n seed
 IsOutput (try_script n seed) bytes lines = lines ≡ trial_lines n seed
 
@@ -123,5 +129,6 @@ IsRefused run_script bytes lines = IsTrue (list_any is_refused_line lines)
 IsRefused run_brief bytes lines = IsTrue (list_any is_refused_line lines)
 IsRefused check_report bytes lines = is_accepted (report_lines bytes) ≡ false
 IsRefused spell_script bytes lines = IsTrue (has_bad_line bytes)
+IsRefused upgrade_script bytes lines = IsTrue (has_bad_line bytes)
 IsRefused (make_script n seed) bytes lines = ⊥
 IsRefused (try_script n seed) bytes lines = ⊥

@@ -1,8 +1,7 @@
 -- Reading back a proof line and an echo: exactly the spellings.
 use Rattle.std.specs.Prelude.{ℕ, Bool, true, false, ◌&&◌, ◌||◌, not, ◌==◌, nat_le, ℤ, pos, int_le, List, [], ◌∷◌, length, take, drop, Option, Some, None, codes, filter, option_and_then}
 use Rattle.std.specs.List.{list_all, slice_split}
-use Rattle.rp_algebra.specs.Integer.{int_eq}
-use Rattle.rp_geometry.specs.Geometry.{RationalPoint, HalfSpace, half_space_of, point_of, half_space_eq, is_half_space_in_bounds, is_zero_half_space, is_point_in_bounds, is_box_in_bounds, reduced_half_space, reduced_point}
+use Rattle.rp_geometry.specs.Geometry.{RationalPoint, HalfSpace, half_space_of, point_of, point_eq, half_space_eq, is_half_space_in_bounds, is_zero_half_space, is_point_in_bounds, is_box_in_bounds, reduced_half_space, reduced_point}
 use Rattle.rp_geometry.specs.searches.Certificate.{Multiple, is_multiplier, is_one_to_four}
 use Rattle.rp_geometry.specs.searches.Elimination.{multiple_of}
 use Rattle.rp_geometry.specs.searches.ProofLine.{ProofLine, in_line, out_line, at_line, apart_line, drop_line, box_line}
@@ -15,10 +14,6 @@ use Rattle.rp_reports.specs.Text.{proof_text}
 -- a half-space within its bounds and in lowest terms
 abbrev pub is_written_half_space : HalfSpace → Bool
 is_written_half_space h = is_half_space_in_bounds h && not (is_zero_half_space h) && half_space_eq (reduced_half_space h) h
-
--- whether two points have the same four numbers
-abbrev pub point_eq : RationalPoint → RationalPoint → Bool
-point_eq p q = int_eq p.x q.x && (int_eq p.y q.y && (int_eq p.z q.z && int_eq p.w q.w))
 
 -- a point within its bounds and in lowest terms
 abbrev pub is_written_point : RationalPoint → Bool

@@ -1,11 +1,12 @@
 -- The report of a script: the answers of a machine that holds regions as sets of points, line by line.
-use Rattle.std.specs.Prelude.{◌≡◌, ℕ, suc, ◌-◌, Bool, true, false, ◌==◌, List, [], ◌∷◌, ◌++◌, length, take, slice_index}
+use Rattle.std.specs.Prelude.{◌≡◌, ℕ, suc, ◌-◌, Bool, true, false, ◌==◌, List, [], ◌∷◌, ◌++◌, length, take, drop, codes, slice_index}
 use Rattle.std.specs.List.{slice_split}
+use Rattle.rp_language.specs.Name.{label_eq}
 use Rattle.rp_language.specs.Expression.{Command}
 use Rattle.rp_model.specs.states.State.{State, opening}
 use Rattle.rp_model.specs.commands.Verdict.{Refusal, refused}
 use Rattle.rp_model.specs.commands.Rule.{rule_of, proofs_of, after_command}
-use Rattle.rp_language.specs.Grammar.{Fault, too_long, Reading, blank, command, bad, reading}
+use Rattle.rp_language.specs.Grammar.{Version, one, two, Fault, too_long, Reading, blank, command, bad, reading}
 use Rattle.rp_reports.specs.Text.{Answer, answer_lines, line_end}
 
 -- ---- the lines of a script
@@ -28,6 +29,39 @@ lines_of_pieces (piece ∷ next ∷ pieces) = without_return piece ∷ lines_of_
 -- the lines of a script
 unfoldable pub script_lines : List ℕ → List (List ℕ)
 script_lines bytes = lines_of_pieces (slice_split (λ b. b == line_end) bytes)
+
+-- ---- versions
+
+-- the line that begins a script of the second version
+abbrev pub script_mark : List ℕ
+script_mark = codes "rp 2"
+
+-- the line that begins its report
+abbrev pub report_mark : List ℕ
+report_mark = codes "> 0 rp 2"
+
+-- the second version where the first line is the mark, else the first
+abbrev pub version_by : List ℕ → List (List ℕ) → Version
+version_by mark [] = one
+version_by mark (line ∷ lines) = elim (label_eq line mark) [ true ↦ two | false ↦ one ]
+
+-- the lines without the mark
+abbrev pub body_of : Version → List (List ℕ) → List (List ℕ)
+body_of one lines = lines
+body_of two lines = drop 1 lines
+
+-- the lines behind the mark, if the version has one
+abbrev pub marked : List ℕ → Version → List (List ℕ) → List (List ℕ)
+marked mark one lines = lines
+marked mark two lines = mark ∷ lines
+
+-- the version of a script
+unfoldable pub script_version : List ℕ → Version
+script_version bytes = version_by script_mark (script_lines bytes)
+
+-- the body of a script: its lines that are read, the first of which has the number 1
+unfoldable pub script_body : List ℕ → List (List ℕ)
+script_body bytes = body_of (script_version bytes) (script_lines bytes)
 
 -- ---- the machine of sets
 
@@ -62,16 +96,21 @@ abbrev pub after_reading : ℕ → State → Reading → State
 after_reading n s (command c) = after_command n s c
 after_reading n s _ = s
 
--- the report lines, full or brief, of some lines of a script from a state on; the first of them has the number
-abbrev pub IsReportFrom : Bool → State → ℕ → List (List ℕ) → List (List ℕ) → Type 0
-IsReportFrom brief s n [] told = told ≡ []
-IsReportFrom brief s n (line ∷ lines) told =
-    (a : Answer) × (rest : List (List ℕ)) × IsAnswerTo s n line (reading line) a × IsReportFrom brief (after_reading n s (reading line)) (suc n) lines rest × (told ≡ answer_lines brief a ++ rest)
+-- the report lines, full or brief, of some lines of a script of a version from a state on; the first of them has the number
+abbrev pub IsReportFrom : Version → Bool → State → ℕ → List (List ℕ) → List (List ℕ) → Type 0
+IsReportFrom v brief s n [] told = told ≡ []
+IsReportFrom v brief s n (line ∷ lines) told =
+    (a : Answer) × (rest : List (List ℕ)) × IsAnswerTo s n line (reading v line) a × IsReportFrom v brief (after_reading n s (reading v line)) (suc n) lines rest × (told ≡ answer_lines brief a ++ rest)
+
+-- the report lines of a script, full or brief, behind the mark of its version
+abbrev pub IsReportOf : Bool → List ℕ → List (List ℕ) → Type 0
+IsReportOf brief bytes told =
+    (rest : List (List ℕ)) × IsReportFrom (script_version bytes) brief opening 1 (script_body bytes) rest × (told ≡ marked report_mark (script_version bytes) rest)
 
 -- the report lines of a script
 abbrev pub IsReport : List ℕ → List (List ℕ) → Type 0
-IsReport bytes told = IsReportFrom false opening 1 (script_lines bytes) told
+IsReport bytes told = IsReportOf false bytes told
 
 -- the report lines of a script without the proof lines
 abbrev pub IsBriefReport : List ℕ → List (List ℕ) → Type 0
-IsBriefReport bytes told = IsReportFrom true opening 1 (script_lines bytes) told
+IsBriefReport bytes told = IsReportOf true bytes told

@@ -1,17 +1,20 @@
 -- When a report tells the truth, whoever wrote it: read from the sets that its echoed commands give.
-use Rattle.std.specs.Prelude.{◌≡◌, ℕ, ◌<◌, ◌≤◌, Bool, true, false, ◌⊎◌, List, [], ◌∷◌, ◌++◌, map, length, Option, Some, None}
+use Rattle.std.specs.Prelude.{◌≡◌, ℕ, ◌<◌, ◌≤◌, Bool, true, false, IsTrue, ◌⊎◌, ◌↔◌, ℤ, List, [], ◌∷◌, ◌++◌, map, length, Option, Some, None}
 use Rattle.std.specs.List.{flat_map}
-use Rattle.rp_geometry.specs.Geometry.{HalfSpace}
-use Rattle.rp_geometry.specs.sets.Shape.{Shape, Part, shape_of_cells}
+use Rattle.rp_geometry.specs.Geometry.{RationalPoint, HalfSpace, IsPoint, is_cube_point}
+use Rattle.rp_geometry.specs.sets.Shape.{Shape, Part, IsMember, shape_of_cells}
 use Rattle.rp_geometry.specs.sets.Sets.{SameMembers}
 use Rattle.rp_geometry.specs.sets.Pieces.{ArePieces}
 use Rattle.rp_geometry.specs.searches.ProofLine.{ProofLine}
-use Rattle.rp_language.specs.Expression.{Command, ask_show, ask_pieces, first_unknown_among}
-use Rattle.rp_language.specs.Grammar.{too_long, Reading, blank, command, bad, reading}
+use Rattle.rp_geometry.specs.sections.Trace.{IsAtHeight}
+use Rattle.rp_geometry.specs.sections.Slice.{Slice, IsInSlices}
+use Rattle.rp_language.specs.Expression.{Command, ask_show, ask_pieces, ask_section, first_unknown_among}
+use Rattle.rp_language.specs.Grammar.{Version, too_long, Reading, blank, command, bad, reading}
 use Rattle.rp_model.specs.states.State.{State, sets_in, changed, opening}
 use Rattle.rp_geometry.specs.parts.Parts.{IsCheckedPart, AreOf}
-use Rattle.rp_model.specs.commands.Verdict.{Verdict, says_ok, refused, Refusal, limit, piece_lines}
-use Rattle.rp_model.specs.commands.Rule.{Rule, answers, labels_then, set_of, rule_without_limits, change_of}
+use Rattle.rp_model.specs.commands.Verdict.{Verdict, says_ok, refused, Refusal, limit, piece_lines, section_lines}
+use Rattle.rp_model.specs.commands.Rule.{Rule, answers, labels_then, set_of, nothing_formed, rule_without_limits, change_of}
+use Rattle.rp_reports.specs.Report.{report_mark, version_by, marked}
 use Rattle.rp_reports.specs.Text.{proof_text, verdict_text, echo_text}
 
 -- an answer as it stands in a report: its echo, proof lines, and its verdict lines
@@ -42,11 +45,17 @@ shows_set a given = (cells : List (List HalfSpace)) × SameMembers (shape_of_cel
 abbrev pub tells_pieces : Shape → Rule
 tells_pieces a given = (parts : List Part) × (gs : List (List ℕ)) × AreOf IsCheckedPart a parts × ArePieces parts gs × answers (piece_lines gs) given
 
+-- slices are shown that have together exactly the members of the set at the height
+abbrev pub shows_section : ℤ → Shape → Rule
+shows_section z a given =
+    (slices : List Slice) × ((p : RationalPoint) → IsPoint p → IsAtHeight z p → IsTrue (is_cube_point p) → IsMember a p ↔ IsInSlices p slices) × answers (section_lines slices) given
+
 -- the rule of a command by sets alone
 abbrev pub true_rule : State → Command → Rule
 true_rule s (ask_show e) = labels_then (first_unknown_among (sets_in s) (e ∷ [])) (shows_set (set_of s e))
 true_rule s (ask_pieces e) = labels_then (first_unknown_among (sets_in s) (e ∷ [])) (tells_pieces (set_of s e))
-true_rule s c = rule_without_limits s [] c
+true_rule s (ask_section e z) = labels_then (first_unknown_among (sets_in s) (e ∷ [])) (shows_section z (set_of s e))
+true_rule s c = rule_without_limits s nothing_formed c
 
 -- a told limit is not judged
 abbrev pub limit_or_true : Rule → Rule
@@ -59,8 +68,8 @@ true_by_reading s (bad f) given = answers (refused (Refusal.bad f) ∷ []) given
 true_by_reading s (command c) given = limit_or_true (true_rule s c) given
 
 -- the verdict lines of an answer are true
-abbrev pub IsTrueAnswer : State → ToldAnswer → Type 0
-IsTrueAnswer s a = elim a.text [ None ↦ answers (refused (Refusal.bad too_long) ∷ []) a.verdicts | Some text ↦ true_by_reading s (reading text) a.verdicts ]
+abbrev pub IsTrueAnswer : Version → State → ToldAnswer → Type 0
+IsTrueAnswer v s a = elim a.text [ None ↦ answers (refused (Refusal.bad too_long) ∷ []) a.verdicts | Some text ↦ true_by_reading s (reading v text) a.verdicts ]
 
 -- accepted
 abbrev pub is_accepted_change : List Verdict → Bool
@@ -73,18 +82,19 @@ after_reading_told n s (command c) = changed n s (change_of s c)
 after_reading_told n s _ = s
 
 -- the sets after an answer: an accepted command changes them, and everything else leaves them
-abbrev pub after_told : State → ToldAnswer → State
-after_told s a = elim (is_accepted_change a.verdicts) [ false ↦ s | true ↦ elim a.text [ None ↦ s | Some text ↦ after_reading_told a.number s (reading text) ] ]
+abbrev pub after_told : Version → State → ToldAnswer → State
+after_told v s a = elim (is_accepted_change a.verdicts) [ false ↦ s | true ↦ elim a.text [ None ↦ s | Some text ↦ after_reading_told a.number s (reading v text) ] ]
 
 -- the number of a line stands above the last one, and is at most 16777216
 abbrev pub IsNextNumber : ℕ → ℕ → Type 0
 IsNextNumber last n = (last < n) × (n ≤ 16777216)
 
 -- all answers are true, from a state on, and their numbers rise from the last one
-abbrev pub AreTrueAnswers : ℕ → State → List ToldAnswer → Type 0
-AreTrueAnswers last s [] = Unit {0}
-AreTrueAnswers last s (a ∷ as_told) = IsNextNumber last a.number × IsTrueAnswer s a × AreTrueAnswers a.number (after_told s a) as_told
+abbrev pub AreTrueAnswers : Version → ℕ → State → List ToldAnswer → Type 0
+AreTrueAnswers v last s [] = Unit {0}
+AreTrueAnswers v last s (a ∷ as_told) = IsNextNumber last a.number × IsTrueAnswer v s a × AreTrueAnswers v a.number (after_told v s a) as_told
 
--- the lines are those of true answers
+-- the lines, behind the mark of their version, are those of true answers, whose texts are read by it
 abbrev pub IsTrueReport : List (List ℕ) → Type 0
-IsTrueReport lines = (told : List ToldAnswer) × (lines ≡ flat_map told_lines told) × AreTrueAnswers 0 opening told
+IsTrueReport lines =
+    (told : List ToldAnswer) × (lines ≡ marked report_mark (version_by report_mark lines) (flat_map told_lines told)) × AreTrueAnswers (version_by report_mark lines) 0 opening told

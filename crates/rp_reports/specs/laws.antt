@@ -4,3 +4,4 @@ pub mod StateLaws
 pub mod RunLaws
 pub mod CheckLaws
 pub mod LayerLaws
+pub mod UpgradeLaws

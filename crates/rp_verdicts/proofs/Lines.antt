@@ -1,5 +1,5 @@
 -- The lines of a report that the check takes answer rightly, whoever wrote them.
-use Rattle.std.proofs.Common.{◌≡◌, ℕ, ◌≤◌, ℤ, ◌*ℤ◌, ◌≤ℤ◌, ◌<ℤ◌, Bool, true, false, ◌&&◌, ◌||◌, ⊎_elim, List, [], ◌∷◌, ◌++◌, length, refl, sym, ◌∙◌, arith}
+use Rattle.std.proofs.Common.{◌≡◌, ℕ, ◌≤◌, ℤ, ◌*ℤ◌, ◌≤ℤ◌, ◌<ℤ◌, Bool, true, false, ◌&&◌, ◌||◌, ⊎_elim, List, [], ◌∷◌, ◌++◌, length, drop, refl, sym, ◌∙◌, arith}
 use Rattle.std.specs.Prelude.{◌↔◌, IsTrue, Option, Some, None, nat_le, int_le, int_lt}
 use Rattle.std.specs.List.{AllByRecursion}
 use Rattle.std.proofs.lemmas.Int.{ints}
@@ -16,9 +16,12 @@ use Rattle.rp_geometry.specs.parts.PartTest.{whole_part}
 use Rattle.rp_geometry.specs.parts.LeastBox.{IsInBox, BoxHoldsCell}
 use Rattle.rp_geometry.specs.laws.CellLaws.{IsSolution}
 use Rattle.rp_walks.specs.Walk.{Outcome, done, stopped, limit_told, line_wrong, pass, stop, limit_met, Walk}
-use Rattle.rp_geometry.specs.parts.Parts.{most_half_spaces, AreKeptHalfSpaces, IsCheckedPart}
-use Rattle.rp_reports.specs.Check.{Trail, tells_limit, nothing_due, next_proof, taken, taken_if, strict_by_line, follow_strict, weak_by_line, follow_weak, without, dropped_by, follow_drops, if_few, box_by_line, is_proper_box, side_by_line, follow_side, follow_sides, follow_made, part_if, follow_part}
-use Rattle.rp_walks.specs.FormLaws.{IfDone, IsMadeOf}
+use Rattle.rp_geometry.specs.parts.Parts.{most_half_spaces, AreKeptHalfSpaces, IsCheckedPart, AreParts}
+use Rattle.rp_reports.specs.Check.{Trail, tells_limit, nothing_due, next_proof, taken, taken_if, strict_by_line, follow_strict, weak_by_line, follow_weak, without, dropped_by, follow_drops, if_few, box_by_line, is_proper_box, side_by_line, follow_side, follow_sides, follow_made, part_if, follow_part, next_slice, slice_told, slices_told, follow_slices}
+use Rattle.rp_walks.specs.FormLaws.{IfDone, IsMadeOf, ArePassingSlices}
+use Rattle.rp_geometry.specs.sections.Trace.{IsHeight}
+use Rattle.rp_geometry.specs.sections.Slice.{Slice, is_slice, slice_of}
+use Rattle.rp_slice.proofs.RingFound.{slice_is_found_spec}
 use Rattle.rp_reports.specs.laws.RowLaws.{LineTesterIsRight}
 use Rattle.rp_geometry.proofs.Boxes.{box_holds}
 use Rattle.rp_geometry.specs.Geometry.{is_between}
@@ -259,6 +262,27 @@ follow_part_told cell k t =
     (follow_strict cell t)
     (follow_strict_told cell k t)
 
+-- ---- slices
+
+-- the slice that is told of a cell passes
+slice_told_passes : (z : ℤ) → IsHeight z → (cell : List HalfSpace) → AreKeptHalfSpaces cell → (o : Option Slice) → is_slice z cell (slice_told z cell o) ≡ true
+slice_told_passes z h cell k None = (slice_is_found_spec z cell h (are_half_spaces cell k)).passes
+slice_told_passes z h cell k (Some s) = by_test (is_slice z cell s) refl
+  where
+    by_test : (b : Bool) → is_slice z cell s ≡ b → is_slice z cell (elim b [ true ↦ s | false ↦ slice_of z cell ]) ≡ true
+    by_test true e = e
+    by_test false e = (slice_is_found_spec z cell h (are_half_spaces cell k)).passes
+
+-- the slices that are told of parts pass
+slices_told_pass : (z : ℤ) → IsHeight z → (ps : List Part) → AllByRecursion IsCheckedPart ps → (lines : List (List ℕ)) → ArePassingSlices z ps (slices_told z ps lines)
+slices_told_pass z h [] k lines = tt
+slices_told_pass z h (p ∷ ps) k lines = (slice_told_passes z h p.cell k.0.half_spaces (next_slice lines), slices_told_pass z h ps k.1 (drop 1 lines))
+
+-- the slices that the report shows
+follow_slices_told : (z : ℤ) → IsHeight z → (ps : List Part) → AreParts IsCheckedPart ps → (t : Trail) → IfDone (follow_slices z ps t) (λ shown. ArePassingSlices z ps shown)
+unfolding follow_slices
+follow_slices_told z h ps k t = slices_told_pass z h ps k.each (drop 1 t.lines)
+
 -- the law
 pub line_tester_is_right_spec : LineTesterIsRight
 line_tester_is_right_spec = record {
@@ -267,4 +291,5 @@ line_tester_is_right_spec = record {
   strict = follow_strict_told;
   weak = follow_weak_told;
   part = follow_part_told;
+  slices = follow_slices_told;
 }

@@ -4,11 +4,11 @@ use Rattle.std.specs.Prelude.{Option, Some, None, int_le, option_and_then}
 use Rattle.std.proofs.lemmas.Int.{ints}
 use Rattle.rp_algebra.proofs.Options.{none_not_some, same_some}
 use Rattle.rp_algebra.proofs.Tests.{and_first, and_second}
-use Rattle.rp_geometry.specs.Geometry.{RationalPoint, IntegerBox, IsPoint, is_point_in_bounds, is_box_in_bounds, reduced_point}
+use Rattle.rp_geometry.specs.Geometry.{RationalPoint, IntegerBox, IsPoint, is_point_in_bounds, is_box_in_bounds, reduced_point, point_eq}
 use Rattle.rp_language.specs.Name.{label_eq}
 use Rattle.rp_reports.specs.Text.{proof_text}
 use Rattle.rp_geometry.specs.searches.ProofLine.{ProofLine, at_line, box_line}
-use Rattle.rp_reports.specs.ProofText.{is_written, point_eq, loose_words, read_words, if_spelled, proof_read}
+use Rattle.rp_reports.specs.ProofText.{is_written, loose_words, read_words, if_spelled, proof_read}
 use Rattle.rp_reports.specs.Check.{next_proof}
 
 -- the line, where the test passes

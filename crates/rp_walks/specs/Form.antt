@@ -1,9 +1,11 @@
 -- How lists of parts are joined, subtracted and compared, and the form of an expression, test by test.
 use Rattle.std.specs.Prelude.{ℕ, ◌*◌, Bool, true, false, List, [], ◌∷◌, ◌++◌, length, Option, Some, None, nat_le}
 use Rattle.rp_geometry.specs.Geometry.{HalfSpace, complement, box_half_spaces, boxes_meet, closed_boxes_meet}
+use Rattle.rp_geometry.specs.sets.Prism.{Edge, edges_of, is_upright, Prism}
 use Rattle.rp_geometry.specs.sets.Shape.{Part}
 use Rattle.rp_geometry.specs.parts.PartTest.{whole_part}
-use Rattle.rp_language.specs.Expression.{Expression, half_space, box, everything, nothing, named, lot, intersection, union, difference, opposite, Meaning}
+use Rattle.rp_geometry.specs.parts.Trapezoid.{trapezoid}
+use Rattle.rp_language.specs.Expression.{Expression, half_space, box, prism, everything, nothing, named, lot, intersection, union, difference, opposite, Meaning}
 use Rattle.rp_walks.specs.Walk.{Walk, pass, stop, limit_met, ◌>>=◌, ◌>>◌, Tester}
 use Rattle.rp_geometry.specs.parts.Parts.{most_parts}
 
@@ -161,12 +163,52 @@ module _ {W : Type 0} (tester : Tester W) where
   abbrev pub subtract_from_whole : List Part → Walk W (List Part)
   subtract_from_whole ps = subtract (whole_part ∷ []) ps
 
+  -- ---- the form of a prism
+
+  -- the parts in one of two lists and not in the other: what is left of the first outside the second, and then what is left of the second outside the first
+  abbrev pub exchange_lists : List Part → List Part → Walk W (List Part)
+  exchange_lists current made = do
+    outside ← subtract current made
+    added ← subtract made current
+    if_at_most most_parts (outside ++ added)
+
+  -- a new part, if there is one, is exchanged with the parts so far
+  abbrev pub exchange : List Part → Option Part → Walk W (List Part)
+  exchange current None = pass current
+  exchange current (Some made) = exchange_lists current (made ∷ [])
+
+  -- the part of a cell is exchanged with the parts so far; where there is no cell they stay
+  abbrev pub exchange_cell : List Part → Option (List HalfSpace) → Walk W (List Part)
+  exchange_cell current None = pass current
+  exchange_cell current (Some cell) = do
+    made ← tester.part cell
+    exchange current made
+
+  -- the trapezoid of an edge is exchanged with the parts so far; an edge whose ends have one x is passed over
+  abbrev pub exchange_edge : Prism → Bool → List Part → Edge → Walk W (List Part)
+  exchange_edge s true current e = pass current
+  exchange_edge s false current e = do
+    made ← tester.part (trapezoid s e)
+    exchange current made
+
+  -- the same of edges in order
+  abbrev pub exchange_edges : Prism → List Part → List Edge → Walk W (List Part)
+  exchange_edges s current [] = pass current
+  exchange_edges s current (e ∷ es) = do
+    next ← exchange_edge s (is_upright e) current e
+    exchange_edges s next es
+
+  -- the form of a prism: the trapezoids of its edges, exchanged one after the other
+  abbrev pub prism_form : Prism → Walk W (List Part)
+  prism_form s = exchange_edges s [] (edges_of s.corners)
+
   -- ---- the form of an expression
 
   -- the form of an expression: its list of parts, made test by test
   abbrev pub form : Meaning (List Part) → Expression → Walk W (List Part)
   form m (half_space h) = parts_of_cell (h ∷ [])
   form m (box b) = parts_of_cell (box_half_spaces b)
+  form m (prism s) = prism_form s
   form m everything = pass (whole_part ∷ [])
   form m nothing = pass []
   form m (named x) = pass (parts_or_none (m.of_name x))

@@ -1,7 +1,9 @@
 -- The laws over tests and forms, as statements. They are said of any tester that answers rightly.
-use Rattle.std.specs.Prelude.{◌↔◌, IsTrue, false, List, Option, Some, None, IfSome}
+use Rattle.std.specs.Prelude.{◌↔◌, IsTrue, false, ℤ, List, Option, Some, None, IfSome}
+use Rattle.std.specs.List.{AllZip}
 use Rattle.rp_geometry.specs.Geometry.{RationalPoint, HalfSpace}
 use Rattle.rp_language.specs.Name.{Label}
+use Rattle.rp_geometry.specs.sets.Prism.{Prism, IsPrism}
 use Rattle.rp_geometry.specs.sets.Shape.{Shape, Part, shape_of_cell, shape_of_parts}
 use Rattle.rp_geometry.specs.sets.Sets.{IsNonempty, IsWithin, SameMembers, Overlaps}
 use Rattle.rp_geometry.specs.sets.Contact.{IsInContact}
@@ -9,9 +11,11 @@ use Rattle.rp_geometry.specs.sets.Relation.{StandIn}
 use Rattle.rp_geometry.specs.sets.Pieces.{ArePieces}
 use Rattle.rp_geometry.specs.laws.CellLaws.{IsSolution}
 use Rattle.rp_geometry.specs.parts.PartTest.{whole_part}
+use Rattle.rp_geometry.specs.sections.Trace.{IsHeight}
+use Rattle.rp_geometry.specs.sections.Slice.{Slice, is_slice}
 use Rattle.rp_walks.specs.Walk.{Outcome, done, stopped, Tester, first_tester}
 use Rattle.rp_language.specs.Expression.{Expression, IsKeptExpression, Meaning, closed}
-use Rattle.rp_walks.specs.Form.{made_part, join, subtract, common_in_full, common_nearby, touch_in_full, touch_nearby, form}
+use Rattle.rp_walks.specs.Form.{made_part, join, subtract, common_in_full, common_nearby, touch_in_full, touch_nearby, prism_form, form}
 use Rattle.rp_walks.specs.Compare.{is_covered, relation_of_parts}
 use Rattle.rp_walks.specs.Pieces.{pieces_of_parts}
 use Rattle.rp_geometry.specs.parts.Parts.{AreKeptHalfSpaces, IsPart, IsCheckedPart, AreParts, AreOf}
@@ -28,6 +32,10 @@ pub record IsMadeOf (P : Part → Type 0) (cell : List HalfSpace) (o : Option Pa
   pub fact : IfSome o P
   pub members : SameMembers (shape_of_parts (made_part o)) (shape_of_cell cell)
 
+-- the slices pass at the height, each for its part
+abbrev pub ArePassingSlices : ℤ → List Part → List Slice → Type 0
+ArePassingSlices z ps shown = AllZip (λ p s. IsTrue (is_slice z p.cell s)) ps shown
+
 -- the tester answers rightly, and its parts keep the fact; so does the whole cube, which is a part without a test
 pub record AnswersRightly {W : Type 0} (P : Part → Type 0) (t : Tester W) : Type 0 where
   pub whole : P whole_part
@@ -35,6 +43,7 @@ pub record AnswersRightly {W : Type 0} (P : Part → Type 0) (t : Tester W) : Ty
   pub strict : (cell : List HalfSpace) → AreKeptHalfSpaces cell → (w : W) → IfDone (t.strict cell w) (λ found. IsTrue found ↔ IsNonempty (shape_of_cell cell))
   pub weak : (cell : List HalfSpace) → AreKeptHalfSpaces cell → (w : W) → IfDone (t.weak cell w) (λ found. IsTrue found ↔ ((p : RationalPoint) × IsSolution false cell p))
   pub part : (cell : List HalfSpace) → AreKeptHalfSpaces cell → (w : W) → IfDone (t.part cell w) (λ o. IsMadeOf P cell o)
+  pub slices : (z : ℤ) → IsHeight z → (ps : List Part) → AreParts P ps → (w : W) → IfDone (t.slices z ps w) (λ shown. ArePassingSlices z ps shown)
 
 -- the first certificates answer rightly
 abbrev pub FirstTesterIsRight : Type 0
@@ -79,6 +88,10 @@ abbrev pub PiecesAreRight : {W : Type 0} → (Part → Type 0) → Tester W → 
 PiecesAreRight {W = W} P t = (ps : List Part) → AreParts P ps → (w : W) → IfDone (pieces_of_parts t ps w) (λ gs. ArePieces ps gs)
 
 -- ---- forms
+
+-- the form of a prism has exactly its members
+abbrev pub PrismIsRight : {W : Type 0} → (Part → Type 0) → Tester W → Type 0
+PrismIsRight {W = W} P t = (s : Prism) → IsPrism s → (w : W) → IfDone (prism_form t s w) (λ made. AreOf P (Shape.prism s) made)
 
 -- two meanings know the same labels; the parts that the first one gives keep the fact and have the members of the set that the second one gives
 abbrev pub Agree : (Part → Type 0) → Option (List Part) → Option Shape → Type 0

@@ -1,10 +1,11 @@
 -- A walk makes tests one after the other, and may be stopped. How a test is answered is left to a tester: the program searches for the first certificate, and the check reads a line.
-use Rattle.std.specs.Prelude.{ℕ, ◌+◌, Bool, true, false, List, [], ◌∷◌, ◌++◌, length, Option, Some, None, nat_le}
+use Rattle.std.specs.Prelude.{ℕ, ◌+◌, Bool, true, false, ℤ, List, [], ◌∷◌, ◌++◌, map, length, Option, Some, None, nat_le}
 use Rattle.rp_geometry.specs.Geometry.{HalfSpace}
 use Rattle.rp_geometry.specs.sets.Shape.{Part}
 use Rattle.rp_geometry.specs.searches.ProofLine.{ProofLine, strict_line, weak_line}
 use Rattle.rp_geometry.specs.parts.PartTest.{has_member, has_weak_point, slimmed, part_lines, part_of}
 use Rattle.rp_geometry.specs.parts.Parts.{most_half_spaces}
+use Rattle.rp_geometry.specs.sections.Slice.{Slice, slice_of}
 
 -- why a walk stops: a limit is met, the report says so, the next line does not fit, or the line taken last does not
 pub data Stop : Type 0 where
@@ -41,12 +42,13 @@ abbrev pub ◌>>=◌ : {W A B : Type 0} → Walk W A → (A → Walk W B) → Wa
 abbrev pub ◌>>◌ : {W A B : Type 0} → Walk W A → Walk W B → Walk W B
 (first >> next) w = after_first (λ _. next) (first w)
 
--- how tests are counted and answered
+-- how tests are counted and answered, and which slices are shown of parts at a height
 pub record Tester (W : Type 0) : Type 0 where
   pub count : ℕ → Walk W (Unit {0})
   pub strict : List HalfSpace → Walk W Bool
   pub weak : List HalfSpace → Walk W Bool
   pub part : List HalfSpace → Walk W (Option Part)
+  pub slices : ℤ → List Part → Walk W (List Slice)
 
 -- the most tests that are counted in a command
 abbrev pub most_tests : ℕ
@@ -90,6 +92,10 @@ part_test cell w =
       ]
     ]
 
+-- the slices of parts at a height, without a test
+unfoldable pub slices_found : ℤ → List Part → Walk Work (List Slice)
+slices_found z ps w = done (map (λ p. slice_of z p.cell) ps) w
+
 -- tests answered by the first certificates
 abbrev pub first_tester : Tester Work
-first_tester = record { count = count_tests; strict = strict_test; weak = weak_test; part = part_test }
+first_tester = record { count = count_tests; strict = strict_test; weak = weak_test; part = part_test; slices = slices_found }

@@ -1,7 +1,8 @@
 -- The laws over the reader of reports, as statements. Each is proved where a contract names it.
 use Rattle.std.specs.Prelude.{◌≡◌, ℕ, suc, ◌≤◌, true, false, IsTrue, List, [], map, length, Option, Some, None}
 use Rattle.std.specs.List.{flat_map, AllByRecursion}
-use Rattle.rp_language.specs.Expression.{Command, IsKeptExpression, expressions_of}
+use Rattle.rp_geometry.specs.sections.Trace.{IsHeight}
+use Rattle.rp_language.specs.Expression.{Command, IsKeptExpression, expressions_of, heights_of}
 use Rattle.rp_model.specs.states.State.{State, plain_of, bare_of, changed}
 use Rattle.rp_geometry.specs.parts.Parts.{IsCheckedPart}
 use Rattle.rp_model.specs.states.Sound.{IsSoundWith, IsLaterThan, AreAlike}
@@ -27,7 +28,7 @@ pub record TellsTruth (s : State) (n : ℕ) (c : Command) (r : Reply) : Type 0 w
 
 -- a row that is followed on the lines of a report, from the parts of a sound state, tells the truth
 abbrev pub FollowedRowTellsTruth : Type 0
-FollowedRowTellsTruth = (s : State) → IsSoundWith IsCheckedPart s → (n : ℕ) → IsLaterThan n s → (c : Command) → AllByRecursion IsKeptExpression (expressions_of c) → (w : Trail) →
+FollowedRowTellsTruth = (s : State) → IsSoundWith IsCheckedPart s → (n : ℕ) → IsLaterThan n s → (c : Command) → AllByRecursion IsKeptExpression (expressions_of c) → AllByRecursion IsHeight (heights_of c) → (w : Trail) →
     IfDone (row line_tester (plain_of s) c w) (λ r. TellsTruth s n c r)
 
 -- ---- whole reports

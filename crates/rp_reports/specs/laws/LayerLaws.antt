@@ -5,7 +5,7 @@ use Rattle.rp_geometry.specs.Geometry.{RationalPoint}
 use Rattle.rp_language.specs.Name.{Label, is_among}
 use Rattle.rp_geometry.specs.sets.Shape.{Shape, IsMember}
 use Rattle.rp_language.specs.Expression.{Command, set_layer}
-use Rattle.rp_language.specs.Grammar.{Reading, command, reading}
+use Rattle.rp_language.specs.Grammar.{Version, Reading, command, reading}
 use Rattle.rp_model.specs.states.State.{Lot, NewLot, State, PlainState, live_lots, live_lot, lot_with_id, Change, lots_replaced, layer_changed, changed}
 use Rattle.rp_model.specs.states.Sound.{IsSound}
 use Rattle.rp_walks.specs.Walk.{done, stopped, line_wrong}
@@ -65,9 +65,9 @@ is_layer_line (command (set_layer y)) = true
 is_layer_line _ = false
 
 -- no line sets a layer
-abbrev pub names_no_layer : List (List ℕ) → Bool
-names_no_layer lines = list_all (λ line. not (is_layer_line (reading line))) lines
+abbrev pub names_no_layer : Version → List (List ℕ) → Bool
+names_no_layer v lines = list_all (λ line. not (is_layer_line (reading v line))) lines
 
 -- lines that set no layer stay in the one that is present
 abbrev pub OtherLinesStayInTheLayer : Type 0
-OtherLinesStayInTheLayer = (n : ℕ) (s : State) (y : Label) → IsInLayer y s → (lines : List (List ℕ)) → IsTrue (names_no_layer lines) → IsInLayer y (state_after n s lines)
+OtherLinesStayInTheLayer = (v : Version) (n : ℕ) (s : State) (y : Label) → IsInLayer y s → (lines : List (List ℕ)) → IsTrue (names_no_layer v lines) → IsInLayer y (state_after v n s lines)

@@ -1,19 +1,20 @@
 -- The laws over the row of a command, as statements: walked with any tester that answers rightly, its verdict lines are those that the rule of sets wants, and its change is one that a sound state takes.
-use Rattle.std.specs.Prelude.{◌≡◌, ℕ, ◌+◌, ◌≤◌, false, not, IsTrue, List, [], ◌∷◌, map, length, filter, sum_by}
+use Rattle.std.specs.Prelude.{◌≡◌, ℕ, ◌+◌, ◌≤◌, false, not, IsTrue, List, map, length, filter, sum_by}
 use Rattle.std.specs.List.{AllByRecursion}
 use Rattle.rp_language.specs.Name.{Label, is_among}
 use Rattle.rp_geometry.specs.sets.Shape.{Shape, Part}
 use Rattle.rp_geometry.specs.sets.Sets.{IsNonempty, Overlaps}
-use Rattle.rp_language.specs.Grammar.{command, reading}
+use Rattle.rp_geometry.specs.sections.Trace.{IsHeight}
+use Rattle.rp_language.specs.Grammar.{Version, command, reading}
 use Rattle.rp_walks.specs.Walk.{Work, Tester, first_tester}
 use Rattle.rp_model.specs.states.State.{most_kept_parts, most_names}
-use Rattle.rp_language.specs.Expression.{Expression, Command, IsKeptExpression, closed, expressions_of}
+use Rattle.rp_language.specs.Expression.{Expression, Command, IsKeptExpression, closed, expressions_of, heights_of}
 use Rattle.rp_walks.specs.Form.{form}
-use Rattle.rp_model.specs.states.State.{Kept, StateOf, State, live_lots, names_of, ids_of, parts_in, sets_in, parts_under_names, parts_under_lots, NewLot, Change, nothing_changes, name_added, lots_replaced, layer_changed}
+use Rattle.rp_model.specs.states.State.{Kept, State, live_lots, names_of, ids_of, parts_in, sets_in, parts_under_names, parts_under_lots, NewLot, Change, nothing_changes, name_added, lots_replaced, layer_changed}
 use Rattle.rp_geometry.specs.parts.Parts.{IsPart, IsCheckedPart, AreOf}
 use Rattle.rp_model.specs.states.Sound.{are_distinct, Pairwise, AreOfLayer, IsSoundWith, IsSound}
 use Rattle.rp_model.specs.commands.Row.{Reply, row}
-use Rattle.rp_model.specs.commands.Rule.{Rule, parts_made, rule_of, rule_without_limits, walked, change_of, with_parts}
+use Rattle.rp_model.specs.commands.Rule.{Rule, formed_by, rule_of, rule_without_limits, walked, change_of, with_parts}
 use Rattle.rp_model.specs.commands.Verdict.{Verdict}
 use Rattle.rp_reports.specs.Machine.{verdicts_walked}
 use Rattle.rp_reports.specs.Check.{line_tester}
@@ -28,19 +29,14 @@ LineTesterIsRight = AnswersRightly IsCheckedPart line_tester
 abbrev pub FormHasTheMembers : Type 0
 FormHasTheMembers = (s : State) → IsSound s → (e : Expression) → IsKeptExpression e → (w : Work) → IfDone (form first_tester (parts_in s) e w) (λ made. AreOf IsPart (closed (sets_in s) e) made)
 
--- the parts of the form of the first of some expressions, walked with a tester
-abbrev pub first_form_by : {S W : Type 0} → Tester W → StateOf S → List Expression → W → List Part
-first_form_by t s [] w = []
-first_form_by t s (e ∷ es) w = parts_made (form t (parts_in s) e w)
-
 -- in a sound state the verdict lines of a row that is not stopped are those that the rule of sets wants
 abbrev pub VerdictsMeetRule : {W : Type 0} → (Part → Type 0) → Tester W → Type 0
 VerdictsMeetRule {W = W} P t = (s : State) → IsSoundWith P s → (c : Command) → AllByRecursion IsKeptExpression (expressions_of c) → (w : W) →
-    IfDone (row t s c w) (λ r. rule_without_limits s (first_form_by t s (expressions_of c) w) c r.verdicts)
+    IfDone (row t s c w) (λ r. rule_without_limits s (formed_by t s c w) c r.verdicts)
 
 -- in a sound state the verdict of the row is the one that the rule of sets wants, and the only one
 abbrev pub RowMeetsRule : Type 0
-RowMeetsRule = (s : State) → IsSound s → (line : List ℕ) (c : Command) → reading line ≡ command c →
+RowMeetsRule = (s : State) → IsSound s → (v : Version) (line : List ℕ) (c : Command) → reading v line ≡ command c →
     rule_of s c (verdicts_walked (walked s c)) × ((given : List Verdict) → rule_of s c given → given ≡ verdicts_walked (walked s c))
 
 -- ---- changes
@@ -90,10 +86,10 @@ IsRightReply P s change rule r = rule r.verdicts × IsSoundChange P s (with_part
 -- in a sound state the reply of a row that is not stopped has the verdict lines that the rule of sets wants, and a change that the state takes
 abbrev pub RowIsRight : {W : Type 0} → (Part → Type 0) → Tester W → Type 0
 RowIsRight {W = W} P t = (s : State) → IsSoundWith P s → (c : Command) → AllByRecursion IsKeptExpression (expressions_of c) → (w : W) →
-    IfDone (row t s c w) (IsRightReply P s (change_of s c) (rule_without_limits s (first_form_by t s (expressions_of c) w) c))
+    IfDone (row t s c w) (IsRightReply P s (change_of s c) (rule_without_limits s (formed_by t s c w) c))
 
 -- ---- the check
 
 -- in a sound state the verdict lines of a row that is not stopped are true, as a report tells them: by sets alone
 abbrev pub VerdictsAreTrue : {W : Type 0} → (Part → Type 0) → Tester W → Type 0
-VerdictsAreTrue {W = W} P t = (s : State) → IsSoundWith P s → (c : Command) → AllByRecursion IsKeptExpression (expressions_of c) → (w : W) → IfDone (row t s c w) (λ r. true_rule s c r.verdicts)
+VerdictsAreTrue {W = W} P t = (s : State) → IsSoundWith P s → (c : Command) → AllByRecursion IsKeptExpression (expressions_of c) → AllByRecursion IsHeight (heights_of c) → (w : W) → IfDone (row t s c w) (λ r. true_rule s c r.verdicts)

@@ -4,7 +4,7 @@ use Rattle.rp_geometry.specs.Geometry.{RationalPoint}
 use Rattle.rp_geometry.specs.sets.Shape.{Shape}
 use Rattle.rp_geometry.specs.sets.Sets.{SameMembers}
 use Rattle.rp_language.specs.Expression.{Command, ask_at, ask_as_of}
-use Rattle.rp_language.specs.Grammar.{command, reading}
+use Rattle.rp_language.specs.Grammar.{Version, command, reading}
 use Rattle.rp_model.specs.states.State.{State, opening, plain_of, bare_of, changed}
 use Rattle.rp_model.specs.states.Sound.{IsSound, IsLaterThan, SameState}
 use Rattle.rp_model.specs.commands.Verdict.{Verdict, says_ok}
@@ -19,25 +19,25 @@ use Rattle.rp_reports.specs.laws.StateLaws.{next_state, state_after, in_layer, r
 
 -- every step from a sound state gives a sound state, and the next line is later
 abbrev pub StepsKeepSoundness : Type 0
-StepsKeepSoundness = (s : State) → IsSound s → (n : ℕ) → IsLaterThan n s → (line : List ℕ) →
-    IsSound (next_state n s line) × IsLaterThan (suc n) (next_state n s line)
+StepsKeepSoundness = (v : Version) (s : State) → IsSound s → (n : ℕ) → IsLaterThan n s → (line : List ℕ) →
+    IsSound (next_state v n s line) × IsLaterThan (suc n) (next_state v n s line)
 
 -- The sets after a command follow its right verdict alone: where it is one ok they are those that the command gives, and every other verdict leaves the state as it is.
 abbrev pub SetsFollowVerdicts : Type 0
-SetsFollowVerdicts = (s : State) → IsSound s → (n : ℕ) (line : List ℕ) (c : Command) → reading line ≡ command c → (given : List Verdict) → rule_of s c given →
-    (is_accepted_change given ≡ true → bare_of (next_state n s line) ≡ changed n (bare_of s) (change_of s c)) × (is_accepted_change given ≡ false → next_state n s line ≡ s)
+SetsFollowVerdicts = (v : Version) (s : State) → IsSound s → (n : ℕ) (line : List ℕ) (c : Command) → reading v line ≡ command c → (given : List Verdict) → rule_of s c given →
+    (is_accepted_change given ≡ true → bare_of (next_state v n s line) ≡ changed n (bare_of s) (change_of s c)) × (is_accepted_change given ≡ false → next_state v n s line ≡ s)
 
 -- two sound states of the same layer, names, lots, parts and members give the same answers, and again such states
 abbrev pub AnswersDependOnMembers : Type 0
-AnswersDependOnMembers = (s t : State) → IsSound s → IsSound t → SameState s t → (n : ℕ) → IsLaterThan n s → (line : List ℕ) →
-    ((a : Answer) → IsAnswerTo s n line (reading line) a ↔ IsAnswerTo t n line (reading line) a)
-    × SameState (next_state n s line) (next_state n t line)
+AnswersDependOnMembers = (v : Version) (s t : State) → IsSound s → IsSound t → SameState s t → (n : ℕ) → IsLaterThan n s → (line : List ℕ) →
+    ((a : Answer) → IsAnswerTo s n line (reading v line) a ↔ IsAnswerTo t n line (reading v line) a)
+    × SameState (next_state v n s line) (next_state v n t line)
 
 -- in a sound state the answer that is computed from the parts is the only one, and the parts after the line are those that are computed
 abbrev pub StepIsComputed : Type 0
-StepIsComputed = (s : State) → IsSound s → (n : ℕ) → IsLaterThan n s → (line : List ℕ) →
-    ((a : Answer) → IsAnswerTo s n line (reading line) a ↔ (a ≡ step_answer (plain_of s) n line))
-    × (plain_of (next_state n s line) ≡ step_state (plain_of s) n line)
+StepIsComputed = (v : Version) (s : State) → IsSound s → (n : ℕ) → IsLaterThan n s → (line : List ℕ) →
+    ((a : Answer) → IsAnswerTo s n line (reading v line) a ↔ (a ≡ step_answer v (plain_of s) n line))
+    × (plain_of (next_state v n s line) ≡ step_state v (plain_of s) n line)
 
 -- the line is the end of the lot
 abbrev pub ends_at : ℕ → Option ℕ → Bool
@@ -54,8 +54,8 @@ sets_born_at n s = map (λ l. l.set) (filter (λ l. n == l.born) s.lots)
 
 -- in the state after an accepted cut, subdivision or consolidation the lots that were born at its line have together exactly the points of those that ended at it
 abbrev pub ReshapingStepsKeepPoints : Type 0
-ReshapingStepsKeepPoints = (s : State) → IsSound s → (n : ℕ) → IsLaterThan n s → (line : List ℕ) (c : Command) → reading line ≡ command c → IsTrue (reshapes_lots c) → rule_of s c (says_ok ∷ [])
-    → SameMembers (union_of (sets_ended_at n (next_state n s line))) (union_of (sets_born_at n (next_state n s line)))
+ReshapingStepsKeepPoints = (v : Version) (s : State) → IsSound s → (n : ℕ) → IsLaterThan n s → (line : List ℕ) (c : Command) → reading v line ≡ command c → IsTrue (reshapes_lots c) → rule_of s c (says_ok ∷ [])
+    → SameMembers (union_of (sets_ended_at n (next_state v n s line))) (union_of (sets_born_at n (next_state v n s line)))
 
 -- ---- whole scripts
 
@@ -73,18 +73,18 @@ ReportIsComputed = (bytes : List ℕ) (told : List (List ℕ)) → (IsReport byt
 
 -- ---- runs from the opening state
 
--- the state after the lines of a script
-abbrev pub state_of_run : List (List ℕ) → State
-state_of_run lines = state_after 1 opening lines
+-- the state after the lines of the body of a script
+abbrev pub state_of_run : Version → List (List ℕ) → State
+state_of_run v lines = state_after v 1 opening lines
 
 -- every state of a run is sound, and the next line is later than all births and ends in it
 abbrev pub RunsAreSound : Type 0
-RunsAreSound = (lines : List (List ℕ)) → IsSound (state_of_run lines) × IsLaterThan (suc (length lines)) (state_of_run lines)
+RunsAreSound = (v : Version) (lines : List (List ℕ)) → IsSound (state_of_run v lines) × IsLaterThan (suc (length lines)) (state_of_run v lines)
 
 -- in a run, what is asked as of a line after any further lines has the verdict that was right for the point after that line in the layer that is present now
 abbrev pub AsOfInRuns : Type 0
-AsOfInRuns = (lines later : List (List ℕ)) (p : RationalPoint) (given : List Verdict) → rule_of (state_of_run (lines ++ later)) (ask_as_of (length lines) p) given ↔ rule_of (in_layer (state_of_run (lines ++ later)).layer (state_of_run lines)) (ask_at p) given
+AsOfInRuns = (v : Version) (lines later : List (List ℕ)) (p : RationalPoint) (given : List Verdict) → rule_of (state_of_run v (lines ++ later)) (ask_as_of (length lines) p) given ↔ rule_of (in_layer (state_of_run v (lines ++ later)).layer (state_of_run v lines)) (ask_at p) given
 
 -- in a run, what is asked as of a line that has not come yet has the verdict that is right for the point now
 abbrev pub AsOfNow : Type 0
-AsOfNow = (lines : List (List ℕ)) (n : ℕ) → length lines ≤ n → (p : RationalPoint) (given : List Verdict) → rule_of (state_of_run lines) (ask_as_of n p) given ↔ rule_of (state_of_run lines) (ask_at p) given
+AsOfNow = (v : Version) (lines : List (List ℕ)) (n : ℕ) → length lines ≤ n → (p : RationalPoint) (given : List Verdict) → rule_of (state_of_run v lines) (ask_as_of n p) given ↔ rule_of (state_of_run v lines) (ask_at p) given

@@ -6,7 +6,7 @@ use Rattle.rp_language.specs.Name.{Label, is_among}
 use Rattle.rp_geometry.specs.sets.Shape.{Shape}
 use Rattle.rp_geometry.specs.sets.Sets.{SameMembers}
 use Rattle.rp_language.specs.Expression.{Command, ask_at, ask_as_of, cut, subdivide, consolidate}
-use Rattle.rp_language.specs.Grammar.{reading}
+use Rattle.rp_language.specs.Grammar.{Version, reading}
 use Rattle.rp_model.specs.states.State.{Lot, State, opening, live_lots, lots_of_layer, alive_after, lot_with_id, ids_of, lineage, Change, lots_replaced, NewLot, plain_of, state_of_parts, changed}
 use Rattle.rp_model.specs.states.Sound.{IsSound, IsLaterThan, SameState}
 use Rattle.rp_model.specs.commands.Verdict.{Verdict, says_ok}
@@ -15,14 +15,14 @@ use Rattle.rp_reports.specs.Report.{after_reading}
 
 -- ---- the states of a run
 
--- the state after a line
-abbrev pub next_state : ℕ → State → List ℕ → State
-next_state n s line = after_reading n s (reading line)
+-- the state after a line of a script of a version
+abbrev pub next_state : Version → ℕ → State → List ℕ → State
+next_state v n s line = after_reading n s (reading v line)
 
 -- the state after the lines of a list, from a state on
-abbrev pub state_after : ℕ → State → List (List ℕ) → State
-state_after n s [] = s
-state_after n s (line ∷ lines) = state_after (suc n) (next_state n s line) lines
+abbrev pub state_after : Version → ℕ → State → List (List ℕ) → State
+state_after v n s [] = s
+state_after v n s (line ∷ lines) = state_after v (suc n) (next_state v n s line) lines
 
 -- ---- states of sets and states of parts
 
@@ -46,13 +46,13 @@ without_end l = record { id = l.id; layer = l.layer; set = l.set; parts = l.part
 
 -- the lots that are live after a line are those that are alive after it in every later state, but for ends that have come since
 abbrev pub LiveThenIsAliveAfter : Type 0
-LiveThenIsAliveAfter = (s : State) → IsSound s → (n : ℕ) → IsLaterThan (suc n) s → (later : List (List ℕ)) →
-    map without_end (alive_after n (state_after (suc n) s later).lots) ≡ live_lots s.lots
+LiveThenIsAliveAfter = (v : Version) (s : State) → IsSound s → (n : ℕ) → IsLaterThan (suc n) s → (later : List (List ℕ)) →
+    map without_end (alive_after n (state_after v (suc n) s later).lots) ≡ live_lots s.lots
 
 -- the answer about a line, in any layer, is the one that was right after it
 abbrev pub AsOfIsThen : Type 0
-AsOfIsThen = (s : State) → IsSound s → (n : ℕ) → IsLaterThan (suc n) s → (later : List (List ℕ)) (y : Label) (p : RationalPoint) (given : List Verdict) →
-    parcel_at (lots_of_layer y (alive_after n (state_after (suc n) s later).lots)) p given ↔ parcel_at (lots_of_layer y (live_lots s.lots)) p given
+AsOfIsThen = (v : Version) (s : State) → IsSound s → (n : ℕ) → IsLaterThan (suc n) s → (later : List (List ℕ)) (y : Label) (p : RationalPoint) (given : List Verdict) →
+    parcel_at (lots_of_layer y (alive_after n (state_after v (suc n) s later).lots)) p given ↔ parcel_at (lots_of_layer y (live_lots s.lots)) p given
 
 -- a state with another present layer
 abbrev pub in_layer : Label → State → State
@@ -60,8 +60,8 @@ in_layer y s = record { layer = y; names = s.names; lots = s.lots }
 
 -- so what is asked as of line n, at once or after further lines, has the verdict that was right for the point after line n in the layer that is present now
 abbrev pub AsOfAnswersThen : Type 0
-AsOfAnswersThen = (s : State) → IsSound s → (n : ℕ) → IsLaterThan (suc n) s → (later : List (List ℕ)) (p : RationalPoint) (given : List Verdict) →
-    rule_of (state_after (suc n) s later) (ask_as_of n p) given ↔ rule_of (in_layer (state_after (suc n) s later).layer s) (ask_at p) given
+AsOfAnswersThen = (v : Version) (s : State) → IsSound s → (n : ℕ) → IsLaterThan (suc n) s → (later : List (List ℕ)) (p : RationalPoint) (given : List Verdict) →
+    rule_of (state_after v (suc n) s later) (ask_as_of n p) given ↔ rule_of (in_layer (state_after v (suc n) s later).layer s) (ask_at p) given
 
 -- ---- cutting, subdividing and consolidating
 

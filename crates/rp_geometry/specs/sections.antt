@@ -1,0 +1,5 @@
+-- Horizontal sections: traces of half-spaces, rings, flat certificates, and what is shown of a cell at a height.
+pub mod Trace
+pub mod Ring
+pub mod Flat
+pub mod Slice
