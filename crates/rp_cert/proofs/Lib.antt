@@ -1,2 +1,4 @@
 mod Multipliers
-mod Shown
+pub mod Shown
+pub mod Traced
+mod Walks

@@ -44,7 +44,7 @@ fn is_listed_with_cube(half: &Half, cell: &[Half]) -> bool
 }
 
 /// Whether a half-space stands in a list.
-fn is_listed(half: &Half, halves: &[Half]) -> bool
+pub(crate) fn is_listed(half: &Half, halves: &[Half]) -> bool
     ensures { result ≡ is_listed half.now halves.now }
 {
     halves.iter().any(|other| half == other)

@@ -41,7 +41,7 @@ from_quotient g v d h =
         omega (arith, linear, none, h)
 
 -- terms with positive quotients are positive
-from_quotients : (g : ℕ) (ts : List Multiple) → DividesAll g (factors_of ts) → list_all (λ t. is_positive t.factor) (divided g ts) ≡ true → list_all (λ t. is_positive t.factor) ts ≡ true
+pub from_quotients : (g : ℕ) (ts : List Multiple) → DividesAll g (factors_of ts) → list_all (λ t. is_positive t.factor) (divided g ts) ≡ true → list_all (λ t. is_positive t.factor) ts ≡ true
 from_quotients g [] d e = refl
 from_quotients g (t ∷ ts) d e =
     let rest = list_all (λ (u : Multiple). is_positive u.factor) (divided g ts) in
@@ -58,7 +58,7 @@ from_reduced strict ts e =
     from_quotients (gcd_of (factors_of ts)) ts (gcd_of-divides (factors_of ts)) (and_first (list_all (λ (t : Multiple). is_positive t.factor) us) (is_balanced us) (and_first _ (is_contradiction strict us) e))
 
 -- small positive terms have multipliers
-small_multipliers : (ts : List Multiple) → AreFactorsSmall ts → list_all (λ t. is_positive t.factor) ts ≡ true → list_all (λ t. is_multiplier t.factor) ts ≡ true
+pub small_multipliers : (ts : List Multiple) → AreFactorsSmall ts → list_all (λ t. is_positive t.factor) ts ≡ true → list_all (λ t. is_multiplier t.factor) ts ≡ true
 small_multipliers [] s e = refl
 small_multipliers (t ∷ ts) s e =
     let rest = list_all (λ (u : Multiple). is_positive u.factor) ts in
@@ -67,7 +67,7 @@ small_multipliers (t ∷ ts) s e =
     (small_multipliers ts s.1 (and_second (is_positive t.factor) rest e))
 
 -- negated terms are as small
-negated_small : (ts : List Multiple) → AreFactorsSmall ts → AreFactorsSmall (negated_terms ts)
+pub negated_small : (ts : List Multiple) → AreFactorsSmall ts → AreFactorsSmall (negated_terms ts)
 negated_small [] s = tt
 negated_small (t ∷ ts) s = (opposite_within greatest_minor t.factor s.0, negated_small ts s.1)
 

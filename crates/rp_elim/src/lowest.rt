@@ -18,7 +18,7 @@ fn divisor_of(terms: &[Term]) -> u128
 }
 
 /// The terms with their multipliers divided by the greatest common divisor of them all.
-pub fn lowest(terms: &[Term]) -> Outside
+pub fn lowest_terms(terms: &[Term]) -> Outside
     requires some { 0 < length terms.now }
     requires few { length terms.now ≤ 4 }
     requires multipliers { list_all (λ t. is_multiplier t.factor) terms.now ≡ true }

@@ -5,7 +5,7 @@ ghost use Rattle.rp_geometry.specs.searches.Certificate.{is_balanced, is_contrad
 ghost use Rattle.rp_geometry.specs.searches.Elimination.{terms_if, reduced_terms, normal_terms, negated_terms};
 ghost use Rattle.rp_elim.specs.Factors.{AreFactorsSmall};
 
-use crate::lowest::lowest;
+use crate::lowest::lowest_terms;
 use rp_space::{Outside, Term, is_balanced, is_contradiction, is_multiplier};
 
 /// The terms with positive multipliers in lowest terms, if they refute; the multipliers may have either sign.
@@ -36,7 +36,7 @@ pub fn positive_refutation(strict: bool, terms: &[Term]) -> Option<Outside>
     if !cancel(strict, terms) {
         return None;
     }
-    Some(lowest(terms))
+    Some(lowest_terms(terms))
 }
 
 /// Whether positive multiples contradict and cancel. Most that are tried cancel, so the contradiction comes first.
@@ -49,14 +49,14 @@ fn cancel(strict: bool, terms: &[Term]) -> bool
 }
 
 /// Whether each multiplier is from 1 to 2^75 - 1.
-fn are_multipliers(terms: &[Term]) -> bool
+pub fn are_multipliers(terms: &[Term]) -> bool
     ensures { result ≡ list_all (λ t. is_multiplier t.factor) terms.now }
 {
     terms.iter().all(|term| is_multiplier(term.by))
 }
 
 /// Whether the negative of each multiplier is from 1 to 2^75 - 1.
-fn are_negated_multipliers(terms: &[Term]) -> bool
+pub fn are_negated_multipliers(terms: &[Term]) -> bool
     ensures { result ≡ list_all (λ t. is_multiplier (neg_ℤ t.factor)) terms.now }
 {
     terms.iter().all(|term| is_negated_multiplier(term.by))
@@ -71,7 +71,7 @@ fn is_negated_multiplier(by: i128) -> bool
 }
 
 /// The terms with their multipliers negated.
-fn negated(terms: &[Term]) -> Outside
+pub fn negated(terms: &[Term]) -> Outside
     requires few { length terms.now ≤ 4 }
     requires multipliers { list_all (λ t. is_multiplier (neg_ℤ t.factor)) terms.now ≡ true }
     ensures { result ≡ negated_terms terms.now }

@@ -32,7 +32,7 @@ none_with_part chosen test p (q ∷ qs) w e = by (chosen p q) refl (none_with_pa
         ap (λ (b : Bool). after_first (λ found. elim found [ true ↦ pass true | false ↦ first_with_part chosen test p qs ]) (test_pair_if b test p q w)) f ∙ later rest
 
 -- no parts of two lists meet
-none_of_pairs : {W : Type 0} (chosen : Part → Part → Bool) (test : List HalfSpace → Walk W Bool) (ps qs : List Part) (w : W) → count_pairs chosen ps qs ≡ 0 → first_pair chosen test ps qs w ≡ done false w
+pub none_of_pairs : {W : Type 0} (chosen : Part → Part → Bool) (test : List HalfSpace → Walk W Bool) (ps qs : List Part) (w : W) → count_pairs chosen ps qs ≡ 0 → first_pair chosen test ps qs w ≡ done false w
 none_of_pairs chosen test [] qs w e = refl
 none_of_pairs chosen test (p ∷ ps) qs w e =
     let s = sum_by-cons (λ (r : Part). count_by (λ q. chosen r q) qs) p ps in

@@ -1,14 +1,16 @@
 -- Walks only append proof lines.
-use Rattle.std.proofs.Common.{ℕ, Bool, true, false, List, [], ◌∷◌, ◌++◌, length, refl, sym, ap, ◌∙◌, append_assoc}
+use Rattle.std.proofs.Common.{◌≡◌, ℕ, Bool, true, false, List, [], ◌∷◌, ◌++◌, length, refl, sym, ap, ◌∙◌, append_assoc, subst}
 use Rattle.std.specs.Prelude.{◌+◌, nat_le, Option, Some, None}
 use Rattle.std.proofs.lemmas.List.{append-nil}
 use Rattle.rp_geometry.specs.Geometry.{HalfSpace, boxes_meet, complement}
+use Rattle.rp_geometry.specs.sets.Prism.{Edge, is_upright, Prism}
 use Rattle.rp_geometry.specs.sets.Shape.{Part}
 use Rattle.rp_geometry.specs.searches.ProofLine.{strict_line}
 use Rattle.rp_geometry.specs.parts.PartTest.{has_member, slimmed, part_lines, part_of, whole_part}
 use Rattle.rp_geometry.specs.parts.Parts.{most_half_spaces, most_parts}
 use Rattle.rp_walks.specs.Walk.{Outcome, done, stopped, limit_met, Walk, pass, stop, after_first, ◌>>=◌, ◌>>◌, Work, with_lines, most_tests, count_tests, strict_test, part_test, first_tester}
-use Rattle.rp_walks.specs.Form.{made_part, if_at_most, join_pair, join_with_part, join_each, carve_one, carve, carve_or_keep, subtract_pair, subtract_part, subtract, subtract_from_whole}
+use Rattle.rp_walks.specs.Form.{made_part, if_at_most, join_pair, join_with_part, join_each, carve_one, carve, carve_or_keep, subtract_pair, subtract_part, subtract, subtract_from_whole, exchange, exchange_edge, exchange_edges, exchange_lists, exchange_cell}
+use Rattle.rp_footprint.specs.Cells.{trapezoid_by}
 use Rattle.rp_region.specs.Makes.{work_after, TellsMore, OnlyTells}
 use Rattle.rp_region.specs.Tells.{strict_tells}
 
@@ -144,3 +146,34 @@ subtract_tells current (q ∷ qs) =
 -- the cube without the parts of a list
 pub outside_tells : (ps : List Part) → OnlyTells (subtract_from_whole first_tester ps)
 outside_tells ps = subtract_tells (whole_part ∷ []) ps
+
+-- ---- prisms
+
+-- two lists are exchanged
+pub lists_tell : (current made : List Part) → OnlyTells (exchange_lists first_tester current made)
+lists_tell current made =
+    then_tells (subtract first_tester current made) (λ outside. subtract first_tester made current >>= λ added. if_at_most most_parts (outside ++ added)) (subtract_tells current made)
+    (λ outside. then_tells (subtract first_tester made current) (λ added. if_at_most most_parts (outside ++ added)) (subtract_tells made current) (λ added. few_tells most_parts (outside ++ added)))
+
+-- a part, if there is one
+pub exchange_tells : (current : List Part) (o : Option Part) → OnlyTells (exchange first_tester current o)
+exchange_tells current None = pass_tells current
+exchange_tells current (Some made) = lists_tell current (made ∷ [])
+
+-- the part of a cell
+pub cell_tells : (current : List Part) (o : Option (List HalfSpace)) → OnlyTells (exchange_cell first_tester current o)
+cell_tells current None = pass_tells current
+cell_tells current (Some cell) = then_tells (part_test cell) (exchange first_tester current) (part_tells cell) (λ o. exchange_tells current o)
+
+-- the cell of an edge is that of its trapezoid, if there is one
+pub edge_as_cell : (s : Prism) (u : Bool) (current : List Part) (e : Edge) → exchange_edge first_tester s u current e ≡ exchange_cell first_tester current (trapezoid_by s u e)
+edge_as_cell s true current e = refl
+edge_as_cell s false current e = refl
+
+-- the trapezoids of edges
+pub edges_tell : (s : Prism) (current : List Part) (es : List Edge) → OnlyTells (exchange_edges first_tester s current es)
+edges_tell s current [] = pass_tells current
+edges_tell s current (e ∷ es) =
+    then_tells (exchange_edge first_tester s (is_upright e) current e) (λ next. exchange_edges first_tester s next es)
+    (subst (λ walk. OnlyTells walk) (sym (edge_as_cell s (is_upright e) current e)) (cell_tells current (trapezoid_by s (is_upright e) e)))
+    (λ next. edges_tell s next es)

@@ -24,6 +24,10 @@ left_as {start = start} {now = now} {whole = whole} e h = subst (λ walk. IsLeft
 step_told : {A : Type 0} (first : Walk Work A) (o : Outcome Work A) (now : Work) → OnlyTells first → first now ≡ o → TellsMore now (work_after o)
 step_told first o now f e = subst (λ r. TellsMore now (work_after r)) e (f.tells now)
 
+-- the whole walk in other words
+pub whole_as : {A : Type 0} {start now : Work} {whole other left : Walk Work A} → whole ≡ other → IsLeft start whole now left → IsLeft start other now left
+whole_as {start = start} {now = now} {left = left} e h = subst (λ walk. IsLeft start walk now left) e h
+
 -- after one step the next walk is left
 pub next_left : {A B : Type 0} {start now new : Work} {whole : Walk Work A} {x : B} (first : Walk Work B) (next : B → Walk Work A)
     → OnlyTells first → IsLeft start whole now (first >>= next) → first now ≡ done x new → IsLeft start whole new (next x)

@@ -6,3 +6,4 @@ pub mod Steps
 pub mod Tested
 pub mod Searched
 pub mod Members
+pub mod Prisms

@@ -20,7 +20,7 @@ use Rattle.rp_region.specs.Makes.{Makes}
 use Rattle.rp_region.specs.Pairs.{first_pair_by, common_by, touch_by}
 
 -- what is known of the end of a walk, of the end it has come to
-at_done : {A : Type 0} (P : A → Type 0) (o : Outcome Work A) (x : A) (w : Work) → o ≡ done x w → IfDone o P → P x
+pub at_done : {A : Type 0} (P : A → Type 0) (o : Outcome Work A) (x : A) (w : Work) → o ≡ done x w → IfDone o P → P x
 at_done P o x w e h = subst (λ r. IfDone r P) e h
 
 -- a join whose tests were counted

@@ -8,6 +8,7 @@ mod front;
 mod join;
 mod pairs;
 mod part;
+mod prism;
 mod region;
 mod witness;
 mod work;

@@ -66,6 +66,15 @@ impl Region {
         Ok(Region { parts })
     }
 
+    /// The region of one part. Answers `AllocError` only for want of memory.
+    pub(crate) fn of_part(alloc: Global, part: Part) -> Result<Region, AllocError>
+        ensures { IfOk result (λ region. region ≡ part ∷ []) }
+    {
+        let mut parts = Listed::new(alloc);
+        parts.push(part)?;
+        Ok(Region { parts })
+    }
+
     /// The region of a cell of at most 64 half-spaces: the part that one part test makes of it, or no part where the cell
     /// has no point. The test isn't counted. `Limit` exactly where more than 32 half-spaces are left of the cell without
     /// those that add nothing.

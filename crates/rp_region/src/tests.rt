@@ -4,7 +4,7 @@ ghost use Rattle.rp_space.specs.Boxes.{integer_box};
 
 use crate::{OpFault, Part, Region, Work};
 use rp_cert::Proof;
-use rp_space::{Half, HalfFault, Inside, IntBox, Outside, Point, PointFault, box_halves};
+use rp_space::{Corner, Half, HalfFault, Inside, IntBox, Outside, Point, PointFault, box_halves};
 use std::alloc::{AllocError, Global};
 use std::process::Abort;
 use std::test::Fail;
@@ -715,5 +715,64 @@ fn parts_touch_at_a_corner(rt: HostRuntime) -> Result<(), Fail> {
     ];
     expect_lines(&rt, work.proofs(), &wanted);
     assert_eq!(rt; work.tests(), 0);
+    Ok(())
+}
+
+/// A square.
+const SQUARE: [Corner; 4] = [
+    Corner { x: 0, y: 0 },
+    Corner { x: 10, y: 0 },
+    Corner { x: 10, y: 10 },
+    Corner { x: 0, y: 10 },
+];
+
+/// A polygon that crosses itself: two triangles that meet in (5, 5).
+const CROSSED: [Corner; 4] = [
+    Corner { x: 0, y: 0 },
+    Corner { x: 10, y: 10 },
+    Corner { x: 10, y: 0 },
+    Corner { x: 0, y: 10 },
+];
+
+/// The square, raised from 0 to 10.
+fn raised_square(alloc: Global, work: &mut Work) -> Result<Region, OpFault> {
+    Region::of_prism(alloc, 0, 10, &SQUARE, work)
+}
+
+/// The crossed polygon, raised from 0 to 10.
+fn raised_crossed(alloc: Global, work: &mut Work) -> Result<Region, OpFault> {
+    Region::of_prism(alloc, 0, 10, &CROSSED, work)
+}
+
+#[test]
+fn a_raised_square_is_one_part(rt: HostRuntime) -> Result<(), Fail> {
+    let mut work = Work::new(rt.alloc());
+    let square = raised_square(rt.alloc(), &mut work)?;
+    assert_eq!(rt; work.tests(), 0);
+    let halves = [
+        (1, 0, 0, 0),
+        (-1, 0, 0, 10),
+        (0, 1, 0, 0),
+        (0, -1, 0, 10),
+        (0, 0, 1, 0),
+        (0, 0, -1, 10),
+    ];
+    expect_part(&rt, &square, &halves, [0, 0, 0], [10, 10, 10]);
+    Ok(())
+}
+
+#[test]
+fn a_raised_polygon_may_cross_itself(rt: HostRuntime) -> Result<(), Fail> {
+    let mut work = Work::new(rt.alloc());
+    let crossed = raised_crossed(rt.alloc(), &mut work)?;
+    let table = [
+        ((5, 2, 5, 1), false),
+        ((2, 5, 5, 1), true),
+        ((8, 5, 5, 1), true),
+        ((5, 5, 5, 1), true),
+        ((2, 5, 10, 1), false),
+        (OUTSIDE, false),
+    ];
+    expect_points(&rt, &crossed, &table)?;
     Ok(())
 }

@@ -62,22 +62,30 @@ next_none xs None e = refl
 next_none xs (Some r) e = absurd (none_not_some (with_one_more xs r) e)
 
 -- where something is left that begins with no thing, the text gives nothing
-pub none_same : {A : Type 0} (item : Taker A) (xs : List A) (room : ℕ) (line : List ℕ) (whole : Option (List A)) → 0 < length line → None ≡ option_map (with_one_more xs) (spaced_item item line) → with_front xs (items item room line) ≡ whole → None ≡ filled whole
+pub none_of : {A : Type 0} (item : Taker A) (xs : List A) (room : ℕ) (line : List ℕ) (whole : Option (List A)) → 0 < length line → None ≡ option_map (with_one_more xs) (spaced_item item line) → with_front xs (items item room line) ≡ whole → None ≡ whole
 unfolding items
-none_same item xs room [] whole some e same = absurd (omega arith)
-none_same item xs zero (b ∷ bs) whole some e same = ap filled same
-none_same {A} item xs (suc room) (b ∷ bs) whole some e same =
-    ap filled (sym (ap (λ (o : Option (A × List ℕ)). with_front xs (option_and_then (λ (s : A × List ℕ). cons_some (Some s.0) (items item room s.1)) o)) (next_none xs (spaced_item item (b ∷ bs)) e)) ∙ same)
+none_of item xs room [] whole some e same = absurd (omega arith)
+none_of item xs zero (b ∷ bs) whole some e same = same
+none_of {A} item xs (suc room) (b ∷ bs) whole some e same =
+    sym (ap (λ (o : Option (A × List ℕ)). with_front xs (option_and_then (λ (s : A × List ℕ). cons_some (Some s.0) (items item room s.1)) o)) (next_none xs (spaced_item item (b ∷ bs)) e)) ∙ same
+
+-- nor does it where an item is wanted
+pub none_same : {A : Type 0} (item : Taker A) (xs : List A) (room : ℕ) (line : List ℕ) (whole : Option (List A)) → 0 < length line → None ≡ option_map (with_one_more xs) (spaced_item item line) → with_front xs (items item room line) ≡ whole → None ≡ filled whole
+none_same item xs room line whole some e same = ap filled (none_of item xs room line whole some e same)
 
 -- where something is left and there is no room, the text gives nothing
-pub full_same : {A : Type 0} (item : Taker A) (xs : List A) (room : ℕ) (line : List ℕ) (whole : Option (List A)) → room ≡ 0 → 0 < length line → with_front xs (items item room line) ≡ whole → None ≡ filled whole
+pub full_of : {A : Type 0} (item : Taker A) (xs : List A) (room : ℕ) (line : List ℕ) (whole : Option (List A)) → room ≡ 0 → 0 < length line → with_front xs (items item room line) ≡ whole → None ≡ whole
 unfolding items
-full_same item xs room [] whole none some same = absurd (omega arith)
-full_same item xs zero (b ∷ bs) whole none some same = ap filled same
-full_same item xs (suc room) (b ∷ bs) whole none some same = absurd (omega arith)
+full_of item xs room [] whole none some same = absurd (omega arith)
+full_of item xs zero (b ∷ bs) whole none some same = same
+full_of item xs (suc room) (b ∷ bs) whole none some same = absurd (omega arith)
+
+-- nor does it where an item is wanted
+pub full_same : {A : Type 0} (item : Taker A) (xs : List A) (room : ℕ) (line : List ℕ) (whole : Option (List A)) → room ≡ 0 → 0 < length line → with_front xs (items item room line) ≡ whole → None ≡ filled whole
+full_same item xs room line whole none some same = ap filled (full_of item xs room line whole none some same)
 
 -- where nothing is left, the text gives what was read so far
-done_same : {A : Type 0} (item : Taker A) (xs : List A) (room : ℕ) (line : List ℕ) (whole : Option (List A)) → length line ≡ 0 → with_front xs (items item room line) ≡ whole → Some xs ≡ whole
+pub done_same : {A : Type 0} (item : Taker A) (xs : List A) (room : ℕ) (line : List ℕ) (whole : Option (List A)) → length line ≡ 0 → with_front xs (items item room line) ≡ whole → Some xs ≡ whole
 unfolding items
 done_same item xs zero [] whole none same = ap Some (sym (append-nil xs)) ∙ same
 done_same item xs (suc room) [] whole none same = ap Some (sym (append-nil xs)) ∙ same

@@ -5,5 +5,7 @@ mod LineLemmas
 mod NumberWords
 mod ProofLaws
 mod ReaderLaws
+mod SliceLaws
+mod SliceLemmas
 mod WordLemmas
 mod WrittenLemmas

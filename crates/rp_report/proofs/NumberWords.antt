@@ -1,5 +1,5 @@
 -- A word that spells a number is the number's one spelling.
-use Rattle.std.proofs.Common.{◌≡◌, ℕ, zero, suc, ◌+◌, ◌-◌, ◌*◌, ◌/◌, ◌%◌, ◌^◌, ◌<◌, ◌≤◌, Bool, true, false, ◌||◌, not, ◌==◌, ℤ, pos, neg_ℤ, nat_abs, ⊎_elim, List, [], ◌∷◌, ◌++◌, Option, Some, None, refl, sym, ap, ◌∙◌, subst, arith, fold, append_assoc, append-nil}
+use Rattle.std.proofs.Common.{◌≡◌, ℕ, zero, suc, ◌+◌, ◌-◌, ◌*◌, ◌/◌, ◌%◌, ◌^◌, ◌<◌, ◌≤◌, Bool, true, false, ◌||◌, not, ◌==◌, ℤ, pos, negsuc, nat_abs, ⊎_elim, List, [], ◌∷◌, ◌++◌, Option, Some, None, refl, sym, ap, ◌∙◌, subst, arith, fold, append_assoc, append-nil}
 use Rattle.std.specs.List.{list_all}
 use Rattle.std.specs.Char.{is_ascii_digit}
 use Rattle.std.specs.Fmt.{decimal, signed_decimal}
@@ -7,7 +7,7 @@ use Rattle.std.proofs.lemmas.Fmt.{decimal_digit, decimal_step_wide}
 use Rattle.std.proofs.lemmas.Bool.{and_parts, or_cases}
 use Rattle.std.proofs.lemmas.Slice.Eq.{bytes_eq-Decides}
 use Rattle.rp_algebra.proofs.Options.{none_not_some, same_some, some_if}
-use Rattle.rp_language.specs.Grammar.{Word, minus_sign, zero_digit, value_of_digits, starts_above_zero, spells_zero, natural_spelled, negative_spelled, as_whole, number_spelled}
+use Rattle.rp_language.specs.Grammar.{Word, minus_sign, zero_digit, value_of_digits, starts_above_zero, spells_zero, natural_spelled, as_negative, as_whole, number_spelled}
 
 -- one more digit
 abbrev step : ℕ → ℕ → ℕ
@@ -63,28 +63,14 @@ natural_is_decimal word n e small =
         let none : 0 ≡ n = ap value_of_digits (sym same) ∙ is in
         same ∙ sym (decimal_digit 0 (omega arith)) ∙ ap decimal none
 
--- digits of which the first is not zero stand for a number above 0
-above_is_some : (ds : Word) → starts_above_zero ds ≡ true → 0 < value_of_digits ds
-above_is_some [] e = absurd (cc)
-above_is_some (d ∷ ds) e =
-    let parts = and_parts _ _ e in
-    let size = digit_is d (and_parts _ _ parts.1).0 in
-    let more = grows (step 0 d) ds in
-    let some : 0 < step 0 d = first_above d parts.0 size.0 in
-    omega (arith, more, some)
-
--- a minus sign and digits that stand for a number above 0
-minus_is_decimal : (ds : Word) (n : ℕ) (v : ℤ) → starts_above_zero ds ≡ true → value_of_digits ds ≡ n → 0 < n → neg_ℤ (pos n) ≡ v → nat_abs v < 10 ^ 64 → 45 ∷ ds ≡ signed_decimal v
-minus_is_decimal ds zero v above is some same small = absurd (omega arith)
-minus_is_decimal ds (suc n) v above is some same small =
+-- the digits behind a minus sign, which stand for a number above 0
+negative_is_decimal : (ds : Word) (n : Option ℕ) (v : ℤ) → natural_spelled ds ≡ n → as_negative n ≡ Some v → nat_abs v < 10 ^ 64 → 45 ∷ ds ≡ signed_decimal v
+negative_is_decimal ds None v is e small = absurd (none_not_some v e)
+negative_is_decimal ds (Some zero) v is e small = absurd (none_not_some v e)
+negative_is_decimal ds (Some (suc n)) v is e small =
+    let same : negsuc n ≡ v = same_some (negsuc n) v e in
     let size : suc n < 10 ^ 64 = subst (λ (x : ℤ). nat_abs x < 10 ^ 64) (sym same) small in
-    ap (λ (l : List ℕ). 45 ∷ l) (above_is_decimal ds above (subst (λ (k : ℕ). k < 10 ^ 64) (sym is) size) ∙ ap decimal is) ∙ ap signed_decimal same
-
--- the digits behind a minus sign
-negative_is_decimal : (ds : Word) (v : ℤ) → negative_spelled ds ≡ Some v → nat_abs v < 10 ^ 64 → 45 ∷ ds ≡ signed_decimal v
-negative_is_decimal ds v e small =
-    let h = some_if (starts_above_zero ds) (neg_ℤ (pos (value_of_digits ds))) v e in
-    minus_is_decimal ds (value_of_digits ds) v h.0 refl (above_is_some ds h.0) h.1 small
+    ap (λ (l : List ℕ). 45 ∷ l) (natural_is_decimal ds (suc n) is size) ∙ ap signed_decimal same
 
 -- a word that spells a number is its spelling
 pub word_is_spelling : (word : Word) (v : ℤ) → number_spelled word ≡ Some v → nat_abs v < 10 ^ 64 → word ≡ signed_decimal v
@@ -101,6 +87,6 @@ word_is_spelling (b ∷ bs) v e small = by (b == minus_sign) refl e
         let size : n < 10 ^ 64 = subst (λ (x : ℤ). nat_abs x < 10 ^ 64) (sym same) small in
         natural_is_decimal (b ∷ bs) n is size ∙ ap signed_decimal same
 
-    by : (test : Bool) → (b == minus_sign) ≡ test → elim test as (λ _. Option ℤ) [ true ↦ negative_spelled bs | false ↦ as_whole (natural_spelled (b ∷ bs)) ] ≡ Some v → b ∷ bs ≡ signed_decimal v
-    by true is e = ap (λ (c : ℕ). c ∷ bs) (minus_is b is) ∙ negative_is_decimal bs v e small
+    by : (test : Bool) → (b == minus_sign) ≡ test → elim test as (λ _. Option ℤ) [ true ↦ as_negative (natural_spelled bs) | false ↦ as_whole (natural_spelled (b ∷ bs)) ] ≡ Some v → b ∷ bs ≡ signed_decimal v
+    by true is e = ap (λ (c : ℕ). c ∷ bs) (minus_is b is) ∙ negative_is_decimal bs (natural_spelled bs) v refl e small
     by false is e = from (natural_spelled (b ∷ bs)) refl e

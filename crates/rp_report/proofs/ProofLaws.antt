@@ -9,7 +9,7 @@ use Rattle.rp_geometry.specs.Geometry.{RationalPoint, HalfSpace, IntegerBox, is_
 use Rattle.rp_geometry.specs.searches.Certificate.{Multiple}
 use Rattle.rp_geometry.specs.searches.ProofLine.{ProofLine, in_line, out_line, at_line, apart_line, drop_line, box_line}
 use Rattle.rp_language.specs.Name.{label_eq}
-use Rattle.rp_language.specs.Grammar.{space, spaced, box_words}
+use Rattle.rp_language.specs.Grammar.{space, spaced, Version, box_words}
 use Rattle.rp_reports.specs.Text.{point_text, half_space_text, term_text, items_text, proof_text}
 use Rattle.rp_reports.specs.ProofText.{is_written_point, is_written_half_space, is_written_multiple, are_written_terms, is_written, read_words, loose_words, if_spelled, proof_read}
 use Rattle.rp_accepted.proofs.ProofsAgain.{proof_again}
@@ -86,7 +86,7 @@ abbrev second : ℤ → Taker (ℤ → IntegerBox)
 second x1 = side >>= third x1
 
 -- a box that was read
-box_sound : (line : List ℕ) (b : IntegerBox) → box_spelled line ≡ Some b → (line ≡ spaced (box_words b)) × (is_box_in_bounds b ≡ true)
+box_sound : (line : List ℕ) (b : IntegerBox) → box_spelled line ≡ Some b → (line ≡ spaced (box_words Version.one b)) × (is_box_in_bounds b ≡ true)
 unfolding box_spelled
 box_sound line b e =
     let l = led (λ (r : (ℤ → IntegerBox) × List ℕ). option_map r.0 (last_side r.1)) (all_but_last line) b e in
@@ -107,13 +107,13 @@ box_sound line b e =
     let end : w.between ≡ signed_decimal m.0 = ap (λ (r : (ℤ → IntegerBox) × List ℕ). r.1) same ∙ six.0 in (
       one.0 ∙ ap (λ (r : List ℕ). side_text s.value ++ r) (two.0 ∙ ap (λ (r : List ℕ). side_text t.value ++ r) (three.0 ∙ ap (λ (r : List ℕ). side_text u.value ++ r) (four.0 ∙ ap (λ (r : List ℕ). side_text v.value ++ r) (five.0 ∙ ap (λ (r : List ℕ). side_text w.value ++ r) end))))
           ∙ sym (six_text (signed_decimal s.value) (signed_decimal t.value) (signed_decimal u.value) (signed_decimal v.value) (signed_decimal w.value) (signed_decimal m.0))
-          ∙ ap (λ (c : IntegerBox). spaced (box_words c)) is,
+          ∙ ap (λ (c : IntegerBox). spaced (box_words Version.one c)) is,
       subst (λ (c : IntegerBox). is_box_in_bounds c ≡ true) is
           (and_true _ (is_side m.0) (and_true _ (is_side w.value) (and_true _ (is_side v.value) (and_true _ (is_side u.value) (and_true (is_side s.value) (is_side t.value) one.1 two.1) three.1) four.1) five.1) six.1),
     )
 
 -- a box within its bounds is read
-box_complete : (b : IntegerBox) → is_box_in_bounds b ≡ true → box_spelled (spaced (box_words b)) ≡ Some b
+box_complete : (b : IntegerBox) → is_box_in_bounds b ≡ true → box_spelled (spaced (box_words Version.one b)) ≡ Some b
 unfolding box_spelled
 box_complete b e =
     let five = and_first _ (is_side b.z2) e in
@@ -168,7 +168,7 @@ abbrev Spells : List ℕ → ProofLine → Type 0
 Spells line p = (line ≡ proof_text p) × (is_written p ≡ true)
 
 -- what was read behind a word, or else another way
-word_or : {A : Type 0} (word line : List ℕ) (read : List ℕ → Option A) (other : Option A) (x : A) (P : Type 0) → behind_or word line read other ≡ Some x → ((rest : List ℕ) → line ≡ word ++ rest → read rest ≡ Some x → P) → (other ≡ Some x → P) → P
+pub word_or : {A : Type 0} (word line : List ℕ) (read : List ℕ → Option A) (other : Option A) (x : A) (P : Type 0) → behind_or word line read other ≡ Some x → ((rest : List ℕ) → line ≡ word ++ rest → read rest ≡ Some x → P) → (other ≡ Some x → P) → P
 word_or {A} word line read other x P e found missed = by (behind word line) refl e
   where
     by : (o : Option (List ℕ)) → behind word line ≡ o → elim o as (λ _. Option A) [ Some rest ↦ read rest | None ↦ other ] ≡ Some x → P

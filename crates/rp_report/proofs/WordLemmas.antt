@@ -6,11 +6,11 @@ use Rattle.rp_language.specs.Grammar.{Word}
 use Rattle.rp_report.specs.Readers.{behind, ended, point, term, few_items, dropped, box_spelled, behind_or, proof}
 
 -- a line that begins with the word
-found : {A : Type 0} (word : Word) (line rest : List ℕ) (read : List ℕ → Option A) (other : Option A) → Some rest ≡ behind word line → read rest ≡ behind_or word line read other
+pub found : {A : Type 0} (word : Word) (line rest : List ℕ) (read : List ℕ → Option A) (other : Option A) → Some rest ≡ behind word line → read rest ≡ behind_or word line read other
 found {A} word line rest read other e = ap (λ (o : Option (List ℕ)). elim o as (λ _. Option A) [ Some rest ↦ read rest | None ↦ other ]) e
 
 -- a line that doesn't
-missed : {A : Type 0} (word : Word) (line : List ℕ) (read : List ℕ → Option A) (other : Option A) → None ≡ behind word line → other ≡ behind_or word line read other
+pub missed : {A : Type 0} (word : Word) (line : List ℕ) (read : List ℕ → Option A) (other : Option A) → None ≡ behind word line → other ≡ behind_or word line read other
 missed {A} word line read other e = ap (λ (o : Option (List ℕ)). elim o as (λ _. Option A) [ Some rest ↦ read rest | None ↦ other ]) e
 
 -- ---- what is read behind each word, and by the words that are left

@@ -1,15 +1,16 @@
 -- Answers of the code as those of the model.
 use Rattle.std.specs.Prelude.{map}
 use Rattle.rp_geometry.specs.sets.Relation.{Relation}
-use Rattle.rp_model.specs.commands.Verdict.{Refusal as ModelRefusal, bad, unknown, known, repeated, layers, same_name, too_few, empty_region, limit, overlaps, empty_side, empty_child, outside_lot, children_overlap, gap, empty_operand, Verdict as ModelVerdict, says_yes, says_no, says_ok, relation, pieces, piece, parts, part, parcel, nobody, neighbours, clear, parcels, lots, lot, refused, entry_of}
+use Rattle.rp_model.specs.commands.Verdict.{Refusal as ModelRefusal, bad, unknown, known, repeated, layers, same_name, too_few, empty_region, limit, overlaps, empty_side, empty_child, outside_lot, children_overlap, gap, empty_operand, Verdict as ModelVerdict, says_yes, says_no, says_ok, relation, pieces, piece, parts, part, parcel, nobody, neighbours, clear, parcels, lots, lot, sections, slice, access, no_access, level, refused, entry_of}
 use Rattle.rp_reports.specs.Text.{Answer as ModelAnswer}
 use Rattle.rp_history.specs.Lots.{lot_of}
 use Rattle.rp_syntax.specs.Views.{fault_of}
 use Rattle.rp_cert.specs.Lines.{line_of}
+use Rattle.rp_cert.specs.Section.{slice_shown}
 use Rattle.rp_report.specs.declared.answer.Refusal.{Refusal}
 use Rattle.rp_report.specs.declared.answer.Refusal.TheVariants.{Bad, Unknown, Known, Repeated, Layers, Same, Few, Empty, Limit, Overlaps, EmptySide, EmptyChild, Outside, ChildrenOverlap, Gap, EmptyRegion}
 use Rattle.rp_report.specs.declared.answer.Verdict.{Verdict}
-use Rattle.rp_report.specs.declared.answer.Verdict.TheVariants.{Yes, No, Ok, DC, EC, PO, EQ, TPP, NTPP, TPPi, NTPPi, Pieces, Piece, Parts, Part, Parcel, Nobody, Neighbours, Clear, Parcels, Lots, Lot, Refused}
+use Rattle.rp_report.specs.declared.answer.Verdict.TheVariants.{Yes, No, Ok, DC, EC, PO, EQ, TPP, NTPP, TPPi, NTPPi, Pieces, Piece, Parts, Part, Parcel, Nobody, Neighbours, Clear, Parcels, Lots, Lot, Sections, Slice, Access, NoAccess, Level, Refused}
 use Rattle.rp_report.specs.declared.answer.Answer.{Answer}
 
 -- the refusal of the model
@@ -55,6 +56,11 @@ verdict_of (Clear k) = clear k
 verdict_of (Parcels k) = parcels k
 verdict_of (Lots k) = lots k
 verdict_of (Lot l) = lot (entry_of (lot_of l))
+verdict_of (Sections k) = sections k
+verdict_of (Slice s) = slice (slice_shown s)
+verdict_of (Access k) = access k
+verdict_of NoAccess = no_access
+verdict_of (Level k x) = level k x
 verdict_of (Refused r) = refused (refusal_of r)
 
 -- the answer of the model

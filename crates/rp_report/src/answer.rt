@@ -1,6 +1,6 @@
 //! What is told of a line.
 
-use rp_cert::Proofs;
+use rp_cert::{Proofs, Slice};
 use rp_history::LotLine;
 use rp_space::{Halves, Listed, Name, Numbers};
 use rp_syntax::Why;
@@ -90,6 +90,16 @@ pub enum Verdict {
     Lots(u32),
     /// A lot.
     Lot(LotLine),
+    /// How many parts a slice is shown of; a line for each follows.
+    Sections(u32),
+    /// What is shown of a part at a height.
+    Slice(Slice),
+    /// How many steps a chain has; a line for each of its parcels follows.
+    Access(u32),
+    /// There is no chain.
+    NoAccess,
+    /// How many steps a parcel is away.
+    Level(u32, Name),
     /// The line is refused.
     Refused(Refusal),
 }

@@ -10,6 +10,8 @@ mod pieces;
 mod proof;
 mod proof_line;
 mod readers;
+mod slice;
+mod slice_line;
 mod space;
 mod text;
 mod verdict;
@@ -17,6 +19,7 @@ mod verdict;
 pub use answer::{Answer, Echo, Refusal, Verdict, Verdicts};
 pub use echo::read_echo;
 pub use proof_line::read_proof;
+pub use slice_line::read_slice;
 pub use text::{write_answer, write_verdict};
 
 #[cfg(test)]

@@ -50,7 +50,7 @@ fn short_number(word: &[u8]) -> Option<i128>
 
 /// A number and the first such byte, which ends it.
 #[tactic(auto, unfolding(crate::specs::Readers::number_before))]
-fn number_before(mark: u8, line: &[u8]) -> Option<(i128, &[u8])>
+pub(crate) fn number_before(mark: u8, line: &[u8]) -> Option<(i128, &[u8])>
     ensures { option_map front result ≡ number_before mark line.now }
 {
     let end = place_of(mark, line)?;
@@ -154,7 +154,7 @@ fn term(line: &[u8]) -> Option<(Term, &[u8])>
 }
 
 /// A point behind a space.
-fn spaced_point(line: &[u8]) -> Option<(Point, &[u8])>
+pub(crate) fn spaced_point(line: &[u8]) -> Option<(Point, &[u8])>
     ensures { option_map front result ≡ spaced_item point line.now }
 {
     point(behind(b" ", line)?)
@@ -230,7 +230,7 @@ pub(crate) fn terms(line: &[u8]) -> Option<Outside>
 }
 
 /// A number of a box, if it keeps its bounds.
-fn side_of(v: i128) -> Option<i32>
+pub(crate) fn side_of(v: i128) -> Option<i32>
     ensures { result ≡ side_of v }
 {
     if -MAX_SIDE <= v && v <= MAX_SIDE {

@@ -1,5 +1,5 @@
 //! The text of half-spaces, points, boxes, multiples and names.
-ghost use Rattle.rp_language.specs.Grammar.{spaced, box_words};
+ghost use Rattle.rp_language.specs.Grammar.{spaced, one, box_words};
 ghost use Rattle.rp_reports.specs.Text.{half_space_text, point_text, term_text};
 ghost use Rattle.rp_space.specs.Boxes.{integer_box};
 
@@ -28,7 +28,7 @@ impl WriteText for Point {
 }
 
 impl WriteText for IntBox {
-    ghost text = { λ b. spaced (box_words (integer_box b)) };
+    ghost text = { λ b. spaced (box_words one (integer_box b)) };
 
     fn write_text(&self, out: &mut Vec<u8>) -> Result<(), AllocError> {
         let [x1, y1, z1] = self.lo;

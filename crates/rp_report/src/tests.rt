@@ -1,5 +1,6 @@
 use crate::{
-    Answer, Refusal, Verdict, Verdicts, read_echo, read_proof, write_answer, write_verdict,
+    Answer, Refusal, Verdict, Verdicts, read_echo, read_proof, read_slice, write_answer,
+    write_verdict,
 };
 use rp_cert::{Proof, Proofs};
 use rp_history::LotLine;
@@ -98,6 +99,10 @@ fn each_verdict_of_the_register_has_its_line(rt: HostRuntime) -> Result<(), Fail
         (Verdict::Clear(800), b"> 7 all\n= clear 800\n"),
         (Verdict::Parcels(0), b"> 7 all\n= parcels 0\n"),
         (Verdict::Lots(3), b"> 7 all\n= lots 3\n"),
+        (Verdict::Sections(1), b"> 7 all\n= sections 1\n"),
+        (Verdict::Access(2), b"> 7 all\n= access 2\n"),
+        (Verdict::NoAccess, b"> 7 all\n= noaccess\n"),
+        (Verdict::Level(3, name), b"> 7 all\n= level 3 west\n"),
     ] {
         expect_text(&rt, rt.alloc(), (7, b"all"), verdict, want)?;
     }
@@ -509,4 +514,56 @@ fn echoes_give_number_and_place(rt: HostRuntime) -> Result<(), Fail> {
         assert_eq!(rt; read_echo(line), want, "{line:?}");
     }
     Ok(())
+}
+
+/// Reads a line of a slice, writes it as a verdict, and compares the text.
+fn expect_slice(rt: &impl Abort, alloc: Global, line: &[u8]) -> Result<(), Fail> {
+    let slice = read_slice(line).ok_or("no slice")?;
+    let mut out = Vec::new(alloc);
+    write_verdict(&Verdict::Slice(slice), &mut out)?;
+    assert_eq!(rt; out.as_slice(), line);
+    Ok(())
+}
+
+#[test]
+fn lines_of_slices_are_read_back(rt: HostRuntime) -> Result<(), Fail> {
+    for line in [
+        b"= ring (1 0 0) (0 0 5 1) (0 1 0) (10 0 5 1) (-1 0 10) (10 10 5 1) (0 -1 10) (0 10 5 1)".as_slice(),
+        b"= ring (1 0 0) (0 0 1 1) (0 1 0) (1 0 1 1) (-2 -3 2) (0 2 3 3)",
+        b"= ring (16777216 0 1125899906842624) (0 0 1 1) (0 1 0) (1 0 1 1) (1 1 1) (1 1 1 1)",
+        b"= flat 1*(0 0 -1 10)",
+        b"= flat 1*(1 0 0 0) 37778931862957161709567*(-1 0 0 0) 2*(0 1 0 0)",
+    ] {
+        expect_slice(&rt, rt.alloc(), line)?;
+    }
+    Ok(())
+}
+
+/// Expects that a line shows no slice.
+fn expect_no_slice(rt: &impl Abort, line: &[u8]) {
+    assert!(rt; read_slice(line).is_none(), "{line:?}");
+}
+
+#[test]
+fn other_spellings_show_no_slices(rt: HostRuntime) {
+    for line in [
+        b"".as_slice(),
+        b"= ring",
+        b"= flat",
+        b"= flat ",
+        b"=  flat 1*(0 0 -1 10)",
+        b"  flat 1*(0 0 -1 10)",
+        b"= flat 1*(0 0 -1 10) ",
+        b"= flat 0*(0 0 -1 10)",
+        b"= flat 1*(1 0 0 0) 1*(1 0 0 0) 1*(1 0 0 0) 1*(1 0 0 0)",
+        b"= ring (1 0 0) (0 0 1 1) (0 1 0) (1 0 1 1)",
+        b"= ring (1 0 0) (0 0 1 1) (0 1 0) (1 0 1 1) (-2 -3 2)",
+        b"= ring (1 0 0) (0 0 1 1) (0 1 0) (1 0 1 1) (-2 -3 2) (0 4 6 6)",
+        b"= ring (1 0 0) (0 0 1 1) (0 1 0) (1 0 1 1) (-2 -3 02) (0 2 3 3)",
+        b"= ring (1 0 0 0) (0 0 1 1) (0 1 0) (1 0 1 1) (-2 -3 2) (0 2 3 3)",
+        b"= ring (1 0 1125899906842625) (0 0 1 1) (0 1 0) (1 0 1 1) (1 1 1) (1 1 1 1)",
+        b"= ring (16777217 0 0) (0 0 1 1) (0 1 0) (1 0 1 1) (1 1 1) (1 1 1 1)",
+    ] {
+        expect_no_slice(&rt, line);
+    }
 }

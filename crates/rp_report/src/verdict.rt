@@ -1,7 +1,7 @@
 //! The text of verdict lines.
 ghost use Rattle.std.specs.Prelude.{◌≡◌};
 ghost use Rattle.rp_reports.specs.Text.{fault_word, refusal_text, verdict_text};
-ghost use Rattle.rp_model.specs.commands.Verdict.{children_overlap};
+ghost use Rattle.rp_model.specs.commands.Verdict.{children_overlap, level};
 ghost use Rattle.rp_syntax.specs.Views.{fault_of};
 ghost use Rattle.rp_report.specs.Fronts.{Writes};
 ghost use Rattle.rp_report.specs.Views.{refusal_of, verdict_of};
@@ -10,6 +10,7 @@ use crate::answer::{Refusal, Verdict};
 use crate::items::{WriteText, write_operand, write_operands};
 use crate::numbers::write_spaced;
 use crate::pieces::append;
+use rp_space::Name;
 use rp_syntax::Why;
 use std::alloc::AllocError;
 
@@ -32,6 +33,15 @@ fn write_children(first: u32, second: u32, out: &mut Vec<u8>) -> Result<(), Allo
 {
     append(b"childrenoverlap ", out)?;
     write_spaced(&first, &[second], out)
+}
+
+/// Appends how many steps a parcel is away.
+fn write_level(steps: u32, name: &Name, out: &mut Vec<u8>) -> Result<(), AllocError>
+    ensures { Writes result out.old.items out.new.items (verdict_text (level steps name.now)) }
+{
+    write_operand(b"= level", &steps, out)?;
+    append(b" ", out)?;
+    name.write_text(out)
 }
 
 impl WriteText for Refusal {
@@ -86,6 +96,11 @@ impl WriteText for Verdict {
             Verdict::Parcels(count) => write_operand(b"= parcels", count, out),
             Verdict::Lots(count) => write_operand(b"= lots", count, out),
             Verdict::Lot(lot) => write_operand(b"=", lot, out),
+            Verdict::Sections(count) => write_operand(b"= sections", count, out),
+            Verdict::Slice(slice) => write_operand(b"=", slice, out),
+            Verdict::Access(steps) => write_operand(b"= access", steps, out),
+            Verdict::NoAccess => append(b"= noaccess", out),
+            Verdict::Level(steps, name) => write_level(*steps, name, out),
             Verdict::Refused(refusal) => write_operand(b"= refused", refusal, out),
         }
     }

@@ -1,4 +1,5 @@
 pub mod Boxes
+pub mod Corners
 pub mod FourNumbers
 pub mod Listed
 pub mod MadeHalfSpace

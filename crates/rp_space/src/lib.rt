@@ -2,6 +2,7 @@
 #![tactic(auto)]
 
 mod bounds;
+mod corner;
 mod divisor;
 mod half;
 mod inside;
@@ -14,6 +15,7 @@ mod point;
 mod system;
 
 pub use bounds::{IntBox, box_halves, cube};
+pub use corner::{Corner, Corners};
 pub use divisor::{greatest_common_divisor, quotient};
 pub use half::{Half, HalfFault};
 pub use inside::Inside;

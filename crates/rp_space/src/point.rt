@@ -1,7 +1,7 @@
 //! Rational points in lowest terms.
 ghost use Rattle.std.specs.Prelude.{◌≡◌, ◌<◌, ◌^◌, [], ◌∷◌};
 ghost use Rattle.rp_algebra.specs.Integer.{gcd_of};
-ghost use Rattle.rp_geometry.specs.Geometry.{point_of, IsSmallPoint, coordinate_bound, is_within_bound, is_cube_point, is_point_in_bounds, reduced_point};
+ghost use Rattle.rp_geometry.specs.Geometry.{point_of, IsSmallPoint, IsKeptPoint, coordinate_bound, is_within_bound, is_cube_point, is_point_in_bounds, reduced_point};
 ghost use Rattle.rp_space.specs.MadePoint.{made_point};
 
 use crate::bounds::IntBox;
@@ -80,6 +80,13 @@ impl Point {
         ensures small { IsSmallPoint (point_of result.0 result.1 result.2 result.3) }
     {
         (self.x, self.y, self.z, self.w)
+    }
+
+    /// Does nothing: a point is within its bounds and in lowest terms, and this makes it known.
+    pub fn keep_lowest(&self)
+        ensures { IsKeptPoint self.now }
+    {
+        let _weight = self.w;
     }
 
     /// Whether the point lies in the domain cube, its upper sides left out.

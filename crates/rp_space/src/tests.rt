@@ -1,7 +1,7 @@
 use crate::{
-    Half, HalfFault, Halves, Inside, IntBox, Meeting, Name, Names, Numbers, Outside, Pair, Point,
-    PointFault, Term, box_halves, cube, greatest_common_divisor, is_balanced, is_contradiction,
-    is_multiplier, joined, meet, quotient, with_cube,
+    Corner, Corners, Half, HalfFault, Halves, Inside, IntBox, Meeting, Name, Names, Numbers,
+    Outside, Pair, Point, PointFault, Term, box_halves, cube, greatest_common_divisor, is_balanced,
+    is_contradiction, is_multiplier, joined, meet, quotient, with_cube,
 };
 use std::collections::HashMap;
 use std::test::Fail;
@@ -16,6 +16,8 @@ fn types_cross_threads() {
     needs_send_sync::<Point>();
     needs_send_sync::<PointFault>();
     needs_send_sync::<IntBox>();
+    needs_send_sync::<Corner>();
+    needs_send_sync::<Corners>();
     needs_send_sync::<Name>();
     needs_send_sync::<Names>();
     needs_send_sync::<Numbers>();

@@ -1,5 +1,6 @@
 mod Digits
 mod MadeLemmas
+mod NumberLemmas
 mod ManyLemmas
 mod SpellLemmas
 mod WordLemmas

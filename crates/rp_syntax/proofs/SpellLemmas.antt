@@ -4,7 +4,7 @@ use Rattle.std.specs.List.{flat_map}
 use Rattle.std.proofs.lemmas.Grind.{flat_map-append}
 use Rattle.std.proofs.lemmas.List.{append-nil, take_more, take_all, take-append-drop}
 use Rattle.std.specs.declared.alloc.AllocError.{AllocError}
-use Rattle.rp_language.specs.Grammar.{Word, space, spaced, expression_words}
+use Rattle.rp_language.specs.Grammar.{Word, space, spaced, Version, expression_words}
 use Rattle.rp_syntax.specs.declared.command.Expr.{Expr}
 use Rattle.rp_syntax.specs.Fronts.{AppendsFront}
 use Rattle.rp_syntax.specs.Spells.{behind_spaces, Spells}
@@ -79,9 +79,9 @@ stopped_within old mid new f xs i x piece words inside at is all before stopped 
     stopped_between old mid new (flat_map f (take i xs)) piece later words whole before stopped
 
 -- the words of an expression, by its first word and its kind
-pub node_words : (region node : Expr) (word : Word) → expression_words (expression_of region) ≡ word ∷ drop 1 (expression_words (expression_of region)) → region ≡ node → word ∷ drop 1 (expression_words (expression_of node)) ≡ expression_words (expression_of region)
-node_words region node word first is =
-    ap (λ (e : Expr). word ∷ drop 1 (expression_words (expression_of e))) (sym is) ∙ sym first
+pub node_words : (v : Version) (region node : Expr) (word : Word) → expression_words v (expression_of region) ≡ word ∷ drop 1 (expression_words v (expression_of region)) → region ≡ node → word ∷ drop 1 (expression_words v (expression_of node)) ≡ expression_words v (expression_of region)
+node_words v region node word first is =
+    ap (λ (e : Expr). word ∷ drop 1 (expression_words v (expression_of e))) (sym is) ∙ sym first
 
 -- the first word stands behind no space
 whole_text : (word : Word) (words : List Word) → words ≡ word ∷ drop 1 words → spaced words ≡ word ++ behind_spaces (drop 1 words)

@@ -1,6 +1,6 @@
 -- The keywords of the code as those of the grammar.
-use Rattle.rp_language.specs.Grammar.{Node as ModelNode, half_node, box_node, all_node, none_node, and_node, or_node, minus_node, not_node, name_node, lot_node}
-use Rattle.rp_language.specs.Grammar.{Verb as ModelVerb, let_verb, member_verb, empty_verb, pieces_verb, show_verb, equal_verb, within_verb, overlap_verb, contact_verb, rcc_verb, register_verb, cut_verb, subdivide_verb, consolidate_verb, retire_verb, neighbours_verb, history_verb, at_verb, asof_verb, audit_verb, list_verb, layer_verb}
+use Rattle.rp_language.specs.Grammar.{Node as ModelNode, half_node, box_node, all_node, none_node, and_node, or_node, minus_node, not_node, name_node, lot_node, prism_node}
+use Rattle.rp_language.specs.Grammar.{Verb as ModelVerb, let_verb, member_verb, empty_verb, pieces_verb, show_verb, equal_verb, within_verb, overlap_verb, contact_verb, rcc_verb, register_verb, cut_verb, subdivide_verb, consolidate_verb, retire_verb, neighbours_verb, history_verb, at_verb, asof_verb, audit_verb, list_verb, layer_verb, section_verb, access_verb}
 use Rattle.rp_syntax.specs.declared.keywords.Node.{Node}
 use Rattle.rp_syntax.specs.declared.keywords.Node.TheVariants as nodes
 use Rattle.rp_syntax.specs.declared.keywords.Verb.{Verb}
@@ -18,6 +18,7 @@ node_of nodes.Minus = minus_node
 node_of nodes.Not = not_node
 node_of nodes.Name = name_node
 node_of nodes.Lot = lot_node
+node_of nodes.Prism = prism_node
 
 -- the command of the grammar
 abbrev pub verb_of : Verb → ModelVerb
@@ -43,3 +44,5 @@ verb_of verbs.Asof = asof_verb
 verb_of verbs.Audit = audit_verb
 verb_of verbs.List = list_verb
 verb_of verbs.Layer = layer_verb
+verb_of verbs.Section = section_verb
+verb_of verbs.Access = access_verb

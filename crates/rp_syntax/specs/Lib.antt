@@ -4,4 +4,5 @@ pub mod Keywords
 pub mod Places
 pub mod Reads
 pub mod Spells
+pub mod Versions
 pub mod Views

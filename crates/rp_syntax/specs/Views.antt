@@ -1,10 +1,11 @@
 -- Commands of the code as those of the model.
 use Rattle.std.specs.Prelude.{List, ℕ, map}
-use Rattle.rp_language.specs.Expression.{Expression, Child, Command as ModelCommand, define, ask_member, ask_empty, ask_pieces, ask_show, ask_equal, ask_within, ask_overlap, ask_contact, ask_relation, register, cut, subdivide, consolidate, retire, ask_neighbours, ask_history, ask_at, ask_as_of, ask_audit, ask_list, set_layer}
+use Rattle.rp_language.specs.Expression.{Expression, Child, Command as ModelCommand, define, ask_member, ask_empty, ask_pieces, ask_show, ask_equal, ask_within, ask_overlap, ask_contact, ask_relation, register, cut, subdivide, consolidate, retire, ask_neighbours, ask_history, ask_at, ask_as_of, ask_audit, ask_list, set_layer, ask_section, ask_access}
 use Rattle.rp_language.specs.Grammar.{Fault, too_long, bad_syntax, out_of_range, zero_half_space, too_many_nodes, Reading, blank, command, bad}
 use Rattle.rp_space.specs.Boxes.{integer_box}
+use Rattle.rp_space.specs.Corners.{prism_of}
 use Rattle.rp_syntax.specs.declared.command.Expr.{Expr}
-use Rattle.rp_syntax.specs.declared.command.Expr.TheVariants.{Half, Block, All, Nothing, Name, Lot, And', Or', Minus', Not'}
+use Rattle.rp_syntax.specs.declared.command.Expr.TheVariants.{Half, Block, Prism, All, Nothing, Name, Lot, And', Or', Minus', Not'}
 use Rattle.rp_syntax.specs.declared.command.Command.{Command}
 use Rattle.rp_syntax.specs.declared.command.Command.TheVariants as commands
 use Rattle.rp_syntax.specs.declared.command.Why.{Why}
@@ -16,6 +17,7 @@ use Rattle.rp_syntax.specs.declared.command.Line.TheVariants.{Blank, Cmd, Bad}
 abbrev pub expression_of : Expr → Expression
 expression_of (Half h) = Expression.half_space h
 expression_of (Block b) = Expression.box (integer_box b)
+expression_of (Prism low high corners) = Expression.prism (prism_of low high corners.items)
 expression_of All = Expression.everything
 expression_of Nothing = Expression.nothing
 expression_of (Name x) = Expression.named x
@@ -53,6 +55,8 @@ command_of (commands.Asof n p) = ask_as_of n p
 command_of commands.Audit = ask_audit
 command_of commands.List = ask_list
 command_of (commands.Layer x) = set_layer x
+command_of (commands.Section e z) = ask_section (expression_of e) z
+command_of (commands.Access x y) = ask_access x y
 
 -- the fault of the grammar
 abbrev pub fault_of : Why → Fault

@@ -1,6 +1,6 @@
 //! Expressions and commands.
 
-use rp_space::{Half, IntBox, Listed, Name, Names, Point};
+use rp_space::{Corners, Half, IntBox, Listed, Name, Names, Point};
 
 /// An expression for a region. Half-spaces are in lowest terms.
 #[derive(Debug, Drop)]
@@ -9,6 +9,8 @@ pub enum Expr {
     Half(Half),
     /// The points of a box, its upper sides left out.
     Block(IntBox),
+    /// The points of a polygon, which may cross or touch itself, raised from the first height to below the second.
+    Prism(i32, i32, Corners),
     /// The whole domain cube.
     All,
     /// No point.
@@ -77,6 +79,10 @@ pub enum Command {
     List,
     /// Sets the layer that later lines speak of.
     Layer(Name),
+    /// The parts of a region at a height.
+    Section(Expr, i32),
+    /// A least chain of live lots from one lot to another, each in contact with the next.
+    Access(Name, Name),
 }
 
 /// Why a line is no command: its first fault in reading order.
@@ -90,7 +96,7 @@ pub enum Why {
     Zero,
     /// The word that begins the 1,025th node of the line's expressions.
     Nodes,
-    /// The line has more than 65,536 bytes.
+    /// The line has more than 65,536 bytes, or 262,144 in version 2.
     Long,
 }
 

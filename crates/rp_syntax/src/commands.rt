@@ -3,11 +3,13 @@ ghost use Rattle.std.specs.Prelude.{map};
 ghost use Rattle.rp_language.specs.Grammar.{keyword, verb_table, verb_words, equals_word, let_words, member_words, cut_words, subdivide_words, consolidate_words, as_of_words, many, child, name, command_words};
 ghost use Rattle.rp_syntax.specs.Keywords.{verb_of};
 ghost use Rattle.rp_syntax.specs.Reads.{Reads};
+ghost use Rattle.rp_syntax.specs.Versions.{version_of};
 ghost use Rattle.rp_syntax.specs.Views.{expression_of, child_of, command_of};
 
 use crate::command::{Command, Entries, Expr, Why};
 use crate::fault::ReadFault;
 use crate::keywords::{Verb, verb_for};
+use crate::version::Version;
 use crate::words::Words;
 use rp_space::{Name, Names};
 use std::alloc::Global;
@@ -45,63 +47,68 @@ impl<'a> Words<'a> {
     }
 
     /// What follows the word `let`.
-    fn definition(&mut self, alloc: Global) -> Result<Command, ReadFault>
-        ensures { Reads command_of result self.new (let_words self.old) }
+    fn definition(&mut self, alloc: Global, version: Version) -> Result<Command, ReadFault>
+        ensures { Reads command_of result self.new (let_words (version_of version) self.old) }
     {
         let name = self.name()?;
         self.equals()?;
-        let region = self.expression(alloc)?;
+        let region = self.expression(alloc, version)?;
         Ok(Command::Let(name, region))
     }
 
     /// What follows the word `member`.
-    fn member(&mut self, alloc: Global) -> Result<Command, ReadFault>
-        ensures { Reads command_of result self.new (member_words self.old) }
+    fn member(&mut self, alloc: Global, version: Version) -> Result<Command, ReadFault>
+        ensures { Reads command_of result self.new (member_words (version_of version) self.old) }
     {
-        let region = self.expression(alloc)?;
-        let point = self.point()?;
+        let region = self.expression(alloc, version)?;
+        let point = self.point(version)?;
         Ok(Command::Member(region, point))
     }
 
     /// What follows the word `cut`.
-    fn cut(&mut self, alloc: Global) -> Result<Command, ReadFault>
-        ensures { Reads command_of result self.new (cut_words self.old) }
+    fn cut(&mut self, alloc: Global, version: Version) -> Result<Command, ReadFault>
+        ensures { Reads command_of result self.new (cut_words (version_of version) self.old) }
     {
         let lot = self.name()?;
-        let region = self.expression(alloc)?;
+        let region = self.expression(alloc, version)?;
         let first = self.name()?;
         let second = self.name()?;
         Ok(Command::Cut(lot, region, first, second))
     }
 
     /// A child of a subdivision.
-    fn child(&mut self, alloc: Global) -> Result<(Name, Expr), ReadFault>
-        ensures { Reads child_of result self.new (child self.old) }
+    fn child(&mut self, alloc: Global, version: Version) -> Result<(Name, Expr), ReadFault>
+        ensures { Reads child_of result self.new (child (version_of version) self.old) }
     {
         let id = self.name()?;
-        let region = self.expression(alloc)?;
+        let region = self.expression(alloc, version)?;
         Ok((id, region))
     }
 
     /// So many children of a subdivision.
-    fn children(&mut self, alloc: Global, count: u32) -> Result<Entries, ReadFault>
-        ensures { Reads (λ entries. map child_of entries.items) result self.new (many count child self.old) }
+    fn children(
+        &mut self,
+        alloc: Global,
+        version: Version,
+        count: u32,
+    ) -> Result<Entries, ReadFault>
+        ensures { Reads (λ entries. map child_of entries.items) result self.new (many count (child (version_of version)) self.old) }
     {
         let mut children = Entries::new(alloc);
         for _ in 0..count {
-            let child = self.child(alloc)?;
+            let child = self.child(alloc, version)?;
             children.push(child)?;
         }
         Ok(children)
     }
 
     /// What follows the word `subdivide`.
-    fn subdivision(&mut self, alloc: Global) -> Result<Command, ReadFault>
-        ensures { Reads command_of result self.new (subdivide_words self.old) }
+    fn subdivision(&mut self, alloc: Global, version: Version) -> Result<Command, ReadFault>
+        ensures { Reads command_of result self.new (subdivide_words (version_of version) self.old) }
     {
         let lot = self.name()?;
-        let count = self.count(MAX_CHILDREN)?;
-        let children = self.children(alloc, count)?;
+        let count = self.count(0, MAX_CHILDREN)?;
+        let children = self.children(alloc, version, count)?;
         Ok(Command::Subdivide(lot, children))
     }
 
@@ -122,57 +129,82 @@ impl<'a> Words<'a> {
         ensures { Reads command_of result self.new (consolidate_words self.old) }
     {
         let new = self.name()?;
-        let count = self.count(MAX_LOTS)?;
+        let count = self.count(0, MAX_LOTS)?;
         let lots = self.lots(alloc, count)?;
         Ok(Command::Consolidate(new, lots))
     }
 
     /// What follows the word `asof`.
-    fn as_of(&mut self) -> Result<Command, ReadFault>
-        ensures { Reads command_of result self.new (as_of_words self.old) }
+    fn as_of(&mut self, version: Version) -> Result<Command, ReadFault>
+        ensures { Reads command_of result self.new (as_of_words (version_of version) self.old) }
     {
-        let line = self.count(MAX_LINES)?;
-        let point = self.point()?;
+        let line = self.count(0, MAX_LINES)?;
+        let point = self.point(version)?;
         Ok(Command::Asof(line, point))
     }
 
     /// What follows the word of a command.
-    fn command_for(&mut self, alloc: Global, verb: Verb) -> Result<Command, ReadFault>
-        ensures { Reads command_of result self.new (verb_words (verb_of verb) self.old) }
+    fn command_for(
+        &mut self,
+        alloc: Global,
+        version: Version,
+        verb: Verb,
+    ) -> Result<Command, ReadFault>
+        ensures { Reads command_of result self.new (verb_words (version_of version) (verb_of verb) self.old) }
     {
         match verb {
-            Verb::Let => self.definition(alloc),
-            Verb::Member => self.member(alloc),
-            Verb::Empty => Ok(Command::Empty(self.expression(alloc)?)),
-            Verb::Pieces => Ok(Command::Pieces(self.expression(alloc)?)),
-            Verb::Show => Ok(Command::Show(self.expression(alloc)?)),
-            Verb::Equal => Ok(Command::Equal(self.expression(alloc)?, self.expression(alloc)?)),
-            Verb::Within => Ok(Command::Within(self.expression(alloc)?, self.expression(alloc)?)),
-            Verb::Overlap => Ok(Command::Overlap(self.expression(alloc)?, self.expression(alloc)?)),
-            Verb::Contact => Ok(Command::Contact(self.expression(alloc)?, self.expression(alloc)?)),
-            Verb::Rcc => Ok(Command::Rcc(self.expression(alloc)?, self.expression(alloc)?)),
-            Verb::Register => Ok(Command::Register(self.name()?, self.expression(alloc)?)),
-            Verb::Cut => self.cut(alloc),
-            Verb::Subdivide => self.subdivision(alloc),
+            Verb::Let => self.definition(alloc, version),
+            Verb::Member => self.member(alloc, version),
+            Verb::Empty => Ok(Command::Empty(self.expression(alloc, version)?)),
+            Verb::Pieces => Ok(Command::Pieces(self.expression(alloc, version)?)),
+            Verb::Show => Ok(Command::Show(self.expression(alloc, version)?)),
+            Verb::Equal => Ok(Command::Equal(
+                self.expression(alloc, version)?,
+                self.expression(alloc, version)?,
+            )),
+            Verb::Within => Ok(Command::Within(
+                self.expression(alloc, version)?,
+                self.expression(alloc, version)?,
+            )),
+            Verb::Overlap => Ok(Command::Overlap(
+                self.expression(alloc, version)?,
+                self.expression(alloc, version)?,
+            )),
+            Verb::Contact => Ok(Command::Contact(
+                self.expression(alloc, version)?,
+                self.expression(alloc, version)?,
+            )),
+            Verb::Rcc => Ok(Command::Rcc(
+                self.expression(alloc, version)?,
+                self.expression(alloc, version)?,
+            )),
+            Verb::Register => Ok(Command::Register(self.name()?, self.expression(alloc, version)?)),
+            Verb::Cut => self.cut(alloc, version),
+            Verb::Subdivide => self.subdivision(alloc, version),
             Verb::Consolidate => self.consolidation(alloc),
             Verb::Retire => Ok(Command::Retire(self.name()?)),
             Verb::Neighbours => Ok(Command::Neighbours(self.name()?)),
             Verb::History => Ok(Command::History(self.name()?)),
-            Verb::At => Ok(Command::At(self.point()?)),
-            Verb::Asof => self.as_of(),
+            Verb::At => Ok(Command::At(self.point(version)?)),
+            Verb::Asof => self.as_of(version),
             Verb::Audit => Ok(Command::Audit),
             Verb::List => Ok(Command::List),
             Verb::Layer => Ok(Command::Layer(self.name()?)),
+            Verb::Section => {
+                let region = self.expression(alloc, version)?;
+                Ok(Command::Section(region, self.height(version)?))
+            }
+            Verb::Access => Ok(Command::Access(self.name()?, self.name()?)),
         }
     }
 
     /// A whole command.
     #[tactic(auto, unfolding(rp_language::specs::Grammar::command_words))]
-    pub fn command(&mut self, alloc: Global) -> Result<Command, ReadFault>
-        ensures { Reads command_of result self.new (command_words self.old) }
+    pub fn command(&mut self, alloc: Global, version: Version) -> Result<Command, ReadFault>
+        ensures { Reads command_of result self.new (command_words (version_of version) self.old) }
     {
         let verb = self.verb()?;
-        let command = self.command_for(alloc, verb)?;
+        let command = self.command_for(alloc, version, verb)?;
         self.end()?;
         Ok(command)
     }

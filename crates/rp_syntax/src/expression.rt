@@ -2,11 +2,13 @@
 ghost use Rattle.rp_language.specs.Grammar.{keyword, node_table, expression, expression_within};
 ghost use Rattle.rp_syntax.specs.Keywords.{node_of};
 ghost use Rattle.rp_syntax.specs.Reads.{Reads};
+ghost use Rattle.rp_syntax.specs.Versions.{version_of};
 ghost use Rattle.rp_syntax.specs.Views.{expression_of};
 
 use crate::command::{Expr, Why};
 use crate::fault::ReadFault;
 use crate::keywords::{Node, node_for};
+use crate::version::Version;
 use crate::words::Words;
 use std::alloc::Global;
 
@@ -27,15 +29,20 @@ impl<'a> Words<'a> {
 
     /// An expression.
     #[tactic(auto, unfolding(rp_language::specs::Grammar::expression))]
-    pub fn expression(&mut self, alloc: Global) -> Result<Expr, ReadFault>
-        ensures { Reads expression_of result self.new (expression self.old) }
+    pub fn expression(&mut self, alloc: Global, version: Version) -> Result<Expr, ReadFault>
+        ensures { Reads expression_of result self.new (expression (version_of version) self.old) }
     {
-        self.expression_within(alloc, MAX_LEVELS)
+        self.expression_within(alloc, version, MAX_LEVELS)
     }
 
     /// An expression of less than so many levels.
-    fn expression_within(&mut self, alloc: Global, room: u32) -> Result<Expr, ReadFault>
-        ensures { Reads expression_of result self.new (expression_within room self.old) }
+    fn expression_within(
+        &mut self,
+        alloc: Global,
+        version: Version,
+        room: u32,
+    ) -> Result<Expr, ReadFault>
+        ensures { Reads expression_of result self.new (expression_within (version_of version) room self.old) }
     {
         if room == 0 {
             return Err(ReadFault::Bad(Why::Syntax));
@@ -44,28 +51,32 @@ impl<'a> Words<'a> {
         self.count_node()?;
         match node {
             Node::Half => Ok(Expr::Half(self.half()?)),
-            Node::Block => Ok(Expr::Block(self.block()?)),
+            Node::Block => Ok(Expr::Block(self.block(version)?)),
+            Node::Prism => {
+                let (low, high, corners) = self.prism(alloc, version)?;
+                Ok(Expr::Prism(low, high, corners))
+            }
             Node::All => Ok(Expr::All),
             Node::Nothing => Ok(Expr::Nothing),
             Node::Name => Ok(Expr::Name(self.name()?)),
             Node::Lot => Ok(Expr::Lot(self.name()?)),
             Node::And => {
-                let first = self.expression_within(alloc, room - 1)?;
-                let second = self.expression_within(alloc, room - 1)?;
+                let first = self.expression_within(alloc, version, room - 1)?;
+                let second = self.expression_within(alloc, version, room - 1)?;
                 Ok(Expr::And(Box::new(alloc, first)?, Box::new(alloc, second)?))
             }
             Node::Or => {
-                let first = self.expression_within(alloc, room - 1)?;
-                let second = self.expression_within(alloc, room - 1)?;
+                let first = self.expression_within(alloc, version, room - 1)?;
+                let second = self.expression_within(alloc, version, room - 1)?;
                 Ok(Expr::Or(Box::new(alloc, first)?, Box::new(alloc, second)?))
             }
             Node::Minus => {
-                let first = self.expression_within(alloc, room - 1)?;
-                let second = self.expression_within(alloc, room - 1)?;
+                let first = self.expression_within(alloc, version, room - 1)?;
+                let second = self.expression_within(alloc, version, room - 1)?;
                 Ok(Expr::Minus(Box::new(alloc, first)?, Box::new(alloc, second)?))
             }
             Node::Not => {
-                let operand = self.expression_within(alloc, room - 1)?;
+                let operand = self.expression_within(alloc, version, room - 1)?;
                 Ok(Expr::Not(Box::new(alloc, operand)?))
             }
         }

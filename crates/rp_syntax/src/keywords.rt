@@ -16,6 +16,7 @@ pub enum Node {
     Not,
     Name,
     Lot,
+    Prism,
 }
 
 /// The kinds of commands.
@@ -43,6 +44,8 @@ pub enum Verb {
     Audit,
     List,
     Layer,
+    Section,
+    Access,
 }
 
 /// The node that a word begins.
@@ -78,6 +81,9 @@ pub fn node_for(word: &[u8]) -> Option<Node>
     }
     if word == b"lot".as_slice() {
         return Some(Node::Lot);
+    }
+    if word == b"prism".as_slice() {
+        return Some(Node::Prism);
     }
     None
 }
@@ -151,6 +157,12 @@ pub fn verb_for(word: &[u8]) -> Option<Verb>
     }
     if word == b"layer".as_slice() {
         return Some(Verb::Layer);
+    }
+    if word == b"section".as_slice() {
+        return Some(Verb::Section);
+    }
+    if word == b"access".as_slice() {
+        return Some(Verb::Access);
     }
     None
 }

@@ -2,7 +2,8 @@
 #![tactic(auto)]
 
 ghost use Rattle.std.specs.Prelude.{◌≡◌, IfOk};
-ghost use Rattle.rp_language.specs.Grammar.{reading, is_blank};
+ghost use Rattle.rp_language.specs.Grammar.{most_bytes, reading, is_blank};
+ghost use Rattle.rp_syntax.specs.Versions.{version_of};
 ghost use Rattle.rp_syntax.specs.Views.{line_of};
 
 mod command;
@@ -16,6 +17,7 @@ mod space;
 mod spelling;
 #[cfg(test)]
 mod tests;
+mod version;
 mod words;
 
 pub use command::{Command, Entries, Expr, Line, Why};
@@ -23,10 +25,18 @@ use fault::ReadFault;
 pub use number::spelled;
 pub use spelling::write_command;
 use std::alloc::{AllocError, Global};
+pub use version::Version;
 use words::Words;
 
 /// The longest line that may be a command, in bytes.
-const MAX_LINE: usize = 65536;
+fn max_line(version: Version) -> usize
+    ensures { result ≡ most_bytes (version_of version) }
+{
+    match version {
+        Version::One => 65536,
+        Version::Two => 262144,
+    }
+}
 
 /// Whether a line says nothing: it is empty or a note.
 fn is_blank(line: &[u8]) -> bool
@@ -40,19 +50,19 @@ fn is_blank(line: &[u8]) -> bool
 
 /// What a line says, without its ending: nothing, a command, or the first fault in reading order.
 ///
-/// `Long` where it has more than 65,536 bytes. Answers `AllocError` only for want of memory.
+/// `Long` where it has more than 65,536 bytes, or 262,144 in version 2. Answers `AllocError` only for want of memory.
 #[tactic(auto, unfolding(rp_language::specs::Grammar::reading))]
-pub fn read_line(alloc: Global, line: &[u8]) -> Result<Line, AllocError>
-    ensures { IfOk result (λ l. line_of l ≡ reading line.now) }
+pub fn read_line(alloc: Global, version: Version, line: &[u8]) -> Result<Line, AllocError>
+    ensures { IfOk result (λ l. line_of l ≡ reading (version_of version) line.now) }
 {
-    if line.len() > MAX_LINE {
+    if line.len() > max_line(version) {
         return Ok(Line::Bad(Why::Long));
     }
     if is_blank(line) {
         return Ok(Line::Blank);
     }
     let mut words = Words::new(line);
-    match words.command(alloc) {
+    match words.command(alloc, version) {
         Ok(command) => Ok(Line::Cmd(command)),
         Err(ReadFault::Bad(why)) => Ok(Line::Bad(why)),
         Err(ReadFault::Memory(error)) => Err(error),

@@ -1,16 +1,20 @@
 //! Numbers, half-spaces, points and boxes of a line.
-ghost use Rattle.std.specs.Prelude.{◌≡◌, IfOk, IsTrue, ◌&&◌, int_le};
-ghost use Rattle.rp_language.specs.Grammar.{number, count_to, half_space_numbers, point, coefficient, box_numbers};
+ghost use Rattle.std.specs.Prelude.{◌≡◌, IfOk, IsTrue, ◌&&◌, ◌≤◌, int_le};
+ghost use Rattle.rp_language.specs.Grammar.{box_numbers, coordinate, corner_numbers, count_between, cube_coordinate, half_space_numbers, height, many, number, point, prism_numbers};
 ghost use Rattle.rp_space.specs.Boxes.{integer_box};
+ghost use Rattle.rp_space.specs.Corners.{polygon_corner, polygon_corners, prism_of};
 ghost use Rattle.rp_syntax.specs.Held.{IsHeldBound};
 ghost use Rattle.rp_syntax.specs.Reads.{Reads};
+ghost use Rattle.rp_syntax.specs.Versions.{version_of};
 
 use crate::command::Why;
 use crate::fault::ReadFault;
-use crate::number::spelled;
+use crate::number::coordinate;
 use crate::space::{half_space, rational_point};
+use crate::version::Version;
 use crate::words::Words;
-use rp_space::{Half, IntBox, Point};
+use rp_space::{Corner, Corners, Half, IntBox, Point};
+use std::alloc::Global;
 
 /// The greatest size of the first three numbers of a half-space, and of the numbers of a box.
 const MAX_COEFFICIENT: i128 = 16777216;
@@ -24,17 +28,31 @@ const MAX_COORDINATE: i128 = 2535301200456458802993406410751;
 /// The greatest weight of a point, 2^75 - 1.
 const MAX_WEIGHT: i128 = 37778931862957161709567;
 
+/// The greatest size of the numbers of a corner, 2^23.
+const MAX_CORNER: i128 = 8388608;
+
+/// The fewest corners of a polygon.
+const MIN_CORNERS: u32 = 3;
+
+/// The most corners of a polygon.
+const MAX_CORNERS: u32 = 256;
+
 impl<'a> Words<'a> {
-    /// The next word as a number from `least` to `greatest`.
-    #[tactic(auto, unfolding(rp_language::specs::Grammar::number))]
-    fn number(&mut self, least: i128, greatest: i128) -> Result<i128, ReadFault>
+    /// The next word as a coordinate from `least` to `greatest`.
+    #[tactic(auto, unfolding(rp_language::specs::Grammar::coordinate))]
+    pub fn coordinate(
+        &mut self,
+        version: Version,
+        least: i128,
+        greatest: i128,
+    ) -> Result<i128, ReadFault>
         requires least { IsHeldBound least }
         requires greatest { IsHeldBound greatest }
-        ensures read { Reads (λ v. v) result self.new (number least greatest self.old) }
+        ensures read { Reads (λ v. v) result self.new (coordinate (version_of version) least greatest self.old) }
         ensures within { IfOk result (λ v. IsTrue (int_le least v && int_le v greatest)) }
     {
         let word = self.next()?;
-        let Some(v) = spelled(word) else {
+        let Some(v) = coordinate(version, word) else {
             return Err(ReadFault::Bad(Why::Syntax));
         };
         if least <= v && v <= greatest {
@@ -44,11 +62,22 @@ impl<'a> Words<'a> {
         }
     }
 
-    /// The next word as a number from 0 to `greatest`.
-    pub fn count(&mut self, greatest: u32) -> Result<u32, ReadFault>
-        ensures { Reads (λ n. n) result self.new (count_to greatest self.old) }
+    /// The next word as a number from `least` to `greatest`. Numbers are spelled as coordinates of version 1.
+    #[tactic(auto, unfolding(rp_language::specs::Grammar::coordinate, rp_language::specs::Grammar::number))]
+    fn number(&mut self, least: i128, greatest: i128) -> Result<i128, ReadFault>
+        requires least { IsHeldBound least }
+        requires greatest { IsHeldBound greatest }
+        ensures read { Reads (λ v. v) result self.new (number least greatest self.old) }
+        ensures within { IfOk result (λ v. IsTrue (int_le least v && int_le v greatest)) }
     {
-        let count = self.number(0, greatest as i128)?;
+        self.coordinate(Version::One, least, greatest)
+    }
+
+    /// The next word as a count from `least` to `greatest`.
+    pub fn count(&mut self, least: u32, greatest: u32) -> Result<u32, ReadFault>
+        ensures { Reads (λ n. n) result self.new (count_between least greatest self.old) }
+    {
+        let count = self.number(least as i128, greatest as i128)?;
         Ok(count as u32)
     }
 
@@ -66,38 +95,87 @@ impl<'a> Words<'a> {
 
     /// The four numbers of a point.
     #[tactic(auto, unfolding(rp_language::specs::Grammar::point))]
-    pub fn point(&mut self) -> Result<Point, ReadFault>
-        ensures { Reads (λ p. p) result self.new (point self.old) }
+    pub fn point(&mut self, version: Version) -> Result<Point, ReadFault>
+        ensures { Reads (λ p. p) result self.new (point (version_of version) self.old) }
     {
-        let x = self.number(-MAX_COORDINATE, MAX_COORDINATE)?;
-        let y = self.number(-MAX_COORDINATE, MAX_COORDINATE)?;
-        let z = self.number(-MAX_COORDINATE, MAX_COORDINATE)?;
+        let x = self.coordinate(version, -MAX_COORDINATE, MAX_COORDINATE)?;
+        let y = self.coordinate(version, -MAX_COORDINATE, MAX_COORDINATE)?;
+        let z = self.coordinate(version, -MAX_COORDINATE, MAX_COORDINATE)?;
         let w = self.number(1, MAX_WEIGHT)?;
         rational_point(x, y, z, w)
     }
 
-    /// One number of a box.
-    fn side(&mut self) -> Result<i32, ReadFault>
-        ensures { Reads (λ v. v) result self.new (coefficient self.old) }
+    /// One coordinate of the closed domain cube.
+    fn side(&mut self, version: Version) -> Result<i32, ReadFault>
+        ensures { Reads (λ v. v) result self.new (cube_coordinate (version_of version) self.old) }
     {
-        let v = self.number(-MAX_COEFFICIENT, MAX_COEFFICIENT)?;
+        let v = self.coordinate(version, -MAX_COEFFICIENT, MAX_COEFFICIENT)?;
         Ok(v as i32)
     }
 
     /// The six numbers of a box.
     #[tactic(auto, unfolding(rp_language::specs::Grammar::box_numbers))]
-    pub fn block(&mut self) -> Result<IntBox, ReadFault>
-        ensures { Reads integer_box result self.new (box_numbers self.old) }
+    pub fn block(&mut self, version: Version) -> Result<IntBox, ReadFault>
+        ensures { Reads integer_box result self.new (box_numbers (version_of version) self.old) }
     {
-        let x1 = self.side()?;
-        let y1 = self.side()?;
-        let z1 = self.side()?;
-        let x2 = self.side()?;
-        let y2 = self.side()?;
-        let z2 = self.side()?;
+        let x1 = self.side(version)?;
+        let y1 = self.side(version)?;
+        let z1 = self.side(version)?;
+        let x2 = self.side(version)?;
+        let y2 = self.side(version)?;
+        let z2 = self.side(version)?;
         Ok(IntBox {
             lo: [x1, y1, z1],
             hi: [x2, y2, z2],
         })
+    }
+
+    /// The two numbers of a corner.
+    #[tactic(auto, unfolding(rp_language::specs::Grammar::corner_numbers))]
+    fn corner(&mut self, version: Version) -> Result<Corner, ReadFault>
+        ensures { Reads polygon_corner result self.new (corner_numbers (version_of version) self.old) }
+    {
+        let x = self.coordinate(version, -MAX_CORNER, MAX_CORNER)?;
+        let y = self.coordinate(version, -MAX_CORNER, MAX_CORNER)?;
+        Ok(Corner {
+            x: x as i32,
+            y: y as i32,
+        })
+    }
+
+    /// So many corners.
+    fn corners(&mut self, alloc: Global, version: Version, count: u32) -> Result<Corners, ReadFault>
+        ensures { Reads (λ corners. polygon_corners corners.items) result self.new (many count (corner_numbers (version_of version)) self.old) }
+    {
+        let mut corners = Corners::new(alloc);
+        for _ in 0..count {
+            let corner = self.corner(version)?;
+            corners.push(corner)?;
+        }
+        Ok(corners)
+    }
+
+    /// The two heights of a prism and its corners.
+    #[tactic(auto, unfolding(rp_language::specs::Grammar::prism_numbers))]
+    pub fn prism(
+        &mut self,
+        alloc: Global,
+        version: Version,
+    ) -> Result<(i32, i32, Corners), ReadFault>
+        ensures { Reads (λ s. prism_of s.0 s.1 s.2.items) result self.new (prism_numbers (version_of version) self.old) }
+    {
+        let low = self.side(version)?;
+        let high = self.side(version)?;
+        let count = self.count(MIN_CORNERS, MAX_CORNERS)?;
+        let corners = self.corners(alloc, version, count)?;
+        Ok((low, high, corners))
+    }
+
+    /// A whole height of the domain cube.
+    pub fn height(&mut self, version: Version) -> Result<i32, ReadFault>
+        ensures { Reads (λ z. z) result self.new (height (version_of version) self.old) }
+    {
+        let z = self.coordinate(version, -MAX_COEFFICIENT, MAX_COEFFICIENT - 1)?;
+        Ok(z as i32)
     }
 }

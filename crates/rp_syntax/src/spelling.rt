@@ -1,14 +1,19 @@
 //! The one spelling of a command: its words, with one space between each two.
-ghost use Rattle.std.specs.Prelude.{◌≡◌, [], ◌∷◌, ◌++◌, drop, map, length, OnOk, OnErr, decimal, codes};
-ghost use Rattle.rp_language.specs.Grammar.{spelling, words_of_command, expression_words, half_space_words, point_words, box_words};
+ghost use Rattle.std.specs.Prelude.{◌≡◌, [], ◌∷◌, ◌++◌, ◌+◌, ◌<◌, drop, map, length, OnOk, OnErr, decimal, codes};
+ghost use Rattle.std.specs.Fmt.{signed_decimal};
+ghost use Rattle.std.specs.List.{flat_map};
+ghost use Rattle.rp_language.specs.Grammar.{Version as Versions, spelling, words_of_command, expression_words, half_space_words, point_words, box_words, corner_words, coordinate_text, thousandths_text, two};
 ghost use Rattle.rp_space.specs.Boxes.{integer_box};
-ghost use Rattle.rp_syntax.specs.Fronts.{AppendsFront};
-ghost use Rattle.rp_syntax.specs.Spells.{Spells, children_words};
+ghost use Rattle.rp_space.specs.Corners.{polygon_corner, polygon_corners};
+ghost use Rattle.rp_syntax.specs.Fronts.{Appends, AppendsFront};
+ghost use Rattle.rp_syntax.specs.Spells.{Spells, before_size, children_words};
+ghost use Rattle.rp_syntax.specs.Versions.{version_of};
 ghost use Rattle.rp_syntax.specs.Views.{expression_of, child_of, command_of};
 
 use crate::command::{Command, Entries, Expr};
+use crate::version::Version;
 use itoa::{Buffer, Integer};
-use rp_space::{Half, IntBox, Name, Names, Point};
+use rp_space::{Corner, Corners, Half, IntBox, Name, Names, Point};
 use std::alloc::AllocError;
 
 /// Appends a word behind a space.
@@ -38,6 +43,64 @@ fn write_numbers<I: Integer>(numbers: &[I], out: &mut Vec<u8>) -> Result<(), All
     Ok(())
 }
 
+/// The byte of a digit.
+fn digit(n: u128) -> u8
+    requires { n < 10 }
+    ensures { result ≡ 48 + n }
+{
+    b'0' + n as u8
+}
+
+/// Appends a natural number of thousandths: its units, a point and three digits.
+fn write_thousandths(n: u128, out: &mut Vec<u8>) -> Result<(), AllocError>
+    ensures { Appends result out.old.items out.new.items (thousandths_text n) }
+{
+    let mut buffer = Buffer::new();
+    out.extend_from_slice(buffer.format(n / 1000).as_bytes())?;
+    let rest = n % 1000;
+    let digits = [digit(rest / 100), digit(rest / 10 % 10), digit(rest % 10)];
+    out.extend_from_slice(&[b'.', digits[0], digits[1], digits[2]])
+}
+
+/// A space, and a minus sign behind it for a number below 0.
+fn before_size(v: i128) -> &'static [u8]
+    ensures { result.now ≡ before_size v }
+{
+    if v < 0 { b" -" } else { b" " }
+}
+
+/// Appends a whole number of thousandths as a decimal, behind a space.
+fn write_decimal(v: i128, out: &mut Vec<u8>) -> Result<(), AllocError>
+    ensures { Spells result out.old.items out.new.items (coordinate_text two v ∷ []) }
+{
+    out.extend_from_slice(before_size(v))?;
+    write_thousandths(v.unsigned_abs(), out)
+}
+
+/// Appends a coordinate behind a space.
+fn write_coordinate(version: Version, v: i128, out: &mut Vec<u8>) -> Result<(), AllocError>
+    ensures { Spells result out.old.items out.new.items (coordinate_text (version_of version) v ∷ []) }
+{
+    match version {
+        Version::One => write_numbers(&[v], out),
+        Version::Two => write_decimal(v, out),
+    }
+}
+
+/// Appends coordinates, each behind a space.
+fn write_coordinates(
+    version: Version,
+    numbers: &[i128],
+    out: &mut Vec<u8>,
+) -> Result<(), AllocError>
+    ensures { Spells result out.old.items out.new.items (map (coordinate_text (version_of version)) numbers.now) }
+{
+    for number in numbers {
+        write_coordinate(version, *number, out)?;
+    }
+    Ok(())
+}
+
 /// Appends the four numbers of a half-space.
 fn write_half(half: &Half, out: &mut Vec<u8>) -> Result<(), AllocError>
     ensures { Spells result out.old.items out.new.items (half_space_words half.now) }
@@ -46,30 +109,85 @@ fn write_half(half: &Half, out: &mut Vec<u8>) -> Result<(), AllocError>
     write_numbers(&[a, b, c, d], out)
 }
 
-/// Appends the four numbers of a point.
-fn write_point(point: &Point, out: &mut Vec<u8>) -> Result<(), AllocError>
-    ensures { Spells result out.old.items out.new.items (point_words point.now) }
+/// Appends the three coordinates of a point.
+fn write_position(version: Version, point: &Point, out: &mut Vec<u8>) -> Result<(), AllocError>
+    ensures { Spells result out.old.items out.new.items (coordinate_text (version_of version) point.now.x ∷ coordinate_text (version_of version) point.now.y ∷ coordinate_text (version_of version) point.now.z ∷ []) }
 {
-    let (x, y, z, w) = point.numbers();
-    write_numbers(&[x, y, z, w], out)
+    let (x, y, z, _) = point.numbers();
+    write_coordinates(version, &[x, y, z], out)
+}
+
+/// Appends the weight of a point.
+fn write_weight(point: &Point, out: &mut Vec<u8>) -> Result<(), AllocError>
+    ensures { Spells result out.old.items out.new.items (signed_decimal point.now.w ∷ []) }
+{
+    let (_, _, _, w) = point.numbers();
+    write_numbers(&[w], out)
+}
+
+/// Appends the four numbers of a point.
+fn write_point(version: Version, point: &Point, out: &mut Vec<u8>) -> Result<(), AllocError>
+    ensures { Spells result out.old.items out.new.items (point_words (version_of version) point.now) }
+{
+    write_position(version, point, out)?;
+    write_weight(point, out)
 }
 
 /// Appends the six numbers of a box.
-fn write_block(block: &IntBox, out: &mut Vec<u8>) -> Result<(), AllocError>
-    ensures { Spells result out.old.items out.new.items (box_words (integer_box block.now)) }
+fn write_block(version: Version, block: &IntBox, out: &mut Vec<u8>) -> Result<(), AllocError>
+    ensures { Spells result out.old.items out.new.items (box_words (version_of version) (integer_box block.now)) }
 {
     let [x1, y1, z1] = block.lo;
     let [x2, y2, z2] = block.hi;
-    write_numbers(&[x1, y1, z1, x2, y2, z2], out)
+    write_coordinates(
+        version,
+        &[
+            x1 as i128, y1 as i128, z1 as i128, x2 as i128, y2 as i128, z2 as i128,
+        ],
+        out,
+    )
+}
+
+/// Appends the two numbers of a corner.
+fn write_corner(version: Version, corner: &Corner, out: &mut Vec<u8>) -> Result<(), AllocError>
+    ensures { Spells result out.old.items out.new.items (corner_words (version_of version) (polygon_corner corner.now)) }
+{
+    write_coordinates(version, &[corner.x as i128, corner.y as i128], out)
+}
+
+/// Appends the two numbers of each corner.
+fn write_corners(version: Version, corners: &Corners, out: &mut Vec<u8>) -> Result<(), AllocError>
+    ensures { Spells result out.old.items out.new.items (flat_map (corner_words (version_of version)) (polygon_corners corners.now.items)) }
+{
+    for corner in corners.items() {
+        write_corner(version, corner, out)?;
+    }
+    Ok(())
+}
+
+/// Appends the two heights of a prism.
+fn write_heights(version: Version, low: i32, high: i32, out: &mut Vec<u8>) -> Result<(), AllocError>
+    ensures { Spells result out.old.items out.new.items (coordinate_text (version_of version) low ∷ coordinate_text (version_of version) high ∷ []) }
+{
+    write_coordinates(version, &[low as i128, high as i128], out)
+}
+
+/// Appends the number of corners, and the two numbers of each.
+fn write_polygon(version: Version, corners: &Corners, out: &mut Vec<u8>) -> Result<(), AllocError>
+    ensures { Spells result out.old.items out.new.items (decimal (length (polygon_corners corners.now.items)) ∷ flat_map (corner_words (version_of version)) (polygon_corners corners.now.items)) }
+{
+    write_numbers(&[corners.items().len()], out)?;
+    write_corners(version, corners, out)
 }
 
 /// The word that begins an expression.
 fn node_word(region: &Expr) -> &'static [u8]
-    ensures { expression_words (expression_of region.now) ≡ result.now ∷ drop 1 (expression_words (expression_of region.now)) }
+    ensures { (v : Versions) → expression_words v (expression_of region.now) ≡ result.now ∷ drop 1 (expression_words v (expression_of region.now)) }
 {
     match region {
         Expr::Half(_) => b"half",
         Expr::Block(_) => b"box",
+        Expr::Prism(_, _, _) => b"prism",
         Expr::All => b"all",
         Expr::Nothing => b"none",
         Expr::Name(_) => b"name",
@@ -82,61 +200,85 @@ fn node_word(region: &Expr) -> &'static [u8]
 }
 
 /// Appends the words of an expression.
-fn write_expression(region: &Expr, out: &mut Vec<u8>) -> Result<(), AllocError>
-    ensures { Spells result out.old.items out.new.items (expression_words (expression_of region.now)) }
+fn write_expression(version: Version, region: &Expr, out: &mut Vec<u8>) -> Result<(), AllocError>
+    ensures { Spells result out.old.items out.new.items (expression_words (version_of version) (expression_of region.now)) }
 {
     write_word(node_word(region), out)?;
     match region {
         Expr::Half(half) => write_half(half, out),
-        Expr::Block(block) => write_block(block, out),
+        Expr::Block(block) => write_block(version, block, out),
+        Expr::Prism(low, high, corners) => {
+            write_heights(version, *low, *high, out)?;
+            write_polygon(version, corners, out)
+        }
         Expr::All | Expr::Nothing => Ok(()),
         Expr::Name(name) | Expr::Lot(name) => write_word(name.bytes(), out),
         Expr::And(first, second) | Expr::Or(first, second) | Expr::Minus(first, second) => {
-            write_expression(first, out)?;
-            write_expression(second, out)
+            write_expression(version, first, out)?;
+            write_expression(version, second, out)
         }
-        Expr::Not(operand) => write_expression(operand, out),
+        Expr::Not(operand) => write_expression(version, operand, out),
     }
 }
 
 /// Appends the words of two expressions.
-fn write_pair(first: &Expr, second: &Expr, out: &mut Vec<u8>) -> Result<(), AllocError>
-    ensures { Spells result out.old.items out.new.items (expression_words (expression_of first.now) ++ expression_words (expression_of second.now)) }
+fn write_pair(
+    version: Version,
+    first: &Expr,
+    second: &Expr,
+    out: &mut Vec<u8>,
+) -> Result<(), AllocError>
+    ensures { Spells result out.old.items out.new.items (expression_words (version_of version) (expression_of first.now) ++ expression_words (version_of version) (expression_of second.now)) }
 {
-    write_expression(first, out)?;
-    write_expression(second, out)
+    write_expression(version, first, out)?;
+    write_expression(version, second, out)
 }
 
 /// Appends a name and the words of an expression.
-fn write_named(name: &Name, region: &Expr, out: &mut Vec<u8>) -> Result<(), AllocError>
-    ensures { Spells result out.old.items out.new.items (name.now ∷ expression_words (expression_of region.now)) }
+fn write_named(
+    version: Version,
+    name: &Name,
+    region: &Expr,
+    out: &mut Vec<u8>,
+) -> Result<(), AllocError>
+    ensures { Spells result out.old.items out.new.items (name.now ∷ expression_words (version_of version) (expression_of region.now)) }
 {
     write_word(name.bytes(), out)?;
-    write_expression(region, out)
+    write_expression(version, region, out)
 }
 
 /// Appends what follows the word `let`.
-fn write_definition(name: &Name, region: &Expr, out: &mut Vec<u8>) -> Result<(), AllocError>
-    ensures { Spells result out.old.items out.new.items (name.now ∷ codes "=" ∷ expression_words (expression_of region.now)) }
+fn write_definition(
+    version: Version,
+    name: &Name,
+    region: &Expr,
+    out: &mut Vec<u8>,
+) -> Result<(), AllocError>
+    ensures { Spells result out.old.items out.new.items (name.now ∷ codes "=" ∷ expression_words (version_of version) (expression_of region.now)) }
 {
     write_words(name.bytes(), b"=", out)?;
-    write_expression(region, out)
+    write_expression(version, region, out)
 }
 
 /// Appends what follows the word `member`.
-fn write_member(region: &Expr, point: &Point, out: &mut Vec<u8>) -> Result<(), AllocError>
-    ensures { Spells result out.old.items out.new.items (expression_words (expression_of region.now) ++ point_words point.now) }
+fn write_member(
+    version: Version,
+    region: &Expr,
+    point: &Point,
+    out: &mut Vec<u8>,
+) -> Result<(), AllocError>
+    ensures { Spells result out.old.items out.new.items (expression_words (version_of version) (expression_of region.now) ++ point_words (version_of version) point.now) }
 {
-    write_expression(region, out)?;
-    write_point(point, out)
+    write_expression(version, region, out)?;
+    write_point(version, point, out)
 }
 
 /// Appends the children of a subdivision.
-fn write_children(children: &Entries, out: &mut Vec<u8>) -> Result<(), AllocError>
-    ensures { Spells result out.old.items out.new.items (children_words (map child_of children.now.items)) }
+fn write_children(version: Version, children: &Entries, out: &mut Vec<u8>) -> Result<(), AllocError>
+    ensures { Spells result out.old.items out.new.items (children_words (version_of version) (map child_of children.now.items)) }
 {
     for child in children.items() {
-        write_named(&child.0, &child.1, out)?;
+        write_named(version, &child.0, &child.1, out)?;
     }
     Ok(())
 }
@@ -160,11 +302,16 @@ fn write_counted(name: &Name, count: usize, out: &mut Vec<u8>) -> Result<(), All
 }
 
 /// Appends what follows the word `subdivide`.
-fn write_subdivision(lot: &Name, children: &Entries, out: &mut Vec<u8>) -> Result<(), AllocError>
-    ensures { Spells result out.old.items out.new.items (lot.now ∷ decimal (length (map child_of children.now.items)) ∷ children_words (map child_of children.now.items)) }
+fn write_subdivision(
+    version: Version,
+    lot: &Name,
+    children: &Entries,
+    out: &mut Vec<u8>,
+) -> Result<(), AllocError>
+    ensures { Spells result out.old.items out.new.items (lot.now ∷ decimal (length (map child_of children.now.items)) ∷ children_words (version_of version) (map child_of children.now.items)) }
 {
     write_counted(lot, children.items().len(), out)?;
-    write_children(children, out)
+    write_children(version, children, out)
 }
 
 /// Appends what follows the word `consolidate`.
@@ -176,30 +323,49 @@ fn write_consolidation(new: &Name, lots: &Names, out: &mut Vec<u8>) -> Result<()
 }
 
 /// Appends what follows the word `asof`.
-fn write_as_of(line: u32, point: &Point, out: &mut Vec<u8>) -> Result<(), AllocError>
-    ensures { Spells result out.old.items out.new.items (decimal line ∷ point_words point.now) }
+fn write_as_of(
+    version: Version,
+    line: u32,
+    point: &Point,
+    out: &mut Vec<u8>,
+) -> Result<(), AllocError>
+    ensures { Spells result out.old.items out.new.items (decimal line ∷ point_words (version_of version) point.now) }
 {
     write_numbers(&[line], out)?;
-    write_point(point, out)
+    write_point(version, point, out)
+}
+
+/// Appends what follows the word `section`.
+fn write_section(
+    version: Version,
+    region: &Expr,
+    z: i32,
+    out: &mut Vec<u8>,
+) -> Result<(), AllocError>
+    ensures { Spells result out.old.items out.new.items (expression_words (version_of version) (expression_of region.now) ++ coordinate_text (version_of version) z ∷ []) }
+{
+    write_expression(version, region, out)?;
+    write_coordinate(version, z as i128, out)
 }
 
 /// Appends what follows the word `cut`.
 fn write_cut(
+    version: Version,
     lot: &Name,
     region: &Expr,
     first: &Name,
     second: &Name,
     out: &mut Vec<u8>,
 ) -> Result<(), AllocError>
-    ensures { Spells result out.old.items out.new.items (lot.now ∷ expression_words (expression_of region.now) ++ first.now ∷ second.now ∷ []) }
+    ensures { Spells result out.old.items out.new.items (lot.now ∷ expression_words (version_of version) (expression_of region.now) ++ first.now ∷ second.now ∷ []) }
 {
-    write_named(lot, region, out)?;
+    write_named(version, lot, region, out)?;
     write_words(first.bytes(), second.bytes(), out)
 }
 
 /// The word that begins a command.
 fn verb_word(c: &Command) -> &'static [u8]
-    ensures { words_of_command (command_of c.now) ≡ result.now ∷ drop 1 (words_of_command (command_of c.now)) }
+    ensures { (v : Versions) → words_of_command v (command_of c.now) ≡ result.now ∷ drop 1 (words_of_command v (command_of c.now)) }
 {
     match c {
         Command::Let(_, _) => b"let",
@@ -224,46 +390,52 @@ fn verb_word(c: &Command) -> &'static [u8]
         Command::Audit => b"audit",
         Command::List => b"list",
         Command::Layer(_) => b"layer",
+        Command::Section(_, _) => b"section",
+        Command::Access(_, _) => b"access",
     }
 }
 
 /// Appends what follows the word of a command.
-fn write_operands(c: &Command, out: &mut Vec<u8>) -> Result<(), AllocError>
-    ensures { Spells result out.old.items out.new.items (drop 1 (words_of_command (command_of c.now))) }
+fn write_operands(version: Version, c: &Command, out: &mut Vec<u8>) -> Result<(), AllocError>
+    ensures { Spells result out.old.items out.new.items (drop 1 (words_of_command (version_of version) (command_of c.now))) }
 {
     match c {
-        Command::Let(name, region) => write_definition(name, region, out),
-        Command::Member(region, point) => write_member(region, point, out),
+        Command::Let(name, region) => write_definition(version, name, region, out),
+        Command::Member(region, point) => write_member(version, region, point, out),
         Command::Empty(region) | Command::Pieces(region) | Command::Show(region) => {
-            write_expression(region, out)
+            write_expression(version, region, out)
         }
         Command::Equal(first, second)
         | Command::Within(first, second)
         | Command::Overlap(first, second)
         | Command::Contact(first, second)
-        | Command::Rcc(first, second) => write_pair(first, second, out),
-        Command::Register(lot, region) => write_named(lot, region, out),
-        Command::Cut(lot, region, first, second) => write_cut(lot, region, first, second, out),
-        Command::Subdivide(lot, children) => write_subdivision(lot, children, out),
+        | Command::Rcc(first, second) => write_pair(version, first, second, out),
+        Command::Register(lot, region) => write_named(version, lot, region, out),
+        Command::Cut(lot, region, first, second) => write_cut(
+            version, lot, region, first, second, out,
+        ),
+        Command::Subdivide(lot, children) => write_subdivision(version, lot, children, out),
         Command::Consolidate(new, lots) => write_consolidation(new, lots, out),
         Command::Retire(name)
         | Command::Neighbours(name)
         | Command::History(name)
         | Command::Layer(name) => write_word(name.bytes(), out),
-        Command::At(point) => write_point(point, out),
-        Command::Asof(line, point) => write_as_of(*line, point, out),
+        Command::At(point) => write_point(version, point, out),
+        Command::Asof(line, point) => write_as_of(version, *line, point, out),
         Command::Audit | Command::List => Ok(()),
+        Command::Section(region, z) => write_section(version, region, *z, out),
+        Command::Access(from, to) => write_words(from.bytes(), to.bytes(), out),
     }
 }
 
-/// Appends the command's one spelling: its words with one space between, half-spaces and points in lowest terms.
+/// Appends the command's one spelling in a version: its words with one space between, half-spaces and points in lowest terms.
 ///
 /// Answers `AllocError` only for want of memory. Then `out` has what it had and a front of the spelling.
 #[tactic(auto, unfolding(rp_language::specs::Grammar::spelling))]
-pub fn write_command(c: &Command, out: &mut Vec<u8>) -> Result<(), AllocError>
-    ensures ok { OnOk result (out.new.items ≡ out.old.items ++ spelling (command_of c.now)) }
-    ensures err { OnErr result (AppendsFront out.old.items out.new.items (spelling (command_of c.now))) }
+pub fn write_command(version: Version, c: &Command, out: &mut Vec<u8>) -> Result<(), AllocError>
+    ensures ok { OnOk result (out.new.items ≡ out.old.items ++ spelling (version_of version) (command_of c.now)) }
+    ensures err { OnErr result (AppendsFront out.old.items out.new.items (spelling (version_of version) (command_of c.now))) }
 {
     out.extend_from_slice(verb_word(c))?;
-    write_operands(c, out)
+    write_operands(version, c, out)
 }

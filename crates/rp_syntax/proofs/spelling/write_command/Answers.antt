@@ -1,4 +1,5 @@
 use Rattle.rp_language.specs.Grammar.{spelling, words_of_command}
+use Rattle.rp_syntax.specs.Versions.{version_of}
 use Rattle.rp_syntax.specs.Views.{command_of}
 use Rattle.rp_syntax.proofs.SpellLemmas.{spells_all, spells_front}
 use Rattle.rp_syntax.proofs.spelling.write_command.Goals as goal
@@ -6,9 +7,9 @@ use Rattle.rp_syntax.proofs.spelling.write_command.Goals as goal
 pub returns-clause-ok : goal.returns-clause-ok
 unfolding spelling
 returns-clause-ok c =
-    spells_all c.write_operands.result c.args.out.now.items c.extend_from_slice.new.self.items c.write_operands.new.out.items c.verb_word.result.now (words_of_command (command_of c.args.c.now)) c.verb_word.ensures c.in_ok-extend_from_slice.ensures.items c.write_operands.ensures
+    spells_all c.write_operands.result c.args.out.now.items c.extend_from_slice.new.self.items c.write_operands.new.out.items c.verb_word.result.now (words_of_command (version_of c.args.version) (command_of c.args.c.now)) (c.verb_word.ensures (version_of c.args.version)) c.in_ok-extend_from_slice.ensures.items c.write_operands.ensures
 
 pub returns-clause-err : goal.returns-clause-err
 unfolding spelling
 returns-clause-err c =
-    spells_front c.write_operands.result c.args.out.now.items c.extend_from_slice.new.self.items c.write_operands.new.out.items c.verb_word.result.now (words_of_command (command_of c.args.c.now)) c.verb_word.ensures c.in_ok-extend_from_slice.ensures.items c.write_operands.ensures
+    spells_front c.write_operands.result c.args.out.now.items c.extend_from_slice.new.self.items c.write_operands.new.out.items c.verb_word.result.now (words_of_command (version_of c.args.version) (command_of c.args.c.now)) (c.verb_word.ensures (version_of c.args.version)) c.in_ok-extend_from_slice.ensures.items c.write_operands.ensures

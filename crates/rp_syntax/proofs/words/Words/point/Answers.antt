@@ -14,7 +14,7 @@ returns c =
     let fy : FitsSigned w128 c.in_ok-y.y = search rules in
     let fz : FitsSigned w128 c.in_ok-z.z = search rules in
     let fw : FitsSigned w128 c.in_ok-w.w = search rules in
-    let place = c.number-4.new.self in
+    let place = c.number.new.self in
     let read =
     subst (λ (p : RationalPoint). Reads (λ q. q) c.rational_point.result place (gives (reduced_point p) place))
     (λ i. point_of (to_z-of_z w128 c.in_ok-x.x fx i) (to_z-of_z w128 c.in_ok-y.y fy i) (to_z-of_z w128 c.in_ok-z.z fz i) (to_z-of_z w128 c.in_ok-w.w fw i))

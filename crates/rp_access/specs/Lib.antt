@@ -1,0 +1,5 @@
+pub mod Route
+pub mod Chain
+pub mod Searching
+pub mod Tests
+pub mod Laws

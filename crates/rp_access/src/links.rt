@@ -1,0 +1,72 @@
+//! Links between numbers, as a list for each number.
+ghost use Rattle.std.specs.Prelude.{◌≡◌, ◌<◌, length, IfOk, OnOk, OnErr, List, ℕ, []};
+ghost use Rattle.std.specs.Prelude.{replicate};
+ghost use Rattle.rp_access.specs.Chain.{AreJoined, AreLinks, linked_to};
+
+use crate::neighbours::Neighbours;
+use std::alloc::{AllocError, Global};
+use std::marker::Model;
+
+/// Which of the numbers from 0 to below a count are linked to each other: for each number the list of those that it is linked to. Links go both ways.
+#[derive(Debug, Drop)]
+pub struct Links {
+    lists: Vec<Neighbours>,
+}
+
+impl Model for Links {
+    ghost use Rattle.std.specs.Prelude.{List, ℕ};
+    ghost use Rattle.rp_access.specs.Chain.{AreLinks};
+
+    ghost Value = { List (List ℕ) };
+
+    ghost view = { λ s. s.lists.items };
+
+    ghost invariant = { λ s. AreLinks s.lists.items };
+}
+
+impl Links {
+    /// So many numbers without a link.
+    pub fn new(alloc: Global, n: u32) -> Result<Links, AllocError>
+        ensures { IfOk result (λ g. g ≡ replicate n []) }
+    {
+        let mut lists = Vec::new(alloc);
+        for _ in 0..n {
+            lists.push(Neighbours::new(alloc))?;
+        }
+        Ok(Links { lists })
+    }
+
+    /// Links two numbers to each other. After `AllocError` all links are as they were.
+    pub fn join(&mut self, _alloc: Global, a: u32, b: u32) -> Result<(), AllocError>
+        requires a_below { a < length self.old }
+        requires b_below { b < length self.old }
+        ensures ok { OnOk result (AreJoined self.old self.new a b) }
+        ensures err { OnErr result (self.new ≡ self.old) }
+    {
+        self.lists[a as usize].push(b)?;
+        match self.lists[b as usize].push(a) {
+            Ok(()) => Ok(()),
+            Err(error) => {
+                let _ = self.lists[a as usize].pop();
+                Err(error)
+            }
+        }
+    }
+
+    /// How many numbers there are.
+    pub(crate) fn count(&self) -> usize
+        ensures count { result ≡ length self.now }
+        ensures links { AreLinks self.now }
+    {
+        self.lists.len()
+    }
+
+    /// The numbers that a number is linked to.
+    pub(crate) fn linked_to(&self, i: usize) -> &[u32]
+        requires { i < length self.now }
+        ensures value { result.now ≡ linked_to self.now i }
+        ensures links { AreLinks self.now }
+    {
+        self.lists[i].numbers()
+    }
+}

@@ -1,0 +1,102 @@
+//! The edges and ends of rings.
+ghost use Rattle.std.specs.Prelude.{◌≡◌, [], ◌∷◌, ◌++◌, length, ◌<◌, ◌≤◌};
+
+use arrayvec::ArrayVec;
+use rp_space::Point;
+use std::marker::Model;
+
+/// What a half-space leaves on a horizontal plane: the points with `a x + b y + d > 0`, with part of the line where it
+/// is 0.
+#[derive(Clone, Copy, Debug, PartialEq, Eq, Default)]
+pub struct Edge {
+    /// The factor of x.
+    pub a: i32,
+    /// The factor of y.
+    pub b: i32,
+    /// The offset.
+    pub d: i64,
+}
+
+impl Model for Edge {
+    ghost use Rattle.rp_geometry.specs.sections.Trace.{Trace, trace_of};
+
+    ghost Value = { Trace };
+
+    ghost view = { λ e. trace_of e.a e.b e.d };
+
+    ghost inverse = { λ t. record { a = t.a; b = t.b; d = t.d } };
+}
+
+/// A step along a ring: an edge, and the point at which it ends.
+#[derive(Clone, Copy, Debug, PartialEq, Eq, Default)]
+pub struct RingStep {
+    /// The edge.
+    pub edge: Edge,
+    /// Its end.
+    pub end: Point,
+}
+
+impl Model for RingStep {
+    ghost use Rattle.rp_geometry.specs.sections.Ring.{RingStep};
+
+    ghost Value = { RingStep };
+
+    ghost view = { λ s. record { edge = s.edge; end = s.end } };
+
+    ghost inverse = { λ s. record { edge = s.edge; end = s.end } };
+}
+
+/// A list of at most 36 steps of a ring, which takes no memory: room for the half-spaces of a cell and the cube's four
+/// upright sides.
+#[derive(Debug, Drop)]
+pub struct RingSteps {
+    steps: ArrayVec<RingStep, 36>,
+}
+
+impl Model for RingSteps {
+    ghost use Rattle.std.specs.Prelude.{List};
+    ghost use Rattle.rp_geometry.specs.sections.Ring.{RingStep};
+
+    ghost Value = { List RingStep };
+
+    ghost view = { λ a. a.steps.items };
+}
+
+impl RingSteps {
+    /// The empty list.
+    pub fn new() -> RingSteps
+        ensures { result ≡ [] }
+    {
+        RingSteps {
+            steps: ArrayVec::new(),
+        }
+    }
+
+    /// Appends a step, for which there is room.
+    pub fn push(&mut self, x: RingStep)
+        requires { length self.old < 36 }
+        ensures { self.new ≡ self.old ++ x ∷ [] }
+    {
+        self.steps.push(x);
+    }
+
+    /// The steps in order.
+    pub fn items(&self) -> &[RingStep]
+        ensures value { result.now ≡ self.now }
+        ensures fits { length result.now ≤ 36 }
+    {
+        self.steps.as_slice()
+    }
+
+    /// The same list.
+    pub fn copy(&self) -> RingSteps
+        ensures { result ≡ self.now }
+    {
+        let items = self.items();
+        let mut copy = RingSteps::new();
+        for step in items {
+            copy.push(*step);
+        }
+        copy
+    }
+}

@@ -1,0 +1,32 @@
+//! Slices: what is shown of a cell at a height.
+ghost use Rattle.std.specs.Prelude.{◌≡◌, IsTrue};
+ghost use Rattle.rp_geometry.specs.sections.Trace.{IsHeight};
+ghost use Rattle.rp_geometry.specs.sections.Slice.{is_slice};
+ghost use Rattle.rp_cert.specs.Section.{slice_shown, Shows};
+
+use crate::edge::RingSteps;
+use crate::flat::is_flat;
+use crate::ring::is_ring;
+use rp_space::{Half, Outside};
+
+/// What is shown of a cell at a height.
+#[derive(Debug, Drop)]
+pub enum Slice {
+    /// The edges and ends round the points that the cell has there.
+    Ring(RingSteps),
+    /// One to three multiples of half-spaces that show that it has none.
+    Flat(Outside),
+}
+
+/// Whether the slice is a ring or a flat certificate of the cell at the height. A ring then shows the points of the cell
+/// there, a flat certificate that there are none.
+pub fn check_slice(cell: &[Half], z: i32, s: &Slice) -> bool
+    requires { IsHeight z }
+    ensures value { result ≡ is_slice z cell.now (slice_shown s.now) }
+    ensures shows { IsTrue result → Shows z cell.now (slice_shown s.now) }
+{
+    match s {
+        Slice::Ring(steps) => is_ring(cell, z, steps.items()),
+        Slice::Flat(terms) => is_flat(cell, z, terms.items()),
+    }
+}

@@ -1,0 +1,4 @@
+pub mod Made
+pub mod Corners
+pub mod Cells
+pub mod Inside

@@ -1,0 +1,72 @@
+//! The region of a prism: the trapezoids of its edges, exchanged one after the other.
+ghost use Rattle.std.specs.Prelude.{◌≡◌, ◌∷◌, [], IfOk};
+ghost use Rattle.rp_geometry.specs.sets.Prism.{IsPrism};
+ghost use Rattle.rp_geometry.specs.sets.Shape.{Shape, shape_of_parts};
+ghost use Rattle.rp_geometry.specs.sets.Sets.{SameMembers};
+ghost use Rattle.rp_walks.specs.Walk.{first_tester};
+ghost use Rattle.rp_walks.specs.Form.{prism_form, exchange_cell, exchange_lists};
+ghost use Rattle.rp_space.specs.Corners.{prism_of};
+ghost use Rattle.rp_region.specs.Makes.{Makes};
+
+use crate::fault::OpFault;
+use crate::region::Region;
+use crate::work::Work;
+use rp_cell::Held;
+use rp_footprint::trapezoid;
+use rp_space::{Corner, Half};
+use std::alloc::Global;
+
+impl Region {
+    /// The region of a polygon raised from z1 to below z2. A part test makes the part of the trapezoid of each edge whose ends have
+    /// two x, and this part is exchanged with the parts so far: what is left of these outside it comes first, and then what is left
+    /// of it outside them. The part tests aren't counted, those of the differences are. There are from 1 to 256 corners, and all
+    /// numbers are within their bounds. `Limit` exactly where too many tests are counted, where a part would have more than 32
+    /// half-spaces, or where more than 1,024 parts are left behind an edge or in the course of a difference.
+    pub fn of_prism(
+        alloc: Global,
+        z1: i32,
+        z2: i32,
+        corners: &[Corner],
+        work: &mut Work,
+    ) -> Result<Region, OpFault>
+        requires { IsPrism (prism_of z1 z2 corners.now) }
+        ensures makes { Makes (λ region. region) result work.old work.new (prism_form first_tester (prism_of z1 z2 corners.now)) }
+        ensures members { IfOk result (λ region. SameMembers (shape_of_parts region) (Shape.prism (prism_of z1 z2 corners.now))) }
+    {
+        let mut current = Region::none(alloc);
+        for k in 0..corners.len() {
+            let cell = trapezoid(z1, z2, corners, k);
+            current = current.exchange_cell(alloc, cell, work)?;
+        }
+        Ok(current)
+    }
+
+    /// The part of a cell, if there is one with a point, exchanged with the parts of a region.
+    fn exchange_cell(
+        self,
+        alloc: Global,
+        cell: Option<[Half; 6]>,
+        work: &mut Work,
+    ) -> Result<Region, OpFault>
+        ensures { Makes (λ region. region) result work.old work.new (exchange_cell first_tester self cell) }
+    {
+        let Some(halves) = cell else {
+            return Ok(self);
+        };
+        let Some(part) = work.held_part(alloc, &Held::new(&halves))? else {
+            return Ok(self);
+        };
+        let made = Region::of_part(alloc, part)?;
+        self.exchange(alloc, made, work)
+    }
+
+    /// What is in one of two regions and not in the other: what is left of the first outside the second, and then what is left of
+    /// the second outside the first.
+    fn exchange(self, alloc: Global, made: Region, work: &mut Work) -> Result<Region, OpFault>
+        ensures { Makes (λ region. region) result work.old work.new (exchange_lists first_tester self made) }
+    {
+        let outside = self.minus(alloc, &made, work)?;
+        let added = made.into_minus(alloc, &self, work)?;
+        outside.into_either(added, work)
+    }
+}

@@ -1,0 +1,5 @@
+mod Bounding
+mod Flats
+mod Listing
+mod Rounds
+mod Sliced

@@ -1,0 +1,3 @@
+pub mod FlatList
+pub mod Shown
+pub mod Sides

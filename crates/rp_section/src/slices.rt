@@ -1,0 +1,52 @@
+//! Slices: what a cell leaves at a height.
+ghost use Rattle.std.specs.Prelude.{◌≡◌, ◌↔◌, ◌≤◌, IfOk, length, map};
+ghost use Rattle.rp_geometry.specs.sections.Trace.{IsHeight};
+ghost use Rattle.rp_geometry.specs.sections.Slice.{slice_of};
+ghost use Rattle.rp_geometry.specs.laws.SectionLaws.{HasMemberAt, IsSliceOf};
+ghost use Rattle.rp_cert.specs.Section.{slice_shown, Shows};
+ghost use Rattle.rp_section.specs.Shown.{IsFlat, slices_of};
+
+use crate::flat::first_flat;
+use crate::ring::ring;
+use rp_cert::{Slice, check_slice};
+use rp_region::Region;
+use rp_space::{Half, Listed, keep_bounds};
+use std::alloc::{AllocError, Global};
+
+/// A list of slices.
+pub type Slices = Listed<Slice>;
+
+/// The slices of the parts of a region at a height, in order. Answers `AllocError` only for want of memory.
+pub fn section(alloc: Global, r: &Region, z: i32) -> Result<Slices, AllocError>
+    requires { IsHeight z }
+    ensures { IfOk result (λ slices. map slice_shown slices.items ≡ slices_of z r.now) }
+{
+    let parts = r.parts();
+    let mut slices = Slices::new(alloc);
+    slices.reserve(parts.len())?;
+    for part in parts {
+        slices.push(slice(part.halves(), z))?;
+    }
+    Ok(slices)
+}
+
+/// The slice of a cell at a height: its ring, or, exactly where the cell has no point there, the first flat certificate.
+/// The cell has at most 32 half-spaces. This takes no memory.
+pub fn slice(cell: &[Half], z: i32) -> Slice
+    requires height { IsHeight z }
+    requires few { length cell.now ≤ 32 }
+    ensures value { slice_shown result ≡ slice_of z cell.now }
+    ensures right { IsSliceOf z cell.now (slice_shown result) }
+    ensures flat { IsFlat result ↔ (¬ HasMemberAt z cell.now) }
+    ensures shows { Shows z cell.now (slice_shown result) }
+{
+    keep_bounds(cell);
+    let ring = Slice::Ring(ring(cell, z));
+    if check_slice(cell, z, &ring) {
+        return ring;
+    }
+    match first_flat(cell, z) {
+        Some(terms) => Slice::Flat(terms),
+        None => ring,
+    }
+}

@@ -1,0 +1,14 @@
+//! Corners of polygons.
+use crate::listed::Listed;
+
+/// A corner of a polygon, with whole coordinates.
+#[derive(Clone, Copy, Debug, PartialEq, Eq)]
+pub struct Corner {
+    /// Its x.
+    pub x: i32,
+    /// Its y.
+    pub y: i32,
+}
+
+/// A list of corners.
+pub type Corners = Listed<Corner>;

@@ -1,0 +1,10 @@
+//! The versions of scripts.
+
+/// A version of scripts: how coordinates are spelled, and how long a line may be.
+#[derive(Clone, Copy, Debug, PartialEq, Eq)]
+pub enum Version {
+    /// Coordinates are whole numbers of units.
+    One,
+    /// Coordinates are decimals with three digits behind the point; their thousandths are units.
+    Two,
+}
