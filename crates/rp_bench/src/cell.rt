@@ -3,7 +3,7 @@ ghost use Rattle.std.specs.Prelude.{◌≤◌, length, IfOk};
 
 use anyhow::{Context, Result, bail, ensure};
 use rp_space::Half;
-use rp_syntax::{Command, Expr, Line, read_line};
+use rp_syntax::{Command, Expr, Line, Version, read_line};
 use std::alloc::{AllocError, Global};
 use std::io::{BufRead, BufReader, Read};
 
@@ -12,7 +12,7 @@ const MOST_HALVES: usize = 64;
 
 /// The half-space of a line that reads `empty half A B C D`.
 fn half_of_line(alloc: Global, line: &[u8]) -> Result<Option<Half>, AllocError> {
-    let read = read_line(alloc, line)?;
+    let read = read_line(alloc, Version::One, line)?;
     match &read {
         Line::Cmd(Command::Empty(Expr::Half(half))) => Ok(Some(*half)),
         _ => Ok(None),

@@ -5,7 +5,7 @@ use Rattle.rp_report.specs.Views.{refusal_of}
 use Rattle.rp_follow.specs.declared.lost.Lost.{Lost}
 use Rattle.rp_follow.specs.declared.lost.Lost.TheVariants.{Memory}
 use Rattle.rp_register.specs.declared.reply.RowEnd.{RowEnd}
-use Rattle.rp_register.specs.declared.reply.RowEnd.TheVariants.{Refused, Shared, Lost as LostEnd}
+use Rattle.rp_register.specs.declared.reply.RowEnd.TheVariants.{Refused, Shared, Unshown, Lost as LostEnd}
 
 -- memory ran out
 abbrev pub IsWant : Lost → Type 0
@@ -16,6 +16,7 @@ IsWant _ = ⊥
 abbrev pub FailsBy : RowEnd → Option Refusal → Type 0
 FailsBy (Refused r) o = o ≡ Some (refusal_of r)
 FailsBy Shared o = ⊥
+FailsBy (Unshown n) o = ⊥
 FailsBy (LostEnd e) o = IsWant e
 
 -- a check was made: it refuses nothing, or it fails so

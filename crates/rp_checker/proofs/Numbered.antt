@@ -4,6 +4,7 @@ use Rattle.std.specs.Prelude.{IfSome, is_none}
 use Rattle.rp_algebra.proofs.Listed.{all_map}
 use Rattle.rp_geometry.specs.sets.Shape.{Shape}
 use Rattle.rp_language.specs.Expression.{first_of_two}
+use Rattle.rp_language.specs.Grammar.{Version}
 use Rattle.rp_language.specs.Name.{Label}
 use Rattle.rp_walks.specs.Walk.{done, line_wrong, Walk, after_first, pass, stop}
 use Rattle.rp_model.specs.states.State.{Lot, State, PlainState}
@@ -16,42 +17,43 @@ use Rattle.rp_checker.proofs.Ahead.{halts_on}
 
 -- ---- echoes
 
--- the walk behind an echo, by whether its number is above the last one
-abbrev numbered_by : Progress → Echo → Bool → Walk Trail Progress
-numbered_by q e b = elim b [ false ↦ stop line_wrong | true ↦ (λ t. after_first (λ s. pass (record { last = e.number; state = s })) (follow_echo e.number q.state e.text (with_no_tests t))) ]
+module _ (v : Version) (q : Progress) where
+  -- the walk behind an echo, by whether its number is above the last one
+  abbrev numbered_by : Echo → Bool → Walk Trail Progress
+  numbered_by e b = elim b [ false ↦ stop line_wrong | true ↦ (λ t. after_first (λ s. pass (record { last = e.number; state = s })) (follow_echo v e.number q.state e.text (with_no_tests t))) ]
 
--- the line is wrong where it is no echo
-pub no_echo : (q : Progress) (t : Trail) (n : ℕ) → n ≡ t.number → next_echo t.lines ≡ None → IsWrongAt n (follow_answer q t)
-unfolding follow_answer
-no_echo q t n same e = record { at = t; stops = ap (λ (o : Option Echo). follow_numbered q o t) e; number = same }
+  -- the line is wrong where it is no echo
+  pub no_echo : (t : Trail) (n : ℕ) → n ≡ t.number → next_echo t.lines ≡ None → IsWrongAt n (follow_answer v q t)
+  unfolding follow_answer
+  no_echo t n same e = record { at = t; stops = ap (λ (o : Option Echo). follow_numbered v q o t) e; number = same }
 
--- it is wrong where its number is not above the last one
-pub low_echo : (q : Progress) (t : Trail) (n : ℕ) (e : Echo) → n ≡ t.number → next_echo t.lines ≡ Some e → e.number ≤ q.last → IsWrongAt n (follow_answer q t)
-unfolding follow_answer
-low_echo q t n e same f low = record { at = t; stops = ap (λ (o : Option Echo). follow_numbered q o t) f ∙ ap (λ (b : Bool). numbered_by q e b t) (not_above q.last e.number low); number = same }
-  where
-    not_above : (m k : ℕ) → k ≤ m → nat_lt m k ≡ false
-    not_above m k h = grind arith
+  -- it is wrong where its number is not above the last one
+  pub low_echo : (t : Trail) (n : ℕ) (e : Echo) → n ≡ t.number → next_echo t.lines ≡ Some e → e.number ≤ q.last → IsWrongAt n (follow_answer v q t)
+  unfolding follow_answer
+  low_echo t n e same f low = record { at = t; stops = ap (λ (o : Option Echo). follow_numbered v q o t) f ∙ ap (λ (b : Bool). numbered_by e b t) (not_above q.last e.number low); number = same }
+    where
+      not_above : (m k : ℕ) → k ≤ m → nat_lt m k ≡ false
+      not_above m k h = grind arith
 
--- else the answer follows
-pub high_echo : (q : Progress) (t : Trail) (e : Echo) → next_echo t.lines ≡ Some e → q.last < e.number → follow_answer q t ≡ after_first (λ s. pass (record { last = e.number; state = s })) (follow_echo e.number q.state e.text (with_no_tests t))
-unfolding follow_answer
-high_echo q t e f high = ap (λ (o : Option Echo). follow_numbered q o t) f ∙ ap (λ (b : Bool). numbered_by q e b t) (above q.last e.number high)
-  where
-    above : (m k : ℕ) → m < k → nat_lt m k ≡ true
-    above m k h = grind arith
+  -- else the answer follows
+  pub high_echo : (t : Trail) (e : Echo) → next_echo t.lines ≡ Some e → q.last < e.number → follow_answer v q t ≡ after_first (λ s. pass (record { last = e.number; state = s })) (follow_echo v e.number q.state e.text (with_no_tests t))
+  unfolding follow_answer
+  high_echo t e f high = ap (λ (o : Option Echo). follow_numbered v q o t) f ∙ ap (λ (b : Bool). numbered_by e b t) (above q.last e.number high)
+    where
+      above : (m k : ℕ) → m < k → nat_lt m k ≡ true
+      above m k h = grind arith
 
--- where the answer halts, so does the numbered one
-pub echo_halts : (q : Progress) (t u : Trail) (e : Echo) (h : Halt) → next_echo t.lines ≡ Some e → q.last < e.number → u ≡ with_no_tests t → HaltsBy h (follow_echo e.number q.state e.text u) → HaltsBy h (follow_answer q t)
-echo_halts q t u e h f high begun m =
-    subst (HaltsBy h) (sym (high_echo q t e f high))
-    (halts_on (λ s. pass (record { last = e.number; state = s })) h (follow_echo e.number q.state e.text (with_no_tests t)) (subst (λ (v : Trail). HaltsBy h (follow_echo e.number q.state e.text v)) begun m))
+  -- where the answer halts, so does the numbered one
+  pub echo_halts : (t u : Trail) (e : Echo) (h : Halt) → next_echo t.lines ≡ Some e → q.last < e.number → u ≡ with_no_tests t → HaltsBy h (follow_echo v e.number q.state e.text u) → HaltsBy h (follow_answer v q t)
+  echo_halts t u e h f high begun m =
+      subst (HaltsBy h) (sym (high_echo t e f high))
+      (halts_on (λ s. pass (record { last = e.number; state = s })) h (follow_echo v e.number q.state e.text (with_no_tests t)) (subst (λ (w : Trail). HaltsBy h (follow_echo v e.number q.state e.text w)) begun m))
 
--- where the answer ends, so does the numbered one
-pub echo_ends : (q : Progress) (t u v : Trail) (e : Echo) (after : PlainState) → next_echo t.lines ≡ Some e → q.last < e.number → u ≡ with_no_tests t → follow_echo e.number q.state e.text u ≡ done after v
-    → follow_answer q t ≡ done (record { last = e.number; state = after }) v
-echo_ends q t u v e after f high begun m =
-    high_echo q t e f high ∙ ap (λ (w : Trail). after_first (λ s. pass (record { last = e.number; state = s })) (follow_echo e.number q.state e.text w)) (sym begun) ∙ ap (after_first (λ s. pass (record { last = e.number; state = s }))) m
+  -- where the answer ends, so does the numbered one
+  pub echo_ends : (t u w : Trail) (e : Echo) (after : PlainState) → next_echo t.lines ≡ Some e → q.last < e.number → u ≡ with_no_tests t → follow_echo v e.number q.state e.text u ≡ done after w
+      → follow_answer v q t ≡ done (record { last = e.number; state = after }) w
+  echo_ends t u w e after f high begun m =
+      high_echo t e f high ∙ ap (λ (x : Trail). after_first (λ s. pass (record { last = e.number; state = s })) (follow_echo v e.number q.state e.text x)) (sym begun) ∙ ap (after_first (λ s. pass (record { last = e.number; state = s }))) m
 
 -- ---- numbers
 

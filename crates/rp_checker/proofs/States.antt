@@ -4,17 +4,18 @@ use Rattle.std.specs.Prelude.{IsTrue, IfSome, IfOk, Result, Ok, Err}
 use Rattle.std.specs.List.{AllByRecursion}
 use Rattle.rp_geometry.specs.sets.Shape.{Shape}
 use Rattle.rp_geometry.specs.parts.Parts.{IsCheckedPart}
+use Rattle.rp_geometry.specs.sections.Trace.{IsHeight}
 use Rattle.rp_language.specs.Name.{Label, is_among}
-use Rattle.rp_language.specs.Expression.{Command, IsKeptExpression, expressions_of}
+use Rattle.rp_language.specs.Expression.{Command, IsKeptExpression, expressions_of, heights_of}
 use Rattle.rp_walks.specs.Walk.{Outcome, done, stopped, Walk}
 use Rattle.rp_walks.specs.FormLaws.{IfDone}
 use Rattle.rp_model.specs.states.State.{Kept, Lot, NewLot, State, PlainState, plain_kept, plain_lot, plain_of, kept_of_parts, lot_of_parts, state_of_parts, ids_of, Change, nothing_changes, name_added, lots_replaced, layer_changed, changed}
 use Rattle.rp_model.specs.states.Sound.{IsSoundWith, IsLaterThan}
 use Rattle.rp_model.specs.commands.Row.{Reply, row}
-use Rattle.rp_model.specs.commands.Rule.{rule_without_limits, change_of, with_parts}
+use Rattle.rp_model.specs.commands.Rule.{formed_by, rule_without_limits, change_of, with_parts}
 use Rattle.rp_reports.specs.Check.{Trail, line_tester}
 use Rattle.rp_reports.specs.laws.CheckLaws.{TellsTruth}
-use Rattle.rp_reports.specs.laws.RowLaws.{IsSoundChange, IsRightReply, first_form_by}
+use Rattle.rp_reports.specs.laws.RowLaws.{IsSoundChange, IsRightReply}
 use Rattle.rp_runs.proofs.Rows.{line_rows, followed_row_tells_truth_spec}
 use Rattle.rp_states.proofs.Computed.{reply_plain}
 use Rattle.rp_states.proofs.Listing.{all_mapped}
@@ -63,8 +64,8 @@ later_on_lines n s p late e = subst (λ (q : PlainState). IsLaterThan n (state_o
 -- the row was followed from the parts of a sound state
 module _ (p : PlainState) (sound : IsSoundOnLines p) (c : Command) (kept : AllByRecursion IsKeptExpression (expressions_of c)) (t : Trail) where
   -- what comes of the reply is sound
-  pub reply_sound : (n : ℕ) → IsLaterThan n (state_of_parts p) → IfDone (row line_tester p c t) (λ r. IsSoundOnLines (changed n p r.change))
-  reply_sound n late = by (row line_tester p c t) (subst (λ (q : PlainState). IfDone (row line_tester q c t) (λ r. TellsTruth (state_of_parts p) n c r)) (plain_parts p) (followed_row_tells_truth_spec (state_of_parts p) sound n late c kept t))
+  pub reply_sound : AllByRecursion IsHeight (heights_of c) → (n : ℕ) → IsLaterThan n (state_of_parts p) → IfDone (row line_tester p c t) (λ r. IsSoundOnLines (changed n p r.change))
+  reply_sound heights n late = by (row line_tester p c t) (subst (λ (q : PlainState). IfDone (row line_tester q c t) (λ r. TellsTruth (state_of_parts p) n c r)) (plain_parts p) (followed_row_tells_truth_spec (state_of_parts p) sound n late c kept heights t))
     where
       by : (o : Outcome Trail Reply) → IfDone o (λ r. TellsTruth (state_of_parts p) n c r) → IfDone o (λ r. IsSoundOnLines (changed n p r.change))
       by (done r u) h = sound_on_lines h.next (changed n p r.change) h.sound (h.parts ∙ ap (λ (q : PlainState). changed n q r.change) (plain_parts p))
@@ -86,7 +87,7 @@ module _ (p : PlainState) (sound : IsSoundOnLines p) (c : Command) (kept : AllBy
       (subst (λ (walk : Walk Trail Reply). IfDone (walk t) (λ r. ComesFromKnown (plain_of (state_of_parts p)) r.change)) (sym (row_same line_tester (state_of_parts p) c))
       (by (row line_tester (state_of_parts p) c t) (row_fit line_tester (state_of_parts p) sound.few_parts_under_lots c t) (line_rows (state_of_parts p) sound c kept t)))
     where
-      by : (o : Outcome Trail Reply) → IfDone o (IsFitReply (state_of_parts p) c) → IfDone o (IsRightReply IsCheckedPart (state_of_parts p) (change_of (state_of_parts p) c) (rule_without_limits (state_of_parts p) (first_form_by line_tester (state_of_parts p) (expressions_of c) t) c))
+      by : (o : Outcome Trail Reply) → IfDone o (IsFitReply (state_of_parts p) c) → IfDone o (IsRightReply IsCheckedPart (state_of_parts p) (change_of (state_of_parts p) c) (rule_without_limits (state_of_parts p) (formed_by line_tester (state_of_parts p) c t) c))
           → IfDone o (λ r. ComesFromKnown (plain_of (state_of_parts p)) r.change)
       by (done r u) fit right =
           subst (ComesFromKnown (plain_of (state_of_parts p))) (reply_plain (state_of_parts p) c r fit) (from_known (state_of_parts p) (with_parts (change_of (state_of_parts p) c) r.change) right.1)
@@ -97,9 +98,9 @@ module _ (p : PlainState) (sound : IsSoundOnLines p) (c : Command) (kept : AllBy
 -- the same of what the code has made of the row
 module _ (p : PlainState) (sound : IsSoundOnLines p) (c : Command) (kept : AllByRecursion IsKeptExpression (expressions_of c)) (t u : Trail) where
   -- what comes of the reply is sound
-  pub replied_sound : (n : ℕ) → IsLaterThan n (state_of_parts p) → (r : Result CodeReply RowEnd) → Replies r u (row line_tester p c t) → IfOk r (λ x. IsSoundOnLines (changed n p (reply_of x).change))
-  replied_sound n late (Ok x) h = subst (λ (o : Outcome Trail Reply). IfDone o (λ r. IsSoundOnLines (changed n p r.change))) h (reply_sound p sound c kept t n late)
-  replied_sound n late (Err e) h = tt
+  pub replied_sound : AllByRecursion IsHeight (heights_of c) → (n : ℕ) → IsLaterThan n (state_of_parts p) → (r : Result CodeReply RowEnd) → Replies r u (row line_tester p c t) → IfOk r (λ x. IsSoundOnLines (changed n p (reply_of x).change))
+  replied_sound heights n late (Ok x) h = subst (λ (o : Outcome Trail Reply). IfDone o (λ r. IsSoundOnLines (changed n p r.change))) h (reply_sound p sound c kept t heights n late)
+  replied_sound heights n late (Err e) h = tt
 
   -- the lots that the reply brings come from lots that are there
   pub replied_known : (r : Result CodeReply RowEnd) → Replies r u (row line_tester p c t) → IfOk r (λ x. ComesFromKnown p (reply_of x).change)

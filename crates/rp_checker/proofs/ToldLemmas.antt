@@ -16,8 +16,8 @@ told_replies : (q : Result (Listed CodeVerdict) RowEnd) (t : Trail) (o : Outcome
 told_replies (Ok lines) t o h = h
 told_replies (Err e) t o h = h
 
--- a question that the command asks, without a test
-pub question_told : (r : Result Reply RowEnd) (q : Result (Listed CodeVerdict) RowEnd) (t : Trail) (s : PlainState) (asked asks : Command) → asked ≡ asks → r ≡ reply_told q → Tells q t (row line_tester s asks t) → Replies r t (row line_tester s asked t)
-question_told r q t s asked asks same is h =
-    subst (λ (x : Result Reply RowEnd). Replies x t (row line_tester s asked t)) (sym is)
-    (told_replies q t (row line_tester s asked t) (subst (λ (c : Command). Tells q t (row line_tester s c t)) (sym same) h))
+-- a question that the command asks, followed from one trail to another
+pub question_told : (r : Result Reply RowEnd) (q : Result (Listed CodeVerdict) RowEnd) (t u : Trail) (s : PlainState) (asked asks : Command) → asked ≡ asks → r ≡ reply_told q → Tells q u (row line_tester s asks t) → Replies r u (row line_tester s asked t)
+question_told r q t u s asked asks same is h =
+    subst (λ (x : Result Reply RowEnd). Replies x u (row line_tester s asked t)) (sym is)
+    (told_replies q u (row line_tester s asked t) (subst (λ (c : Command). Tells q u (row line_tester s c t)) (sym same) h))

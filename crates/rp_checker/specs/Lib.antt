@@ -1,3 +1,4 @@
 pub mod Answers
 pub mod Children
 pub mod Found
+pub mod Marks

@@ -1,19 +1,21 @@
 //! Whole answers of a report, and what each changes.
 ghost use Rattle.std.specs.Prelude.{◌≡◌, ◌+◌, ◌<◌, ◌∷◌, [], ℕ, length, map, IfOk, is_none, option_map};
 ghost use Rattle.std.specs.List.{AllByRecursion};
-ghost use Rattle.rp_language.specs.Expression.{IsKeptExpression, expressions_of, first_unknown_among};
+ghost use Rattle.rp_geometry.specs.sections.Trace.{IsHeight};
+ghost use Rattle.rp_language.specs.Expression.{IsKeptExpression, expressions_of, first_unknown_among, heights_of};
 ghost use Rattle.rp_language.specs.Grammar.{bad, reading};
 ghost use Rattle.rp_model.specs.commands.Row.{Reply as ModelReply};
 ghost use Rattle.rp_model.specs.states.State.{PlainState, changed, parts_in, state_of_parts};
 ghost use Rattle.rp_model.specs.states.Sound.{IsLaterThan};
 ghost use Rattle.rp_reports.specs.Check.{Trail as ModelTrail, limit_allowed, follow_verdicts, follow_walk, follow_command, follow_fault, follow_text, follow_echo, next_echo, follow_answer};
 ghost use Rattle.rp_walks.specs.Walk.{Outcome};
+ghost use Rattle.rp_syntax.specs.Versions.{version_of};
 ghost use Rattle.rp_syntax.specs.Views.{child_of, command_of, expression_of, fault_of};
 ghost use Rattle.rp_follow.specs.Follows.{StopsBy};
 ghost use Rattle.rp_checker.specs.Answers.{Answers, echo_with};
 ghost use Rattle.rp_checker.specs.Children.{HasFewChildren};
 ghost use Rattle.rp_register.specs.Kept.{IsSoundOnLines, ComesFromKnown};
-ghost use Rattle.rp_register.specs.Replies.{reply_of, Replies};
+ghost use Rattle.rp_register.specs.Replies.{reply_of, IsUnshown, Replies};
 
 use crate::halt::Halt;
 use crate::lines::{follow_limit, follow_verdict, follow_verdicts};
@@ -22,7 +24,7 @@ use rp_follow::{Lost, Trail};
 use rp_register::{Register, Reply, RowEnd, one_line};
 use rp_report::{Refusal, Verdict, read_echo};
 use rp_space::Name;
-use rp_syntax::{Command, Expr, Line, Why, read_line};
+use rp_syntax::{Command, Expr, Line, Version, Why, read_line};
 use std::alloc::Global;
 
 /// What becomes of an answer whose row is followed no further: the report may tell of a limit where one is met, and
@@ -46,6 +48,17 @@ fn follow_lost(allowed: bool, lost: Lost, trail: &mut Trail<'_>) -> Result<(), H
         }
         Lost::Memory(fault) => Err(Halt::Memory(fault)),
     }
+}
+
+/// What becomes of a reply whose verdict lines don't stand next: the report may tell of a limit in their place where the
+/// command can meet one, and else the line of this number is wrong.
+fn follow_unshown(allowed: bool, number: u32, trail: &mut Trail<'_>) -> Result<(), Halt>
+    ensures { (n : ℕ) (s : PlainState) (o : Outcome ModelTrail ModelReply) → IsUnshown number trail.old o → Answers (λ _. s) result trail.new (follow_walk n s allowed o) }
+{
+    if !(allowed && trail.tells_limit()) {
+        return Err(Halt::Wrong(number));
+    }
+    follow_limit(trail)
 }
 
 /// The answer to a line that is no command, behind its echo.
@@ -117,14 +130,18 @@ fn limit_allowed(register: &Register, command: &Command) -> bool
         | Command::Pieces(region)
         | Command::Show(region)
         | Command::Register(_, region)
-        | Command::Cut(_, region, _, _) => knows(register, region),
+        | Command::Cut(_, region, _, _)
+        | Command::Section(region, _) => knows(register, region),
         Command::Equal(a, b)
         | Command::Within(a, b)
         | Command::Overlap(a, b)
         | Command::Contact(a, b)
         | Command::Rcc(a, b) => knows_both(register, a, b),
         Command::Subdivide(_, entries) => knows_children(register, entries.items()),
-        Command::Consolidate(_, _) | Command::Neighbours(_) | Command::Audit => true,
+        Command::Consolidate(_, _)
+        | Command::Neighbours(_)
+        | Command::Audit
+        | Command::Access(_, _) => true,
         Command::Member(_, _)
         | Command::Retire(_)
         | Command::History(_)
@@ -185,6 +202,7 @@ fn follow_row(
             follow_reply(alloc, register, n, allowed, Reply::Told(lines), trail)
         }
         Err(RowEnd::Shared) => Err(Halt::Wrong(trail.number().saturating_sub(1))),
+        Err(RowEnd::Unshown(number)) => follow_unshown(allowed, number, trail),
         Err(RowEnd::Lost(lost)) => follow_lost(allowed, lost, trail),
     }
 }
@@ -199,6 +217,7 @@ fn follow_command(
 ) -> Result<(), Halt>
     requires later { IsLaterThan n (state_of_parts register.old) }
     requires kept { AllByRecursion IsKeptExpression (expressions_of (command_of command.now)) }
+    requires heights { AllByRecursion IsHeight (heights_of (command_of command.now)) }
     requires few { HasFewChildren (command_of command.now) }
     ensures { Answers (λ _. register.new) result trail.new (follow_command n register.old (command_of command.now) trail.old) }
 {
@@ -208,19 +227,20 @@ fn follow_command(
     follow_row(alloc, register, n, allowed, row, trail)
 }
 
-/// The answer to an echo with a text, which is the next line. A text that is blank or too long is wrong there.
+/// The answer to an echo with a text, which is the next line, and is read by the version. A text that is blank or too long is wrong there.
 fn follow_text(
     alloc: Global,
     register: &mut Register,
+    version: Version,
     n: u32,
     text: &[u8],
     trail: &mut Trail<'_>,
 ) -> Result<(), Halt>
     requires later { IsLaterThan n (state_of_parts register.old) }
     requires left { 0 < length trail.old.lines }
-    ensures { Answers (λ _. register.new) result trail.new (follow_text n register.old (reading text.now) trail.old) }
+    ensures { Answers (λ _. register.new) result trail.new (follow_text n register.old (reading (version_of version) text.now) trail.old) }
 {
-    let line = read_line(alloc, text)?;
+    let line = read_line(alloc, version, text)?;
     match line {
         Line::Blank => Err(Halt::Wrong(trail.number())),
         Line::Bad(why) => follow_bad(alloc, why, trail),
@@ -235,16 +255,17 @@ fn follow_text(
 fn follow_echo(
     alloc: Global,
     register: &mut Register,
+    version: Version,
     n: u32,
     text: Option<&[u8]>,
     trail: &mut Trail<'_>,
 ) -> Result<(), Halt>
     requires later { IsLaterThan n (state_of_parts register.old) }
     requires left { 0 < length trail.old.lines }
-    ensures { Answers (λ _. register.new) result trail.new (follow_echo n register.old (option_map (λ t. t.now) text.entry) trail.old) }
+    ensures { Answers (λ _. register.new) result trail.new (follow_echo (version_of version) n register.old (option_map (λ t. t.now) text.entry) trail.old) }
 {
     match text {
-        Some(text) => follow_text(alloc, register, n, text, trail),
+        Some(text) => follow_text(alloc, register, version, n, text, trail),
         None => {
             trail.take();
             follow_fault(alloc, Why::Long, trail)
@@ -252,16 +273,18 @@ fn follow_echo(
     }
 }
 
-/// Takes the lines of the next answer, whose number must be above `last`, and makes its change. Answers its number.
+/// Takes the lines of the next answer, whose number must be above `last` and whose text is read by the version, and makes
+/// its change. Answers its number.
 /// `Wrong` with the number of the first line that doesn't fit.
 pub(crate) fn follow_answer(
     alloc: Global,
     register: &mut Register,
+    version: Version,
     last: u32,
     trail: &mut Trail<'_>,
 ) -> Result<u32, Halt>
     requires { IsLaterThan (last + 1) (state_of_parts register.old) }
-    ensures { Answers (λ n. record { last = n; state = register.new }) result trail.new (follow_answer (record { last = last; state = register.old }) trail.old) }
+    ensures { Answers (λ n. record { last = n; state = register.new }) result trail.new (follow_answer (version_of version) (record { last = last; state = register.old }) trail.old) }
 {
     let wrong = Halt::Wrong(trail.number());
     let Some((n, text)) = next_echo(trail) else {
@@ -271,6 +294,6 @@ pub(crate) fn follow_answer(
         return Err(wrong);
     }
     trail.begin();
-    follow_echo(alloc, register, n, text, trail)?;
+    follow_echo(alloc, register, version, n, text, trail)?;
     Ok(n)
 }

@@ -2,16 +2,22 @@
 ghost use Rattle.std.specs.Prelude.{◌≡◌, ◌≤◌, ℕ, List, length, IfOk};
 ghost use Rattle.rp_reports.specs.Check.{finding};
 ghost use Rattle.rp_reports.specs.Output.{most_report_bytes, most_script_bytes, report_lines};
-ghost use Rattle.rp_reports.specs.Report.{IsReport};
+ghost use Rattle.rp_reports.specs.Report.{IsReport, report_mark, version_by};
 ghost use Rattle.rp_reports.specs.Text.{text_of_lines};
+ghost use Rattle.rp_syntax.specs.Versions.{version_of};
 ghost use Rattle.rp_checker.specs.Found.{found_of, TellsRight};
+ghost use Rattle.rp_checker.specs.Marks.{behind_mark};
 
 use crate::answer::follow_answer;
 use crate::halt::Halt;
 use rp_follow::Trail;
 use rp_register::Register;
+use rp_syntax::Version;
 use rp_true_report::every_report_is_accepted;
 use std::alloc::{AllocError, Global};
+
+/// The line that begins a report of the second version. It is no answer.
+const MARK: &[u8] = b"> 0 rp 2";
 
 /// What the check of a report finds.
 #[derive(Clone, Copy, Debug, PartialEq, Eq)]
@@ -23,10 +29,23 @@ pub enum Found {
     Wrong(u32),
 }
 
+/// The version of a report, of which nothing was taken yet, by its first line, which is taken where it is the mark.
+fn take_mark(trail: &mut Trail<'_>) -> Version
+    ensures version { version_of result ≡ version_by report_mark trail.old.lines }
+    ensures behind { trail.new ≡ behind_mark (version_of result) trail.old }
+{
+    if trail.peek().is_some_and(|line| line == MARK) {
+        trail.take();
+        return Version::Two;
+    }
+    Version::One
+}
+
 /// Whether a report of at most 67,108,864 bytes is accepted, and else which of its lines is the first wrong one. Nothing
 /// is searched for: each certificate that the report shows is checked, and every verdict must be the one that follows from
-/// those that pass. What is accepted is true of the regions that the echoed commands give, whoever wrote it; and the report
-/// of every script is accepted.
+/// those that pass. Where the first line is exactly `> 0 rp 2`, it is no answer, and the echoed lines are read by version 2;
+/// else they are read by version 1. What is accepted is true of the regions that the echoed commands give, whoever wrote it;
+/// and the report of every script is accepted.
 ///
 /// Answers `AllocError` only for want of memory.
 pub fn check_report(alloc: Global, report: &[u8]) -> Result<Found, AllocError>
@@ -37,10 +56,11 @@ pub fn check_report(alloc: Global, report: &[u8]) -> Result<Found, AllocError>
 {
     every_report_is_accepted();
     let mut trail = Trail::new(report);
+    let version = take_mark(&mut trail);
     let mut register = Register::new(alloc);
     let mut last = 0;
     while trail.peek().is_some() {
-        match follow_answer(alloc, &mut register, last, &mut trail) {
+        match follow_answer(alloc, &mut register, version, last, &mut trail) {
             Ok(n) => last = n,
             Err(Halt::Wrong(n)) => return Ok(Found::Wrong(n)),
             Err(Halt::Memory(fault)) => return Err(fault),

@@ -1,7 +1,8 @@
 //! The row of each command, followed on the next lines of a report: its checks and tests in order.
 ghost use Rattle.std.specs.Prelude.{◌≡◌};
 ghost use Rattle.std.specs.List.{AllByRecursion};
-ghost use Rattle.rp_language.specs.Expression.{IsKeptExpression, expressions_of};
+ghost use Rattle.rp_geometry.specs.sections.Trace.{IsHeight};
+ghost use Rattle.rp_language.specs.Expression.{IsKeptExpression, expressions_of, heights_of};
 ghost use Rattle.rp_model.specs.commands.Row.{row};
 ghost use Rattle.rp_reports.specs.Check.{Trail, line_tester};
 ghost use Rattle.rp_syntax.specs.Views.{command_of};
@@ -11,8 +12,8 @@ ghost use Rattle.rp_register.specs.Replies.{Replies, reply_told};
 use rp_changes::{consolidate, cutting, definition, registration, retire, subdivision};
 use rp_follow::Trail;
 use rp_questions::{
-    Question, audit, comparison, emptiness, lineage, list, membership, neighbours, owner,
-    owner_then, piece_numbers, related, shown_parts,
+    Question, access, audit, comparison, emptiness, lineage, list, membership, neighbours, owner,
+    owner_then, piece_numbers, related, section, shown_parts,
 };
 use rp_register::{Change, Register, Reply, RowEnd};
 use rp_report::Verdicts;
@@ -37,6 +38,7 @@ pub(crate) fn carry_out(
     trail: &mut Trail<'_>,
 ) -> Result<Reply, RowEnd>
     requires kept { AllByRecursion IsKeptExpression (expressions_of (command_of command.now)) }
+    requires heights { AllByRecursion IsHeight (heights_of (command_of command.now)) }
     requires few { HasFewChildren (command_of command.now) }
     ensures { Replies result trail.new (row line_tester register.now (command_of command.now) trail.old) }
 {
@@ -70,6 +72,8 @@ pub(crate) fn carry_out(
         Command::Asof(line, point) => told(owner_then(alloc, register, *line, point)),
         Command::Audit => told(audit(alloc, register, trail)),
         Command::List => told(list(alloc, register)),
+        Command::Section(region, z) => told(section(alloc, register, region, *z, trail)),
+        Command::Access(from, to) => told(access(alloc, register, *from, *to, trail)),
         Command::Layer(layer) => Ok(Reply::Changed(Change::Layer(*layer))),
     }
 }

@@ -207,6 +207,223 @@ fn names_stand_for_what_was_made(rt: HostRuntime) -> Result<(), Fail> {
     Ok(())
 }
 
+#[test]
+fn a_report_of_the_second_version_begins_with_its_mark(rt: HostRuntime) -> Result<(), Fail> {
+    let table: [(&[u8], Found); 14] = [
+        (
+            b"> 0 rp 2\n> 1 member box 0.000 0.000 0.000 0.010 0.010 0.010 0.005 0.003 0.005 9\n= yes\n",
+            Found::Accepted,
+        ),
+        (
+            b"> 0 rp 2\n> 1 empty box -0.001 0.000 0.000 0.001 0.002 0.003\n  in (0 1 1 1)\n  box -1 0 0 1 2 3\n  in (0 1 1 1)\n= no\n",
+            Found::Accepted,
+        ),
+        (
+            b"> 0 rp 2\n> 1 member all 5 0.000 0.000 1\n= refused syntax\n> 2 member all -0.000 0.000 0.000 1\n= refused syntax\n> 3 empty box 0.000 0.000 0.000 16777.217 0.001 0.001\n= refused range\n",
+            Found::Accepted,
+        ),
+        (b"> 0 rp 2\n", Found::Accepted),
+        (b"> 0 rp 2", Found::Accepted),
+        (b"> 1 rp 2\n= refused syntax\n", Found::Accepted),
+        (
+            b"> 1 member box 0.000 0.000 0.000 0.010 0.010 0.010 0.005 0.003 0.005 9\n= refused syntax\n",
+            Found::Accepted,
+        ),
+        (
+            b"> 0 rp 2\n> 1 member box 0.000 0.000 0.000 0.010 0.010 0.010 0.005 0.003 0.005 9\n= no\n",
+            Found::Wrong(3),
+        ),
+        (
+            b"> 0 rp 2\n> 1 member box 0 0 0 10 10 10 1 1 1 1\n= yes\n",
+            Found::Wrong(3),
+        ),
+        (b"> 0 rp 2\n> 1 layer a\n", Found::Wrong(3)),
+        (b"> 0 rp 2\n> 0 rp 2\n", Found::Wrong(2)),
+        (
+            b"> 1 member box 0 0 0 10 10 10 1 1 1 1\n= yes\n> 0 rp 2\n",
+            Found::Wrong(3),
+        ),
+        (b"> 0 rp 2 \n> 1 layer a\n= ok\n", Found::Wrong(1)),
+        (b"> 0 rp 1\n> 1 layer a\n= ok\n", Found::Wrong(1)),
+    ];
+    for (report, wanted) in table {
+        expect(&rt, rt.alloc(), report, wanted)?;
+    }
+    Ok(())
+}
+
+#[test]
+fn prisms_are_formed_of_their_trapezoids(rt: HostRuntime) -> Result<(), Fail> {
+    let table: [(&[u8], Found); 5] = [
+        (
+            b"> 1 show prism 0 10 4 0 0 10 0 10 10 0 10\n  out 1*(0 1 0 0) 1*(0 -1 0 0)\n  in (0 0 0 1) (0 0 10 1) (0 10 0 1) (10 0 0 1)\n  box 0 0 0 10 10 10\n= parts 1\n= part (1 0 0 0) (-1 0 0 10) (0 1 0 0) (0 -1 0 10) (0 0 1 0) (0 0 -1 10)\n",
+            Found::Accepted,
+        ),
+        (
+            b"> 1 show prism 0 10 4 0 0 10 0 10 10 0 10\n  in (0 0 0 1) (0 0 10 1) (0 10 0 1) (10 0 0 1)\n  box 0 0 0 10 10 10\n= parts 1\n= part (1 0 0 0) (-1 0 0 10) (0 1 0 0) (0 -1 0 10) (0 0 1 0) (0 0 -1 10)\n",
+            Found::Wrong(2),
+        ),
+        (
+            b"> 1 member prism 0 10 4 0 0 10 10 10 0 0 10 5 2 5 1\n= no\n> 2 member prism 0 10 4 0 0 10 10 10 0 0 10 2 5 5 1\n= yes\n> 3 member prism 0 10 4 0 0 10 10 10 0 0 10 5 5 5 1\n= yes\n",
+            Found::Accepted,
+        ),
+        (
+            b"> 1 show prism 0 10 2 0 0 1 1\n= refused range\n",
+            Found::Accepted,
+        ),
+        (
+            b"> 0 rp 2\n> 1 member prism 0.000 0.010 4 0.000 0.000 0.010 0.000 0.010 0.010 0.000 0.010 0.005 0.005 0.005 1\n= yes\n",
+            Found::Accepted,
+        ),
+    ];
+    for (report, wanted) in table {
+        expect(&rt, rt.alloc(), report, wanted)?;
+    }
+    Ok(())
+}
+
+/// The lines of the section of a box before its slice.
+const SECTION: &[u8] = b"> 1 section box 0 0 0 10 10 10 5
+  in (0 0 0 1) (0 0 10 1) (0 10 0 1) (10 0 0 1)
+  box 0 0 0 10 10 10
+= sections 1
+";
+
+/// The lines of the section of the same box at its upper face, before its slice.
+const UPPER_SECTION: &[u8] = b"> 1 section box 0 0 0 10 10 10 10
+  in (0 0 0 1) (0 0 10 1) (0 10 0 1) (10 0 0 1)
+  box 0 0 0 10 10 10
+= sections 1
+";
+
+#[test]
+fn a_slice_passes_for_its_part(rt: HostRuntime) -> Result<(), Fail> {
+    let table: [(&[u8], &[u8], Found); 10] = [
+        (
+            SECTION,
+            b"= ring (1 0 0) (0 0 5 1) (0 1 0) (10 0 5 1) (-1 0 10) (10 10 5 1) (0 -1 10) (0 10 5 1)\n",
+            Found::Accepted,
+        ),
+        (
+            SECTION,
+            b"= ring (1 0 0) (0 0 5 1) (0 1 0) (10 0 5 1) (-1 0 10) (10 9 5 1) (0 -1 10) (0 10 5 1)\n",
+            Found::Wrong(5),
+        ),
+        (
+            SECTION,
+            b"= ring (1 0 0) (0 0 5 1) (0 1 0) (0 0 5 1) (-1 0 10) (10 10 5 1) (0 -1 10) (0 10 5 1)\n",
+            Found::Wrong(5),
+        ),
+        (SECTION, b"= ring\n", Found::Wrong(5)),
+        (SECTION, b"= flat 1*(0 0 -1 10)\n", Found::Wrong(5)),
+        (SECTION, b"= refused limit\n", Found::Wrong(5)),
+        (SECTION, b"", Found::Wrong(5)),
+        (UPPER_SECTION, b"= flat 1*(0 0 -1 10)\n", Found::Accepted),
+        (
+            UPPER_SECTION,
+            b"= flat 2*(0 0 -1 10)\n> 2 layer a\n= ok\n",
+            Found::Accepted,
+        ),
+        (
+            UPPER_SECTION,
+            b"= ring (1 0 0) (0 0 10 1) (0 1 0) (10 0 10 1) (-1 0 10) (10 10 10 1) (0 -1 10) (0 10 10 1)\n",
+            Found::Wrong(5),
+        ),
+    ];
+    for (lines, slice, wanted) in table {
+        let mut report = Vec::new(rt.alloc());
+        report.extend_from_slice(lines)?;
+        report.extend_from_slice(slice)?;
+        expect_made(&rt, rt.alloc(), &report, wanted)?;
+    }
+    Ok(())
+}
+
+#[test]
+fn as_many_slices_are_shown_as_there_are_parts(rt: HostRuntime) -> Result<(), Fail> {
+    let table: [(&[u8], Found); 5] = [
+        (
+            b"> 1 section none 16777215\n= sections 0\n> 2 section all 16777216\n= refused range\n",
+            Found::Accepted,
+        ),
+        (
+            b"> 1 section box 0 0 0 10 10 10 5\n  in (1 1 1 1)\n  box 0 0 0 10 10 10\n= sections 2\n= ring (1 0 0) (0 0 5 1) (0 1 0) (10 0 5 1) (-1 0 10) (10 10 5 1) (0 -1 10) (0 10 5 1)\n",
+            Found::Wrong(4),
+        ),
+        (
+            b"> 1 section box 0 0 0 10 10 10 5\n  in (1 1 1 1)\n  box 0 0 0 10 10 10\n= refused limit\n",
+            Found::Accepted,
+        ),
+        (
+            b"> 1 section name a 5\n= refused unknown a\n",
+            Found::Accepted,
+        ),
+        (b"> 1 section name a 5\n= refused limit\n", Found::Wrong(2)),
+    ];
+    for (report, wanted) in table {
+        expect(&rt, rt.alloc(), report, wanted)?;
+    }
+    Ok(())
+}
+
+/// The lines of a report of four lots, three of them in a row.
+const ROW_OF_LOTS: &[u8] = b"> 1 register a box 0 0 0 10 10 10
+  in (0 0 0 1) (0 0 10 1) (0 10 0 1) (10 0 0 1)
+  box 0 0 0 10 10 10
+= ok
+> 2 register b box 10 0 0 20 10 10
+  in (10 0 0 1) (10 0 10 1) (10 10 0 1) (20 0 0 1)
+  box 10 0 0 20 10 10
+= ok
+> 3 register c box 20 0 0 30 10 10
+  in (20 0 0 1) (20 0 10 1) (20 10 0 1) (30 0 0 1)
+  box 20 0 0 30 10 10
+= ok
+> 4 register d box 50 0 0 60 10 10
+  in (50 0 0 1) (50 0 10 1) (50 10 0 1) (60 0 0 1)
+  box 50 0 0 60 10 10
+= ok
+";
+
+#[test]
+fn access_follows_least_chains(rt: HostRuntime) -> Result<(), Fail> {
+    let table: [(&[u8], Found); 8] = [
+        (
+            b"> 5 access a c\n  at (10 0 0 1)\n  at (20 0 0 1)\n= access 2\n= parcel a\n= parcel b\n= parcel c\n= level 2 a\n= level 1 b\n= level 0 c\n",
+            Found::Accepted,
+        ),
+        (
+            b"> 5 access a c\n  at (10 0 0 1)\n  at (20 0 0 1)\n= access 2\n= parcel a\n= parcel b\n= parcel c\n= level 2 a\n= level 2 b\n= level 0 c\n",
+            Found::Wrong(25),
+        ),
+        (
+            b"> 5 access a c\n  at (10 0 0 1)\n  at (20 0 0 1)\n= access 1\n= parcel a\n= parcel c\n= level 1 a\n= level 1 b\n= level 0 c\n",
+            Found::Wrong(20),
+        ),
+        (
+            b"> 5 access a d\n  at (10 0 0 1)\n  at (20 0 0 1)\n= noaccess\n= level 0 d\n",
+            Found::Accepted,
+        ),
+        (
+            b"> 5 access a d\n  at (10 0 0 1)\n= noaccess\n= level 0 d\n",
+            Found::Wrong(19),
+        ),
+        (
+            b"> 5 access a a\n  at (10 0 0 1)\n  at (20 0 0 1)\n= access 0\n= parcel a\n= level 0 a\n= level 1 b\n= level 2 c\n",
+            Found::Accepted,
+        ),
+        (b"> 5 access a e\n= refused unknown e\n", Found::Accepted),
+        (b"> 5 access a c\n= refused limit\n", Found::Accepted),
+    ];
+    for (lines, wanted) in table {
+        let mut report = Vec::new(rt.alloc());
+        report.extend_from_slice(ROW_OF_LOTS)?;
+        report.extend_from_slice(lines)?;
+        expect_made(&rt, rt.alloc(), &report, wanted)?;
+    }
+    Ok(())
+}
+
 /// A report of every command that makes, changes or asks for lots.
 const LOTS: &[u8] = b"> 1 register a box 0 0 0 4 2 2
   in (0 0 0 1) (0 0 2 1) (0 2 0 1) (4 0 0 1)

@@ -33,7 +33,7 @@ fn status_of_error(error: &io::Error) -> u8 {
 fn message(status: u8) -> Option<&'static str> {
     match status {
         UNLISTED => Some(
-            "these words are not known; the listed ones are: run, run brief, check, script, make N SEED, trial N SEED",
+            "these words are not known; the listed ones are: run, run brief, check, script, upgrade, make N SEED, trial N SEED",
         ),
         READ_FAILED => Some("reading the input failed"),
         PUT_FAILED => Some("writing the output failed"),

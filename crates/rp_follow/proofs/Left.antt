@@ -19,6 +19,10 @@ all_left start whole = record { same = refl }
 pub left_as : {A : Type 0} {start now : Trail} {whole left other : Walk Trail A} → left ≡ other → IsLeft start whole now left → IsLeft start whole now other
 left_as {start = start} {now = now} {whole = whole} e h = subst (λ walk. IsLeft start whole now walk) e h
 
+-- the whole walk in other words
+pub whole_as : {A : Type 0} {start now : Trail} {whole other left : Walk Trail A} → whole ≡ other → IsLeft start whole now left → IsLeft start other now left
+whole_as {start = start} {now = now} {left = left} e h = subst (λ walk. IsLeft start walk now left) e h
+
 -- after one step the next walk is left
 pub next_left : {A B : Type 0} {start now new : Trail} {whole : Walk Trail A} {x : B} (first : Walk Trail B) (next : B → Walk Trail A)
     → IsLeft start whole now (first >>= next) → first now ≡ done x new → IsLeft start whole new (next x)

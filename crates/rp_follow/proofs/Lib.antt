@@ -5,3 +5,5 @@ pub mod Places
 pub mod Searched
 pub mod Steps
 pub mod Tested
+pub mod Prisms
+pub mod SliceLines

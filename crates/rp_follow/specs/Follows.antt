@@ -46,6 +46,13 @@ abbrev pub IsNotMemory : Lost → Type 0
 IsNotMemory (Memory e) = ⊥
 IsNotMemory _ = Unit {0}
 
+-- the next line is wrong, or memory was wanting
+abbrev pub IsWrongOrMemory : Lost → Type 0
+IsWrongOrMemory (Wrong n) = Unit {0}
+IsWrongOrMemory Refused = ⊥
+IsWrongOrMemory Limit = ⊥
+IsWrongOrMemory (Memory e) = Unit {0}
+
 -- no line is due here: the report tells of a limit, and that line is taken, or the next line is wrong
 abbrev pub IsNotDue : Lost → Trail → Trail → Type 0
 IsNotDue (Wrong n) old new = (tells_limit old.lines ≡ false) × (new ≡ old) × (n ≡ new.number)

@@ -13,6 +13,8 @@ mod lost;
 mod meeting;
 mod pairs;
 mod part;
+mod prism;
+mod shown;
 mod sides;
 mod trail;
 
@@ -20,6 +22,8 @@ pub use form::{Form, common, copy, differed, joined, touching};
 pub use kept::Kept;
 pub use lost::Lost;
 pub use part::made;
+pub use prism::prismed;
+pub use shown::{Slices, slices};
 pub use trail::Trail;
 
 #[cfg(test)]

@@ -1,10 +1,13 @@
 ghost use Rattle.std.specs.Prelude.{◌≡◌, ◌≤◌, true, length, IfOk};
 ghost use Rattle.rp_geometry.specs.Geometry.{is_box_in_bounds};
+ghost use Rattle.rp_geometry.specs.sections.Trace.{IsHeight};
 ghost use Rattle.rp_space.specs.Boxes.{integer_box};
 ghost use Rattle.rp_reports.specs.Output.{most_report_bytes};
 
-use crate::{Form, Kept, Lost, Trail, common, copy, differed, joined, made, touching};
-use rp_space::{Half, Halves, IntBox, box_halves};
+use crate::{
+    Form, Kept, Lost, Trail, common, copy, differed, joined, made, prismed, slices, touching,
+};
+use rp_space::{Corner, Half, Halves, IntBox, box_halves};
 use std::alloc::Global;
 use std::process::Abort;
 use std::test::Fail;
@@ -402,4 +405,92 @@ fn forms_are_lost_at_a_line_or_a_limit(rt: HostRuntime) -> Result<(), Fail> {
         expect_forms_lost(&rt, rt.alloc(), report, count, wanted)?;
     }
     Ok(())
+}
+
+/// A square.
+const SQUARE: [Corner; 4] = [
+    Corner { x: 0, y: 0 },
+    Corner { x: 10, y: 0 },
+    Corner { x: 10, y: 10 },
+    Corner { x: 0, y: 10 },
+];
+
+/// The form of the square, raised from 0 to 10, and the number of the next line.
+fn raised_square(alloc: Global, report: &[u8]) -> Result<(Form, u32), Lost>
+    requires { length report.now ≤ most_report_bytes }
+{
+    let mut trail = Trail::new(report);
+    let form = prismed(alloc, 0, 10, &SQUARE, &mut trail)?;
+    Ok((form, trail.number()))
+}
+
+#[test]
+fn a_raised_square_is_one_part(rt: HostRuntime) -> Result<(), Fail> {
+    let (form, number) = raised_square(
+        rt.alloc(),
+        b"  out 1*(0 1 0 0) 1*(0 -1 0 0)\n  in (1 1 1 1)\n  box 0 0 0 10 10 10\n",
+    )?;
+    assert_eq!(rt; number, 4);
+    let [part] = form.items() else {
+        return Err("not one part".into());
+    };
+    assert_eq!(rt; part.halves.items(), box_halves(&WEST).as_slice());
+    let lost = raised_square(rt.alloc(), b"  in (1 1 1 1)\n").err();
+    assert_eq!(rt; lost, Some(Lost::Wrong(1)));
+    Ok(())
+}
+
+/// Follows the slices of the first box and of the one in its middle at a height, on the lines behind those of their part
+/// tests, and tells how many there are and the number of the next line.
+fn slices_of_two(alloc: Global, z: i32, report: &[u8]) -> Result<(usize, u32), Lost>
+    requires height { IsHeight z }
+    requires short { length report.now ≤ most_report_bytes }
+{
+    let mut trail = Trail::new(report);
+    let (mut form, middle) = two_boxes(alloc, &MIDDLE, &mut trail)?;
+    form.append(middle)?;
+    let mut ahead = trail.ahead();
+    let found = slices(alloc, &form, z, &mut ahead)?;
+    Ok((found.items().len(), ahead.number()))
+}
+
+#[test]
+fn slices_are_taken_where_they_pass(rt: HostRuntime) -> Result<(), Fail> {
+    let rings =
+        b"  in (1 1 1 1)\n  box 0 0 0 10 10 10\n  in (6 6 6 1)\n  box 4 2 2 12 8 8\n= ring (1 0 0) (0 0 5 1) (0 1 0) (10 0 5 1) (-1 0 10) (10 10 5 1) (0 -1 10) (0 10 5 1)\n= ring (1 0 -4) (4 2 5 1) (0 1 -2) (12 2 5 1) (-1 0 12) (12 8 5 1) (0 -1 8) (4 8 5 1)\n";
+    assert_eq!(rt; slices_of_two(rt.alloc(), 5, rings), Ok((2, 7)));
+    assert_eq!(rt; slices_of_two(rt.alloc(), 6, rings), Err(Lost::Wrong(5)));
+    let flat =
+        b"  in (1 1 1 1)\n  box 0 0 0 10 10 10\n  in (6 6 6 1)\n  box 4 2 2 12 8 8\n= flat 1*(0 0 -1 10)\n= flat 2*(0 0 -1 8)\n";
+    assert_eq!(rt; slices_of_two(rt.alloc(), 10, flat), Ok((2, 7)));
+    assert_eq!(rt; slices_of_two(rt.alloc(), 9, flat), Err(Lost::Wrong(5)));
+    Ok(())
+}
+
+#[test]
+fn the_first_slice_that_does_not_pass_is_wrong(rt: HostRuntime) {
+    let table: [(&[u8], u32); 4] = [
+        (
+            b"  in (1 1 1 1)\n  box 0 0 0 10 10 10\n  in (6 6 6 1)\n  box 4 2 2 12 8 8\n= ring (1 0 0) (0 0 5 1) (0 1 0) (10 0 5 1) (-1 0 10) (10 10 5 1) (0 -1 10) (1 10 5 1)\n",
+            5,
+        ),
+        (
+            b"  in (1 1 1 1)\n  box 0 0 0 10 10 10\n  in (6 6 6 1)\n  box 4 2 2 12 8 8\n= ring (1 0 0) (0 0 5 1) (0 1 0) (10 0 5 1) (-1 0 10) (10 10 5 1) (0 -1 10) (0 10 5 1)\n= flat 1*(0 0 -1 8)\n",
+            6,
+        ),
+        (
+            b"  in (1 1 1 1)\n  box 0 0 0 10 10 10\n  in (6 6 6 1)\n  box 4 2 2 12 8 8\n= ring (1 0 0) (0 0 5 1) (0 1 0) (10 0 5 1) (-1 0 10) (10 10 5 1) (0 -1 10) (0 10 5 1)",
+            6,
+        ),
+        (
+            b"  in (1 1 1 1)\n  box 0 0 0 10 10 10\n  in (6 6 6 1)\n  box 4 2 2 12 8 8\n= refused limit\n",
+            5,
+        ),
+    ];
+    for (report, number) in table {
+        assert_eq!(rt;
+            slices_of_two(rt.alloc(), 5, report),
+            Err(Lost::Wrong(number))
+        );
+    }
 }

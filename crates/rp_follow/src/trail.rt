@@ -7,8 +7,9 @@ ghost use Rattle.rp_geometry.specs.sets.Sets.{IsNonempty};
 ghost use Rattle.rp_geometry.specs.laws.CellLaws.{IsSolution};
 ghost use Rattle.rp_walks.specs.Walk.{most_tests};
 ghost use Rattle.rp_reports.specs.Output.{most_report_bytes, report_lines};
-ghost use Rattle.rp_reports.specs.Check.{tells_limit, next_proof, taken, taken_if, with_no_tests, follow_count, follow_strict, follow_weak};
+ghost use Rattle.rp_reports.specs.Check.{tells_limit, next_proof, next_slice, taken, taken_if, with_no_tests, follow_count, follow_strict, follow_weak};
 ghost use Rattle.rp_cert.specs.Lines.{line_of};
+ghost use Rattle.rp_cert.specs.Section.{slice_shown};
 ghost use Rattle.rp_follow.specs.Follows.{counted, Follows, IsOfLine, IsNotDue};
 ghost use Rattle.rp_follow.specs.Lines.{next_line};
 
@@ -16,8 +17,8 @@ use crate::few::{Few, MOST_FEW, put};
 use crate::kept::keep_halves;
 use crate::lines::split_line;
 use crate::lost::Lost;
-use rp_cert::{Proof, check_inside, check_outside, check_weak};
-use rp_report::read_proof;
+use rp_cert::{Proof, Slice, check_inside, check_outside, check_weak};
+use rp_report::{read_proof, read_slice};
 use rp_space::{Half, joined};
 use std::marker::Model;
 
@@ -67,6 +68,18 @@ impl<'a> Trail<'a> {
             rest,
             number: 1,
             tests: 0,
+        }
+    }
+
+    /// The same place again, to look at the lines behind the next one.
+    pub fn ahead(&self) -> Trail<'a>
+        ensures { result ≡ self.now }
+    {
+        Trail {
+            line: self.line,
+            rest: self.rest,
+            number: self.number,
+            tests: self.tests,
         }
     }
 
@@ -191,6 +204,13 @@ impl<'a> Trail<'a> {
         ensures { option_map line_of result ≡ next_proof self.now.lines }
     {
         read_proof(self.peek()?)
+    }
+
+    /// The slice that the next line shows. `None` where it shows none, or where no line is left.
+    pub(crate) fn next_slice(&self) -> Option<Slice>
+        ensures { option_map slice_shown result ≡ next_slice self.now.lines }
+    {
+        read_slice(self.peek()?)
     }
 
     /// Takes the next line, of which there is one, if its certificate passes; else it is wrong.

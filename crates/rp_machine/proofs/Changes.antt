@@ -40,7 +40,7 @@ change_run y ks (Err e) (Err f) n old new before after walk o answered change sa
 -- ---- the layer of a live lot is its own
 
 -- whatever layer is present
-layer_of_live : (y z x : Label) (lots : List (Lot (Unit {0}))) → is_among x (ids_of (live_lots lots)) ≡ true → layer_of_lot y (live_lot x lots) ≡ layer_of_lot z (live_lot x lots)
+pub layer_of_live : (y z x : Label) (lots : List (Lot (Unit {0}))) → is_among x (ids_of (live_lots lots)) ≡ true → layer_of_lot y (live_lot x lots) ≡ layer_of_lot z (live_lot x lots)
 layer_of_live y z x lots there = let found = looked_up x (live_lots lots) there in ap (layer_of_lot y) found.1 ∙ sym (ap (layer_of_lot z) found.1)
 
 -- the row of a cut, by whether the lot is live, and its layer

@@ -2,11 +2,12 @@
 use Rattle.std.proofs.Common.{◌≡◌, ◌*◌, List, [], ◌∷◌, ◌++◌, length, subst}
 use Rattle.std.specs.Prelude.{Result}
 use Rattle.rp_geometry.specs.Geometry.{box_half_spaces, HalfSpace}
+use Rattle.rp_geometry.specs.sets.Prism.{edges_of}
 use Rattle.rp_geometry.specs.sets.Shape.{Shape, Part, shape_of_parts}
 use Rattle.rp_geometry.specs.sets.Sets.{SameMembers}
 use Rattle.rp_geometry.specs.parts.PartTest.{whole_part}
 use Rattle.rp_geometry.specs.parts.Parts.{IsPart, AreOf, most_parts}
-use Rattle.rp_language.specs.Expression.{Expression, half_space, box, everything, nothing, named, lot, intersection, union, difference, opposite, IsKeptExpression, Meaning, closed}
+use Rattle.rp_language.specs.Expression.{Expression, half_space, box, prism, everything, nothing, named, lot, intersection, union, difference, opposite, IsKeptExpression, Meaning, closed}
 use Rattle.rp_walks.specs.Walk.{Outcome, Walk, Work, done, pass, count_tests, part_test, first_tester, ◌>>=◌}
 use Rattle.rp_walks.specs.Form.{made_part, if_at_most, join_each, join, subtract, subtract_from_whole, parts_of_cell, parts_or_none, form}
 use Rattle.rp_walks.specs.FormLaws.{IfDone, MeaningsAgree}
@@ -14,7 +15,7 @@ use Rattle.rp_forms.proofs.First.{first_tester_is_right_spec}
 use Rattle.rp_forms.proofs.Forms.{form_is_right_spec}
 use Rattle.rp_region.specs.declared.fault.OpFault.{OpFault}
 use Rattle.rp_region.specs.Makes.{IsFaultOf, Makes, OnlyTells}
-use Rattle.rp_region.proofs.Grows.{then_tells, pass_tells, count_tells, part_tells, few_tells, join_each_tells, subtract_tells, outside_tells}
+use Rattle.rp_region.proofs.Grows.{then_tells, pass_tells, count_tells, part_tells, few_tells, join_each_tells, subtract_tells, outside_tells, edges_tell}
 use Rattle.rp_region.proofs.Left.{IsLeft, all_left, next_left, fault_left, makes_left}
 
 -- ---- forms only append proof lines
@@ -43,6 +44,7 @@ of_one m e next = form first_tester m e >>= next
 pub form_tells : (m : Meaning (List Part)) (e : Expression) → OnlyTells (form first_tester m e)
 form_tells m (half_space h) = cell_tells (h ∷ [])
 form_tells m (box b) = cell_tells (box_half_spaces b)
+form_tells m (prism s) = edges_tell s [] (edges_of s.corners)
 form_tells m everything = pass_tells (whole_part ∷ [])
 form_tells m nothing = pass_tells []
 form_tells m (named x) = pass_tells (parts_or_none (m.of_name x))

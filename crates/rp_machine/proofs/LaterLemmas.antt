@@ -9,7 +9,7 @@ use Rattle.rp_language.specs.Name.{Label}
 use Rattle.rp_model.specs.states.State.{Lot, NewLot, PlainState, lot_of_parts, state_of_parts, ended_at, born_at, Change, nothing_changes, name_added, lots_replaced, layer_changed, changed}
 use Rattle.rp_model.specs.states.Sound.{IsLaterThan}
 use Rattle.rp_model.specs.commands.Rule.{walked}
-use Rattle.rp_reports.specs.Machine.{change_walked, state_read, step_state}
+use Rattle.rp_reports.specs.Machine.{change_walked, state_read, step_state, Running, after_line}
 use Rattle.rp_states.proofs.Added.{still_later}
 use Rattle.rp_states.proofs.Listing.{all_mapped, all_unmapped, all_true}
 use Rattle.rp_states.proofs.Replaced.{ended_all}
@@ -48,8 +48,8 @@ read_later s n h (bad f) = still_later n (state_of_parts s) h
 read_later s n h (command c) = changed_later s n h (change_walked (walked s c))
 
 -- so it is after a line that was answered
-pub next_later : {A E : Type 0} (r : Result A E) (s next : PlainState) (n : ℕ) (line : List ℕ) → IsLaterThan n (state_of_parts s) → OnOk r (next ≡ step_state s n line) → OnOk r (IsLaterThan (n + 1) (state_of_parts next))
+pub next_later : {A E : Type 0} (r : Result A E) (m next : Running) (n : ℕ) (line : List ℕ) → IsLaterThan n (state_of_parts m.state) → OnOk r (next ≡ after_line m n line) → OnOk r (IsLaterThan (n + 1) (state_of_parts next.state))
 unfolding step_state
-next_later (Ok a) s next n line h after =
-    subst (λ (m : ℕ). IsLaterThan m (state_of_parts next)) (sym (add-one n)) (subst (λ (t : PlainState). IsLaterThan (suc n) (state_of_parts t)) (sym after) (read_later s n h (reading line)))
-next_later (Err e) s next n line h after = tt
+next_later (Ok a) m next n line h after =
+    subst (λ (k : ℕ). IsLaterThan k (state_of_parts next.state)) (sym (add-one n)) (subst (λ (t : Running). IsLaterThan (suc n) (state_of_parts t.state)) (sym after) (read_later m.state n h (reading m.version line)))
+next_later (Err e) m next n line h after = tt

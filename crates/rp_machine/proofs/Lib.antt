@@ -1,3 +1,4 @@
+mod AccessLemmas
 mod Changes
 mod ChildLemmas
 mod Compared

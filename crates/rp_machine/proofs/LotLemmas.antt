@@ -222,7 +222,7 @@ history_few x kept ids named =
 -- ---- neighbours are no more than the lots
 
 -- some of a list are no more than all
-some_few : {A : Type 0} (p : A → Bool) (xs : List A) → length (filter p xs) ≤ length xs
+pub some_few : {A : Type 0} (p : A → Bool) (xs : List A) → length (filter p xs) ≤ length xs
 some_few {A} p xs = let e = length-filter_both p (λ (x : A). not (p x)) (λ x. refl) xs in omega arith
 
 -- one lot adds one id at most

@@ -2,14 +2,13 @@
 use Rattle.std.proofs.Common.{◌≡◌, ℕ, List, Result, Ok, Err, sym, ap, ◌∙◌}
 use Rattle.std.specs.Prelude.{IfOk, OnOk}
 use Rattle.rp_language.specs.Expression.{Command}
-use Rattle.rp_language.specs.Grammar.{Fault, Reading, blank, bad, command, reading}
+use Rattle.rp_language.specs.Grammar.{Version, Reading, command, reading}
 use Rattle.rp_walks.specs.Walk.{Outcome, Work, no_work, first_tester}
 use Rattle.rp_model.specs.states.State.{PlainState, changed}
 use Rattle.rp_model.specs.commands.Row.{Reply, row}
 use Rattle.rp_model.specs.commands.Rule.{walked, proofs_walked}
 use Rattle.rp_reports.specs.Text.{Answer}
-use Rattle.rp_reports.specs.Report.{blank_answer, bad_answer}
-use Rattle.rp_reports.specs.Machine.{verdicts_walked, change_walked, answer_read, state_read, step_answer, step_state}
+use Rattle.rp_reports.specs.Machine.{verdicts_walked, change_walked, answer_read, state_read, step_answer, step_state, Running, after_line}
 use Rattle.rp_machine.specs.declared.fault.RowFault.{RowFault}
 use Rattle.rp_machine.specs.declared.fault.RowFault.TheVariants.{Refused, Limit, Memory}
 use Rattle.rp_machine.specs.declared.reply.Reply.{Reply as CodeReply}
@@ -17,31 +16,15 @@ use Rattle.rp_machine.specs.Replies.{Runs, IsWant, verdicts_of_row, proofs_of_ro
 
 -- ---- a line as it is read
 
--- the answer that is computed
-answer_as_read : (s : PlainState) (n : ℕ) (line : List ℕ) (r : Reading) → reading line ≡ r → answer_read s n line r ≡ step_answer s n line
+-- the answer to a line that is read so is the one that is computed
+pub answer_as_read : (v : Version) (s : PlainState) (n : ℕ) (line : List ℕ) (r : Reading) → reading v line ≡ r → answer_read s n line r ≡ step_answer v s n line
 unfolding step_answer
-answer_as_read s n line r e = ap (answer_read s n line) (sym e)
+answer_as_read v s n line r e = ap (answer_read s n line) (sym e)
 
--- the state that is computed
-state_as_read : (s : PlainState) (n : ℕ) (line : List ℕ) (r : Reading) → reading line ≡ r → state_read s n r ≡ step_state s n line
+-- the machine after a line that is read so is the one that is computed
+pub after_as_read : (m : Running) (n : ℕ) (line : List ℕ) (r : Reading) → reading m.version line ≡ r → record { version = m.version; state = state_read m.state n r } ≡ after_line m n line
 unfolding step_state
-state_as_read s n line r e = ap (state_read s n) (sym e)
-
--- a blank line
-pub blank_answered : (s : PlainState) (n : ℕ) (line : List ℕ) → reading line ≡ blank → blank_answer n ≡ step_answer s n line
-blank_answered s n line e = answer_as_read s n line blank e
-
--- it changes nothing
-pub blank_keeps : (s : PlainState) (n : ℕ) (line : List ℕ) → reading line ≡ blank → s ≡ step_state s n line
-blank_keeps s n line e = state_as_read s n line blank e
-
--- a bad line
-pub bad_answered : (s : PlainState) (n : ℕ) (line : List ℕ) (f : Fault) → reading line ≡ bad f → bad_answer n line f ≡ step_answer s n line
-bad_answered s n line f e = answer_as_read s n line (bad f) e
-
--- it changes nothing
-pub bad_keeps : (s : PlainState) (n : ℕ) (line : List ℕ) (f : Fault) → reading line ≡ bad f → s ≡ step_state s n line
-bad_keeps s n line f e = state_as_read s n line (bad f) e
+after_as_read m n line r e = ap (λ (t : PlainState). record { version = m.version; state = t }) (ap (state_read m.state n) (sym e))
 
 -- ---- a command
 
@@ -58,10 +41,10 @@ told_of_run n line before after (Err Limit) w o there h = ap (told n line) (sym 
 told_of_run n line before after (Err (Memory e)) w o there h = absurd (there tt)
 
 -- the answer of a row that was run is the one that is computed
-pub row_answered : (s after : PlainState) (n : ℕ) (line : List ℕ) (c : Command) (r : Result CodeReply RowFault) (w : Work) → reading line ≡ command c → (IsWant r → ⊥) → Runs r n w s after (row first_tester s c no_work)
-    → record { number = n; echo = line; proofs = proofs_of_row r w.proofs; verdicts = verdicts_of_row r } ≡ step_answer s n line
+pub row_answered : (s after : PlainState) (n : ℕ) (line : List ℕ) (c : Command) (r : Result CodeReply RowFault) (w : Work) → (IsWant r → ⊥) → Runs r n w s after (row first_tester s c no_work)
+    → record { number = n; echo = line; proofs = proofs_of_row r w.proofs; verdicts = verdicts_of_row r } ≡ answer_read s n line (command c)
 unfolding walked
-row_answered s after n line c r w read there h = told_of_run n line s after r w (row first_tester s c no_work) there h ∙ answer_as_read s n line (command c) read
+row_answered s after n line c r w there h = told_of_run n line s after r w (row first_tester s c no_work) there h
 
 -- the state after what a row comes to
 state_of_run : (n : ℕ) (before after : PlainState) (r : Result CodeReply RowFault) (w : Work) (o : Outcome Work Reply) → (IsWant r → ⊥) → Runs r n w before after o → after ≡ changed n before (change_walked o)
@@ -71,9 +54,9 @@ state_of_run n before after (Err Limit) w o there h = h.1 ∙ ap (λ (o : Outcom
 state_of_run n before after (Err (Memory e)) w o there h = absurd (there tt)
 
 -- the state after a row that was run is the one that is computed
-pub row_changed : (s after : PlainState) (n : ℕ) (line : List ℕ) (c : Command) (r : Result CodeReply RowFault) (w : Work) → reading line ≡ command c → (IsWant r → ⊥) → Runs r n w s after (row first_tester s c no_work) → after ≡ step_state s n line
+pub row_changed : (s after : PlainState) (n : ℕ) (c : Command) (r : Result CodeReply RowFault) (w : Work) → (IsWant r → ⊥) → Runs r n w s after (row first_tester s c no_work) → after ≡ state_read s n (command c)
 unfolding walked
-row_changed s after n line c r w read there h = state_of_run n s after r w (row first_tester s c no_work) there h ∙ state_as_read s n line (command c) read
+row_changed s after n c r w there h = state_of_run n s after r w (row first_tester s c no_work) there h
 
 -- where memory ran out the state is as before
 pub row_unchanged : (before after : PlainState) (n : ℕ) (r : Result CodeReply RowFault) (w : Work) (o : Outcome Work Reply) → IsWant r → Runs r n w before after o → after ≡ before
@@ -93,3 +76,8 @@ in_other_words (Err e) P Q turn h = tt
 pub where_ok : {A E : Type 0} (r : Result A E) (P : Type 0) → P → OnOk r P
 where_ok (Ok a) P h = h
 where_ok (Err e) P h = tt
+
+-- the same of the machine where an answer is there
+pub after_where_ok : {A E : Type 0} (r : Result A E) (m after : Running) (n : ℕ) (line : List ℕ) (read : Reading) → reading m.version line ≡ read → OnOk r (after ≡ record { version = m.version; state = state_read m.state n read }) → OnOk r (after ≡ after_line m n line)
+after_where_ok (Ok a) m after n line read e h = h ∙ after_as_read m n line read e
+after_where_ok (Err e) m after n line read i h = tt

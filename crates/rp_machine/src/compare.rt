@@ -16,8 +16,8 @@ ghost use Rattle.rp_machine.specs.Forms.{MakesForm};
 ghost use Rattle.rp_machine.specs.Replies.{Walks, GoesOn, row_of_forms};
 
 use crate::fault::{FormFault, RowFault};
-use crate::machine::Machine;
 use crate::reply::{one_line, yes_or_no};
+use crate::state::State;
 use rp_region::{OpFault, Region, Work};
 use rp_relate::{Rcc8, contact, equal, overlap, rcc, within};
 use rp_report::{Verdict, Verdicts};
@@ -107,7 +107,7 @@ fn relation_of(
     Ok(one_line(alloc, relation_verdict(relation))?)
 }
 
-impl Machine {
+impl State {
     /// The region that an expression names, if it is no more than a name or a lot.
     fn kept_region(&self, region: &Expr) -> Option<&Region>
         ensures { IfSome (option_copied result) (λ ps. (w : Work) → form first_tester (parts_in self.now) (expression_of region.now) w ≡ pass ps w) }

@@ -13,7 +13,7 @@ ghost use Rattle.rp_syntax.specs.Views.{expression_of};
 ghost use Rattle.rp_machine.specs.Forms.{MakesForm};
 
 use crate::fault::FormFault;
-use crate::machine::Machine;
+use crate::state::State;
 use rp_region::{OpFault, Region, Work};
 use rp_space::{Name, box_halves};
 use rp_syntax::Expr;
@@ -39,7 +39,7 @@ fn copy_or_none(alloc: Global, region: Option<&Region>) -> Result<Region, AllocE
     }
 }
 
-impl Machine {
+impl State {
     /// The first name or lot of the expression, in reading order, that isn't there.
     pub(crate) fn first_unknown(&self, region: &Expr) -> Option<Name>
         ensures { result ≡ first_unknown (parts_in self.now) (expression_of region.now) }
@@ -47,6 +47,7 @@ impl Machine {
         match region {
             Expr::Half(_) => None,
             Expr::Block(_) => None,
+            Expr::Prism(_, _, _) => None,
             Expr::All => None,
             Expr::Nothing => None,
             Expr::Name(name) => if_missing(name, self.region_named(name)),
@@ -73,7 +74,12 @@ impl Machine {
     /// Every number of the expression keeps the bounds of half-spaces and boxes, as those of a line that was read do.
     /// `Unknown` exactly for the first name or lot, in reading order, that isn't there; it comes before any test.
     /// `Limit` exactly where the operations on regions say so.
-    pub fn form(&self, alloc: Global, region: &Expr, work: &mut Work) -> Result<Region, FormFault>
+    pub(crate) fn form(
+        &self,
+        alloc: Global,
+        region: &Expr,
+        work: &mut Work,
+    ) -> Result<Region, FormFault>
         requires { IsKeptExpression (expression_of region.now) }
         ensures unknown { IfSome (first_unknown (parts_in self.now) (expression_of region.now)) (λ x. (result ≡ Err (FormFault.Unknown x)) × (work.new ≡ work.old)) }
         ensures makes { IsNone (first_unknown (parts_in self.now) (expression_of region.now)) → MakesForm (λ form. form) result work.old work.new (form first_tester (parts_in self.now) (expression_of region.now)) }
@@ -100,6 +106,9 @@ impl Machine {
         match region {
             Expr::Half(half) => Region::of_cell(alloc, &[*half], work),
             Expr::Block(bounds) => Region::of_cell(alloc, &box_halves(bounds), work),
+            Expr::Prism(low, high, corners) => {
+                Region::of_prism(alloc, *low, *high, corners.items(), work)
+            }
             Expr::All => Ok(Region::all(alloc)?),
             Expr::Nothing => Ok(Region::none(alloc)),
             Expr::Name(name) => Ok(copy_or_none(alloc, self.region_named(name))?),

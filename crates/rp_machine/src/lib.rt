@@ -11,6 +11,7 @@ mod named;
 mod orders;
 mod reply;
 mod rows;
+mod state;
 mod step;
 
 pub use fault::FormFault;

@@ -1,19 +1,20 @@
 //! Commands that ask something about lots.
-ghost use Rattle.std.specs.Prelude.{◌≡◌, ◌≤◌, ◌∷◌, ◌++◌, [], IfOk, OnOk, length, map, option_map, option_copied};
-ghost use Rattle.rp_language.specs.Expression.{ask_neighbours, ask_history, ask_at, ask_as_of, ask_audit, ask_list};
+ghost use Rattle.std.specs.Prelude.{◌≡◌, ◌≤◌, ◌*◌, ◌∷◌, ◌++◌, [], IfOk, IfSome, OnOk, length, map, option_map, option_copied};
+ghost use Rattle.rp_language.specs.Expression.{ask_neighbours, ask_history, ask_at, ask_as_of, ask_audit, ask_list, ask_access};
 ghost use Rattle.rp_walks.specs.Walk.{Work, first_tester};
 ghost use Rattle.rp_model.specs.states.State.{live_lots, lot_with_id, most_kept_parts};
-ghost use Rattle.rp_model.specs.commands.Verdict.{neighbour_lines, lot_lines};
+ghost use Rattle.rp_model.specs.commands.Verdict.{Verdict as ModelVerdict, neighbour_lines, lot_lines};
 ghost use Rattle.rp_model.specs.commands.Row.{row};
 ghost use Rattle.rp_history.specs.Lots.{lot_of};
+ghost use Rattle.rp_parcels.specs.Access.{told_chain, told_levels};
 ghost use Rattle.rp_parcels.specs.Points.{owner_verdict};
 ghost use Rattle.rp_report.specs.Views.{verdict_of};
 ghost use Rattle.rp_machine.specs.Replies.{Walks};
 ghost use Rattle.rp_machine.specs.Lots.{lots_under};
 
 use crate::fault::RowFault;
-use crate::machine::Machine;
 use crate::reply::one_line;
+use crate::state::State;
 use rp_boxindex::Quiet;
 use rp_history::{History, LotLine};
 use rp_region::Work;
@@ -25,16 +26,47 @@ use std::thread::Threads;
 /// The most parcels, or pairs of parcels, that are judged in a row in one thread.
 const GRAIN: usize = 16;
 
+/// A verdict line, and one for each of some ids. Answers `AllocError` only for want of memory.
+fn parcel_lines(alloc: Global, first: Verdict, ids: &[Name]) -> Result<Verdicts, AllocError>
+    ensures { IfOk result (λ lines. map verdict_of lines.items ≡ verdict_of first ∷ map ModelVerdict.parcel ids.now) }
+{
+    let mut lines = one_line(alloc, first)?;
+    for id in ids {
+        lines.push(Verdict::Parcel(*id))?;
+    }
+    Ok(lines)
+}
+
 /// The verdict lines of neighbours. Answers `AllocError` only for want of memory.
 fn neighbour_lines(alloc: Global, ids: &[Name]) -> Result<Verdicts, AllocError>
     requires { length ids.now ≤ most_kept_parts }
     ensures { IfOk result (λ lines. map verdict_of lines.items ≡ neighbour_lines ids.now) }
 {
-    let mut lines = one_line(alloc, Verdict::Neighbours(ids.len() as u32))?;
-    for id in ids {
-        lines.push(Verdict::Parcel(*id))?;
+    parcel_lines(alloc, Verdict::Neighbours(ids.len() as u32), ids)
+}
+
+/// The verdict lines of a chain, if there is one. Answers `AllocError` only for want of memory.
+fn chain_lines(alloc: Global, chain: Option<&Names>) -> Result<Verdicts, AllocError>
+    requires { IfSome (option_copied chain) (λ ids. length ids.items ≤ 2 * most_kept_parts) }
+    ensures { IfOk result (λ lines. map verdict_of lines.items ≡ told_chain (option_copied chain.entry)) }
+{
+    match chain {
+        None => one_line(alloc, Verdict::NoAccess),
+        Some(ids) => {
+            let steps = ids.items().len().saturating_sub(1);
+            parcel_lines(alloc, Verdict::Access(steps as u32), ids.items())
+        }
     }
-    Ok(lines)
+}
+
+/// Appends the verdict lines of levels. Answers `AllocError` only for want of memory.
+fn add_levels(levels: &[(u32, Name)], lines: &mut Verdicts) -> Result<(), AllocError>
+    ensures { OnOk result (map verdict_of lines.new.items ≡ map verdict_of lines.old.items ++ told_levels levels.now) }
+{
+    for (steps, id) in levels {
+        lines.push(Verdict::Level(*steps, *id))?;
+    }
+    Ok(())
 }
 
 /// The verdict line of a lot. Answers `AllocError` only for want of memory.
@@ -111,9 +143,9 @@ fn owner_verdict(owner: Option<Name>) -> Verdict
     }
 }
 
-impl Machine {
+impl State {
     /// How many lots of all layers are live.
-    pub fn count_live(&self) -> u32
+    pub(crate) fn count_live(&self) -> u32
         ensures { result ≡ length (live_lots self.now.lots) }
     {
         self.parcels().count_live()
@@ -192,6 +224,27 @@ impl Machine {
         let lots = self.parcels().history().lots();
         let mut lines = one_line(alloc, Verdict::Parcels(live_count(lots) as u32))?;
         add_live(alloc, lots, &mut lines)?;
+        Ok(lines)
+    }
+    /// `access`: a shortest chain of live lots of one layer from one to another, each in contact with the next, and the
+    /// level of each lot of the layer that has one.
+    pub(crate) fn access<R: Threads + Sync>(
+        &self,
+        rt: &R,
+        alloc: Global,
+        from: Name,
+        to: Name,
+        work: &mut Work,
+    ) -> Result<Verdicts, RowFault>
+        ensures { Walks result work.new (row first_tester self.now (ask_access from to) work.old) }
+    {
+        let access = self
+            .parcels()
+            .access(rt, alloc, &Quiet, GRAIN, from, to, work)?;
+        // Only so that it is known that there are few lots.
+        let _ = self.parcels().history();
+        let mut lines = chain_lines(alloc, access.chain.as_ref())?;
+        add_levels(access.levels.items(), &mut lines)?;
         Ok(lines)
     }
 }

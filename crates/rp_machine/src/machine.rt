@@ -1,213 +1,124 @@
-//! What a machine keeps between the lines of a script, and how each command changes it.
-ghost use Rattle.std.specs.Prelude.{◌≡◌, ◌+◌, ◌≤◌, ◌&&◌, ℕ, length, map, nat_le, option_copied, IfOk};
-ghost use Rattle.rp_geometry.specs.parts.Parts.{IsPart};
-ghost use Rattle.rp_walks.specs.FormLaws.{MeaningsAgree};
-ghost use Rattle.rp_walks.specs.Walk.{Work, first_tester};
-ghost use Rattle.rp_model.specs.states.State.{opening, base_layer, parts_in, state_of_parts, parts_under_names, most_names, most_kept_parts};
+//! One line of a script after the other.
+ghost use Rattle.std.specs.Prelude.{◌≡◌, ◌+◌, Err, IfSome, IfOk, IsNone, OnOk, OnErr, length};
+ghost use Rattle.rp_geometry.specs.sets.Shape.{shape_of_parts};
+ghost use Rattle.rp_geometry.specs.sets.Sets.{SameMembers};
+ghost use Rattle.std.specs.List.{AllByRecursion};
+ghost use Rattle.rp_geometry.specs.sections.Trace.{IsHeight};
+ghost use Rattle.rp_language.specs.Expression.{IsKeptExpression, expressions_of, heights_of, closed, first_unknown};
+ghost use Rattle.rp_language.specs.Grammar.{command};
+ghost use Rattle.rp_walks.specs.Walk.{first_tester};
+ghost use Rattle.rp_walks.specs.Form.{form};
+ghost use Rattle.rp_model.specs.states.State.{opening, live_lots, parts_in, state_of_parts};
 ghost use Rattle.rp_model.specs.states.Sound.{IsSound, IsLaterThan};
-ghost use Rattle.rp_model.specs.commands.Row.{shapes_of_parts, row_define, row_register, row_cut, row_subdivide, row_consolidate, row_retire, row};
-ghost use Rattle.rp_language.specs.Expression.{set_layer};
-ghost use Rattle.rp_parcels.specs.Register.{child_of};
-ghost use Rattle.rp_machine.specs.Replies.{Runs, IsAnswered};
+ghost use Rattle.rp_model.specs.commands.Row.{shapes_of_parts};
+ghost use Rattle.rp_reports.specs.Machine.{step_answer, after_line, answer_read, state_read};
+ghost use Rattle.rp_report.specs.Views.{answer_of};
+ghost use Rattle.rp_syntax.specs.Versions.{version_of};
+ghost use Rattle.rp_syntax.specs.Views.{command_of, expression_of};
+ghost use Rattle.rp_machine.specs.Children.{HasFewChildren};
+ghost use Rattle.rp_machine.specs.Forms.{MakesForm};
 
-use crate::fault::RowFault;
-use crate::named::NamedRegions;
-use crate::reply::Reply;
-use rp_boxindex::Quiet;
-use rp_parcels::{Child, ParcelFault, Parcels};
+use crate::fault::FormFault;
+use crate::state::State;
+use crate::step::bad_line;
 use rp_region::{Region, Work};
-use rp_report::Refusal;
-use rp_space::Name;
+use rp_report::Answer;
+use rp_syntax::{Command, Expr, Line, Version, read_line};
 use std::alloc::{AllocError, Global};
 use std::marker::Model;
+use std::thread::Threads;
 
-/// The machine that answers the lines of a script. A contract sees what it keeps between them: the present layer, what
-/// names stand for, and all lots that were ever registered. That is a sound state: names and ids are distinct, each stands
-/// for a region, live lots of one layer share no point, and the limits of numbers and of parts are kept.
+/// The machine that answers the lines of a script. A contract sees the version of the script, which no line changes, and
+/// what is kept between the lines: a sound state.
 #[derive(Debug, Drop)]
 pub struct Machine {
-    layer: Name,
-    names: NamedRegions,
-    parcels: Parcels,
+    version: Version,
+    state: State,
 }
 
 impl Model for Machine {
-    ghost use Rattle.rp_model.specs.states.State.{PlainState, state_of_parts};
-    ghost use Rattle.rp_model.specs.states.Sound.{IsSound};
-    ghost use Rattle.rp_machine.specs.Named.{state_with};
+    ghost use Rattle.rp_reports.specs.Machine.{Running};
+    ghost use Rattle.rp_syntax.specs.Versions.{version_of};
 
-    ghost Value = { PlainState };
+    ghost Value = { Running };
 
-    ghost view = { λ a. state_with a.layer a.names a.parcels };
-
-    ghost invariant = { λ a. IsSound (state_of_parts (state_with a.layer a.names a.parcels)) };
-}
-
-/// The layer that a script begins with.
-fn base_layer() -> Name
-    ensures { result ≡ base_layer }
-{
-    Name::new(b"base").unwrap()
-}
-
-/// The reply to a change of the register.
-fn answered(change: Result<(), ParcelFault>) -> Result<Reply, RowFault>
-    ensures { IsAnswered change result }
-{
-    match change {
-        Ok(()) => Ok(Reply::Done),
-        Err(fault) => Err(RowFault::from(fault)),
-    }
+    ghost view = { λ a. record { version = version_of a.version; state = a.state } };
 }
 
 impl Machine {
-    /// The machine in its opening state. Answers `AllocError` only for want of memory.
-    pub fn new(alloc: Global) -> Result<Machine, AllocError>
-        ensures { IfOk result (λ m. m ≡ opening) }
+    /// The machine for a script of a version, in its opening state. Answers `AllocError` only for want of memory.
+    pub fn new(alloc: Global, version: Version) -> Result<Machine, AllocError>
+        ensures { IfOk result (λ m. m ≡ record { version = version_of version; state = opening }) }
     {
         Ok(Machine {
-            layer: base_layer(),
-            names: NamedRegions::new(alloc),
-            parcels: Parcels::new(alloc)?,
+            version,
+            state: State::new(alloc)?,
         })
     }
 
-    /// Does nothing: a machine is a sound state, whose names and lots stand for regions, and this makes it known.
-    pub(crate) fn keep_sound(&self)
-        ensures sound { IsSound (state_of_parts self.now) }
-        ensures regions { MeaningsAgree IsPart (parts_in self.now) (shapes_of_parts (parts_in self.now)) }
+    /// The form of an expression: its parts, made test by test in reading order, with the parts kept for names.
+    /// The members of the parts are those of the expression, in which each name stands for its region.
+    ///
+    /// Every number of the expression keeps the bounds of half-spaces, boxes and prisms, as those of a line that was read do.
+    /// `Unknown` exactly for the first name or lot, in reading order, that isn't there; it comes before any test.
+    /// `Limit` exactly where the operations on regions say so.
+    pub fn form(&self, alloc: Global, region: &Expr, work: &mut Work) -> Result<Region, FormFault>
+        requires { IsKeptExpression (expression_of region.now) }
+        ensures unknown { IfSome (first_unknown (parts_in self.now.state) (expression_of region.now)) (λ x. (result ≡ Err (FormFault.Unknown x)) × (work.new ≡ work.old)) }
+        ensures makes { IsNone (first_unknown (parts_in self.now.state) (expression_of region.now)) → MakesForm (λ form. form) result work.old work.new (form first_tester (parts_in self.now.state) (expression_of region.now)) }
+        ensures members { IfOk result (λ form. SameMembers (shape_of_parts form) (closed (shapes_of_parts (parts_in self.now.state)) (expression_of region.now))) }
+        ensures sound { IsSound (state_of_parts self.now.state) }
     {
-        let _ = &self.names;
+        self.state.form(alloc, region, work)
     }
 
-    /// The present layer.
-    pub(crate) fn layer(&self) -> Name
-        ensures { result ≡ self.now.layer }
+    /// How many lots of all layers are live.
+    pub fn count_live(&self) -> u32
+        ensures { result ≡ length (live_lots self.now.state.lots) }
     {
-        self.layer
+        self.state.count_live()
     }
 
-    /// All lots.
-    pub(crate) fn parcels(&self) -> &Parcels
-        ensures { result.now ≡ self.now.lots }
+    /// The answer to the line with the number `n`, which is above every birth and every end of a lot, and what it changes.
+    /// The line is read by the version. A blank line has an answer without echo and verdicts. A line that is refused changes
+    /// nothing. Answers `AllocError` only for want of memory; then the machine is as it was. The next number is above every
+    /// birth and every end again.
+    pub fn step<R: Threads + Sync>(
+        &mut self,
+        rt: &R,
+        alloc: Global,
+        n: u32,
+        line: &[u8],
+    ) -> Result<Answer, AllocError>
+        requires { IsLaterThan n (state_of_parts self.old.state) }
+        ensures answer { IfOk result (λ a. answer_of a ≡ step_answer self.old.version self.old.state n line.now) }
+        ensures state { OnOk result (self.new ≡ after_line self.old n line.now) }
+        ensures unchanged { OnErr result (self.new ≡ self.old) }
+        ensures later { OnOk result (IsLaterThan (n + 1) (state_of_parts self.new.state)) }
     {
-        &self.parcels
-    }
-
-    /// The region that a name stands for.
-    pub(crate) fn region_named(&self, name: &Name) -> Option<&Region>
-        ensures { option_copied result ≡ (parts_in self.now).of_name name.now }
-    {
-        self.names.find(name)
-    }
-
-    /// The region of a live lot.
-    pub(crate) fn region_of_lot(&self, lot: &Name) -> Option<&Region>
-        ensures { option_copied result ≡ (parts_in self.now).of_lot lot.now }
-    {
-        self.parcels.region(*lot)
-    }
-
-    /// Whether one more name may stand for the region.
-    pub(crate) fn has_room_for(&self, region: &Region) -> bool
-        ensures { result ≡ (nat_le (length self.now.names + 1) most_names && nat_le (parts_under_names self.now.names + length region.now) most_kept_parts) }
-    {
-        self.names.have_room_for(region)
-    }
-
-    /// Keeps a form under a name: it must be new, and there must be room for both.
-    pub(crate) fn keep(&mut self, name: Name, form: Region) -> Result<Reply, RowFault>
-        ensures { (n : ℕ) (w : Work) → Runs result n w self.old self.new (row_define self.old name form w) }
-    {
-        if self.region_named(&name).is_some() {
-            return Err(RowFault::Refused(Refusal::Known(name)));
+        match read_line(alloc, self.version, line)? {
+            Line::Blank => Ok(Answer::blank(alloc, n)),
+            Line::Cmd(asked) => self.answer(rt, alloc, n, line, &asked),
+            Line::Bad(why) => bad_line(alloc, n, line, why),
         }
-        if !self.has_room_for(&form) {
-            return Err(RowFault::Limit);
-        }
-        self.names.keep(name, form)?;
-        Ok(Reply::Done)
     }
-
-    /// A form becomes a lot of the present layer.
-    pub(crate) fn register_form(
+    /// The answer to a line that reads as the command, and what it changes.
+    fn answer<R: Threads + Sync>(
         &mut self,
+        rt: &R,
         alloc: Global,
         n: u32,
-        id: Name,
-        form: Region,
-        work: &mut Work,
-    ) -> Result<Reply, RowFault>
-        requires { IsLaterThan n (state_of_parts self.old) }
-        ensures { Runs result n work.new self.old self.new (row_register first_tester self.old id form work.old) }
+        line: &[u8],
+        asked: &Command,
+    ) -> Result<Answer, AllocError>
+        requires later { IsLaterThan n (state_of_parts self.old.state) }
+        requires kept { AllByRecursion IsKeptExpression (expressions_of (command_of asked.now)) }
+        requires heights { AllByRecursion IsHeight (heights_of (command_of asked.now)) }
+        requires few { HasFewChildren (command_of asked.now) }
+        ensures answer { IfOk result (λ a. answer_of a ≡ answer_read self.old.state n line.now (command (command_of asked.now))) }
+        ensures state { OnOk result (self.new ≡ record { version = self.old.version; state = state_read self.old.state n (command (command_of asked.now)) }) }
+        ensures unchanged { OnErr result (self.new ≡ self.old) }
     {
-        answered(
-            self.parcels
-                .register(alloc, &Quiet, n, self.layer, id, form, work),
-        )
-    }
-
-    /// A lot is cut in two by a form: the first gets its points in the form, the second the others.
-    pub(crate) fn cut_by(
-        &mut self,
-        alloc: Global,
-        n: u32,
-        id: Name,
-        form: &Region,
-        first: Name,
-        second: Name,
-        work: &mut Work,
-    ) -> Result<Reply, RowFault>
-        requires { IsLaterThan n (state_of_parts self.old) }
-        ensures { Runs result n work.new self.old self.new (row_cut first_tester self.old id form.now first second work.old) }
-    {
-        answered(self.parcels.cut(alloc, n, id, form, first, second, work))
-    }
-
-    /// A lot is divided into children.
-    pub(crate) fn subdivide_into(
-        &mut self,
-        alloc: Global,
-        n: u32,
-        id: Name,
-        children: &[Child],
-        work: &mut Work,
-    ) -> Result<Reply, RowFault>
-        requires later { IsLaterThan n (state_of_parts self.old) }
-        requires few { length children.now ≤ 1024 }
-        ensures { Runs result n work.new self.old self.new (row_subdivide first_tester self.old id (map child_of children.now) work.old) }
-    {
-        answered(self.parcels.subdivide(alloc, n, id, children, work))
-    }
-
-    /// `consolidate`: lots of one layer become one.
-    pub(crate) fn consolidate(
-        &mut self,
-        alloc: Global,
-        n: u32,
-        new: Name,
-        ids: &[Name],
-        work: &mut Work,
-    ) -> Result<Reply, RowFault>
-        requires { IsLaterThan n (state_of_parts self.old) }
-        ensures { Runs result n work.new self.old self.new (row_consolidate self.old new ids.now work.old) }
-    {
-        answered(self.parcels.consolidate(alloc, n, new, ids, work))
-    }
-
-    /// `retire`: a lot ends. It takes no memory.
-    pub(crate) fn retire(&mut self, n: u32, id: Name) -> Result<Reply, RowFault>
-        requires { IsLaterThan n (state_of_parts self.old) }
-        ensures { (w : Work) → Runs result n w self.old self.new (row_retire self.old id w) }
-    {
-        answered(self.parcels.retire(n, id))
-    }
-
-    /// `layer`: the layer is the present one from now on.
-    pub(crate) fn set_layer(&mut self, layer: Name) -> Result<Reply, RowFault>
-        ensures { (n : ℕ) (w : Work) → Runs result n w self.old self.new (row first_tester self.old (set_layer layer) w) }
-    {
-        self.layer = layer;
-        Ok(Reply::Done)
+        self.state.answer(rt, alloc, n, line, asked)
     }
 }

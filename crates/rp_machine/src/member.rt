@@ -1,13 +1,14 @@
 //! Membership of points, by signs.
 ghost use Rattle.std.specs.Prelude.{◌≡◌, true, option_copied, option_map};
-ghost use Rattle.rp_language.specs.Expression.{closed, shape_or_nothing};
+ghost use Rattle.rp_language.specs.Expression.{IsKeptExpression, closed, shape_or_nothing};
 ghost use Rattle.rp_geometry.specs.Geometry.{is_cube_point};
 ghost use Rattle.rp_geometry.specs.sets.Shape.{passes, is_member, shape_of_parts};
 ghost use Rattle.rp_model.specs.states.State.{parts_in};
 ghost use Rattle.rp_model.specs.commands.Row.{shapes_of_parts};
 ghost use Rattle.rp_syntax.specs.Views.{expression_of};
 
-use crate::machine::Machine;
+use crate::state::State;
+use rp_footprint::prism_holds;
 use rp_region::Region;
 use rp_space::Point;
 use rp_syntax::Expr;
@@ -23,15 +24,17 @@ fn is_held(region: Option<&Region>, point: &Point) -> bool
     }
 }
 
-impl Machine {
+impl State {
     /// Whether a point of the cube passes the test of the expression, in which each name and lot stands for its region.
     fn passes(&self, region: &Expr, point: &Point) -> bool
-        requires { is_cube_point point.now ≡ true }
+        requires kept { IsKeptExpression (expression_of region.now) }
+        requires cube { is_cube_point point.now ≡ true }
         ensures { result ≡ passes (closed (shapes_of_parts (parts_in self.now)) (expression_of region.now)) point.now }
     {
         match region {
             Expr::Half(half) => half.holds(point),
             Expr::Block(bounds) => bounds.holds(point),
+            Expr::Prism(low, high, corners) => prism_holds(*low, *high, corners.items(), point),
             Expr::All => true,
             Expr::Nothing => false,
             Expr::Name(name) => is_held(self.region_named(name), point),
@@ -45,6 +48,7 @@ impl Machine {
 
     /// Whether the point is a member of the expression: it lies in the cube and passes its test.
     pub(crate) fn is_member(&self, region: &Expr, point: &Point) -> bool
+        requires { IsKeptExpression (expression_of region.now) }
         ensures { result ≡ is_member (closed (shapes_of_parts (parts_in self.now)) (expression_of region.now)) point.now }
     {
         point.is_in_cube() && self.passes(region, point)

@@ -12,8 +12,8 @@ ghost use Rattle.rp_machine.specs.Forms.{LeadsTo};
 ghost use Rattle.rp_machine.specs.Replies.{Runs};
 
 use crate::fault::RowFault;
-use crate::machine::Machine;
 use crate::reply::Reply;
+use crate::state::State;
 use rp_parcels::Child;
 use rp_region::{OpFault, Work};
 use rp_report::Refusal;
@@ -21,7 +21,7 @@ use rp_space::{Listed, Name};
 use rp_syntax::Expr;
 use std::alloc::Global;
 
-impl Machine {
+impl State {
     /// `let`: the form of the expression under a new name.
     pub(crate) fn define(
         &mut self,

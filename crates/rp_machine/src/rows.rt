@@ -2,13 +2,15 @@
 ghost use Rattle.std.specs.Prelude.{◌≡◌, ◌≤◌, List, IfOk, length, map};
 ghost use Rattle.rp_geometry.specs.parts.Parts.{most_parts};
 ghost use Rattle.rp_geometry.specs.sets.Shape.{Part};
+ghost use Rattle.rp_geometry.specs.sections.Trace.{IsHeight};
 ghost use Rattle.std.specs.List.{AllByRecursion};
-ghost use Rattle.rp_language.specs.Expression.{IsKeptExpression, expressions_of, ask_member, ask_empty, ask_pieces, ask_show};
+ghost use Rattle.rp_language.specs.Expression.{IsKeptExpression, expressions_of, heights_of, ask_member, ask_empty, ask_pieces, ask_show, ask_section};
 ghost use Rattle.rp_walks.specs.Walk.{Work, Walk, first_tester};
 ghost use Rattle.rp_model.specs.states.State.{state_of_parts};
 ghost use Rattle.rp_model.specs.states.Sound.{IsLaterThan};
-ghost use Rattle.rp_model.specs.commands.Verdict.{part_lines_of, piece_lines};
+ghost use Rattle.rp_model.specs.commands.Verdict.{part_lines_of, piece_lines, section_lines};
 ghost use Rattle.rp_model.specs.commands.Row.{Reply as ModelReply, row};
+ghost use Rattle.rp_cert.specs.Section.{slice_shown};
 ghost use Rattle.rp_groups.specs.Lists.{numbers_of};
 ghost use Rattle.rp_report.specs.Views.{verdict_of};
 ghost use Rattle.rp_syntax.specs.Views.{expression_of, command_of};
@@ -17,12 +19,13 @@ ghost use Rattle.rp_machine.specs.Replies.{Walks, Runs, GoesOn, row_of_form, rep
 
 use crate::compare::Question;
 use crate::fault::RowFault;
-use crate::machine::Machine;
 use crate::reply::{Reply, one_line, yes_or_no};
+use crate::state::State;
 use rp_pieces::{PieceList, pieces};
 use rp_region::{Region, Work};
 use rp_relate::is_empty;
 use rp_report::{Refusal, Verdict, Verdicts};
+use rp_section::{Slices, section};
 use rp_space::Point;
 use rp_syntax::{Command, Expr};
 use std::alloc::{AllocError, Global};
@@ -53,6 +56,19 @@ fn piece_lines(alloc: Global, pieces: PieceList) -> Result<Verdicts, AllocError>
     Ok(lines)
 }
 
+/// The verdict lines of slices; they are moved. Answers `AllocError` only for want of memory.
+fn section_lines(alloc: Global, slices: Slices) -> Result<Verdicts, AllocError>
+    requires { length slices.items ≤ most_parts }
+    ensures { IfOk result (λ lines. map verdict_of lines.items ≡ section_lines (map slice_shown slices.items)) }
+{
+    let mut lines = Verdicts::new(alloc);
+    lines.push(Verdict::Sections(slices.items().len() as u32))?;
+    for slice in slices.into_items() {
+        lines.push(Verdict::Slice(slice))?;
+    }
+    Ok(lines)
+}
+
 /// The reply to a question.
 fn told(asked: Result<Verdicts, RowFault>) -> Result<Reply, RowFault>
     ensures { result ≡ reply_told asked }
@@ -63,9 +79,9 @@ fn told(asked: Result<Verdicts, RowFault>) -> Result<Reply, RowFault>
     }
 }
 
-impl Machine {
+impl State {
     /// Carries out the command of the line with the number `n`: its reply, or why there is none. Where there is none the
-    /// machine is as it was.
+    /// state is as it was.
     pub(crate) fn carry_out<R: Threads + Sync>(
         &mut self,
         rt: &R,
@@ -76,6 +92,7 @@ impl Machine {
     ) -> Result<Reply, RowFault>
         requires later { IsLaterThan n (state_of_parts self.old) }
         requires kept { AllByRecursion IsKeptExpression (expressions_of (command_of command.now)) }
+        requires heights { AllByRecursion IsHeight (heights_of (command_of command.now)) }
         requires few { HasFewChildren (command_of command.now) }
         ensures { Runs result n work.new self.old self.new (row first_tester self.old (command_of command.now) work.old) }
     {
@@ -104,11 +121,14 @@ impl Machine {
             Command::Audit => told(self.audit(rt, alloc, work)),
             Command::List => told(self.list(alloc)),
             Command::Layer(layer) => self.set_layer(*layer),
+            Command::Section(region, z) => told(self.section(alloc, region, *z, work)),
+            Command::Access(from, to) => told(self.access(rt, alloc, *from, *to, work)),
         }
     }
 
     /// `member`: whether the point is a member, by signs. It rests on no test and has no limit.
     fn membership(&self, alloc: Global, region: &Expr, point: &Point) -> Result<Verdicts, RowFault>
+        requires { IsKeptExpression (expression_of region.now) }
         ensures { (w : Work) → Walks result w (row first_tester self.now (ask_member (expression_of region.now) point.now) w) }
     {
         if let Some(name) = self.first_unknown(region) {
@@ -157,5 +177,21 @@ impl Machine {
     {
         let form = self.row_form(alloc, region, work)?;
         Ok(part_lines(alloc, form)?)
+    }
+    /// `section`: the slices of the parts of the form at a height.
+    fn section(
+        &self,
+        alloc: Global,
+        region: &Expr,
+        z: i32,
+        work: &mut Work,
+    ) -> Result<Verdicts, RowFault>
+        requires kept { IsKeptExpression (expression_of region.now) }
+        requires height { IsHeight z }
+        ensures { Walks result work.new (row first_tester self.now (ask_section (expression_of region.now) z) work.old) }
+    {
+        let form = self.row_form(alloc, region, work)?;
+        let slices = section(alloc, &form, z)?;
+        Ok(section_lines(alloc, slices)?)
     }
 }

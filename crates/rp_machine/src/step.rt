@@ -1,22 +1,26 @@
-//! One line of a script after the other.
-ghost use Rattle.std.specs.Prelude.{◌≡◌, ◌+◌, ◌<◌, ◌∷◌, ◌++◌, [], map, IfOk, OnOk, OnErr};
-ghost use Rattle.rp_language.specs.Grammar.{reading, command};
+//! The answer to a line, and what it changes.
+ghost use Rattle.std.specs.Prelude.{◌≡◌, ◌<◌, ◌∷◌, ◌++◌, [], map, IfOk, OnOk, OnErr};
+ghost use Rattle.std.specs.List.{AllByRecursion};
+ghost use Rattle.rp_geometry.specs.sections.Trace.{IsHeight};
+ghost use Rattle.rp_language.specs.Expression.{IsKeptExpression, expressions_of, heights_of};
+ghost use Rattle.rp_language.specs.Grammar.{command};
 ghost use Rattle.rp_model.specs.states.State.{state_of_parts};
 ghost use Rattle.rp_model.specs.states.Sound.{IsLaterThan};
 ghost use Rattle.rp_reports.specs.Report.{echoed, bad_answer};
-ghost use Rattle.rp_reports.specs.Machine.{step_answer, step_state};
+ghost use Rattle.rp_reports.specs.Machine.{answer_read, state_read};
 ghost use Rattle.rp_cert.specs.Lines.{line_of};
 ghost use Rattle.rp_report.specs.Views.{answer_of, verdict_of};
 ghost use Rattle.rp_syntax.specs.Views.{command_of, fault_of};
+ghost use Rattle.rp_machine.specs.Children.{HasFewChildren};
 ghost use Rattle.rp_machine.specs.Replies.{verdicts_of_row, proofs_of_row, IsWant};
 
 use crate::fault::RowFault;
-use crate::machine::Machine;
 use crate::reply::Reply;
+use crate::state::State;
 use rp_cert::Proofs;
 use rp_region::Work;
 use rp_report::{Answer, Echo, Refusal, Verdict, Verdicts};
-use rp_syntax::{Command, Line, Why, read_line};
+use rp_syntax::{Command, Why};
 use std::alloc::{AllocError, Global};
 use std::thread::Threads;
 
@@ -31,7 +35,7 @@ fn echoed(line: &[u8], why: Why) -> &[u8]
 }
 
 /// The answer to a line that is no command. Answers `AllocError` only for want of memory.
-fn bad_line(alloc: Global, n: u32, line: &[u8], why: Why) -> Result<Answer, AllocError>
+pub(crate) fn bad_line(alloc: Global, n: u32, line: &[u8], why: Why) -> Result<Answer, AllocError>
     ensures { IfOk result (λ a. answer_of a ≡ bad_answer n line.now (fault_of why)) }
 {
     let verdict = Verdict::Refused(Refusal::Bad(why));
@@ -85,33 +89,10 @@ fn row_proofs(alloc: Global, row: &Result<Reply, RowFault>, work: Work) -> Proof
     }
 }
 
-impl Machine {
-    /// The answer to the line with the number `n`, which is above every birth and every end of a lot, and what it changes.
-    /// A blank line has an answer without echo and verdicts. A line that is refused changes nothing. Answers `AllocError`
-    /// only for want of memory; then the machine is as it was. The next number is above every birth and every end again.
-    pub fn step<R: Threads + Sync>(
-        &mut self,
-        rt: &R,
-        alloc: Global,
-        n: u32,
-        line: &[u8],
-    ) -> Result<Answer, AllocError>
-        requires { IsLaterThan n (state_of_parts self.old) }
-        ensures answer { IfOk result (λ a. answer_of a ≡ step_answer self.old n line.now) }
-        ensures state { OnOk result (self.new ≡ step_state self.old n line.now) }
-        ensures unchanged { OnErr result (self.new ≡ self.old) }
-        ensures later { OnOk result (IsLaterThan (n + 1) (state_of_parts self.new)) }
-    {
-        match read_line(alloc, line)? {
-            Line::Blank => Ok(Answer::blank(alloc, n)),
-            Line::Cmd(asked) => self.answer(rt, alloc, n, line, &asked),
-            Line::Bad(why) => bad_line(alloc, n, line, why),
-        }
-    }
-
+impl State {
     /// The answer to a line that reads as the command, and what it changes. The memory of the answer is taken before
     /// anything changes.
-    fn answer<R: Threads + Sync>(
+    pub(crate) fn answer<R: Threads + Sync>(
         &mut self,
         rt: &R,
         alloc: Global,
@@ -120,9 +101,11 @@ impl Machine {
         asked: &Command,
     ) -> Result<Answer, AllocError>
         requires later { IsLaterThan n (state_of_parts self.old) }
-        requires read { reading line.now ≡ command (command_of asked.now) }
-        ensures answer { IfOk result (λ a. answer_of a ≡ step_answer self.old n line.now) }
-        ensures state { OnOk result (self.new ≡ step_state self.old n line.now) }
+        requires kept { AllByRecursion IsKeptExpression (expressions_of (command_of asked.now)) }
+        requires heights { AllByRecursion IsHeight (heights_of (command_of asked.now)) }
+        requires few { HasFewChildren (command_of asked.now) }
+        ensures answer { IfOk result (λ a. answer_of a ≡ answer_read self.old n line.now (command (command_of asked.now))) }
+        ensures state { OnOk result (self.new ≡ state_read self.old n (command (command_of asked.now))) }
         ensures unchanged { OnErr result (self.new ≡ self.old) }
     {
         let echo = Echo::copy_of(alloc, line)?;

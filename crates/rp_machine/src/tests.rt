@@ -6,17 +6,17 @@ use crate::{FormFault, Machine};
 use rp_region::Work;
 use rp_report::{Answer, write_answer};
 use rp_space::{IntBox, Name};
-use rp_syntax::Expr;
+use rp_syntax::{Expr, Version};
 use std::alloc::{AllocError, Global};
 use std::process::Abort;
 use std::test::Fail;
 use std::thread::Threads;
 
-/// A machine that has answered no line yet.
-fn opened(alloc: Global) -> Result<Machine, AllocError>
-    ensures { IfOk result (λ m. IsLaterThan 1 (state_of_parts m)) }
+/// A machine for a script of a version that has answered no line yet.
+fn opened(alloc: Global, version: Version) -> Result<Machine, AllocError>
+    ensures { IfOk result (λ m. IsLaterThan 1 (state_of_parts m.state)) }
 {
-    Machine::new(alloc)
+    Machine::new(alloc, version)
 }
 
 /// The text of an answer.
@@ -34,8 +34,8 @@ fn told<R: Threads + Sync>(
     n: u32,
     line: &str,
 ) -> Result<Vec<u8>, AllocError>
-    requires { IsLaterThan n (state_of_parts machine.old) }
-    ensures { OnOk result (IsLaterThan (n + 1) (state_of_parts machine.new)) }
+    requires { IsLaterThan n (state_of_parts machine.old.state) }
+    ensures { OnOk result (IsLaterThan (n + 1) (state_of_parts machine.new.state)) }
 {
     let answer = machine.step(rt, alloc, n, line.as_bytes())?;
     text_of(alloc, &answer, true)
@@ -64,8 +64,8 @@ fn expect_told<R: Abort + Threads + Sync>(
     line: &str,
     verdicts: &str,
 ) -> Result<(), AllocError>
-    requires { IsLaterThan n (state_of_parts machine.old) }
-    ensures { OnOk result (IsLaterThan (n + 1) (state_of_parts machine.new)) }
+    requires { IsLaterThan n (state_of_parts machine.old.state) }
+    ensures { OnOk result (IsLaterThan (n + 1) (state_of_parts machine.new.state)) }
 {
     let text = told(rt, alloc, machine, n, line)?;
     expect_text(rt, alloc, &text, n, line, verdicts)
@@ -78,7 +78,7 @@ fn expect_alone<R: Abort + Threads + Sync>(
     line: &str,
     verdicts: &str,
 ) -> Result<(), AllocError> {
-    let mut machine = opened(alloc)?;
+    let mut machine = opened(alloc, Version::One)?;
     expect_told(rt, alloc, &mut machine, 1, line, verdicts)
 }
 
@@ -102,7 +102,7 @@ fn expect_from<R: Abort + Threads + Sync>(
     first: u32,
     rows: &[(&str, &str)],
 ) -> Result<(), AllocError>
-    requires later { IsLaterThan first (state_of_parts machine.old) }
+    requires later { IsLaterThan first (state_of_parts machine.old.state) }
     requires few { first + length rows.now < 100000 }
 {
     let mut n = first;
@@ -121,7 +121,7 @@ fn expect_in_turn<R: Abort + Threads + Sync>(
 ) -> Result<(), AllocError>
     requires { length rows.now < 1000 }
 {
-    let mut machine = opened(alloc)?;
+    let mut machine = opened(alloc, Version::One)?;
     expect_from(rt, alloc, &mut machine, 1, rows)
 }
 
@@ -288,6 +288,102 @@ fn lines_that_are_no_command_are_refused(rt: HostRuntime) -> Result<(), Fail> {
     Ok(())
 }
 
+#[test]
+fn coordinates_are_read_by_the_version(rt: HostRuntime) -> Result<(), Fail> {
+    let rows = [
+        (
+            "member box 0.000 0.000 0.000 0.010 0.010 0.010 0.005 0.003 0.005 9",
+            "= yes",
+        ),
+        (
+            "show box -0.001 0.000 0.000 0.001 0.002 0.003",
+            "= parts 1\n= part (1 0 0 1) (-1 0 0 1) (0 1 0 0) (0 -1 0 2) (0 0 1 0) (0 0 -1 3)",
+        ),
+        ("member all 5 0.000 0.000 1", "= refused syntax"),
+        ("member all -0.000 0.000 0.000 1", "= refused syntax"),
+        (
+            "empty box 0.000 0.000 0.000 16777.217 0.001 0.001",
+            "= refused range",
+        ),
+        ("rp 2", "= refused syntax"),
+    ];
+    let alloc = rt.alloc();
+    let mut machine = opened(alloc, Version::Two)?;
+    expect_from(&rt, alloc, &mut machine, 1, &rows)?;
+    Ok(())
+}
+
+#[test]
+fn prisms_have_the_points_below_an_odd_number_of_edges(rt: HostRuntime) -> Result<(), Fail> {
+    let rows = [
+        (
+            "show prism 0 10 4 0 0 10 0 10 10 0 10",
+            "= parts 1\n= part (1 0 0 0) (-1 0 0 10) (0 1 0 0) (0 -1 0 10) (0 0 1 0) (0 0 -1 10)",
+        ),
+        (
+            "equal prism 0 10 4 0 0 10 0 10 10 0 10 box 0 0 0 10 10 10",
+            "= yes",
+        ),
+        ("member prism 0 10 4 0 0 10 10 10 0 0 10 5 2 5 1", "= no"),
+        ("member prism 0 10 4 0 0 10 10 10 0 0 10 2 5 5 1", "= yes"),
+        ("member prism 0 10 4 0 0 10 10 10 0 0 10 8 5 5 1", "= yes"),
+        ("member prism 0 10 4 0 0 10 10 10 0 0 10 5 5 5 1", "= yes"),
+        ("show prism 0 10 2 0 0 1 1", "= refused range"),
+    ];
+    expect_each(&rt, rt.alloc(), &rows)?;
+    Ok(())
+}
+
+#[test]
+fn sections_are_rings_or_flat(rt: HostRuntime) -> Result<(), Fail> {
+    let rows = [
+        (
+            "section box 0 0 0 10 10 10 5",
+            "= sections 1\n= ring (1 0 0) (0 0 5 1) (0 1 0) (10 0 5 1) (-1 0 10) (10 10 5 1) (0 -1 10) (0 10 5 1)",
+        ),
+        (
+            "section box 0 0 0 10 10 10 10",
+            "= sections 1\n= flat 1*(0 0 -1 10)",
+        ),
+        (
+            "section and half 1 0 0 0 and half 0 1 0 0 and half 0 0 1 0 half -2 -3 -5 7 1",
+            "= sections 1\n= ring (1 0 0) (0 0 1 1) (0 1 0) (1 0 1 1) (-2 -3 2) (0 2 3 3)",
+        ),
+        ("section none 5", "= sections 0"),
+        ("section name a 5", "= refused unknown a"),
+        ("section all 16777216", "= refused range"),
+    ];
+    expect_each(&rt, rt.alloc(), &rows)?;
+    Ok(())
+}
+
+#[test]
+fn chains_of_lots_are_shortest(rt: HostRuntime) -> Result<(), Fail> {
+    let rows = [
+        ("register a box 0 0 0 10 10 10", "= ok"),
+        ("register b box 10 0 0 20 10 10", "= ok"),
+        ("register c box 20 0 0 30 10 10", "= ok"),
+        ("register d box 50 0 0 60 10 10", "= ok"),
+        (
+            "access a c",
+            "= access 2\n= parcel a\n= parcel b\n= parcel c\n= level 2 a\n= level 1 b\n= level 0 c",
+        ),
+        ("access a d", "= noaccess\n= level 0 d"),
+        (
+            "access a a",
+            "= access 0\n= parcel a\n= level 0 a\n= level 1 b\n= level 2 c",
+        ),
+        ("access a e", "= refused unknown e"),
+        ("access f e", "= refused unknown f"),
+        ("layer rights", "= ok"),
+        ("register r box 0 0 0 10 10 10", "= ok"),
+        ("access a r", "= refused layers r"),
+        ("access r r", "= access 0\n= parcel r\n= level 0 r"),
+    ];
+    expect_in_turn(&rt, rt.alloc(), &rows)?;
+    Ok(())
+}
+
 /// The union of 512 boxes of one unit along the axis of x, with a gap of one unit between each two.
 fn boxes_apart(alloc: Global) -> Result<String, AllocError> {
     let mut text = String::new(alloc);
@@ -305,8 +401,8 @@ fn keep_boxes<R: Abort + Threads + Sync>(
     alloc: Global,
     machine: &mut Machine,
 ) -> Result<(), AllocError>
-    requires { IsLaterThan 1 (state_of_parts machine.old) }
-    ensures { OnOk result (IsLaterThan 2 (state_of_parts machine.new)) }
+    requires { IsLaterThan 1 (state_of_parts machine.old.state) }
+    ensures { OnOk result (IsLaterThan 2 (state_of_parts machine.new.state)) }
 {
     let boxes = boxes_apart(alloc)?;
     let line = format!(in alloc; "let a = {}", boxes.as_str().trim_end())?;
@@ -321,8 +417,8 @@ fn keep_numbered<R: Abort + Threads + Sync>(
     n: u32,
     region: &str,
 ) -> Result<(), AllocError>
-    requires { IsLaterThan n (state_of_parts machine.old) }
-    ensures { OnOk result (IsLaterThan (n + 1) (state_of_parts machine.new)) }
+    requires { IsLaterThan n (state_of_parts machine.old.state) }
+    ensures { OnOk result (IsLaterThan (n + 1) (state_of_parts machine.new.state)) }
 {
     let line = format!(in alloc; "let n{n} = {region}")?;
     expect_told(rt, alloc, machine, n, line.as_str(), "= ok")
@@ -337,9 +433,9 @@ fn keep_many<R: Abort + Threads + Sync>(
     count: u32,
     region: &str,
 ) -> Result<(), AllocError>
-    requires later { IsLaterThan first (state_of_parts machine.old) }
+    requires later { IsLaterThan first (state_of_parts machine.old.state) }
     requires few { first + count < 100000 }
-    ensures { OnOk result (IsLaterThan (first + count) (state_of_parts machine.new)) }
+    ensures { OnOk result (IsLaterThan (first + count) (state_of_parts machine.new.state)) }
 {
     for i in 0..count {
         keep_numbered(rt, alloc, machine, first + i, region)?;
@@ -349,9 +445,9 @@ fn keep_many<R: Abort + Threads + Sync>(
 
 /// The machine that has the union of the 512 boxes under the name `a`.
 fn with_boxes<R: Abort + Threads + Sync>(rt: &R, alloc: Global) -> Result<Machine, AllocError>
-    ensures { IfOk result (λ m. IsLaterThan 2 (state_of_parts m)) }
+    ensures { IfOk result (λ m. IsLaterThan 2 (state_of_parts m.state)) }
 {
-    let mut machine = opened(alloc)?;
+    let mut machine = opened(alloc, Version::One)?;
     keep_boxes(rt, alloc, &mut machine)?;
     Ok(machine)
 }
@@ -372,7 +468,7 @@ fn regions_have_at_most_1024_parts(rt: HostRuntime) -> Result<(), Fail> {
 
 /// The machine that has the 512 boxes under `a`, and 1,024 parts under each of 63 more names.
 fn with_many_parts<R: Abort + Threads + Sync>(rt: &R, alloc: Global) -> Result<Machine, AllocError>
-    ensures { IfOk result (λ m. IsLaterThan 65 (state_of_parts m)) }
+    ensures { IfOk result (λ m. IsLaterThan 65 (state_of_parts m.state)) }
 {
     let mut machine = with_boxes(rt, alloc)?;
     keep_many(rt, alloc, &mut machine, 2, 63, "or name a name a")?;
@@ -394,9 +490,9 @@ fn names_keep_at_most_65536_parts(rt: HostRuntime) -> Result<(), Fail> {
 
 /// The machine that has 65,536 names.
 fn with_many_names<R: Abort + Threads + Sync>(rt: &R, alloc: Global) -> Result<Machine, AllocError>
-    ensures { IfOk result (λ m. IsLaterThan 65537 (state_of_parts m)) }
+    ensures { IfOk result (λ m. IsLaterThan 65537 (state_of_parts m.state)) }
 {
-    let mut machine = opened(alloc)?;
+    let mut machine = opened(alloc, Version::One)?;
     keep_many(rt, alloc, &mut machine, 1, 65536, "none")?;
     Ok(machine)
 }
@@ -520,7 +616,7 @@ fn lots_come_and_go(rt: HostRuntime) -> Result<(), Fail> {
 
 #[test]
 fn live_lots_are_counted(rt: HostRuntime) -> Result<(), Fail> {
-    let mut machine = opened(rt.alloc())?;
+    let mut machine = opened(rt.alloc(), Version::One)?;
     let line = "register a box 0 0 0 10 10 10";
     expect_told(&rt, rt.alloc(), &mut machine, 1, line, "= ok")?;
     assert_eq!(rt; machine.count_live(), 1);
@@ -553,7 +649,7 @@ fn expect_unknown(rt: &impl Abort, alloc: Global, machine: &Machine, work: &mut 
 
 #[test]
 fn the_form_of_an_expression_is_made_test_by_test(rt: HostRuntime) -> Result<(), Fail> {
-    let machine = Machine::new(rt.alloc())?;
+    let machine = Machine::new(rt.alloc(), Version::One)?;
     let mut work = Work::new(rt.alloc());
     expect_six_parts(&rt, rt.alloc(), &machine, &mut work)?;
     assert_eq!(rt; work.tests(), 7);
@@ -568,7 +664,7 @@ fn answer_alone<R: Threads + Sync>(
     alloc: Global,
     line: &[u8],
 ) -> Result<Answer, AllocError> {
-    opened(alloc)?.step(rt, alloc, 1, line)
+    opened(alloc, Version::One)?.step(rt, alloc, 1, line)
 }
 
 /// The answer to a line of one byte more than a line may have.

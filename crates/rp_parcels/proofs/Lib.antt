@@ -18,6 +18,10 @@ pub mod Framed
 pub mod Shown
 pub mod Collected
 pub mod Touched
+pub mod Linked
+pub mod Layered
+pub mod Numbers
+pub mod Accessed
 pub mod Untold
 pub mod Subdivided
 pub mod Children

@@ -3,5 +3,7 @@ pub mod Kept
 pub mod Register
 pub mod Rows
 pub mod Judged
+pub mod Touching
+pub mod Access
 pub mod Walks
 pub mod Points

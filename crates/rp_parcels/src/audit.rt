@@ -9,6 +9,7 @@ ghost use Rattle.rp_model.specs.commands.Row.{reply, count_in_layers, all_apart,
 ghost use Rattle.rp_history.specs.Lots.{lots_in};
 ghost use Rattle.rp_nearby.specs.declared.near.Reach.TheVariants.{Overlap};
 ghost use Rattle.rp_nearby.specs.Near.{pairs_with, is_near, lots_at, AreWithin};
+ghost use Rattle.rp_parcels.specs.Kept.{AreSound};
 ghost use Rattle.rp_parcels.specs.Judged.{judged, with_all_lines, IsPairWithin};
 ghost use Rattle.rp_parcels.specs.Rows.{Walks, Answers};
 
@@ -67,7 +68,7 @@ impl Parcels {
         let lots = self.history().lots();
         for place in 0..lots.len() {
             if lots[place].ended.is_none() {
-                pairs += self.later_near(alloc, watch, place)?.pairs;
+                pairs += self.later_near(alloc, watch, place, Reach::Overlap)?.pairs;
             }
         }
         Ok(pairs)
@@ -75,29 +76,23 @@ impl Parcels {
 
     /// The live parcels behind a live one, of its layer, that have a part that may meet one of its own.
     /// Answers `AllocError` only for want of memory.
-    fn later_near<W: Watch>(
+    pub(crate) fn later_near<W: Watch>(
         &self,
         alloc: Global,
         watch: &W,
         place: usize,
+        reach: Reach,
     ) -> Result<Near, AllocError>
         requires { place < length self.now }
-        ensures pairs { IfOk result (λ near. (l : Lot (Unit {0})) → slice_get self.now place ≡ Some l → near.pairs ≡ pairs_with Overlap l.parts (lots_of_layer l.layer (live_lots (drop (place + 1) self.now)))) }
-        ensures lots { IfOk result (λ near. (l : Lot (Unit {0})) → slice_get self.now place ≡ Some l → lots_at self.now near.places.items ≡ filter (is_near Overlap l.parts) (lots_of_layer l.layer (live_lots (drop (place + 1) self.now)))) }
+        ensures pairs { IfOk result (λ near. (l : Lot (Unit {0})) → slice_get self.now place ≡ Some l → near.pairs ≡ pairs_with reach l.parts (lots_of_layer l.layer (live_lots (drop (place + 1) self.now)))) }
+        ensures lots { IfOk result (λ near. (l : Lot (Unit {0})) → slice_get self.now place ≡ Some l → lots_at self.now near.places.items ≡ filter (is_near reach l.parts) (lots_of_layer l.layer (live_lots (drop (place + 1) self.now)))) }
         ensures within { IfOk result (λ near. AreWithin self.now near.places.items) }
-        ensures few { IfOk result (λ near. near.pairs ≤ 1048576 * length self.now) }
+        ensures few { IfOk result (λ near. near.pairs ≤ 68719476736) }
+        ensures sound { AreSound self.now }
     {
         let lot = &self.history().lots()[place];
         let region = self.region_at(place);
-        self.near(
-            alloc,
-            watch,
-            region,
-            &lot.layer,
-            &lot.id,
-            place + 1,
-            Reach::Overlap,
-        )
+        self.near(alloc, watch, region, &lot.layer, &lot.id, place + 1, reach)
     }
 
     /// Each two live parcels of one layer are shown to share no point.
@@ -129,7 +124,7 @@ impl Parcels {
         let lots = self.history().lots();
         for place in 0..lots.len() {
             if lots[place].ended.is_none() {
-                let near = self.later_near(alloc, watch, place)?;
+                let near = self.later_near(alloc, watch, place, Reach::Overlap)?;
                 add_pairs(&mut pairs, place, near.places.items())?;
             }
         }

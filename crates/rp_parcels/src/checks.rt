@@ -1,5 +1,5 @@
 //! The checks on names that come before the rest of a call.
-ghost use Rattle.std.specs.Prelude.{◌≡◌, ◌+◌, ◌<◌, [], None, length, slice_get, option_map, IfOk};
+ghost use Rattle.std.specs.Prelude.{◌≡◌, ◌+◌, ◌<◌, [], None, length, slice_get, option_map, IfOk, IfErr};
 ghost use Rattle.rp_walks.specs.Walk.{Work};
 ghost use Rattle.rp_model.specs.states.State.{live_lot, layer_with_id, layer_of_first, parts_under_lots, most_kept_parts};
 ghost use Rattle.rp_model.specs.commands.Verdict.{repeated};
@@ -7,6 +7,7 @@ ghost use Rattle.rp_model.specs.commands.Checks.{check_new, check_live, check_ea
 ghost use Rattle.rp_model.specs.commands.Row.{check_size};
 ghost use Rattle.rp_history.specs.Lots.{lots_in};
 ghost use Rattle.rp_parcels.specs.Kept.{AreSound};
+ghost use Rattle.rp_parcels.specs.declared.fault.ParcelFault.TheVariants.{Unknown};
 ghost use Rattle.rp_parcels.specs.Rows.{Walks, Checks};
 
 use crate::fault::ParcelFault;
@@ -42,6 +43,7 @@ impl Parcels {
         ensures checks { Checks result (check_live (lots_in [] self.now) id) }
         ensures lot { IfOk result (λ k. slice_get self.now k ≡ live_lot id self.now) }
         ensures within { IfOk result (λ k. k < length self.now) }
+        ensures fault { IfErr result (λ e. e ≡ Unknown id) }
     {
         match self.history().live_place(&id) {
             Some(place) => Ok(place),

@@ -2,6 +2,7 @@
 //! of its command.
 #![tactic(auto)]
 
+mod access;
 mod audit;
 mod checks;
 mod child;
@@ -14,7 +15,9 @@ mod points;
 mod register;
 mod reshape;
 mod subdivide;
+mod touching;
 
+pub use access::{Access, Levels};
 pub use child::Child;
 pub use fault::ParcelFault;
 pub use parcels::Parcels;

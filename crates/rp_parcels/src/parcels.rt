@@ -1,5 +1,5 @@
 //! The register of parcels: what it keeps, and how it changes.
-ghost use Rattle.std.specs.Prelude.{◌≡◌, ◌+◌, ◌<◌, ◌≤◌, [], length, map, nat_le, slice_get, sum_by, option_copied, option_map, Some, IfOk, OnOk, OnErr};
+ghost use Rattle.std.specs.Prelude.{◌≡◌, ◌+◌, ◌<◌, ◌≤◌, [], length, map, nat_le, slice_get, sum_by, option_copied, option_map, Some, IfOk, IfErr, OnOk, OnErr};
 ghost use Rattle.rp_walks.specs.Walk.{no_work};
 ghost use Rattle.rp_model.specs.states.State.{Lot, live_lot, parts_of_lot, bare_lot, lots_replaced, parts_under_lots, most_kept_parts};
 ghost use Rattle.rp_model.specs.commands.Row.{row_retire};
@@ -7,6 +7,7 @@ ghost use Rattle.rp_history.specs.Lots.{lots_in, lots_after};
 ghost use Rattle.rp_nearby.specs.Indexed.{IsIndexed};
 ghost use Rattle.rp_parcels.specs.Kept.{AreSound};
 ghost use Rattle.rp_parcels.specs.Register.{IsLater, IsFitChange, new_lots};
+ghost use Rattle.rp_parcels.specs.declared.fault.ParcelFault.TheVariants.{Unknown};
 ghost use Rattle.rp_parcels.specs.Rows.{Changes};
 
 use crate::fault::ParcelFault;
@@ -150,6 +151,7 @@ impl Parcels {
     pub fn retire(&mut self, line: u32, id: Name) -> Result<(), ParcelFault>
         requires { IsLater line self.old }
         ensures row { Changes result line no_work no_work self.old self.new (row_retire (lots_in [] self.old) id) }
+        ensures fault { IfErr result (λ e. e ≡ Unknown id) }
         ensures sound { OnOk result (AreSound self.new) }
         ensures later { OnOk result (IsLater (line + 1) self.new) }
     {

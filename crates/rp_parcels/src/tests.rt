@@ -1,11 +1,12 @@
-ghost use Rattle.std.specs.Prelude.{◌≡◌, ◌+◌, ◌<◌, ◌≤◌, true, length};
+ghost use Rattle.std.specs.Prelude.{◌≡◌, ◌+◌, ◌*◌, ◌<◌, ◌≤◌, true, length};
 ghost use Rattle.rp_geometry.specs.Geometry.{is_box_in_bounds};
 ghost use Rattle.rp_language.specs.Name.{is_name};
 ghost use Rattle.rp_space.specs.Boxes.{integer_box};
 ghost use Rattle.rp_parcels.specs.Register.{IsLater};
 
-use crate::{Child, ParcelFault, Parcels};
+use crate::{Access, Child, ParcelFault, Parcels};
 use rp_boxindex::{Quiet, Watch};
+use rp_cert::{Proof, Proofs};
 use rp_region::{Region, Work};
 use rp_space::{Half, IntBox, Name, Point, box_halves};
 use std::alloc::Global;
@@ -48,6 +49,9 @@ const FAR: IntBox = IntBox {
     lo: [20, 0, 0],
     hi: [30, 10, 10],
 };
+
+/// As many tests as may be counted.
+const MAX_TESTS: u64 = 65536;
 
 /// A name.
 fn name(bytes: &[u8]) -> Name
@@ -332,9 +336,9 @@ fn slice(rt: &impl Abort, alloc: Global, x: u32) -> Region {
     Region::of_cell(alloc, &cell, &mut work).expect(rt, "no unit box")
 }
 
-/// The name of a box in a row.
-fn name_in_row(rt: &impl Abort, i: u32) -> Name {
-    let id = [b'p', b'0' + (i / 10 % 10) as u8, b'0' + (i % 10) as u8];
+/// The name of a box in a row, or of a side of it.
+fn in_row(rt: &impl Abort, first: u8, i: u32) -> Name {
+    let id = [first, b'0' + (i / 10 % 10) as u8, b'0' + (i % 10) as u8];
     Name::new(&id).expect(rt, "no name")
 }
 
@@ -344,7 +348,7 @@ fn add_slice(rt: &impl Abort, alloc: Global, parcels: &mut Parcels, i: u32)
     requires later { IsLater (i + 1) parcels.old }
     ensures { IsLater (i + 2) parcels.new }
 {
-    let id = name_in_row(rt, i);
+    let id = in_row(rt, b'p', i);
     let region = slice(rt, alloc, i);
     register(rt, alloc, &Quiet, parcels, i + 1, id, region);
 }
@@ -458,4 +462,193 @@ fn audit_is_the_same_for_every_grain(rt: HostRuntime) {
     for grain in [1, 7, 1000] {
         assert_eq!(rt; audited(&rt, rt.alloc(), &Quiet, grain, &parcels), (4, 2));
     }
+}
+
+/// What access from a parcel to another comes to, and the proof lines.
+fn accessed<R: Abort + Threads + Sync, W: Watch>(
+    rt: &R,
+    alloc: Global,
+    watch: &W,
+    grain: usize,
+    parcels: &Parcels,
+    from: Name,
+    to: Name,
+) -> (Access, Proofs)
+    requires { 1 ≤ grain }
+{
+    let mut work = Work::new(alloc);
+    let found = parcels.access(rt, alloc, watch, grain, from, to, &mut work);
+    (found.expect(rt, "no access"), work.into_proofs())
+}
+
+#[test]
+fn access_items_meet(rt: HostRuntime) {
+    let parcels = three_plots(&rt, rt.alloc());
+    let meeting = apart();
+    let (b, c) = (name(b"b"), name(b"c"));
+    let (found, lines) = accessed(&rt, rt.alloc(), &meeting, 1, &parcels, b, c);
+    let chain = found.chain.expect(&rt, "no chain");
+    assert_eq!(rt; chain.items(), [b, name(b"plot"), c].as_slice());
+    assert_eq!(rt; lines.items().len(), 2);
+    assert!(rt; have_met(&meeting));
+}
+
+/// Registers the next unit box of a row, and cuts it askew: its sides share an edge or more with those of the next one, or
+/// their boxes alone do.
+fn add_sides(rt: &impl Abort, alloc: Global, parcels: &mut Parcels, i: u32)
+    requires small { i < 100 }
+    requires later { IsLater (2 * i + 1) parcels.old }
+    ensures { IsLater (2 * i + 3) parcels.new }
+{
+    let ids = [
+        in_row(rt, b'p', i),
+        in_row(rt, b'a', i),
+        in_row(rt, b'b', i),
+    ];
+    let by = askew(rt, alloc, i as i32 + 1);
+    let region = slice(rt, alloc, i);
+    register(rt, alloc, &Quiet, parcels, 2 * i + 1, ids[0], region);
+    cut(rt, alloc, parcels, 2 * i + 2, &ids, &by);
+}
+
+/// A row of unit boxes along x, from 0 on, each of which is cut askew.
+fn row_of_sides(rt: &impl Abort, alloc: Global, count: u32) -> Parcels
+    requires { count < 100 }
+    ensures { IsLater (2 * count + 1) result }
+{
+    let mut parcels = nothing(rt, alloc);
+    for i in 0..count {
+        add_sides(rt, alloc, &mut parcels, i);
+    }
+    parcels
+}
+
+/// Whether two proof lines are the same.
+fn is_same_line(first: &Proof, second: &Proof) -> bool {
+    match (first, second) {
+        (Proof::At(point), Proof::At(other)) => *point == *other,
+        (Proof::Apart(terms), Proof::Apart(others)) => terms.items() == others.items(),
+        _ => false,
+    }
+}
+
+/// Whether proof lines are the same, one by one.
+fn are_same_lines(lines: &[Proof], others: &[Proof]) -> bool {
+    for i in 0..lines.len().min(others.len()) {
+        if !is_same_line(&lines[i], &others[i]) {
+            return false;
+        }
+    }
+    lines.len() == others.len()
+}
+
+/// Whether access is the same: the chain, the levels with their ids and the proof lines.
+fn is_same_access(first: &(Access, Proofs), second: &(Access, Proofs)) -> bool {
+    let ids = first.0.chain.as_ref().map(|chain| chain.items());
+    let others = second.0.chain.as_ref().map(|chain| chain.items());
+    ids == others
+        && first.0.levels.items() == second.0.levels.items()
+        && are_same_lines(first.1.items(), second.1.items())
+}
+
+#[test]
+fn access_is_the_same_for_every_grain(rt: HostRuntime) {
+    let parcels = row_of_sides(&rt, rt.alloc(), 5);
+    let (from, to) = (in_row(&rt, b'b', 0), in_row(&rt, b'a', 4));
+    let single = accessed(&rt, rt.alloc(), &Quiet, 1, &parcels, from, to);
+    assert_eq!(rt; single.1.items().len(), 21);
+    let levels = single.0.levels.items();
+    assert_eq!(rt; levels.len(), 10);
+    assert_eq!(rt; levels[1], (5, from));
+    for grain in [7, 1000] {
+        let found = accessed(&rt, rt.alloc(), &Quiet, grain, &parcels, from, to);
+        assert!(rt; is_same_access(&single, &found));
+    }
+}
+
+/// Two plots that touch, one apart from them, and one of another layer.
+fn four_plots(rt: &impl Abort, alloc: Global) -> Parcels {
+    let mut parcels = with_plot(rt, alloc, &PLOT);
+    register_box(rt, alloc, &mut parcels, 2, name(b"b"), &WEST);
+    register_box(rt, alloc, &mut parcels, 3, name(b"c"), &FAR);
+    let region = region(rt, alloc, &PLOT);
+    let mut work = Work::new(alloc);
+    let done = parcels.register(
+        alloc,
+        &Quiet,
+        4,
+        name(b"air"),
+        name(b"d"),
+        region,
+        &mut work,
+    );
+    done.expect(rt, "a region is not registered");
+    parcels
+}
+
+#[test]
+fn a_parcel_apart_has_no_access(rt: HostRuntime) {
+    let parcels = four_plots(&rt, rt.alloc());
+    let (b, c) = (name(b"b"), name(b"c"));
+    let (found, lines) = accessed(&rt, rt.alloc(), &Quiet, 1, &parcels, b, c);
+    assert!(rt; found.chain.is_none());
+    assert_eq!(rt; found.levels.items(), [(0, c)].as_slice());
+    assert_eq!(rt; lines.items().len(), 1);
+    let (here, _) = accessed(&rt, rt.alloc(), &Quiet, 1, &parcels, b, b);
+    assert_eq!(rt;
+        here.levels.items(),
+        [(1, name(b"plot")), (0, b)].as_slice()
+    );
+}
+
+/// Why access is refused where no more test may be counted.
+fn refused<R: Abort + Threads + Sync>(
+    rt: &R,
+    alloc: Global,
+    parcels: &Parcels,
+    from: &[u8],
+    to: &[u8],
+) -> Option<ParcelFault>
+    requires from { is_name from.now ≡ true }
+    requires to { is_name to.now ≡ true }
+{
+    let mut work = Work::new(alloc);
+    assert!(rt; work.count(MAX_TESTS));
+    parcels
+        .access(rt, alloc, &Quiet, 1, name(from), name(to), &mut work)
+        .err()
+}
+
+/// Whether a fault says that this id isn't live.
+fn is_unknown(fault: &Option<ParcelFault>, id: &Name) -> bool {
+    match fault {
+        Some(ParcelFault::Unknown(other)) => *other == *id,
+        _ => false,
+    }
+}
+
+/// Whether a fault says that this id is of another layer.
+fn is_across(fault: &Option<ParcelFault>, id: &Name) -> bool {
+    match fault {
+        Some(ParcelFault::Layers(other)) => *other == *id,
+        _ => false,
+    }
+}
+
+/// Whether a fault is that a limit is passed.
+fn is_limit(fault: &Option<ParcelFault>) -> bool {
+    matches!(fault, Some(ParcelFault::Limit))
+}
+
+#[test]
+fn access_is_refused_in_order(rt: HostRuntime) {
+    let parcels = four_plots(&rt, rt.alloc());
+    let from = refused(&rt, rt.alloc(), &parcels, b"x", b"y");
+    assert!(rt; is_unknown(&from, &name(b"x")));
+    let to = refused(&rt, rt.alloc(), &parcels, b"d", b"y");
+    assert!(rt; is_unknown(&to, &name(b"y")));
+    let across = refused(&rt, rt.alloc(), &parcels, b"b", b"d");
+    assert!(rt; is_across(&across, &name(b"d")));
+    let full = refused(&rt, rt.alloc(), &parcels, b"b", b"c");
+    assert!(rt; is_limit(&full));
 }

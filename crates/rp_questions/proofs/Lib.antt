@@ -5,3 +5,8 @@ pub mod Owned
 pub mod PieceLemmas
 pub mod ShownApart
 pub mod Touching
+pub mod Sliced
+pub mod LotLinks
+pub mod LayerLots
+pub mod Chained
+pub mod Accessed

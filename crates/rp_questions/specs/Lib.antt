@@ -1,3 +1,5 @@
 pub mod Asked
 pub mod Compare
 pub mod Questions
+pub mod Access
+pub mod Slices

@@ -88,6 +88,7 @@ pub fn membership(
     region: &Expr,
     point: &Point,
 ) -> Result<Verdicts, RowEnd>
+    requires { IsKeptExpression (expression_of region.now) }
     ensures { (t : Trail) → Tells result t (row line_tester register.now (ask_member (expression_of region.now) point.now) t) }
 {
     if let Some(name) = register.first_unknown(region) {

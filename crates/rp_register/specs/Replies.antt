@@ -1,13 +1,14 @@
 -- What a row that is followed on the lines of a report has come to.
-use Rattle.std.specs.Prelude.{◌≡◌, List, [], ◌∷◌, map, Result, Ok, Err, option_map}
+use Rattle.std.specs.Prelude.{◌≡◌, ℕ, List, [], ◌∷◌, map, Result, Ok, Err, option_map}
 use Rattle.rp_geometry.specs.sets.Shape.{Part}
 use Rattle.rp_language.specs.Expression.{Expression, first_unknown_among}
-use Rattle.rp_walks.specs.Walk.{Outcome, done, stopped, taken_wrong, Walk, ◌>>=◌}
+use Rattle.rp_walks.specs.Walk.{Outcome, done, stopped, line_wrong, taken_wrong, Walk, ◌>>=◌}
 use Rattle.rp_walks.specs.Form.{form}
 use Rattle.rp_model.specs.states.State.{PlainState, NewLot, Change as ModelChange, name_added, lots_replaced, layer_changed, parts_in}
 use Rattle.rp_model.specs.commands.Verdict.{unknown}
 use Rattle.rp_model.specs.commands.Row.{Reply as ModelReply, reply_lines, accepted, refusal, check, with_forms}
-use Rattle.rp_reports.specs.Check.{Trail, line_tester}
+use Rattle.rp_reports.specs.Check.{Trail, follow_lines, line_tester}
+use Rattle.rp_reports.specs.Text.{verdict_text}
 use Rattle.rp_space.specs.Listed.{Listed}
 use Rattle.rp_report.specs.declared.answer.Verdict.{Verdict as CodeVerdict}
 use Rattle.rp_report.specs.Views.{refusal_of, verdict_of}
@@ -18,7 +19,7 @@ use Rattle.rp_register.specs.declared.reply.Born.{Born}
 use Rattle.rp_register.specs.declared.reply.Change.{Change}
 use Rattle.rp_register.specs.declared.reply.Change.TheVariants.{Named, Replaced, Layer}
 use Rattle.rp_register.specs.declared.reply.RowEnd.{RowEnd}
-use Rattle.rp_register.specs.declared.reply.RowEnd.TheVariants.{Refused, Shared, Lost as LostEnd}
+use Rattle.rp_register.specs.declared.reply.RowEnd.TheVariants.{Refused, Shared, Unshown, Lost as LostEnd}
 
 -- ---- changes and replies of the code as those of the model
 
@@ -39,10 +40,19 @@ reply_of (Changed c) = accepted (change_of c)
 
 -- ---- what the row of a command comes to
 
+-- the row comes to a reply, and of its verdict lines, which are due on this trail, the line of this number is the first wrong one
+pub record IsUnshown (n : ℕ) (t : Trail) (o : Outcome Trail ModelReply) : Type 0 where
+  pub reply : ModelReply
+  pub comes : o ≡ done reply t
+  pub at : Trail
+  pub stops : follow_lines (map verdict_text reply.verdicts) t ≡ stopped line_wrong at
+  pub number : n ≡ at.number
+
 -- the row ends so, and the trail is this
 abbrev pub EndsBy : RowEnd → Trail → Outcome Trail ModelReply → Type 0
 EndsBy (Refused r) t o = o ≡ done (refusal (refusal_of r)) t
 EndsBy Shared t o = o ≡ stopped taken_wrong t
+EndsBy (Unshown n) t o = IsUnshown n t o
 EndsBy (LostEnd e) t o = StopsBy e t o
 
 -- the row was followed, and the trail is this: it comes to the reply, or ends so

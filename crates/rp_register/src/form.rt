@@ -15,7 +15,7 @@ ghost use Rattle.rp_register.specs.Replies.{GoesOn, row_of_form};
 
 use crate::register::Register;
 use crate::reply::RowEnd;
-use rp_follow::{Form, Kept, Lost, Trail, copy, differed, joined, made};
+use rp_follow::{Form, Kept, Lost, Trail, copy, differed, joined, made, prismed};
 use rp_report::Refusal;
 use rp_space::{Half, Halves, IntBox, Name, box_halves};
 use rp_syntax::Expr;
@@ -104,6 +104,7 @@ impl Register {
         match region {
             Expr::Half(_) => None,
             Expr::Block(_) => None,
+            Expr::Prism(_, _, _) => None,
             Expr::All => None,
             Expr::Nothing => None,
             Expr::Name(name) => if_missing(name, self.form_named(name)),
@@ -144,6 +145,7 @@ impl Register {
         match region {
             Expr::Half(half) => of_cell(alloc, &[*half], trail),
             Expr::Block(bounds) => of_cell(alloc, &box_halves(bounds), trail),
+            Expr::Prism(low, high, corners) => prismed(alloc, *low, *high, corners.items(), trail),
             Expr::All => Ok(whole(alloc)?),
             Expr::Nothing => Ok(Form::new(alloc)),
             Expr::Name(name) => Ok(copy_or_none(alloc, self.form_named(name))?),

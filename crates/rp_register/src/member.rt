@@ -1,7 +1,7 @@
 //! Membership of points, by signs.
 ghost use Rattle.std.specs.Prelude.{◌≡◌, true, option_copied, option_map};
 ghost use Rattle.std.specs.List.{list_any};
-ghost use Rattle.rp_language.specs.Expression.{closed, shape_or_nothing};
+ghost use Rattle.rp_language.specs.Expression.{IsKeptExpression, closed, shape_or_nothing};
 ghost use Rattle.rp_geometry.specs.Geometry.{all_hold, is_cube_point};
 ghost use Rattle.rp_geometry.specs.sets.Shape.{passes, is_member, shape_of_parts};
 ghost use Rattle.rp_model.specs.states.State.{parts_in};
@@ -10,6 +10,7 @@ ghost use Rattle.rp_syntax.specs.Views.{expression_of};
 
 use crate::register::Register;
 use rp_follow::{Form, Kept};
+use rp_footprint::prism_holds;
 use rp_space::{Half, Point};
 use rp_syntax::Expr;
 
@@ -62,12 +63,14 @@ fn is_held(form: Option<&Form>, point: &Point) -> bool
 impl Register {
     /// Whether a point of the cube passes the test of the expression, in which each name and lot stands for its form.
     fn passes(&self, region: &Expr, point: &Point) -> bool
-        requires { is_cube_point point.now ≡ true }
+        requires kept { IsKeptExpression (expression_of region.now) }
+        requires cube { is_cube_point point.now ≡ true }
         ensures { result ≡ passes (closed (shapes_of_parts (parts_in self.now)) (expression_of region.now)) point.now }
     {
         match region {
             Expr::Half(half) => half.holds(point),
             Expr::Block(bounds) => bounds.holds(point),
+            Expr::Prism(low, high, corners) => prism_holds(*low, *high, corners.items(), point),
             Expr::All => true,
             Expr::Nothing => false,
             Expr::Name(name) => is_held(self.form_named(name), point),
@@ -81,6 +84,7 @@ impl Register {
 
     /// Whether the point is a member of the expression: it lies in the cube and passes its test.
     pub fn is_member(&self, region: &Expr, point: &Point) -> bool
+        requires { IsKeptExpression (expression_of region.now) }
         ensures { result ≡ is_member (closed (shapes_of_parts (parts_in self.now)) (expression_of region.now)) point.now }
     {
         point.is_in_cube() && self.passes(region, point)

@@ -46,6 +46,10 @@ pub enum RowEnd {
     /// The line that was taken last shows that two live lots of one layer share a point, where an audit shows none.
     #[error("the line taken last shows a common point")]
     Shared,
+    /// The verdict lines of the reply don't stand next: the line of this number is the first that is another one, or no line
+    /// is left there. None of them is taken.
+    #[error("line {0} is not that of the reply")]
+    Unshown(u32),
     /// The lines are followed no further.
     #[error("the lines are followed no further")]
     Lost(Lost),

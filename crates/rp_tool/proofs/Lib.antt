@@ -1,8 +1,10 @@
+pub mod BodyLemmas
 pub mod CheckLemmas
 pub mod IntakeLemmas
 pub mod LineLemmas
 pub mod MadeLemmas
 pub mod MadeTextLemmas
+pub mod MarkLemmas
 pub mod NumberLemmas
 pub mod RefusalLemmas
 pub mod ReportCountLemmas

@@ -1,18 +1,12 @@
 -- The whole number that a word spells, held at a size, and the natural number between bounds.
-use Rattle.std.proofs.Common.{◌≡◌, ℕ, zero, suc, ◌+◌, ◌*◌, ◌-◌, ◌<◌, ◌≤◌, Bool, true, false, ◌&&◌, not, min, List, [], ◌∷◌, Option, Some, None, refl, sym, ap, ◌∙◌, subst, arith, fold}
+use Rattle.std.proofs.Common.{◌≡◌, ℕ, zero, suc, ◌<◌, ◌≤◌, Bool, true, false, ◌&&◌, min, List, [], ◌∷◌, Option, Some, None, refl, sym, ap, ◌∙◌, subst, arith}
 use Rattle.std.specs.Prelude.{ℤ, pos, negsuc, neg_ℤ, nat_abs, ◌≤ℤ◌, nat_le, option_and_then, ◌==◌}
 use Rattle.std.specs.Option.{option_map}
-use Rattle.std.specs.Char.{is_ascii_digit}
-use Rattle.std.specs.List.{list_all}
 use Rattle.std.proofs.lemmas.Bool.Decides.{nat_tests}
 use Rattle.std.proofs.lemmas.Int.{ints}
-use Rattle.rp_language.specs.Grammar.{minus_sign, value_of_digits, starts_above_zero, natural_spelled, negative_spelled, as_whole, number_spelled}
+use Rattle.rp_language.specs.Grammar.{minus_sign, natural_spelled, as_negative, as_whole, number_spelled}
 use Rattle.rp_reports.specs.Output.{number_between}
 use Rattle.rp_syntax.specs.Held.{held, most_held}
-
--- one more digit
-abbrev step : ℕ → ℕ → ℕ
-step n d = 10 * n + (d - 48)
 
 -- a natural number within its bounds
 abbrev pub bounded : ℕ → ℕ → ℕ → Option ℕ
@@ -24,37 +18,16 @@ whole_between least greatest None = None
 whole_between least greatest (Some (pos n)) = bounded least greatest n
 whole_between least greatest (Some (negsuc n)) = None
 
--- digits make a number no less
-fold-grows : (n : ℕ) (ds : List ℕ) → n ≤ fold step n ds
-fold-grows n [] = omega arith
-fold-grows n (d ∷ ds) = omega (arith, fold-grows (step n d) ds)
-
--- digits of which the first is not zero stand for a number above zero
-value_above_zero : (ds : List ℕ) → starts_above_zero ds ≡ true → 0 < value_of_digits ds
-value_above_zero [] e = absurd (cc)
-value_above_zero (d ∷ ds) e =
-    let large : 0 < step 0 d = first d (list_all is_ascii_digit ds) e in omega (arith, fold-grows (step 0 d) ds)
-  where
-    first : (d : ℕ) (rest : Bool) → (not (d == 48) && (is_ascii_digit d && rest)) ≡ true → 0 < step 0 d
-    first d rest e = grind (arith, nat_tests)
-
 -- a number below zero is not between natural bounds
 whole_between-below : (least greatest v : ℕ) → 0 < v → whole_between least greatest (Some (neg_ℤ (pos v))) ≡ None
 whole_between-below least greatest zero h = absurd (omega arith)
 whole_between-below least greatest (suc v) h = refl
 
--- nor is it where it is held
-held-below : (least greatest v : ℕ) → 0 < v → whole_between least greatest (Some (held (neg_ℤ (pos v)))) ≡ None
-held-below least greatest zero h = absurd (omega arith)
-held-below least greatest (suc v) h = whole_between-below least greatest (min (suc v) most_held) (omega arith)
-
--- what stands behind a minus sign is not between natural bounds
-negative-between : (least greatest : ℕ) (ds : List ℕ) → whole_between least greatest (option_map held (negative_spelled ds)) ≡ None
-negative-between least greatest ds = by (starts_above_zero ds) refl
-  where
-    by : (test : Bool) → starts_above_zero ds ≡ test → whole_between least greatest (option_map held (elim test as (λ _. Option ℤ) [ true ↦ Some (neg_ℤ (pos (value_of_digits ds))) | false ↦ None ])) ≡ None
-    by true e = held-below least greatest (value_of_digits ds) (value_above_zero ds e)
-    by false e = refl
+-- what stands behind a minus sign is not between them
+negative-between : (least greatest : ℕ) (o : Option ℕ) → whole_between least greatest (option_map held (as_negative o)) ≡ None
+negative-between least greatest None = refl
+negative-between least greatest (Some zero) = refl
+negative-between least greatest (Some (suc n)) = whole_between-below least greatest (min (suc n) most_held) (omega arith)
 
 -- no natural number is spelled with a minus sign
 natural-minus : (b : ℕ) (bs : List ℕ) → (b == minus_sign) ≡ true → natural_spelled (b ∷ bs) ≡ None
@@ -89,8 +62,8 @@ number_between-held least greatest (b ∷ bs) small = by (b == minus_sign) refl
     from (Some n) = held-bounded least greatest n small
 
     by : (test : Bool) → (b == minus_sign) ≡ test
-        → number_between least greatest (b ∷ bs) ≡ whole_between least greatest (option_map held (elim test as (λ _. Option ℤ) [ true ↦ negative_spelled bs | false ↦ as_whole (natural_spelled (b ∷ bs)) ]))
-    by true e = ap (option_and_then (bounded least greatest)) (natural-minus b bs e) ∙ sym (negative-between least greatest bs)
+        → number_between least greatest (b ∷ bs) ≡ whole_between least greatest (option_map held (elim test as (λ _. Option ℤ) [ true ↦ as_negative (natural_spelled bs) | false ↦ as_whole (natural_spelled (b ∷ bs)) ]))
+    by true e = ap (option_and_then (bounded least greatest)) (natural-minus b bs e) ∙ sym (negative-between least greatest (natural_spelled bs))
     by false e = from (natural_spelled (b ∷ bs))
 
 -- a whole number that a word spells, between bounds, is the number of the word

@@ -2,8 +2,9 @@
 use Rattle.std.proofs.Common.{◌≡◌, ℕ, suc, ◌+◌, Bool, true, false, List, [], ◌∷◌, ◌++◌, map, length, count_by, cond, refl, sym, ap, ap₂, ◌∙◌, subst, arith}
 use Rattle.std.proofs.lemmas.List.Sums.{sum_by-append, sum_by-cons}
 use Rattle.rp_geometry.specs.sets.Relation.{Relation, DC, EC, PO, EQ, TPP, NTPP, TPPi, NTPPi}
+use Rattle.rp_geometry.specs.sections.Slice.{Slice, ring, flat}
 use Rattle.rp_geometry.specs.searches.ProofLine.{ProofLine, in_line, out_line, at_line, apart_line, drop_line, box_line}
-use Rattle.rp_language.specs.Grammar.{Reading, blank, command, bad, reading}
+use Rattle.rp_language.specs.Grammar.{one, Reading, blank, command, bad, reading}
 use Rattle.rp_model.specs.commands.Verdict.{Verdict, says_yes, says_no, says_ok, refused}
 use Rattle.rp_model.specs.states.State.{State, PlainState, plain_of}
 use Rattle.rp_model.specs.states.Sound.{IsSound, IsLaterThan}
@@ -42,8 +43,8 @@ count_none p text other (x ∷ xs) = count_other p (text x) (map text xs) (other
 count_each : {A : Type 0} (p : List ℕ → Bool) (text : A → List ℕ) → ((x : A) → p (text x) ≡ true) → (xs : List A) → count_by p (map text xs) ≡ length xs
 count_each p text each [] = refl
 count_each p text each (x ∷ xs) =
-    let one : 1 + length xs ≡ suc (length xs) = omega arith in
-    count_next p (text x) (map text xs) ∙ ap₂ (λ (b : Bool) (n : ℕ). cond b 1 0 + n) (each x) (count_each p text each xs) ∙ one
+    let next : 1 + length xs ≡ suc (length xs) = omega arith in
+    count_next p (text x) (map text xs) ∙ ap₂ (λ (b : Bool) (n : ℕ). cond b 1 0 + n) (each x) (count_each p text each xs) ∙ next
 
 -- ---- echoes, proof lines and verdict lines
 
@@ -72,6 +73,11 @@ relation_not_refused NTPP = refl
 relation_not_refused TPPi = refl
 relation_not_refused NTPPi = refl
 
+-- no slice is a refusal
+slice_not_refused : (s : Slice) → is_refused_line (verdict_text (Verdict.slice s)) ≡ false
+slice_not_refused (ring steps) = refl
+slice_not_refused (flat terms) = refl
+
 -- the verdict line of a refusal says so, and no other one
 verdict_refused : (v : Verdict) → is_refused_line (verdict_text v) ≡ is_refusal v
 verdict_refused says_yes = refl
@@ -89,6 +95,11 @@ verdict_refused (Verdict.clear k) = refl
 verdict_refused (Verdict.parcels k) = refl
 verdict_refused (Verdict.lots k) = refl
 verdict_refused (Verdict.lot l) = refl
+verdict_refused (Verdict.sections k) = refl
+verdict_refused (Verdict.slice s) = slice_not_refused s
+verdict_refused (Verdict.access k) = refl
+verdict_refused Verdict.no_access = refl
+verdict_refused (Verdict.level k x) = refl
 verdict_refused (refused r) = refl
 
 -- no verdict line is a proof line
@@ -108,6 +119,11 @@ verdict_not_proof (Verdict.clear k) = refl
 verdict_not_proof (Verdict.parcels k) = refl
 verdict_not_proof (Verdict.lots k) = refl
 verdict_not_proof (Verdict.lot l) = refl
+verdict_not_proof (Verdict.sections k) = refl
+verdict_not_proof (Verdict.slice s) = refl
+verdict_not_proof (Verdict.access k) = refl
+verdict_not_proof Verdict.no_access = refl
+verdict_not_proof (Verdict.level k x) = refl
 verdict_not_proof (refused r) = refl
 
 -- the refusals among verdict lines
@@ -156,10 +172,10 @@ answer_counted s n line (command c) a h = spoken_counted a.number a.echo a.proof
 
 -- ---- a run
 
--- the counts of a run are those of the report, and it ends in the state
+-- the counts of a run of the first version are those of its report, and it ends in the state
 pub record RunIsCounted (s : PlainState) (n : ℕ) (lines : List (List ℕ)) (end : PlainState) : Type 0 where
-  pub refused : count_by is_refused_line (lines_from false s n lines) ≡ count_refused (run_from s n lines)
-  pub proofs : count_by is_proof_line (lines_from false s n lines) ≡ count_shown (run_from s n lines)
+  pub refused : count_by is_refused_line (lines_from one false s n lines) ≡ count_refused (run_from s n lines)
+  pub proofs : count_by is_proof_line (lines_from one false s n lines) ≡ count_shown (run_from s n lines)
   pub ends : (run_from s n lines).state ≡ end
 
 -- no lines
@@ -167,23 +183,23 @@ none_counted : (s : PlainState) (n : ℕ) → RunIsCounted s n [] s
 none_counted s n = let run = sym (run_from-end s n) in record { refused = ap count_refused run; proofs = ap count_shown run; ends = ap (λ (r : Run). r.state) (sym run) }
 
 -- one more line
-more_counted : (s : PlainState) (n : ℕ) (line : List ℕ) (lines : List (List ℕ)) (end : PlainState) → IsCounted (step_answer s n line) → RunIsCounted (step_state s n line) (suc n) lines end → RunIsCounted s n (line ∷ lines) end
-more_counted s n line lines end one h =
-    let a = step_answer s n line in
-    let next = step_state s n line in
+more_counted : (s : PlainState) (n : ℕ) (line : List ℕ) (lines : List (List ℕ)) (end : PlainState) → IsCounted (step_answer one s n line) → RunIsCounted (step_state one s n line) (suc n) lines end → RunIsCounted s n (line ∷ lines) end
+more_counted s n line lines end first h =
+    let a = step_answer one s n line in
+    let next = step_state one s n line in
     let run = sym (run_from-next s n line lines) in
     record {
-      refused = count_both is_refused_line (answer_lines false a) (lines_from false next (suc n) lines) ∙ ap₂ ◌+◌ one.refused h.refused ∙ sym (refused-before a (run_from next (suc n) lines)) ∙ ap count_refused run;
-      proofs = count_both is_proof_line (answer_lines false a) (lines_from false next (suc n) lines) ∙ ap₂ ◌+◌ one.proofs h.proofs ∙ sym (shown-before a (run_from next (suc n) lines)) ∙ ap count_shown run;
+      refused = count_both is_refused_line (answer_lines false a) (lines_from one false next (suc n) lines) ∙ ap₂ ◌+◌ first.refused h.refused ∙ sym (refused-before a (run_from next (suc n) lines)) ∙ ap count_refused run;
+      proofs = count_both is_proof_line (answer_lines false a) (lines_from one false next (suc n) lines) ∙ ap₂ ◌+◌ first.proofs h.proofs ∙ sym (shown-before a (run_from next (suc n) lines)) ∙ ap count_shown run;
       ends = ap (λ (r : Run). r.state) (sym run) ∙ h.ends;
     }
 
 -- the counts of a run from a sound state are those of its report
-pub run_counted : StepIsComputed → StepsKeepSoundness → (lines : List (List ℕ)) (s : State) → IsSound s → (n : ℕ) → IsLaterThan n s → RunIsCounted (plain_of s) n lines (plain_of (state_after n s lines))
+pub run_counted : StepIsComputed → StepsKeepSoundness → (lines : List (List ℕ)) (s : State) → IsSound s → (n : ℕ) → IsLaterThan n s → RunIsCounted (plain_of s) n lines (plain_of (state_after one n s lines))
 run_counted computed keeps [] s sound n late = none_counted (plain_of s) n
 run_counted computed keeps (line ∷ lines) s sound n late =
-    let step = computed s sound n late line in
-    let kept = keeps s sound n late line in
-    more_counted (plain_of s) n line lines (plain_of (state_after n s (line ∷ lines)))
-    (answer_counted s n line (reading line) (step_answer (plain_of s) n line) ((step.0 (step_answer (plain_of s) n line)).1 refl))
-    (subst (λ (u : PlainState). RunIsCounted u (suc n) lines (plain_of (state_after n s (line ∷ lines)))) step.1 (run_counted computed keeps lines (next_state n s line) kept.0 (suc n) kept.1))
+    let step = computed one s sound n late line in
+    let kept = keeps one s sound n late line in
+    more_counted (plain_of s) n line lines (plain_of (state_after one n s (line ∷ lines)))
+    (answer_counted s n line (reading one line) (step_answer one (plain_of s) n line) ((step.0 (step_answer one (plain_of s) n line)).1 refl))
+    (subst (λ (u : PlainState). RunIsCounted u (suc n) lines (plain_of (state_after one n s (line ∷ lines)))) step.1 (run_counted computed keeps lines (next_state one n s line) kept.0 (suc n) kept.1))

@@ -1,60 +1,106 @@
--- The spellings so far: what was put, and what is left.
-use Rattle.std.proofs.Common.{◌≡◌, ℕ, Bool, false, ◌||◌, List, [], ◌∷◌, ◌++◌, Option, refl, sym, ap, ◌∙◌, subst, append_assoc}
-use Rattle.std.proofs.Math.Bool.{or_assoc, or-false}
-use Rattle.std.specs.List.{list_any, flat_map}
-use Rattle.std.proofs.lemmas.List.{append-nil}
-use Rattle.std.proofs.lemmas.List.Concat.{flat_map-append}
+-- The spellings of a script, and the script as one of the second version: the mark, and then the lines of the body.
+use Rattle.std.proofs.Common.{◌≡◌, ℕ, Bool, false, List, [], ◌∷◌, ◌++◌, Option, refl, ap, ◌∙◌, subst}
+use Rattle.std.specs.List.{flat_map}
+use Rattle.std.proofs.lemmas.List.Concat.{flat_map_single}
 use Rattle.rp_io.specs.Bytes.{Appends, AppendsPrefix}
-use Rattle.rp_language.specs.Grammar.{reading}
-use Rattle.rp_reports.specs.Report.{script_lines}
-use Rattle.rp_reports.specs.Output.{has_bad_line, is_bad_reading, spell_script, spelled_lines, spelled_script}
+use Rattle.rp_language.specs.Grammar.{Version, two, reading}
+use Rattle.rp_reports.specs.Report.{script_lines, script_mark, marked, script_version, script_body}
+use Rattle.rp_reports.specs.Output.{has_bad_line, spell_script, upgrade_script, spelled_lines, spelled_script}
 use Rattle.rp_reports.specs.Text.{text_of_lines, line_end}
-use Rattle.rp_tool.specs.Output.{PutsFront, PutsSpelling, PutsOutput}
+use Rattle.rp_reports.specs.Upgrade.{upgraded_line, upgraded_script}
+use Rattle.rp_tool.specs.Lines.{mark_text}
+use Rattle.rp_tool.specs.Output.{PutsFront, PutsOutput}
+use Rattle.rp_tool.proofs.BodyLemmas.{HasPutLines, HasPutLines-end, HasPutLines-front, has_bad_line-body}
+use Rattle.rp_tool.proofs.MarkLemmas.{marked-append, mark_text-lines}
 use Rattle.rp_tool.proofs.RunLemmas.{IsTrue-both}
-use Rattle.rp_tool.proofs.SinkLemmas.{Appends-append, AppendsPrefix-lines}
+use Rattle.rp_tool.proofs.SinkLemmas.{Appends-nothing, AppendsPrefix-lines}
 
--- what was put of the commands of the script before the rest, and whether some line before it is bad
-pub record HasSpelled (script : List ℕ) (old now : Option (List ℕ)) (rest : List ℕ) (has_bad : Bool) : Type 0 where
-  pub told : List (List ℕ)
-  pub text : Appends old now (text_of_lines told)
-  pub goes_on : spelled_script script ≡ told ++ spelled_script rest
-  pub mark : has_bad_line script ≡ (has_bad || has_bad_line rest)
+-- the lines that are put for a line by `script`
+abbrev pub spelled_at : Version → List ℕ → List (List ℕ)
+spelled_at v line = spelled_lines v (reading v line)
 
--- one more line
-pub HasSpelled-more : (script : List ℕ) (old now new : Option (List ℕ)) (rest line behind : List ℕ) (has_bad also : Bool) → HasSpelled script old now rest has_bad
-    → script_lines rest ≡ line ∷ script_lines behind → PutsSpelling (reading line) now new also → HasSpelled script old new behind (has_bad || also)
-HasSpelled-more script old now new rest line behind has_bad also h e p =
-    let lines = spelled_lines (reading line) in
-    let next : spelled_script rest ≡ lines ++ spelled_script behind = ap (flat_map (λ l. spelled_lines (reading l))) e in
-    let marks : has_bad_line rest ≡ (is_bad_reading (reading line) || has_bad_line behind) = ap (list_any (λ l. is_bad_reading (reading l))) e in
-    record {
-      told = h.told ++ lines;
-      text = subst (Appends old new) (sym (flat_map-append (λ l. l ++ line_end ∷ []) h.told lines)) (Appends-append old now new (text_of_lines h.told) (text_of_lines lines) h.text p.text);
-      goes_on = h.goes_on ∙ ap (λ ls. h.told ++ ls) next ∙ sym (append_assoc h.told lines (spelled_script behind));
-      mark = h.mark ∙ ap (λ b. has_bad || b) (marks ∙ ap (λ b. b || has_bad_line behind) (sym p.mark)) ∙ sym (or_assoc has_bad also (has_bad_line behind));
-    }
+-- the line that is put for a line by `upgrade`
+abbrev pub upgraded_at : Version → List ℕ → List (List ℕ)
+upgraded_at v line = upgraded_line line (reading v line) ∷ []
 
--- at the end all was put
-pub PutsOutput-spell : (script : List ℕ) (old now : Option (List ℕ)) (rest : List ℕ) (has_bad : Bool) → HasSpelled script old now rest has_bad
-    → script_lines rest ≡ [] → PutsOutput spell_script script old now has_bad
-PutsOutput-spell script old now rest has_bad h e =
-    let none : spelled_script rest ≡ [] = ap (flat_map (λ l. spelled_lines (reading l))) e in
-    let good : has_bad_line rest ≡ false = ap (list_any (λ l. is_bad_reading (reading l))) e in
-    record {
-      lines = h.told;
-      output = sym (h.goes_on ∙ ap (λ ls. h.told ++ ls) none ∙ append-nil h.told);
-      text = h.text;
-      mark = IsTrue-both has_bad (has_bad_line script) (sym (h.mark ∙ ap (λ b. has_bad || b) good ∙ or-false has_bad));
-    }
+-- ---- what the output of each is
 
--- where the command of a line was not put whole, a front of all was put
-pub PutsFront-spell : (script : List ℕ) (old now new : Option (List ℕ)) (rest line behind : List ℕ) (has_bad : Bool) → HasSpelled script old now rest has_bad → script_lines rest ≡ line ∷ script_lines behind
-    → AppendsPrefix now new (text_of_lines (spelled_lines (reading line))) → PutsFront spell_script script old new
-PutsFront-spell script old now new rest line behind has_bad h e put =
-    let lines = spelled_lines (reading line) in
-    let next : spelled_script rest ≡ lines ++ spelled_script behind = ap (flat_map (λ l. spelled_lines (reading l))) e in
-    record {
-      lines = spelled_script script;
-      output = refl;
-      text = AppendsPrefix-lines old now new h.told lines (spelled_script behind) (spelled_script script) h.text put (sym (h.goes_on ∙ ap (λ ls. h.told ++ ls) next));
-    }
+-- the spellings are those of the body behind the mark
+spelled_marked : (script body : List ℕ) (v : Version) → v ≡ script_version script → script_lines body ≡ script_body script → marked script_mark v [] ++ flat_map (spelled_at v) (script_lines body) ≡ spelled_script script
+spelled_marked script body v version lines =
+    marked-append script_mark v (flat_map (spelled_at v) (script_lines body)) ∙ ap (λ (ls : List (List ℕ)). marked script_mark v (flat_map (spelled_at v) ls)) lines
+    ∙ ap (λ (u : Version). marked script_mark u (flat_map (spelled_at u) (script_body script))) version
+
+-- the upgraded script is the mark and a line for each of the body
+upgraded_marked : (script body : List ℕ) (v : Version) → v ≡ script_version script → script_lines body ≡ script_body script → marked script_mark two [] ++ flat_map (upgraded_at v) (script_lines body) ≡ upgraded_script script
+unfolding upgraded_script
+upgraded_marked script body v version lines =
+    ap (λ (ls : List (List ℕ)). script_mark ∷ ls)
+    (ap (flat_map (upgraded_at v)) lines ∙ ap (λ (u : Version). flat_map (upgraded_at u) (script_body script)) version
+    ∙ flat_map_single (λ l. upgraded_line l (reading (script_version script) l)) (script_body script))
+
+-- ---- from the start
+
+-- the mark was put
+marked_put : (text : List ℕ) (old now : Option (List ℕ)) (v : Version) → text ≡ script_mark ++ line_end ∷ [] → Appends old now (mark_text text v) → Appends old now (text_of_lines (marked script_mark v []))
+marked_put text old now v is put = subst (Appends old now) (mark_text-lines script_mark text v is) put
+
+-- where it was not put whole, a front of all was put
+marked_front : (text : List ℕ) (old now : Option (List ℕ)) (v : Version) (more whole : List (List ℕ)) → text ≡ script_mark ++ line_end ∷ [] → AppendsPrefix old now (mark_text text v) → marked script_mark v [] ++ more ≡ whole
+    → AppendsPrefix old now (text_of_lines whole)
+marked_front text old now v more whole is put e =
+    AppendsPrefix-lines old old now [] (marked script_mark v []) more whole (Appends-nothing old) (subst (AppendsPrefix old now) (mark_text-lines script_mark text v is) put) e
+
+-- no spelling was put yet
+pub HasPutLines-spell : (script body text : List ℕ) (old now : Option (List ℕ)) (v : Version) → v ≡ script_version script → script_lines body ≡ script_body script → text ≡ script_mark ++ line_end ∷ []
+    → Appends old now (mark_text text v) → HasPutLines (spelled_at v) v (spelled_script script) (has_bad_line script) old now body false
+HasPutLines-spell script body text old now v version lines is put =
+    record { told = marked script_mark v []; text = marked_put text old now v is put; goes_on = spelled_marked script body v version lines; mark = has_bad_line-body script body v version lines }
+
+-- no line of the body was put yet
+pub HasPutLines-upgrade : (script body text : List ℕ) (old now : Option (List ℕ)) (v : Version) → v ≡ script_version script → script_lines body ≡ script_body script → text ≡ script_mark ++ line_end ∷ []
+    → Appends old now (mark_text text two) → HasPutLines (upgraded_at v) v (upgraded_script script) (has_bad_line script) old now body false
+HasPutLines-upgrade script body text old now v version lines is put =
+    record { told = marked script_mark two []; text = marked_put text old now two is put; goes_on = upgraded_marked script body v version lines; mark = has_bad_line-body script body v version lines }
+
+-- ---- the whole output
+
+-- all spellings were put
+pub PutsOutput-spell : (script : List ℕ) (v : Version) (old now : Option (List ℕ)) (rest : List ℕ) (bad_before : Bool) → HasPutLines (spelled_at v) v (spelled_script script) (has_bad_line script) old now rest bad_before
+    → script_lines rest ≡ [] → PutsOutput spell_script script old now bad_before
+PutsOutput-spell script v old now rest bad_before h e =
+    let all = HasPutLines-end (spelled_at v) v (spelled_script script) (has_bad_line script) old now rest bad_before h e in
+    record { lines = spelled_script script; output = refl; text = all.0; mark = IsTrue-both bad_before (has_bad_line script) all.1 }
+
+-- all lines of the upgraded script were put
+pub PutsOutput-upgrade : (script : List ℕ) (v : Version) (old now : Option (List ℕ)) (rest : List ℕ) (bad_before : Bool) → HasPutLines (upgraded_at v) v (upgraded_script script) (has_bad_line script) old now rest bad_before
+    → script_lines rest ≡ [] → PutsOutput upgrade_script script old now bad_before
+PutsOutput-upgrade script v old now rest bad_before h e =
+    let all = HasPutLines-end (upgraded_at v) v (upgraded_script script) (has_bad_line script) old now rest bad_before h e in
+    record { lines = upgraded_script script; output = refl; text = all.0; mark = IsTrue-both bad_before (has_bad_line script) all.1 }
+
+-- ---- a front of it
+
+-- a front of the spellings, where the mark was not put whole
+pub PutsFront-spell_mark : (script body text : List ℕ) (old now : Option (List ℕ)) (v : Version) → v ≡ script_version script → script_lines body ≡ script_body script → text ≡ script_mark ++ line_end ∷ []
+    → AppendsPrefix old now (mark_text text v) → PutsFront spell_script script old now
+PutsFront-spell_mark script body text old now v version lines is put =
+    record { lines = spelled_script script; output = refl; text = marked_front text old now v (flat_map (spelled_at v) (script_lines body)) (spelled_script script) is put (spelled_marked script body v version lines) }
+
+-- a front of the upgraded script, where the mark was not put whole
+pub PutsFront-upgrade_mark : (script body text : List ℕ) (old now : Option (List ℕ)) (v : Version) → v ≡ script_version script → script_lines body ≡ script_body script → text ≡ script_mark ++ line_end ∷ []
+    → AppendsPrefix old now (mark_text text two) → PutsFront upgrade_script script old now
+PutsFront-upgrade_mark script body text old now v version lines is put =
+    record { lines = upgraded_script script; output = refl; text = marked_front text old now two (flat_map (upgraded_at v) (script_lines body)) (upgraded_script script) is put (upgraded_marked script body v version lines) }
+
+-- a front of the spellings, where the command of a line was not put whole
+pub PutsFront-spell : (script : List ℕ) (v : Version) (old now new : Option (List ℕ)) (rest line behind : List ℕ) (bad_before : Bool) → HasPutLines (spelled_at v) v (spelled_script script) (has_bad_line script) old now rest bad_before
+    → script_lines rest ≡ line ∷ script_lines behind → AppendsPrefix now new (text_of_lines (spelled_at v line)) → PutsFront spell_script script old new
+PutsFront-spell script v old now new rest line behind bad_before h e put =
+    record { lines = spelled_script script; output = refl; text = HasPutLines-front (spelled_at v) v (spelled_script script) (has_bad_line script) old now new rest line behind bad_before h e put }
+
+-- a front of the upgraded script, where the line for one was not put whole
+pub PutsFront-upgrade : (script : List ℕ) (v : Version) (old now new : Option (List ℕ)) (rest line behind : List ℕ) (bad_before : Bool) → HasPutLines (upgraded_at v) v (upgraded_script script) (has_bad_line script) old now rest bad_before
+    → script_lines rest ≡ line ∷ script_lines behind → AppendsPrefix now new (text_of_lines (upgraded_at v line)) → PutsFront upgrade_script script old new
+PutsFront-upgrade script v old now new rest line behind bad_before h e put =
+    record { lines = upgraded_script script; output = refl; text = HasPutLines-front (upgraded_at v) v (upgraded_script script) (has_bad_line script) old now new rest line behind bad_before h e put }

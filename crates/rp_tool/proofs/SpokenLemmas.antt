@@ -1,15 +1,15 @@
 -- Every command has a verdict: no rule is met by no lines.
 use Rattle.std.proofs.Common.{ℕ, ◌+◌, Bool, true, false, List, [], ◌∷◌, Option, Some, None, inl, inr, sym, subst}
 use Rattle.rp_geometry.specs.Geometry.{RationalPoint}
-use Rattle.rp_geometry.specs.sets.Shape.{Shape, Part, is_member}
+use Rattle.rp_geometry.specs.sets.Shape.{Shape, is_member}
 use Rattle.rp_geometry.specs.sets.Sets.{IsEmpty, IsWithin, Overlaps}
 use Rattle.rp_language.specs.Name.{Label}
-use Rattle.rp_language.specs.Expression.{Command, expressions_of, first_unknown_among, define, ask_member, ask_empty, ask_pieces, ask_show, ask_equal, ask_within, ask_overlap, ask_contact, ask_relation, register, cut, subdivide, consolidate, retire, ask_neighbours, ask_history, ask_at, ask_as_of, ask_audit, ask_list, set_layer}
+use Rattle.rp_language.specs.Expression.{Command, expressions_of, first_unknown_among, define, ask_member, ask_empty, ask_pieces, ask_show, ask_equal, ask_within, ask_overlap, ask_contact, ask_relation, register, cut, subdivide, consolidate, retire, ask_neighbours, ask_history, ask_at, ask_as_of, ask_audit, ask_list, set_layer, ask_section, ask_access}
 use Rattle.rp_walks.specs.Walk.{Outcome, done, stopped, limit_met, limit_told, line_wrong, taken_wrong, Work}
-use Rattle.rp_model.specs.commands.Checks.{check_new, check_live, check_name, check_registered, check_cut, check_subdivide, check_consolidate, child_ids}
+use Rattle.rp_model.specs.commands.Checks.{check_new, check_live, check_name, check_registered, check_cut, check_subdivide, check_consolidate, check_access, child_ids}
 use Rattle.rp_model.specs.commands.Row.{Reply}
-use Rattle.rp_model.specs.commands.Rule.{Rule, answers, yes_where, labels_then, names_then, refused_where, accepts, child_sets, set_with_id, refused_at_overlap, refused_at_empty, refused_at_outside, refused_at_later, refused_at_pair, parcel_at, rule_after_labels, rule_without_limits, limit_then, first_form, rule_of, walked}
-use Rattle.rp_model.specs.commands.Verdict.{Verdict, Refusal}
+use Rattle.rp_model.specs.commands.Rule.{Rule, Formed, answers, yes_where, labels_then, names_then, refused_where, accepts, child_sets, set_with_id, refused_at_overlap, refused_at_empty, refused_at_outside, refused_at_later, refused_at_pair, parcel_at, rule_after_labels, rule_without_limits, limit_then, first_formed, rule_of, walked}
+use Rattle.rp_model.specs.commands.Verdict.{Verdict, Refusal, access_lines}
 use Rattle.rp_model.specs.states.State.{Lot, State, present_lots, lots_of_layer, alive_after, sets_in}
 
 -- there is a verdict
@@ -79,8 +79,13 @@ parcel_speaks (l ∷ ls) p = by (is_member l.set p) (parcel_speaks ls p)
     by true k = answers_speak _ tt
     by false k = k
 
+-- a chain, or that there is none
+access_speaks : (ids : List Label) (chosen : Option (List ℕ)) (levels : List (Option ℕ)) → IsSpoken (access_lines ids chosen levels)
+access_speaks ids None levels = tt
+access_speaks ids (Some places) levels = tt
+
 -- each command
-command_speaks : (s : State) (formed : List Part) (c : Command) → Speaks (rule_after_labels s formed c)
+command_speaks : (s : State) (formed : Formed) (c : Command) → Speaks (rule_after_labels s formed c)
 command_speaks s formed (define x e) = names_speak (check_name s x) accepts (answers_speak _ tt)
 command_speaks s formed (ask_member e p) = yes_speaks _
 command_speaks s formed (ask_empty e) = yes_speaks _
@@ -105,6 +110,8 @@ command_speaks s formed (ask_as_of n p) = parcel_speaks (lots_of_layer s.layer (
 command_speaks s formed ask_audit = answers_speak _ tt
 command_speaks s formed ask_list = answers_speak _ tt
 command_speaks s formed (set_layer y) = answers_speak _ tt
+command_speaks s formed (ask_section e z) = answers_speak _ tt
+command_speaks s formed (ask_access x y) = names_speak (check_access s x y) _ (λ given h. answers_speak _ (access_speaks _ h.0 h.1) given h.4)
 
 -- a limit, or what the rule says
 limit_speaks : (o : Outcome Work Reply) (rest : Rule) → Speaks rest → Speaks (limit_then o rest)
@@ -117,6 +124,6 @@ limit_speaks (stopped taken_wrong w) rest k = k
 -- what is right for a command has a verdict
 pub rule_speaks : (s : State) (c : Command) (given : List Verdict) → rule_of s c given → IsSpoken given
 rule_speaks s c =
-    limit_speaks (walked s c) (rule_without_limits s (first_form s (expressions_of c)) c)
-    (labels_speak (first_unknown_among (sets_in s) (expressions_of c)) (rule_after_labels s (first_form s (expressions_of c)) c)
-    (command_speaks s (first_form s (expressions_of c)) c))
+    limit_speaks (walked s c) (rule_without_limits s (first_formed s c) c)
+    (labels_speak (first_unknown_among (sets_in s) (expressions_of c)) (rule_after_labels s (first_formed s c) c)
+    (command_speaks s (first_formed s c) c))

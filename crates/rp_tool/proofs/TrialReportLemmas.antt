@@ -1,14 +1,15 @@
 -- The summary of a made script is counted in its report.
-use Rattle.std.proofs.Common.{◌≡◌, ℕ, true, false, List, [], ◌∷◌, length, Option, Some, count_by, refl, sym, ap, ◌∙◌, subst}
+use Rattle.std.proofs.Common.{◌≡◌, ℕ, zero, suc, true, false, List, [], ◌∷◌, length, Option, Some, count_by, refl, sym, ap, ◌∙◌, subst}
 use Rattle.std.specs.Prelude.{codes}
 use Rattle.std.proofs.lemmas.Bool.{both_ways}
 use Rattle.std.proofs.lemmas.List.{length-map}
 use Rattle.rp_io.specs.Bytes.{Appends}
-use Rattle.rp_model.specs.states.State.{PlainState, opening, live_lots, plain_lot, plain_of}
+use Rattle.rp_language.specs.Grammar.{Version, one}
+use Rattle.rp_model.specs.states.State.{State, PlainState, opening, live_lots, plain_lot, plain_of}
 use Rattle.rp_reports.specs.Machine.{lines_from, report}
-use Rattle.rp_reports.specs.Made.{made_script, run_from, told_count, trial_of_run, trial_lines}
-use Rattle.rp_reports.specs.Output.{Task, run_script, run_brief, check_report, spell_script, try_script, task_of, IsOutput, is_refused_line}
-use Rattle.rp_reports.specs.Report.{script_lines}
+use Rattle.rp_reports.specs.Made.{building_lines, made_script, run_from, told_count, trial_of_run, trial_lines}
+use Rattle.rp_reports.specs.Output.{Task, run_script, run_brief, check_report, spell_script, upgrade_script, try_script, task_of, IsOutput, is_refused_line}
+use Rattle.rp_reports.specs.Report.{script_mark, report_mark, version_by, marked, script_version, script_body}
 use Rattle.rp_reports.specs.Text.{text_of_lines}
 use Rattle.rp_reports.specs.laws.RunLaws.{state_of_run}
 use Rattle.rp_runs.proofs.Rows.{first_rows, meets_rule}
@@ -16,38 +17,71 @@ use Rattle.rp_states.proofs.Computed.{opening_sound, report_is_computed_spec, st
 use Rattle.rp_states.proofs.Plain.{live_same}
 use Rattle.rp_states.proofs.Steps.{steps_keep_soundness_spec}
 use Rattle.rp_tool.specs.declared.task.GivenTask.{GivenTask}
-use Rattle.rp_tool.specs.declared.task.GivenTask.TheVariants.{Run, RunBrief, Spell}
+use Rattle.rp_tool.specs.declared.task.GivenTask.TheVariants.{Run, RunBrief, Spell, Upgrade}
 use Rattle.rp_tool.specs.Status.{IsOutputOf, meaning_of_given, reads_task}
 use Rattle.rp_tool.specs.TrialReport.{is_proof_line, PutsTrial, TellsCounts}
 use Rattle.rp_tool.proofs.MadeTextLemmas.{made_lines_again}
+use Rattle.rp_tool.proofs.MarkLemmas.{body_one}
 use Rattle.rp_tool.proofs.ReportCountLemmas.{RunIsCounted, run_counted}
 use Rattle.rp_tool.proofs.TrialLemmas.{count_refused, count_shown}
 
--- the counts over a run of lines from the opening state
-opening_counted : (lines : List (List ℕ)) → RunIsCounted opening 1 lines (plain_of (state_of_run lines))
+-- ---- the version of a made script
+
+-- the first line of a building is no mark
+building_one : (n i seed : ℕ) → version_by script_mark (building_lines n i seed) ≡ one
+building_one zero i seed = refl
+building_one (suc n) i seed = refl
+
+-- a made script is of the first version
+made_version : (n seed : ℕ) → one ≡ script_version (text_of_lines (made_script n seed))
+unfolding script_version made_script
+made_version n seed = sym (ap (version_by script_mark) (made_lines_again n seed) ∙ building_one n 0 seed)
+
+-- so its body is the whole of it
+made_body : (n seed : ℕ) → script_body (text_of_lines (made_script n seed)) ≡ made_script n seed
+made_body n seed = sym (body_one (text_of_lines (made_script n seed)) (made_version n seed)) ∙ made_lines_again n seed
+
+-- the report of a script of the first version is that of its body
+report_one : (script : List ℕ) (lines : List (List ℕ)) → one ≡ script_version script → script_body script ≡ lines → report false script ≡ lines_from one false opening 1 lines
+unfolding report
+report_one script lines version body = ap (λ (v : Version). marked report_mark v (lines_from v false opening 1 (script_body script))) (sym version) ∙ ap (lines_from one false opening 1) body
+
+-- ---- the summary
+
+-- the counts over a run of lines of the first version from the opening state
+opening_counted : (lines : List (List ℕ)) → RunIsCounted opening 1 lines (plain_of (state_of_run one lines))
 opening_counted lines = run_counted (step_is_computed_spec meets_rule) (steps_keep_soundness_spec first_rows) lines opening opening_sound 1 (record { births = tt; ends = tt })
 
 -- the live lots of the last state
-live_counted : (lines : List (List ℕ)) → length (live_lots (run_from opening 1 lines).state.lots) ≡ length (live_lots (state_of_run lines).lots)
+live_counted : (lines : List (List ℕ)) → length (live_lots (run_from opening 1 lines).state.lots) ≡ length (live_lots (state_of_run one lines).lots)
 live_counted lines =
     ap (λ (s : PlainState). length (live_lots s.lots)) (opening_counted lines).ends
-    ∙ ap length (live_same (state_of_run lines).lots) ∙ length-map (live_lots (state_of_run lines).lots) plain_lot
+    ∙ ap length (live_same (state_of_run one lines).lots) ∙ length-map (live_lots (state_of_run one lines).lots) plain_lot
+
+-- four lines about lines, a report and a state
+abbrev told_lines : List (List ℕ) → List (List ℕ) → State → List (List ℕ)
+told_lines lines told s =
+    told_count (codes "lines") (length lines) ∷ told_count (codes "refused") (count_by is_refused_line told) ∷ told_count (codes "live") (length (live_lots s.lots))
+    ∷ told_count (codes "proofs") (count_by is_proof_line told) ∷ []
 
 -- the counts of a run in the lines of the report
-run_told : (lines : List (List ℕ)) → trial_of_run lines (run_from opening 1 lines) ≡ told_count (codes "lines") (length lines) ∷ told_count (codes "refused") (count_by is_refused_line (lines_from false opening 1 lines))
-    ∷ told_count (codes "live") (length (live_lots (state_of_run lines).lots)) ∷ told_count (codes "proofs") (count_by is_proof_line (lines_from false opening 1 lines)) ∷ []
+run_told : (lines : List (List ℕ)) → trial_of_run lines (run_from opening 1 lines) ≡ told_lines lines (lines_from one false opening 1 lines) (state_of_run one lines)
 run_told lines =
     let run = opening_counted lines in
-    let refused : count_refused (run_from opening 1 lines) ≡ count_by is_refused_line (lines_from false opening 1 lines) = sym run.refused in
-    let proofs : count_shown (run_from opening 1 lines) ≡ count_by is_proof_line (lines_from false opening 1 lines) = sym run.proofs in
+    let refused : count_refused (run_from opening 1 lines) ≡ count_by is_refused_line (lines_from one false opening 1 lines) = sym run.refused in
+    let proofs : count_shown (run_from opening 1 lines) ≡ count_by is_proof_line (lines_from one false opening 1 lines) = sym run.proofs in
     let live = live_counted lines in
     λ i. told_count (codes "lines") (length lines) ∷ told_count (codes "refused") (refused i) ∷ told_count (codes "live") (live i) ∷ told_count (codes "proofs") (proofs i) ∷ []
 
 -- the summary of a made script is counted in the report that is computed
-made_told : (n seed : ℕ) (script : List ℕ) → script_lines script ≡ made_script n seed → trial_lines n seed ≡ told_count (codes "lines") (length (script_lines script)) ∷ told_count (codes "refused") (count_by is_refused_line (report false script))
-    ∷ told_count (codes "live") (length (live_lots (state_of_run (script_lines script)).lots)) ∷ told_count (codes "proofs") (count_by is_proof_line (report false script)) ∷ []
-unfolding trial_lines report
-made_told n seed script e = ap (λ (lines : List (List ℕ)). trial_of_run lines (run_from opening 1 lines)) (sym e) ∙ run_told (script_lines script)
+made_told : (n seed : ℕ) (script : List ℕ) → one ≡ script_version script → script_body script ≡ made_script n seed
+    → trial_lines n seed ≡ told_lines (script_body script) (report false script) (state_of_run (script_version script) (script_body script))
+unfolding trial_lines
+made_told n seed script version body =
+    let lines = made_script n seed in
+    run_told lines ∙ ap (λ (told : List (List ℕ)). told_lines lines told (state_of_run one lines)) (sym (report_one script lines version body))
+    ∙ ap (λ (v : Version). told_lines lines (report false script) (state_of_run v lines)) version
+    ∙ ap (λ (ls : List (List ℕ)). told_lines ls (report false script) (state_of_run (script_version script) ls)) (sym body)
 
 -- and that is the one report of its text
 pub TellsCounts-trial : (n seed : ℕ) → TellsCounts (text_of_lines (made_script n seed)) (trial_lines n seed)
@@ -58,8 +92,10 @@ TellsCounts-trial n seed =
       report = report false script;
       is_report = (computed (report false script)).0.1 refl;
       is_alone = λ other h. (computed other).0.0 h;
-      counts = made_told n seed script (made_lines_again n seed);
+      counts = made_told n seed script (made_version n seed) (made_body n seed);
     }
+
+-- ---- words that name a trial
 
 -- where words name a task, they name no other one
 same_task : (task other : Task) → Some task ≡ Some other → task ≡ other
@@ -86,6 +122,7 @@ pub given_no_trial : (t : GivenTask) (n seed : ℕ) (words : List (List ℕ)) �
 given_no_trial Run n seed words e h = no_trial run_script n seed (sym e ∙ h) refl
 given_no_trial RunBrief n seed words e h = no_trial run_brief n seed (sym e ∙ h) refl
 given_no_trial Spell n seed words e h = no_trial spell_script n seed (sym e ∙ h) refl
+given_no_trial Upgrade n seed words e h = no_trial upgrade_script n seed (sym e ∙ h) refl
 
 -- nor do those that name the check
 pub check_no_trial : (n seed : ℕ) (words : List (List ℕ)) → task_of words ≡ Some check_report → task_of words ≡ Some (try_script n seed) → ⊥

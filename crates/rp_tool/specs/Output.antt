@@ -4,9 +4,8 @@ use Rattle.std.specs.List.{list_any}
 use Rattle.rp_io.specs.Bytes.{Appends, AppendsPrefix}
 use Rattle.rp_io.specs.Faults.{HasRisen}
 use Rattle.rp_language.specs.Grammar.{Reading}
-use Rattle.rp_reports.specs.Output.{Task, run_script, run_brief, IsOutput, IsRefused, is_refused_line, is_bad_reading, spelled_lines}
-use Rattle.rp_reports.specs.Machine.{step_answer}
-use Rattle.rp_model.specs.states.State.{PlainState}
+use Rattle.rp_reports.specs.Output.{Task, run_script, run_brief, IsOutput, IsRefused, is_refused_line, is_bad_reading}
+use Rattle.rp_reports.specs.Machine.{Running, step_answer}
 use Rattle.rp_reports.specs.Text.{answer_lines, text_of_lines}
 use Rattle.rp_tool.specs.declared.fault.OutputFault.{OutputFault}
 use Rattle.rp_tool.specs.declared.fault.OutputFault.TheVariants.{Put, Memory}
@@ -16,14 +15,14 @@ abbrev pub report_task : Bool → Task
 report_task true = run_brief
 report_task false = run_script
 
--- the report lines, full or brief, of the answer to a line came to the end of what a sink said; the mark says whether one of them is a refusal
-pub record PutsAnswer (brief : Bool) (before : PlainState) (number : ℕ) (line : List ℕ) (old new : Option (List ℕ)) (refused : Bool) : Type 0 where
-  pub text : Appends old new (text_of_lines (answer_lines brief (step_answer before number line)))
-  pub mark : refused ≡ list_any is_refused_line (answer_lines brief (step_answer before number line))
+-- the report lines, full or brief, of the answer of a machine to a line came to the end of what a sink said; the mark says whether one of them is a refusal
+pub record PutsAnswer (brief : Bool) (before : Running) (number : ℕ) (line : List ℕ) (old new : Option (List ℕ)) (refused : Bool) : Type 0 where
+  pub text : Appends old new (text_of_lines (answer_lines brief (step_answer before.version before.state number line)))
+  pub mark : refused ≡ list_any is_refused_line (answer_lines brief (step_answer before.version before.state number line))
 
--- the spelling of a command came to the end of what a sink said, and nothing for any other line; the mark says whether the line is bad
-pub record PutsSpelling (r : Reading) (old new : Option (List ℕ)) (bad : Bool) : Type 0 where
-  pub text : Appends old new (text_of_lines (spelled_lines r))
+-- lines came to the end of what a sink said, for a line that is read so; the mark says whether that line is bad
+pub record PutsLines (lines : List (List ℕ)) (r : Reading) (old new : Option (List ℕ)) (bad : Bool) : Type 0 where
+  pub text : Appends old new (text_of_lines lines)
   pub mark : bad ≡ is_bad_reading r
 
 -- the whole output of a task came to the end of what a sink said; the mark says whether something was refused

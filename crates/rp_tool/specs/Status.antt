@@ -2,7 +2,7 @@
 use Rattle.std.specs.Prelude.{◌≡◌, ◌↔◌, ℕ, Bool, true, false, List, ◌++◌, Option, Some, None, Result, Ok, Err}
 use Rattle.rp_io.specs.Bytes.{Appends, AppendsPrefix}
 use Rattle.rp_reports.specs.Text.{text_of_lines}
-use Rattle.rp_reports.specs.Output.{Task as ModelTask, run_script, run_brief, check_report, spell_script, make_script, try_script, task_of, most_script_bytes, most_report_bytes, IsOutput, IsRefused}
+use Rattle.rp_reports.specs.Output.{Task as ModelTask, run_script, run_brief, check_report, spell_script, upgrade_script, make_script, try_script, task_of, most_script_bytes, most_report_bytes, IsOutput, IsRefused}
 use Rattle.rp_tool.specs.declared.status.TheConstants.{DONE, REFUSED, READ_FAILED, PUT_FAILED, OUT_OF_MEMORY, TOO_LONG}
 use Rattle.rp_tool.specs.declared.intake.IntakeFault.{IntakeFault}
 use Rattle.rp_tool.specs.declared.intake.IntakeFault.TheVariants.{Failed, TooLong, Memory}
@@ -11,7 +11,7 @@ use Rattle.rp_tool.specs.declared.fault.OutputFault.TheVariants.{Put, Memory as 
 use Rattle.rp_tool.specs.declared.task.Task.{Task}
 use Rattle.rp_tool.specs.declared.task.Task.TheVariants.{Given, Check, Made}
 use Rattle.rp_tool.specs.declared.task.GivenTask.{GivenTask}
-use Rattle.rp_tool.specs.declared.task.GivenTask.TheVariants.{Run, RunBrief, Spell}
+use Rattle.rp_tool.specs.declared.task.GivenTask.TheVariants.{Run, RunBrief, Spell, Upgrade}
 use Rattle.rp_tool.specs.declared.task.MadeTask.{MadeTask}
 use Rattle.rp_tool.specs.declared.task.MadeTask.TheVariants.{Write, Try}
 
@@ -20,6 +20,7 @@ abbrev pub meaning_of_given : GivenTask → ModelTask
 meaning_of_given Run = run_script
 meaning_of_given RunBrief = run_brief
 meaning_of_given Spell = spell_script
+meaning_of_given Upgrade = upgrade_script
 
 -- the task of the model, with the script of a building
 abbrev pub meaning_of_made : MadeTask → ℕ → ℕ → ModelTask
@@ -38,6 +39,7 @@ reads_task run_script = true
 reads_task run_brief = true
 reads_task check_report = true
 reads_task spell_script = true
+reads_task upgrade_script = true
 reads_task (make_script n seed) = false
 reads_task (try_script n seed) = false
 
@@ -56,6 +58,7 @@ most_bytes_of run_script = most_script_bytes
 most_bytes_of run_brief = most_script_bytes
 most_bytes_of check_report = most_report_bytes
 most_bytes_of spell_script = most_script_bytes
+most_bytes_of upgrade_script = most_script_bytes
 most_bytes_of (make_script n seed) = most_script_bytes
 most_bytes_of (try_script n seed) = most_script_bytes
 

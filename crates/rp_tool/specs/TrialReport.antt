@@ -5,7 +5,7 @@ use Rattle.rp_io.specs.Bytes.{Appends}
 use Rattle.rp_model.specs.states.State.{live_lots}
 use Rattle.rp_reports.specs.Made.{made_script, told_count}
 use Rattle.rp_reports.specs.Output.{is_refused_line}
-use Rattle.rp_reports.specs.Report.{script_lines, IsReport}
+use Rattle.rp_reports.specs.Report.{script_version, script_body, IsReport}
 use Rattle.rp_reports.specs.Text.{text_of_lines}
 use Rattle.rp_reports.specs.laws.RunLaws.{state_of_run}
 
@@ -13,14 +13,14 @@ use Rattle.rp_reports.specs.laws.RunLaws.{state_of_run}
 abbrev pub is_proof_line : List ℕ → Bool
 is_proof_line line = bytes_eq (codes "  ") (take (length (codes "  ")) line)
 
--- the four lines about a script: how many lines it has, how many lines of its report say that something is refused, how many lots are live in the last state of its run,
+-- the four lines about a script: how many lines its body has, how many lines of its report say that something is refused, how many lots are live in the last state of its run,
 -- and how many lines of its report are proof lines; it has that report and no other one
 pub record TellsCounts (script : List ℕ) (lines : List (List ℕ)) : Type 0 where
   pub report : List (List ℕ)
   pub is_report : IsReport script report
   pub is_alone : (other : List (List ℕ)) → IsReport script other → other ≡ report
-  pub counts : lines ≡ told_count (codes "lines") (length (script_lines script)) ∷ told_count (codes "refused") (count_by is_refused_line report)
-      ∷ told_count (codes "live") (length (live_lots (state_of_run (script_lines script)).lots)) ∷ told_count (codes "proofs") (count_by is_proof_line report) ∷ []
+  pub counts : lines ≡ told_count (codes "lines") (length (script_body script)) ∷ told_count (codes "refused") (count_by is_refused_line report)
+      ∷ told_count (codes "live") (length (live_lots (state_of_run (script_version script) (script_body script)).lots)) ∷ told_count (codes "proofs") (count_by is_proof_line report) ∷ []
 
 -- the four lines about the made script came to the end of what a sink said
 pub record PutsTrial (n seed : ℕ) (old new : Option (List ℕ)) : Type 0 where

@@ -9,6 +9,7 @@ mod intake;
 mod lines;
 mod made;
 mod make;
+mod mark;
 mod number;
 mod output;
 mod refusal;
@@ -20,6 +21,7 @@ mod task;
 mod text;
 mod top;
 mod trial;
+mod upgrade;
 
 pub use top::tool;
 

@@ -3,12 +3,13 @@ ghost use Rattle.rp_io.specs.Bytes.{AppendsPrefix};
 ghost use Rattle.rp_reports.specs.Output.{most_script_bytes};
 ghost use Rattle.rp_model.specs.states.State.{state_of_parts};
 ghost use Rattle.rp_model.specs.states.Sound.{IsLaterThan};
-ghost use Rattle.rp_reports.specs.Machine.{step_answer, step_state};
+ghost use Rattle.rp_reports.specs.Machine.{after_line, step_answer};
 ghost use Rattle.rp_reports.specs.Text.{answer_lines, text_of_lines};
 ghost use Rattle.rp_tool.specs.Output.{PutsAnswer, PutsFront, PutsOutput, HasOutputCause, report_task};
 
 use super::fault::OutputFault;
 use super::lines::next_line;
+use super::mark::{put_mark, split_mark};
 use super::output::put_lines;
 use super::refusal::has_refusal;
 use rp_io::Sink;
@@ -29,14 +30,14 @@ fn run_line<R: Threads + Sync, K: Sink>(
     text: &mut Vec<u8>,
     sink: &mut K,
 ) -> Result<bool, OutputFault>
-    requires { IsLaterThan number (state_of_parts machine.old) }
+    requires { IsLaterThan number (state_of_parts machine.old.state) }
     ensures counts { K.faults sink.old ≤ K.faults sink.new }
     ensures answer { IfOk result (λ refused.
         PutsAnswer brief machine.old number line.now (K.said sink.old) (K.said sink.new) refused) }
     ensures front { OnErr result (AppendsPrefix (K.said sink.old) (K.said sink.new)
-        (text_of_lines (answer_lines brief (step_answer machine.old number line.now)))) }
-    ensures state { OnOk result (machine.new ≡ step_state machine.old number line.now) }
-    ensures later { OnOk result (IsLaterThan (number + 1) (state_of_parts machine.new)) }
+        (text_of_lines (answer_lines brief (step_answer machine.old.version machine.old.state number line.now)))) }
+    ensures state { OnOk result (machine.new ≡ after_line machine.old number line.now) }
+    ensures later { OnOk result (IsLaterThan (number + 1) (state_of_parts machine.new.state)) }
     ensures cause { IfErr result (HasOutputCause (K.faults sink.old) (K.faults sink.new)) }
 {
     let answer = machine.step(rt, alloc, number, line)?;
@@ -46,8 +47,9 @@ fn run_line<R: Threads + Sync, K: Sink>(
     Ok(has_refusal(&answer))
 }
 
-/// Puts the report of a script, answer by answer, full or without the proof lines: one machine answers its lines in
-/// order. Answers whether something was refused.
+/// Puts the report of a script, answer by answer, full or without the proof lines: one machine answers the lines of its
+/// body in order. The report of a script of version 2 begins with the line `> 0 rp 2`. Answers whether something was
+/// refused.
 pub fn run<R: Threads + Sync, K: Sink>(
     rt: &R,
     alloc: Global,
@@ -62,9 +64,11 @@ pub fn run<R: Threads + Sync, K: Sink>(
     ensures front { OnErr result (PutsFront (report_task brief) script.now (K.said sink.old) (K.said sink.new)) }
     ensures cause { IfErr result (HasOutputCause (K.faults sink.old) (K.faults sink.new)) }
 {
-    let mut machine = Machine::new(alloc)?;
+    let (version, body) = split_mark(script);
+    let mut machine = Machine::new(alloc, version)?;
+    put_mark(version, b"> 0 rp 2\n", sink)?;
     let mut text = Vec::new(alloc);
-    let mut rest = script;
+    let mut rest = body;
     let mut number = 1;
     let mut refused = false;
     while let Some((line, behind)) = next_line(rest) {

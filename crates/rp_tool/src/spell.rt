@@ -3,52 +3,66 @@ ghost use Rattle.rp_io.specs.Bytes.{Appends, AppendsPrefix};
 ghost use Rattle.rp_language.specs.Grammar.{reading, spelling};
 ghost use Rattle.rp_reports.specs.Output.{spell_script, spelled_lines};
 ghost use Rattle.rp_reports.specs.Text.{line_end, text_of_lines};
+ghost use Rattle.rp_syntax.specs.Versions.{version_of};
 ghost use Rattle.rp_syntax.specs.Views.{command_of};
-ghost use Rattle.rp_tool.specs.Output.{PutsFront, PutsSpelling, PutsOutput, HasOutputCause};
+ghost use Rattle.rp_tool.specs.Output.{PutsFront, PutsLines, PutsOutput, HasOutputCause};
 
 use super::fault::OutputFault;
 use super::lines::next_line;
+use super::mark::{put_mark, split_mark};
 use rp_io::Sink;
-use rp_syntax::{Command, Line, read_line, write_command};
+use rp_syntax::{Command, Line, Version, read_line, write_command};
 use std::alloc::Global;
 
-/// Puts a command in its one spelling, with a line end.
-fn put_command<K: Sink>(alloc: Global, command: &Command, sink: &mut K) -> Result<(), OutputFault>
+/// Puts a command in its one spelling of a version, with a line end.
+fn put_command<K: Sink>(
+    alloc: Global,
+    version: Version,
+    command: &Command,
+    sink: &mut K,
+) -> Result<(), OutputFault>
     ensures counts { K.faults sink.old ≤ K.faults sink.new }
     ensures text { OnOk result (Appends (K.said sink.old) (K.said sink.new)
-        (spelling (command_of command.now) ++ line_end ∷ [])) }
+        (spelling (version_of version) (command_of command.now) ++ line_end ∷ [])) }
     ensures front { OnErr result (AppendsPrefix (K.said sink.old) (K.said sink.new)
-        (spelling (command_of command.now) ++ line_end ∷ [])) }
+        (spelling (version_of version) (command_of command.now) ++ line_end ∷ [])) }
     ensures cause { IfErr result (HasOutputCause (K.faults sink.old) (K.faults sink.new)) }
 {
     let mut text = Vec::new(alloc);
-    write_command(command, &mut text)?;
+    write_command(version, command, &mut text)?;
     text.extend_from_slice(b"\n")?;
     sink.put(&text)?;
     Ok(())
 }
 
-/// Puts the command of one line of the script in its one spelling, or nothing where there is none. Answers whether the
-/// line is bad.
-fn spell_line<K: Sink>(alloc: Global, line: &[u8], sink: &mut K) -> Result<bool, OutputFault>
+/// Puts the command of one line of a script of a version in its one spelling, or nothing where there is none. Answers
+/// whether the line is bad.
+fn spell_line<K: Sink>(
+    alloc: Global,
+    version: Version,
+    line: &[u8],
+    sink: &mut K,
+) -> Result<bool, OutputFault>
     ensures counts { K.faults sink.old ≤ K.faults sink.new }
-    ensures text { IfOk result (λ bad. PutsSpelling (reading line.now) (K.said sink.old) (K.said sink.new) bad) }
+    ensures text { let r = reading (version_of version) line.now in IfOk result (λ bad.
+        PutsLines (spelled_lines (version_of version) r) r (K.said sink.old) (K.said sink.new) bad) }
     ensures front { OnErr result (AppendsPrefix (K.said sink.old) (K.said sink.new)
-        (text_of_lines (spelled_lines (reading line.now)))) }
+        (text_of_lines (spelled_lines (version_of version) (reading (version_of version) line.now)))) }
     ensures cause { IfErr result (HasOutputCause (K.faults sink.old) (K.faults sink.new)) }
 {
-    let read = read_line(alloc, line)?;
+    let read = read_line(alloc, version, line)?;
     match &read {
         Line::Blank => Ok(false),
         Line::Bad(_) => Ok(true),
         Line::Cmd(command) => {
-            put_command(alloc, command, sink)?;
+            put_command(alloc, version, command, sink)?;
             Ok(false)
         }
     }
 }
 
-/// Puts every command of a script in its one spelling, one put for each. Answers whether some line is bad.
+/// Puts every command of a script in its one spelling of the script's version, one put for each, behind the line `rp 2` in
+/// version 2. Answers whether some line is bad.
 pub fn spell<K: Sink>(alloc: Global, script: &[u8], sink: &mut K) -> Result<bool, OutputFault>
     ensures counts { K.faults sink.old ≤ K.faults sink.new }
     ensures spellings { IfOk result (λ bad.
@@ -56,10 +70,12 @@ pub fn spell<K: Sink>(alloc: Global, script: &[u8], sink: &mut K) -> Result<bool
     ensures front { OnErr result (PutsFront spell_script script.now (K.said sink.old) (K.said sink.new)) }
     ensures cause { IfErr result (HasOutputCause (K.faults sink.old) (K.faults sink.new)) }
 {
-    let mut rest = script;
+    let (version, body) = split_mark(script);
+    put_mark(version, b"rp 2\n", sink)?;
+    let mut rest = body;
     let mut has_bad_line = false;
     while let Some((line, behind)) = next_line(rest) {
-        has_bad_line |= spell_line(alloc, line, sink)?;
+        has_bad_line |= spell_line(alloc, version, line, sink)?;
         rest = behind;
     }
     Ok(has_bad_line)

@@ -3,7 +3,7 @@ ghost use Rattle.std.specs.Prelude.{◌≡◌, ◌+◌, ◌^◌, ◌<◌, ◌∷
 ghost use Rattle.rp_model.specs.states.State.{opening, state_of_parts};
 ghost use Rattle.rp_model.specs.states.Sound.{IsLaterThan};
 ghost use Rattle.rp_report.specs.Views.{answer_of};
-ghost use Rattle.rp_reports.specs.Machine.{step_answer, step_state};
+ghost use Rattle.rp_reports.specs.Machine.{after_line, step_answer};
 ghost use Rattle.rp_reports.specs.Made.{made_script, run_from};
 ghost use Rattle.rp_reports.specs.Text.{line_end, text_of_lines};
 ghost use Rattle.rp_tool.specs.Trial.{AreBounded, counted, summary_lines, summary_of};
@@ -15,6 +15,7 @@ use super::text::append_number;
 use itoa::Integer;
 use rp_machine::Machine;
 use rp_report::Answer;
+use rp_syntax::Version;
 use std::alloc::{AllocError, Global};
 use std::thread::Threads;
 
@@ -62,18 +63,18 @@ fn count_line<R: Threads + Sync>(
 ) -> Result<(), AllocError>
     requires few { counts.old.lines + 1 < 2 ^ 32 }
     requires bounded { AreBounded counts.old }
-    requires later { IsLaterThan (counts.old.lines + 1) (state_of_parts machine.old) }
-    ensures counted { OnOk result (counts.new ≡ counted counts.old (step_answer machine.old (counts.old.lines + 1) line.now)) }
+    requires later { IsLaterThan (counts.old.lines + 1) (state_of_parts machine.old.state) }
+    ensures counted { OnOk result (counts.new ≡ counted counts.old (step_answer machine.old.version machine.old.state (counts.old.lines + 1) line.now)) }
     ensures bounded { OnOk result (AreBounded counts.new) }
-    ensures state { OnOk result (machine.new ≡ step_state machine.old (counts.old.lines + 1) line.now) }
-    ensures later { OnOk result (IsLaterThan (counts.new.lines + 1) (state_of_parts machine.new)) }
+    ensures state { OnOk result (machine.new ≡ after_line machine.old (counts.old.lines + 1) line.now) }
+    ensures later { OnOk result (IsLaterThan (counts.new.lines + 1) (state_of_parts machine.new.state)) }
 {
     let answer = machine.step(rt, alloc, counts.lines + 1, line)?;
     counts.add(&answer);
     Ok(())
 }
 
-/// The summary of the report of a building's script. Neither the script nor the report is held whole.
+/// The summary of the report of a building's script, which is of version 1. Neither the script nor the report is held whole.
 /// Answers `AllocError` only for want of memory.
 pub fn summary_of<R: Threads + Sync>(
     rt: &R,
@@ -82,7 +83,7 @@ pub fn summary_of<R: Threads + Sync>(
 ) -> Result<Summary, AllocError>
     ensures { let script = made_script building.storeys building.seed in IfOk result (λ s. s ≡ summary_of script (run_from opening 1 script)) }
 {
-    let mut machine = Machine::new(alloc)?;
+    let mut machine = Machine::new(alloc, Version::One)?;
     let mut script = MadeScript::new(building);
     let mut text = Vec::new(alloc);
     let mut counts = Counts {

@@ -26,6 +26,8 @@ pub enum GivenTask {
     RunBrief,
     /// `script`: its commands are written, each in its one spelling.
     Spell,
+    /// `upgrade`: it is written as a script of version 2.
+    Upgrade,
 }
 
 /// What is done with a script that is made.
@@ -59,6 +61,8 @@ fn task_of_one(word: &str) -> Option<Task>
         Some(Task::Check)
     } else if word == "script" {
         Some(Task::Given(GivenTask::Spell))
+    } else if word == "upgrade" {
+        Some(Task::Given(GivenTask::Upgrade))
     } else {
         None
     }

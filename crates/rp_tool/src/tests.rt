@@ -9,6 +9,7 @@ use crate::status::{DONE, OUT_OF_MEMORY, PUT_FAILED, READ_FAILED, REFUSED, TOO_L
 use crate::tool;
 use rp_io::{MemorySink, MemorySource, QuietSink, QuietSource};
 use std::alloc::{AllocError, Global};
+use std::process::Abort;
 use std::test::Fail;
 use std::thread::Threads;
 
@@ -207,17 +208,86 @@ fn refuses_too_many_nodes_and_long_lines(rt: HostRuntime) -> Result<(), Fail> {
 
 #[test]
 fn spells_each_command(rt: HostRuntime) -> Result<(), Fail> {
+    let spelled = "member half 1 0 0 -2 1 2 3 1\n";
     let rows = [
-        ("member half 2 0 0 -4 2 4 6 2\n# note\nwalk\n", REFUSED),
-        ("member half 2 0 0 -4 2 4 6 2\n# note\n", DONE),
+        (
+            "member half 2 0 0 -4 2 4 6 2\n# note\nwalk\n",
+            REFUSED,
+            spelled,
+        ),
+        ("member half 2 0 0 -4 2 4 6 2\n# note\n", DONE, spelled),
+        (
+            "rp 2\nmember half 2 0 0 -4 0.002 0.004 0.006 2\n",
+            DONE,
+            "rp 2\nmember half 1 0 0 -2 0.001 0.002 0.003 1\n",
+        ),
+        ("rp 2\n", DONE, "rp 2\n"),
     ];
-    for (script, want) in rows {
+    for (script, want, spelling) in rows {
         let (status, told) = run_on(&rt, rt.alloc(), &["script"], script.as_bytes())?;
         assert_eq!(rt; status, want, "on {script:?}");
-        assert_eq!(rt;
-            told.as_slice(),
-            b"member half 1 0 0 -2 1 2 3 1\n".as_slice()
-        );
+        assert_eq!(rt; told.as_slice(), spelling.as_bytes(), "on {script:?}");
+    }
+    Ok(())
+}
+
+#[test]
+fn upgrades_scripts(rt: HostRuntime) -> Result<(), Fail> {
+    let rows = [
+        (
+            "member box 0 0 0 10 10 10 5 3 5 9\nwalk\n",
+            REFUSED,
+            "rp 2\nmember box 0.000 0.000 0.000 0.010 0.010 0.010 0.005 0.003 0.005 9\n\n",
+        ),
+        (
+            "rp 2\r\n# a note\r\n\nmember all 0.001 -0.002 0.000 4",
+            DONE,
+            "rp 2\n# a note\n\nmember all 0.001 -0.002 0.000 4\n",
+        ),
+        ("rp 2 \nlist\n", REFUSED, "rp 2\n\nlist\n"),
+        ("", DONE, "rp 2\n"),
+    ];
+    for (script, want, upgraded) in rows {
+        let (status, told) = run_on(&rt, rt.alloc(), &["upgrade"], script.as_bytes())?;
+        assert_eq!(rt; status, want, "on {script:?}");
+        assert_eq!(rt; told.as_slice(), upgraded.as_bytes(), "on {script:?}");
+    }
+    Ok(())
+}
+
+#[test]
+fn reports_scripts_of_version_two(rt: HostRuntime) -> Result<(), Fail> {
+    let rows = [
+        (
+            "rp 2\nmember box 0.000 0.000 0.000 0.010 0.010 0.010 0.005 0.003 0.005 9\n\n",
+            DONE,
+            "> 0 rp 2\n> 1 member box 0.000 0.000 0.000 0.010 0.010 0.010 0.005 0.003 0.005 9\n= yes\n",
+        ),
+        (
+            "rp 2\nmember all 5 0.000 0.000 1\nmember all -0.000 0.000 0.000 1\n",
+            REFUSED,
+            "> 0 rp 2\n> 1 member all 5 0.000 0.000 1\n= refused syntax\n> 2 member all -0.000 0.000 0.000 1\n= refused syntax\n",
+        ),
+        (
+            "rp 2\nempty box 0.000 0.000 0.000 16777.217 0.001 0.001\n",
+            REFUSED,
+            "> 0 rp 2\n> 1 empty box 0.000 0.000 0.000 16777.217 0.001 0.001\n= refused range\n",
+        ),
+        ("rp 2", DONE, "> 0 rp 2\n"),
+        // A line like any other, where it is not the first one, or has one byte more.
+        (
+            "rp 2\nrp 2\n",
+            REFUSED,
+            "> 0 rp 2\n> 1 rp 2\n= refused syntax\n",
+        ),
+        ("\nrp 2\n", REFUSED, "> 2 rp 2\n= refused syntax\n"),
+        ("rp 2 \n", REFUSED, "> 1 rp 2 \n= refused syntax\n"),
+        ("rp 2\r", REFUSED, "> 1 rp 2\r\n= refused syntax\n"),
+    ];
+    for (script, want, report) in rows {
+        let (status, told) = run_on(&rt, rt.alloc(), &["run"], script.as_bytes())?;
+        assert_eq!(rt; status, want, "on {script:?}");
+        assert_eq!(rt; told.as_slice(), report.as_bytes(), "on {script:?}");
     }
     Ok(())
 }
@@ -234,6 +304,11 @@ fn brief_reports_tell_no_proof_line(rt: HostRuntime) -> Result<(), Fail> {
             "empty box 0 0 0 10 10 10\n# a note\nempty name a\n",
             REFUSED,
             "> 1 empty box 0 0 0 10 10 10\n= no\n> 3 empty name a\n= refused unknown a\n",
+        ),
+        (
+            "rp 2\nshow box -0.001 0.000 0.000 0.001 0.002 0.003\n",
+            DONE,
+            "> 0 rp 2\n> 1 show box -0.001 0.000 0.000 0.001 0.002 0.003\n= parts 1\n= part (1 0 0 1) (-1 0 0 1) (0 1 0 0) (0 -1 0 2) (0 0 1 0) (0 0 -1 3)\n",
         ),
         ("", DONE, ""),
     ];
@@ -270,6 +345,13 @@ fn checks_reports(rt: HostRuntime) -> Result<(), Fail> {
         ("> 1 empty box 0 0 0 0 10 10\n", "wrong 2\n"),
         // A carriage return belongs to its line.
         ("> 1 member all 0 0 0 1\n= yes\r\n", "wrong 2\n"),
+        // What is echoed is read by the version that the first line tells.
+        (
+            "> 0 rp 2\n> 1 member all 0.000 0.000 0.000 1\n= yes\n",
+            "accepted\n",
+        ),
+        ("> 0 rp 2\n> 1 member all 0 0 0 1\n= yes\n", "wrong 3\n"),
+        ("> 1 member all 0.000 0.000 0.000 1\n= yes\n", "wrong 2\n"),
     ];
     for (report, want) in rows {
         let (status, told) = run_on(&rt, rt.alloc(), &["check"], report.as_bytes())?;
@@ -284,14 +366,27 @@ fn checks_reports(rt: HostRuntime) -> Result<(), Fail> {
     Ok(())
 }
 
-#[test]
-fn accepts_what_was_written(rt: HostRuntime) -> Result<(), Fail> {
-    let script =
-        "let a = box 0 0 0 10 10 10\nshow minus name a box 0 0 0 4 10 10\nwalk\n\nregister lot-7 name a\nregister lot-8 name a\ncut lot-7 half 1 0 0 -5 east west\nneighbours east\n";
-    let (_, report) = run_on(&rt, rt.alloc(), &["run"], script.as_bytes())?;
-    let (status, told) = run_on(&rt, rt.alloc(), &["check"], &report)?;
+/// Has the report of a script checked, which must be accepted.
+fn expect_accepted<R: Abort + Threads + Sync>(
+    rt: &R,
+    alloc: Global,
+    script: &[u8],
+) -> Result<(), AllocError> {
+    let (_, report) = run_on(rt, alloc, &["run"], script)?;
+    let (status, told) = run_on(rt, alloc, &["check"], &report)?;
     assert_eq!(rt; status, DONE);
     assert_eq!(rt; told.as_slice(), b"accepted\n".as_slice());
+    Ok(())
+}
+
+#[test]
+fn accepts_what_was_written(rt: HostRuntime) -> Result<(), Fail> {
+    let alloc = rt.alloc();
+    let script =
+        "let a = box 0 0 0 10 10 10\nshow minus name a box 0 0 0 4 10 10\nwalk\n\nregister lot-7 name a\nregister lot-8 name a\ncut lot-7 half 1 0 0 -5 east west\nneighbours east\n";
+    let (_, upgraded) = run_on(&rt, alloc, &["upgrade"], script.as_bytes())?;
+    expect_accepted(&rt, alloc, script.as_bytes())?;
+    expect_accepted(&rt, alloc, &upgraded)?;
     Ok(())
 }
 
@@ -379,6 +474,24 @@ fn stops_where_a_read_or_a_put_fails(rt: HostRuntime) -> Result<(), Fail> {
         let status = memory_status(&rt, alloc, &words, &mut source, &mut sink);
         assert_eq!(rt; status, want, "on {reads:?} {puts:?}");
         assert_eq!(rt; sink.bytes(), written.as_bytes(), "on {reads:?} {puts:?}");
+    }
+    Ok(())
+}
+
+#[test]
+fn puts_the_mark_by_itself(rt: HostRuntime) -> Result<(), Fail> {
+    let rows = [
+        ("run", "> 0 rp 2\n"),
+        ("script", "rp 2\n"),
+        ("upgrade", "rp 2\n"),
+    ];
+    for (word, written) in rows {
+        let words = words_of(rt.alloc(), &[word])?;
+        let mut source = MemorySource::new(b"rp 2\nempty none\n", 10, &[]);
+        let mut sink = MemorySink::new(rt.alloc(), 1000, &[(2, 0)])?;
+        let status = memory_status(&rt, rt.alloc(), &words, &mut source, &mut sink);
+        assert_eq!(rt; status, PUT_FAILED, "on {word}");
+        assert_eq!(rt; sink.bytes(), written.as_bytes(), "on {word}");
     }
     Ok(())
 }

@@ -19,6 +19,7 @@ use super::spell::spell;
 use super::status::{DONE, OUT_OF_MEMORY, PUT_FAILED, READ_FAILED, REFUSED, TOO_LONG, UNLISTED};
 use super::task::{GivenTask, MadeTask, Task, listed_task};
 use super::trial::trial;
+use super::upgrade::upgrade;
 use rp_io::{Sink, Source};
 use std::alloc::Global;
 use std::thread::Threads;
@@ -35,12 +36,20 @@ const MOST_REPORT_BYTES: usize = 67_108_864;
 /// These words are listed. The input is a script of at most 16,777,216 bytes, with `check` a report of at most 67,108,864
 /// bytes. The output has one put for each line.
 ///
-/// - `run`: the output is the report of the script. Refused is what a verdict line says is refused.
+/// A script whose first line is `rp 2` is of version 2, and every other one of version 1; the lines behind that line are
+/// its body, and are numbered from 1.
+///
+/// - `run`: the output is the report of the script, which begins with the line `> 0 rp 2` in version 2. Refused is what a
+///   verdict line says is refused.
 /// - `run brief`: the same without the proof lines.
 /// - `check`: the output is `accepted`, or `wrong n` with the number of the first line at which no accepted report goes on.
 ///   Refused is a report that is not accepted.
-/// - `script`: the output is each command of the script in its one spelling. Blank and bad lines are left out. Refused
-///   are the bad lines: those that are neither blank nor a command.
+/// - `script`: the output is each command of the script in its one spelling of the script's version, behind the line
+///   `rp 2` in version 2. Blank and bad lines are left out. Refused are the bad lines of the body: those that are neither
+///   blank nor a command.
+/// - `upgrade`: the output is the script as one of version 2: the line `rp 2`, and then for each line of the body one line,
+///   which is the same where it is blank, the spelling of version 2 where it is a command, and empty where it is bad.
+///   Refused are the bad lines.
 /// - `make N SEED`, N from 1 to 1,000 and SEED from 0 to 18,446,744,073,709,551,615, in the spelling of a script: nothing is
 ///   read, and the output is the script of a building of N storeys, drawn from the seed. Nothing is refused.
 /// - `trial N SEED`, with the same numbers: nothing is read, and the output is what is counted in the report of that script.
@@ -140,6 +149,7 @@ fn put_given<R: Threads + Sync, K: Sink>(
         GivenTask::Run => run(rt, alloc, script, false, sink),
         GivenTask::RunBrief => run(rt, alloc, script, true, sink),
         GivenTask::Spell => spell(alloc, script, sink),
+        GivenTask::Upgrade => upgrade(alloc, script, sink),
     }
 }
 

@@ -13,7 +13,7 @@ follow_row-requires-clause-known c =
 
 pub follow_row-requires-clause-sound : goal.follow_row-requires-clause-sound
 follow_row-requires-clause-sound c =
-    replied_sound c.args.register.now c.keep_sound.ensures (command_of c.args.command.now) c.requires.kept c.args.trail.now c.carry_out-row.new.trail c.args.n c.requires.later c.carry_out-row.result c.carry_out-row.ensures
+    replied_sound c.args.register.now c.keep_sound.ensures (command_of c.args.command.now) c.requires.kept c.args.trail.now c.carry_out-row.new.trail c.requires.heights c.args.n c.requires.later c.carry_out-row.result c.carry_out-row.ensures
 
 pub returns : goal.returns
 unfolding follow_command

@@ -5,4 +5,4 @@ use Rattle.rp_machine.proofs.tests.expect_from.Given as goal
 
 -- the next number is above all births and ends
 abbrev pub invariant-loop-line : goal.invariant-loop-line
-invariant-loop-line g l = record { number : l.n ≡ l.first + l.line-index; later : IsLaterThan l.n (state_of_parts l.machine) }
+invariant-loop-line g l = record { number : l.n ≡ l.first + l.line-index; later : IsLaterThan l.n (state_of_parts l.machine.state) }

@@ -5,4 +5,4 @@ use Rattle.rp_machine.proofs.tests.keep_many.Given as goal
 
 -- the number of the next line is above all births and ends
 abbrev pub invariant-loop-i : goal.invariant-loop-i
-invariant-loop-i g l = IsLaterThan (l.first + l.i) (state_of_parts l.machine)
+invariant-loop-i g l = IsLaterThan (l.first + l.i) (state_of_parts l.machine.state)

@@ -1,18 +1,21 @@
-use Rattle.std.proofs.Common.{arith, sym, subst}
-use Rattle.rp_model.specs.states.State.{PlainState, state_of_parts}
+use Rattle.std.proofs.Common.{refl, arith, sym, subst}
+use Rattle.rp_model.specs.states.State.{state_of_parts}
 use Rattle.rp_model.specs.states.Sound.{IsLaterThan}
+use Rattle.rp_reports.specs.Machine.{Running}
+use Rattle.rp_syntax.specs.Versions.{version_of}
 use Rattle.rp_tool.proofs.SinkLemmas.{OnErr-holds}
-use Rattle.rp_tool.proofs.RunLemmas.{HasTold-start, HasTold-more, PutsFront-nothing, PutsFront-run, PutsOutput-run}
+use Rattle.rp_tool.proofs.RunLemmas.{HasTold-start, HasTold-more, PutsFront-mark, PutsFront-nothing, PutsFront-run, PutsOutput-run}
 use Rattle.rp_tool.proofs.run.run.Goals as goal
 
 pub loop-line-init : goal.loop-line-init
 loop-line-init g c =
-    let said = g.K.Sink.said c.args.sink.now in
     record {
-      counts = omega arith;
-      number = omega (arith, c.requires);
-      later = subst (λ (s : PlainState). IsLaterThan 1 (state_of_parts s)) (sym c.in_ok-machine.ensures) (record { births = tt; ends = tt });
-      told = HasTold-start c.args.brief c.args.script.now said c.in_ok-machine.machine c.in_ok-machine.ensures;
+      counts = omega (arith, c.in_ok-put_mark.ensures.counts);
+      number = omega (arith, c.requires, c.split_mark-version.ensures.within);
+      later = subst (λ (m : Running). IsLaterThan 1 (state_of_parts m.state)) (sym c.in_ok-machine.ensures) (record { births = tt; ends = tt });
+      told =
+          HasTold-start c.args.brief c.args.script.now c.split_mark-version.result.1.now _ (g.K.Sink.said c.args.sink.now) (g.K.Sink.said c.put_mark.new.sink) c.in_ok-machine.machine
+          (version_of c.split_mark-version.result.0) c.split_mark-version.ensures.version c.split_mark-version.ensures.body c.in_ok-machine.ensures refl c.in_ok-put_mark.ensures.ok;
     }
 
 pub loop-line-preserved : goal.loop-line-preserved
@@ -35,6 +38,12 @@ returns-clause-report g c =
 
 pub returns-in_err-machine-clause-front : goal.returns-in_err-machine-clause-front
 returns-in_err-machine-clause-front g c = OnErr-holds c.from_residual.result (PutsFront-nothing c.args.brief c.args.script.now (g.K.Sink.said c.args.sink.now))
+
+pub returns-in_err-put_mark-clause-front : goal.returns-in_err-put_mark-clause-front
+returns-in_err-put_mark-clause-front g c =
+    OnErr-holds c.from_residual-in_err-put_mark.result
+    (PutsFront-mark c.args.brief c.args.script.now c.split_mark-version.result.1.now _ (g.K.Sink.said c.args.sink.now) (g.K.Sink.said c.put_mark.new.sink)
+    (version_of c.split_mark-version.result.0) c.split_mark-version.ensures.version c.split_mark-version.ensures.body refl c.in_err-put_mark.ensures.front)
 
 pub returns-in_err-refused-clause-front : goal.returns-in_err-refused-clause-front
 returns-in_err-refused-clause-front g c =

@@ -10,7 +10,7 @@ invariant-loop-line g l =
     record {
       counts : g.K.Sink.faults l.fn.sink ≤ g.K.Sink.faults l.sink;
       number : l.number + length l.rest ≤ most_script_bytes + 1;
-      later : IsLaterThan l.number (state_of_parts l.machine);
+      later : IsLaterThan l.number (state_of_parts l.machine.state);
       told : HasTold l.brief l.script (g.K.Sink.said l.fn.sink) (g.K.Sink.said l.sink) l.machine l.number l.rest l.refused;
     }
 

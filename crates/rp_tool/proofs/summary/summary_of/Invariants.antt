@@ -10,7 +10,7 @@ abbrev pub invariant-loop-line : goal.invariant-loop-line
 invariant-loop-line g l =
     record {
       bounded : AreBounded l.counts;
-      later : IsLaterThan (l.counts.lines + 1) (state_of_parts l.machine);
+      later : IsLaterThan (l.counts.lines + 1) (state_of_parts l.machine.state);
       counted : HasCounted (made_script l.fn.building.storeys l.fn.building.seed) l.machine l.counts l.script;
     }
 

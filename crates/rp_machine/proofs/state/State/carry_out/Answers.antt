@@ -1,0 +1,30 @@
+use Rattle.std.proofs.Common.{rules, FitsSigned, w32, ap, sym, ◌∙◌, subst, List}
+use Rattle.std.proofs.lemmas.Int.{to_z-of_z}
+use Rattle.std.specs.List.{AllByRecursion}
+use Rattle.rp_language.specs.Expression.{Command, IsKeptExpression, expressions_of, ask_at, ask_as_of, ask_list, ask_section}
+use Rattle.rp_syntax.specs.Views.{command_of, expression_of}
+use Rattle.rp_machine.specs.Children.{shapes_of}
+use Rattle.rp_machine.proofs.ChildLemmas.{kept_shapes}
+use Rattle.rp_machine.proofs.LotLemmas.{question_run}
+use Rattle.rp_machine.proofs.state.State.carry_out.Goals as goal
+
+pub subdivide-requires-clause-kept : goal.subdivide-requires-clause-kept
+subdivide-requires-clause-kept g c =
+    subst (λ (es : List _). AllByRecursion IsKeptExpression (shapes_of es)) (sym c.items.ensures)
+    (kept_shapes c.in-Subdivide.entries.items (subst (λ (d : Command). AllByRecursion IsKeptExpression (expressions_of d)) (ap command_of c.in-Subdivide.is) c.requires.kept))
+
+pub returns-in-At : goal.returns-in-At
+returns-in-At g c = question_run c.told-in-At.result c.owner.result c.args.n c.args.work.now c.args.work.now c.args.self.now (command_of c.args.command.now) (ask_at c.in-At.point) (ap command_of c.in-At.is) c.told-in-At.ensures (c.owner.ensures c.args.work.now)
+
+pub returns-in-Asof : goal.returns-in-Asof
+returns-in-Asof g c = question_run c.told-in-Asof.result c.owner_then.result c.args.n c.args.work.now c.args.work.now c.args.self.now (command_of c.args.command.now) (ask_as_of c.in-Asof.line c.in-Asof.point) (ap command_of c.in-Asof.is) c.told-in-Asof.ensures (c.owner_then.ensures c.args.work.now)
+
+pub returns-in-List : goal.returns-in-List
+returns-in-List g c = question_run c.told-in-List.result c.list.result c.args.n c.args.work.now c.args.work.now c.args.self.now (command_of c.args.command.now) ask_list (ap command_of c.in-List.is) c.told-in-List.ensures (c.list.ensures c.args.work.now)
+
+pub returns-in-Section : goal.returns-in-Section
+returns-in-Section g c =
+    let e = expression_of c.in-Section.region in
+    let fits : FitsSigned w32 c.in-Section.z = search rules in
+    question_run c.told-in-Section.result c.section.result c.args.n c.args.work.now c.section.new.work c.args.self.now (command_of c.args.command.now) (ask_section e _) (ap command_of c.in-Section.is ∙ sym (ap (ask_section e) (to_z-of_z w32 c.in-Section.z fits)))
+    c.told-in-Section.ensures c.section.ensures

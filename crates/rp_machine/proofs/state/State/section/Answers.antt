@@ -1,0 +1,18 @@
+use Rattle.std.proofs.Common.{rules, FitsSigned, w32, List, sym, ap, ◌∙◌}
+use Rattle.std.proofs.lemmas.Int.{to_z-of_z}
+use Rattle.rp_geometry.specs.sections.Slice.{Slice}
+use Rattle.rp_walks.specs.Walk.{done, first_tester}
+use Rattle.rp_model.specs.commands.Verdict.{Verdict, section_lines}
+use Rattle.rp_model.specs.commands.Row.{reply_lines, row_section}
+use Rattle.rp_section.specs.Shown.{slices_of}
+use Rattle.rp_machine.proofs.RowLemmas.{section_told}
+use Rattle.rp_machine.proofs.state.State.section.Goals as goal
+
+pub returns : goal.returns
+returns c =
+    let z = c.args.z in
+    let fits : FitsSigned w32 z = search rules in
+    let w = c.row_form.new.work in
+    c.in_ok-form.ensures (row_section first_tester z) ∙ section_told z c.in_ok-form.form w
+    ∙ ap (λ (slices : List Slice). done (reply_lines (section_lines slices)) w) (sym (c.in_ok-slices.ensures ∙ ap (λ y. slices_of y c.in_ok-form.form) (to_z-of_z w32 z fits)))
+    ∙ ap (λ (vs : List Verdict). done (reply_lines vs) w) (sym c.in_ok-section_lines.ensures)

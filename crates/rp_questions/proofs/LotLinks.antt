@@ -1,0 +1,71 @@
+-- The walk over each two lots of a layer, lot by lot, and the links that it finds.
+use Rattle.std.proofs.Common.{◌≡◌, ℕ, zero, suc, ◌+◌, ◌<◌, List, [], ◌∷◌, ◌++◌, length, get_or, drop, take, sym, ap, ◌∙◌, subst, arith}
+use Rattle.std.specs.List.{AllByRecursion}
+use Rattle.std.proofs.lemmas.List.{take_more, get_or_default}
+use Rattle.rp_geometry.specs.sets.Shape.{Part}
+use Rattle.rp_walks.specs.Walk.{Walk, ◌>>=◌}
+use Rattle.rp_walks.specs.Form.{touching_pair}
+use Rattle.rp_model.specs.commands.Row.{count_with_each, count_among, numbered_lists, link_lists, links_with_list, links_among_lists, lot_parts}
+use Rattle.rp_reports.specs.Check.{Trail, line_tester}
+use Rattle.rp_access.specs.Chain.{AreJoined}
+use Rattle.rp_access.specs.Laws.{AreLinksOf}
+use Rattle.rp_access.proofs.Computed.{links_go_on}
+use Rattle.rp_follow.proofs.Left.{IsLeft, left_as, drop_item}
+use Rattle.rp_register.specs.declared.parcel.Parcel.{Parcel}
+use Rattle.rp_register.specs.There.{lot_here, lots_here}
+use Rattle.rp_questions.specs.Access.{IsBelow}
+
+-- pairs of numbers
+abbrev pub Pairs : Type 0
+Pairs = List (ℕ × ℕ)
+
+-- the lists of parts of lots
+abbrev pub parts_here : List Parcel → List (List Part)
+parts_here ls = lot_parts (lots_here ls)
+
+-- what is left of numbered lots at a lot
+pub numbered_lot : (ls : List Parcel) (k i : ℕ) (l : Parcel) → i < length ls → l ≡ get_or ls i l → numbered_lists (k + i) (parts_here (drop i ls)) ≡ (k + i, (lot_here l).parts) ∷ numbered_lists (k + (i + 1)) (parts_here (drop (i + 1) ls))
+numbered_lot ls k i l h e =
+    let next : k + i + 1 ≡ k + (i + 1) = omega arith in
+    ap (λ (ms : List Parcel). numbered_lists (k + i) (parts_here ms)) (drop_item ls i l h e) ∙ ap (λ m. (k + i, (lot_here l).parts) ∷ numbered_lists m (parts_here (drop (i + 1) ls))) next
+
+-- pairs of the lot at a place and the later ones come before the others
+pub counted_lot : (ls : List Parcel) (i : ℕ) (l : Parcel) (later : List Parcel) → later ≡ drop (i + 1) ls → i < length ls → l ≡ get_or ls i l
+    → count_among touching_pair (parts_here (drop i ls)) ≡ count_with_each touching_pair (lot_here l).parts (parts_here later) + count_among touching_pair (parts_here (drop (i + 1) ls))
+counted_lot ls i l later r h e =
+    ap (λ (ms : List Parcel). count_among touching_pair (parts_here ms)) (drop_item ls i l h e)
+    ∙ ap (λ (ms : List Parcel). count_with_each touching_pair (lot_here l).parts (parts_here ms) + count_among touching_pair (parts_here (drop (i + 1) ls))) (sym r)
+
+-- ---- steps
+
+-- one pair of lots and the rest are left
+pub lots_left : {start now : Trail} {whole : Walk Trail Pairs} (found : Pairs) (p : ℕ × List Part) (ls : List Parcel) (k i : ℕ) (l : Parcel) → i < length ls → l ≡ get_or ls i l
+    → IsLeft start whole now (links_with_list line_tester found p (numbered_lists (k + i) (parts_here (drop i ls))))
+    → IsLeft start whole now (link_lists line_tester found p (k + i, (lot_here l).parts) >>= (λ more. links_with_list line_tester more p (numbered_lists (k + (i + 1)) (parts_here (drop (i + 1) ls)))))
+lots_left found p ls k i l h e left = left_as (ap (links_with_list line_tester found p) (numbered_lot ls k i l h e)) left
+
+-- one lot and the rest are left, where the code has the rest in other words
+pub lot_left : {start now : Trail} {whole : Walk Trail Pairs} (found : Pairs) (ls : List Parcel) (i : ℕ) (l : Parcel) (later : List Parcel) → later ≡ drop (i + 1) ls → i < length ls → l ≡ get_or ls i l
+    → IsLeft start whole now (links_among_lists line_tester found (numbered_lists i (parts_here (drop i ls))))
+    → IsLeft start whole now (links_with_list line_tester found (i, (lot_here l).parts) (numbered_lists (i + 1) (parts_here later)) >>= (λ more. links_among_lists line_tester more (numbered_lists (i + 1) (parts_here (drop (i + 1) ls)))))
+lot_left found ls i l later r h e left =
+    let rest = numbered_lists (i + 1) (parts_here (drop (i + 1) ls)) in
+    left_as (ap (λ (ms : List Parcel). links_among_lists line_tester found (numbered_lists i (parts_here ms))) (drop_item ls i l h e)
+    ∙ ap (λ (ms : List Parcel). links_with_list line_tester found (i, (lot_here l).parts) (numbered_lists (i + 1) (parts_here ms)) >>= (λ more. links_among_lists line_tester more rest)) (sym r)) left
+
+-- ---- links
+
+-- one more pair is joined
+pub pair_joined : (old new : List (List ℕ)) (pairs : Pairs) (i : ℕ) (p : ℕ × ℕ) (n : ℕ) → i < length pairs → p ≡ get_or pairs i p → length old ≡ n → p.0 < n → p.1 < n → AreJoined old new p.0 p.1 → AreLinksOf old (take i pairs) → AreLinksOf new (take (i + 1) pairs)
+pair_joined old new pairs i p n h e many a b joined same =
+    subst (AreLinksOf new) (sym (take_more pairs i p h ∙ ap (λ (q : ℕ × ℕ). take i pairs ++ q ∷ []) (sym e)))
+    (links_go_on old new (take i pairs) p.0 p.1 (subst (λ m. p.0 < m) (sym many) a) (subst (λ m. p.1 < m) (sym many) b) joined same)
+
+-- a pair of a list of pairs below a count is below it
+pub below_at : (n : ℕ) (pairs : Pairs) → AllByRecursion (IsBelow n) pairs → (i : ℕ) → i < length pairs → (get_or pairs i (0, 0) ≡ get_or pairs i (get_or pairs i (0, 0))) × IsBelow n (get_or pairs i (0, 0))
+below_at n pairs all i h = (get_or_default pairs i (0, 0) (get_or pairs i (0, 0)) h, each pairs all i h)
+  where
+    each : (ps : Pairs) → AllByRecursion (IsBelow n) ps → (k : ℕ) → k < length ps → IsBelow n (get_or ps k (0, 0))
+    each [] a k l = absurd (omega (arith, l))
+    each (p ∷ ps) a zero l = a.0
+    each (p ∷ ps) a (suc k) l = each ps a.1 k (omega (arith, l))

@@ -1,0 +1,103 @@
+//! Which of some lots are in contact, on the next lines of a report, as links between their numbers.
+ghost use Rattle.std.specs.Prelude.{◌≡◌, ℕ, ◌+◌, ◌≤◌, IfOk, OnOk, length};
+ghost use Rattle.std.specs.List.{AllByRecursion};
+ghost use Rattle.rp_walks.specs.Form.{touching_pair};
+ghost use Rattle.rp_model.specs.states.State.{most_kept_parts};
+ghost use Rattle.rp_model.specs.commands.Row.{count_among, numbered_lists, link_lists, links_with_list, links_among_lists, lot_parts};
+ghost use Rattle.rp_reports.specs.Check.{line_tester};
+ghost use Rattle.rp_access.specs.Laws.{AreLinksOf};
+ghost use Rattle.rp_follow.specs.Follows.{Follows};
+ghost use Rattle.rp_register.specs.There.{lot_here, lots_here};
+ghost use Rattle.rp_questions.specs.Access.{IsBelow};
+
+use rp_access::Links;
+use rp_follow::{Lost, Trail, touching};
+use rp_nearby::Reach;
+use rp_register::{Parcel, pairs_with};
+use rp_space::Listed;
+use std::alloc::{AllocError, Global};
+
+/// Pairs of numbers of lots that are in contact.
+pub(crate) type Pairs = Listed<(u32, u32)>;
+
+/// How many pairs of parts of two of some lots have closed boxes that meet.
+pub(crate) fn pairs_among(lots: &[Parcel<'_>]) -> u64
+    requires { length lots.now ≤ most_kept_parts }
+    ensures { result ≡ count_among touching_pair (lot_parts (lots_here lots.now)) }
+{
+    let mut pairs = 0;
+    for place in 0..lots.len() {
+        pairs += pairs_with(lots[place].form, &lots[place + 1..], Reach::Touch);
+    }
+    pairs
+}
+
+/// Each lot of a list with each later one: the pairs that are in contact come behind those found already. The numbers are
+/// those of the places. Only pairs of parts are tested whose boxes share a point, and nothing is counted.
+pub(crate) fn links_among(
+    pairs: &mut Pairs,
+    lots: &[Parcel<'_>],
+    trail: &mut Trail<'_>,
+) -> Result<(), Lost>
+    requires few { length lots.now ≤ most_kept_parts }
+    requires below { AllByRecursion (IsBelow (length lots.now)) pairs.old.items }
+    ensures follows { Follows (λ _. pairs.new.items) result trail.old trail.new (links_among_lists line_tester pairs.old.items (numbered_lists 0 (lot_parts (lots_here lots.now)))) }
+    ensures below { OnOk result (AllByRecursion (IsBelow (length lots.now)) pairs.new.items) }
+{
+    for place in 0..lots.len() {
+        links_with_lot(pairs, place as u32, &lots[place], &lots[place + 1..], trail)?;
+    }
+    Ok(())
+}
+
+/// One lot with each of a list, whose numbers follow its own.
+fn links_with_lot(
+    pairs: &mut Pairs,
+    number: u32,
+    lot: &Parcel<'_>,
+    others: &[Parcel<'_>],
+    trail: &mut Trail<'_>,
+) -> Result<(), Lost>
+    requires few { number + 1 + length others.now ≤ most_kept_parts }
+    requires below { AllByRecursion (IsBelow (number + 1 + length others.now)) pairs.old.items }
+    ensures follows { Follows (λ _. pairs.new.items) result trail.old trail.new (links_with_list line_tester pairs.old.items (number, (lot_here lot.now).parts) (numbered_lists (number + 1) (lot_parts (lots_here others.now)))) }
+    ensures below { OnOk result (AllByRecursion (IsBelow (number + 1 + length others.now)) pairs.new.items) }
+{
+    for place in 0..others.len() {
+        let other = number + 1 + place as u32;
+        link_lots(pairs, number, lot, other, &others[place], trail)?;
+    }
+    Ok(())
+}
+
+/// Two numbered lots: where they are in contact, their pair comes behind those found already.
+fn link_lots(
+    pairs: &mut Pairs,
+    number: u32,
+    lot: &Parcel<'_>,
+    other_number: u32,
+    other: &Parcel<'_>,
+    trail: &mut Trail<'_>,
+) -> Result<(), Lost>
+    ensures follows { Follows (λ _. pairs.new.items) result trail.old trail.new (link_lists line_tester pairs.old.items (number, (lot_here lot.now).parts) (other_number, (lot_here other.now).parts)) }
+    ensures below { (n : ℕ) → IsBelow n (number, other_number) → AllByRecursion (IsBelow n) pairs.old.items → OnOk result (AllByRecursion (IsBelow n) pairs.new.items) }
+{
+    if touching(lot.form, other.form, true, trail)? {
+        pairs.push((number, other_number))?;
+    }
+    Ok(())
+}
+
+/// The links of pairs of numbers below a count. Answers `AllocError` only for want of memory.
+pub(crate) fn joined(alloc: Global, count: usize, pairs: &[(u32, u32)]) -> Result<Links, AllocError>
+    requires few { count ≤ most_kept_parts }
+    requires below { AllByRecursion (IsBelow count) pairs.now }
+    ensures count { IfOk result (λ g. length g ≡ count) }
+    ensures links { IfOk result (λ g. AreLinksOf g pairs.now) }
+{
+    let mut links = Links::new(alloc, count as u32)?;
+    for (first, second) in pairs {
+        links.join(alloc, *first, *second)?;
+    }
+    Ok(links)
+}

@@ -1,0 +1,86 @@
+//! The row of access between two lots.
+ghost use Rattle.std.specs.Prelude.{◌≡◌, ◌≤◌, ◌&&◌, None, Some, IfOk, IfErr, length};
+ghost use Rattle.rp_language.specs.Expression.{ask_access};
+ghost use Rattle.rp_model.specs.states.State.{live_lots, lots_of_layer, layer_with_id, most_kept_parts, is_live};
+ghost use Rattle.rp_model.specs.commands.Checks.{check_access};
+ghost use Rattle.rp_model.specs.commands.Row.{row};
+ghost use Rattle.rp_language.specs.Name.{label_eq};
+ghost use Rattle.rp_reports.specs.Check.{line_tester};
+ghost use Rattle.rp_report.specs.Views.{refusal_of};
+ghost use Rattle.rp_register.specs.There.{lot_here, lots_here};
+ghost use Rattle.rp_register.specs.Replies.{Tells};
+
+use crate::links::{Pairs, joined, links_among, pairs_among};
+use crate::route_lines::access_lines;
+use rp_follow::Trail;
+use rp_register::{Moment, Parcel, Register, RowEnd, count_tests, is_there};
+use rp_report::{Refusal, Verdicts};
+use rp_space::{Listed, Name};
+use std::alloc::{AllocError, Global};
+
+/// `access`: a shortest chain of live lots of one layer from one to another, each in contact with the next, and the level of
+/// each lot of the layer that has one.
+pub fn access(
+    alloc: Global,
+    register: &Register,
+    from: Name,
+    to: Name,
+    trail: &mut Trail<'_>,
+) -> Result<Verdicts, RowEnd>
+    ensures { Tells result trail.new (row line_tester register.now (ask_access from to) trail.old) }
+{
+    let layer = match layer_of_both(register, &from, &to) {
+        Ok(layer) => layer,
+        Err(refusal) => return Err(RowEnd::Refused(refusal)),
+    };
+    let lots = lots_in_layer(alloc, register, &layer)?;
+    count_tests(trail, pairs_among(lots.items()))?;
+    let mut pairs = Pairs::new(alloc);
+    links_among(&mut pairs, lots.items(), trail)?;
+    let links = joined(alloc, lots.items().len(), pairs.items())?;
+    Ok(access_lines(alloc, lots.items(), &links, &from, &to)?)
+}
+
+/// The layer of two live lots; or why there is none.
+fn layer_of_both(register: &Register, from: &Name, to: &Name) -> Result<Name, Refusal>
+    ensures refused { IfErr result (λ r. check_access register.now from.now to.now ≡ Some (refusal_of r)) }
+    ensures passes { IfOk result (λ y. check_access register.now from.now to.now ≡ None) }
+    ensures layer { IfOk result (λ y. y ≡ layer_with_id register.now from.now) }
+{
+    let Some(first) = register.live_parcel(from) else {
+        return Err(Refusal::Unknown(*from));
+    };
+    let Some(second) = register.live_parcel(to) else {
+        return Err(Refusal::Unknown(*to));
+    };
+    if second.line.layer != first.line.layer {
+        return Err(Refusal::Layers(*to));
+    }
+    Ok(first.line.layer)
+}
+
+/// The live lots of a layer, in the order of registration. Answers `AllocError` only for want of memory.
+fn lots_in_layer<'a>(
+    alloc: Global,
+    register: &'a Register,
+    layer: &Name,
+) -> Result<Listed<Parcel<'a>>, AllocError>
+    ensures value { IfOk result (λ list. lots_here list.items ≡ lots_of_layer layer.now (live_lots register.now.lots)) }
+    ensures few { IfOk result (λ list. length list.items ≤ most_kept_parts) }
+{
+    let mut list = Listed::new(alloc);
+    for place in 0..register.count_lots() {
+        let lot = register.parcel_at(place);
+        if is_in_layer(&lot, layer) {
+            list.push(lot)?;
+        }
+    }
+    Ok(list)
+}
+
+/// Whether a lot is live and of the layer.
+fn is_in_layer(lot: &Parcel<'_>, layer: &Name) -> bool
+    ensures { result ≡ (is_live (lot_here lot.now) && label_eq (lot_here lot.now).layer layer.now) }
+{
+    is_there(lot.line, Moment::Now) && lot.line.layer == *layer
+}

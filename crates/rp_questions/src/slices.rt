@@ -1,0 +1,95 @@
+//! The row of a horizontal section.
+ghost use Rattle.std.specs.Prelude.{◌≡◌, ◌≤◌, IfOk, IfErr, OnOk, length, map};
+ghost use Rattle.rp_geometry.specs.parts.Parts.{most_parts};
+ghost use Rattle.rp_geometry.specs.sections.Trace.{IsHeight};
+ghost use Rattle.rp_language.specs.Expression.{IsKeptExpression, ask_section};
+ghost use Rattle.rp_model.specs.commands.Verdict.{section_lines};
+ghost use Rattle.rp_model.specs.commands.Row.{row, row_section};
+ghost use Rattle.rp_reports.specs.Text.{verdict_text};
+ghost use Rattle.rp_reports.specs.Check.{taken, slices_told, follow_line, line_tester};
+ghost use Rattle.rp_cert.specs.Section.{slice_shown};
+ghost use Rattle.rp_follow.specs.Follows.{Follows, IsWrongOrMemory};
+ghost use Rattle.rp_report.specs.Views.{verdict_of};
+ghost use Rattle.rp_syntax.specs.Views.{expression_of};
+ghost use Rattle.rp_questions.specs.Slices.{follow_section_lines};
+ghost use Rattle.rp_register.specs.Replies.{Tells};
+
+use rp_follow::{Form, Lost, Slices, Trail, slices};
+use rp_register::{Register, RowEnd, one_line};
+use rp_report::{Verdict, Verdicts, write_verdict};
+use rp_syntax::Expr;
+use std::alloc::{AllocError, Global};
+
+/// `section`: the slices of the parts of the form at a height. Which these are the next lines say, behind the one that tells
+/// how many there are; none of them is taken. `Unshown` where one of them is missing, or shows no slice that passes.
+pub fn section(
+    alloc: Global,
+    register: &Register,
+    region: &Expr,
+    z: i32,
+    trail: &mut Trail<'_>,
+) -> Result<Verdicts, RowEnd>
+    requires kept { IsKeptExpression (expression_of region.now) }
+    requires height { IsHeight z }
+    ensures { Tells result trail.new (row line_tester register.now (ask_section (expression_of region.now) z) trail.old) }
+{
+    let form = register.row_form(alloc, region, trail)?;
+    shown_slices(alloc, &form, z, trail)
+}
+
+/// The verdict lines of the slices of the parts of a form, as the next lines show them.
+fn shown_slices(alloc: Global, form: &Form, z: i32, trail: &Trail<'_>) -> Result<Verdicts, RowEnd>
+    requires few { length form.now.items ≤ most_parts }
+    requires height { IsHeight z }
+    ensures { Tells result trail.now (row_section line_tester z form.now.items trail.now) }
+{
+    let mut ahead = trail.ahead();
+    match follow_slices(alloc, form, z, &mut ahead) {
+        Ok(slices) => Ok(slice_lines(alloc, slices)?),
+        Err(Lost::Wrong(number)) => Err(RowEnd::Unshown(number)),
+        Err(lost) => Err(RowEnd::Lost(lost)),
+    }
+}
+
+/// The slices of the parts of a form, on the lines behind the next one, which tells how many there are.
+fn follow_slices(alloc: Global, form: &Form, z: i32, trail: &mut Trail<'_>) -> Result<Slices, Lost>
+    requires few { length form.now.items ≤ most_parts }
+    requires height { IsHeight z }
+    ensures follows { Follows (λ _. tt) result trail.old trail.new (follow_section_lines z form.now.items) }
+    ensures told { IfOk result (λ list. map slice_shown list.items ≡ slices_told z form.now.items (taken trail.old).lines) }
+    ensures ends { IfErr result IsWrongOrMemory }
+{
+    let count = Verdict::Sections(form.items().len() as u32);
+    follow_verdict(alloc, &count, trail)?;
+    slices(alloc, form, z, trail)
+}
+
+/// Takes the next line, which must be that of the verdict.
+fn follow_verdict(alloc: Global, verdict: &Verdict, trail: &mut Trail<'_>) -> Result<(), Lost>
+    ensures follows { Follows (λ x. x) result trail.old trail.new (λ t. follow_line (verdict_text (verdict_of verdict.now)) t.lines t) }
+    ensures takes { OnOk result (trail.new ≡ taken trail.old) }
+    ensures ends { IfErr result IsWrongOrMemory }
+{
+    let mut text = Vec::new(alloc);
+    write_verdict(verdict, &mut text)?;
+    let Some(line) = trail.peek() else {
+        return Err(Lost::Wrong(trail.number()));
+    };
+    if text.as_slice() != line {
+        return Err(Lost::Wrong(trail.number()));
+    }
+    trail.take();
+    Ok(())
+}
+
+/// The verdict lines of slices; they are moved. Answers `AllocError` only for want of memory.
+fn slice_lines(alloc: Global, slices: Slices) -> Result<Verdicts, AllocError>
+    requires { length slices.items ≤ most_parts }
+    ensures { IfOk result (λ lines. map verdict_of lines.items ≡ section_lines (map slice_shown slices.items)) }
+{
+    let mut lines = one_line(alloc, Verdict::Sections(slices.items().len() as u32))?;
+    for slice in slices.into_items() {
+        lines.push(Verdict::Slice(slice))?;
+    }
+    Ok(lines)
+}
