@@ -493,32 +493,80 @@ fn access_items_meet(rt: HostRuntime) {
     assert!(rt; have_met(&meeting));
 }
 
-/// Registers the next unit box of a row, and cuts it askew: its sides share an edge or more with those of the next one, or
-/// their boxes alone do.
-fn add_sides(rt: &impl Abort, alloc: Global, parcels: &mut Parcels, i: u32)
-    requires small { i < 100 }
+/// The half-spaces that cut the storeys of the script that `make 20 7` writes: their first two numbers and the last one.
+const CUTS: [(i64, i64, i64); 20] = [
+    (9, 9, -450000),
+    (6, 6, -300000),
+    (1, 6, -150000),
+    (6, 8, -340000),
+    (7, 4, -290000),
+    (7, 9, -390000),
+    (3, 7, -230000),
+    (6, 6, -300000),
+    (6, 3, -240000),
+    (7, 7, -350000),
+    (8, 3, -300000),
+    (1, 5, -130000),
+    (4, 5, -220000),
+    (4, 4, -200000),
+    (7, 9, -390000),
+    (6, 8, -340000),
+    (5, 8, -310000),
+    (3, 4, -170000),
+    (4, 3, -180000),
+    (3, 5, -190000),
+];
+
+/// The storey of that building with this number, from 0 on.
+fn storey(rt: &impl Abort, alloc: Global, i: u32) -> Region
+    requires { i < 20 }
+{
+    let [west, east, south, north, _, _] = box_halves(&IntBox {
+        lo: [0, 0, 0],
+        hi: [60000, 40000, 3000],
+    });
+    let low = 3000 * i as i64;
+    let floor = Half::new(0, 0, 1, -low).expect(rt, "no floor");
+    let ceiling = Half::new(0, 0, -1, low + 3000).expect(rt, "no ceiling");
+    let cell = [west, east, south, north, floor, ceiling];
+    let mut work = Work::new(alloc);
+    Region::of_cell(alloc, &cell, &mut work).expect(rt, "no storey")
+}
+
+/// What cuts that storey in two.
+fn cut_of(rt: &impl Abort, alloc: Global, i: u32) -> Region
+    requires { i < 20 }
+{
+    let (a, b, d) = CUTS[i as usize];
+    let half = Half::new(a, b, 0, d).expect(rt, "no half-space that cuts");
+    let mut work = Work::new(alloc);
+    Region::of_cell(alloc, &[half], &mut work).expect(rt, "no region that cuts")
+}
+
+/// Registers the next storey, and cuts it in two.
+fn add_storey(rt: &impl Abort, alloc: Global, parcels: &mut Parcels, i: u32)
+    requires small { i < 20 }
     requires later { IsLater (2 * i + 1) parcels.old }
     ensures { IsLater (2 * i + 3) parcels.new }
 {
     let ids = [
-        in_row(rt, b'p', i),
+        in_row(rt, b's', i),
         in_row(rt, b'a', i),
         in_row(rt, b'b', i),
     ];
-    let by = askew(rt, alloc, i as i32 + 1);
-    let region = slice(rt, alloc, i);
+    let by = cut_of(rt, alloc, i);
+    let region = storey(rt, alloc, i);
     register(rt, alloc, &Quiet, parcels, 2 * i + 1, ids[0], region);
     cut(rt, alloc, parcels, 2 * i + 2, &ids, &by);
 }
 
-/// A row of unit boxes along x, from 0 on, each of which is cut askew.
-fn row_of_sides(rt: &impl Abort, alloc: Global, count: u32) -> Parcels
-    requires { count < 100 }
-    ensures { IsLater (2 * count + 1) result }
+/// The lots of the building that `make 20 7` writes: 20 storeys, each cut in two.
+fn building(rt: &impl Abort, alloc: Global) -> Parcels
+    ensures { IsLater 41 result }
 {
     let mut parcels = nothing(rt, alloc);
-    for i in 0..count {
-        add_sides(rt, alloc, &mut parcels, i);
+    for i in 0..20 {
+        add_storey(rt, alloc, &mut parcels, i);
     }
     parcels
 }
@@ -553,13 +601,13 @@ fn is_same_access(first: &(Access, Proofs), second: &(Access, Proofs)) -> bool {
 
 #[test]
 fn access_is_the_same_for_every_grain(rt: HostRuntime) {
-    let parcels = row_of_sides(&rt, rt.alloc(), 5);
-    let (from, to) = (in_row(&rt, b'b', 0), in_row(&rt, b'a', 4));
+    let parcels = building(&rt, rt.alloc());
+    let (from, to) = (in_row(&rt, b'a', 0), in_row(&rt, b'b', 19));
     let single = accessed(&rt, rt.alloc(), &Quiet, 1, &parcels, from, to);
-    assert_eq!(rt; single.1.items().len(), 21);
+    assert_eq!(rt; single.1.items().len(), 96);
     let levels = single.0.levels.items();
-    assert_eq!(rt; levels.len(), 10);
-    assert_eq!(rt; levels[1], (5, from));
+    assert_eq!(rt; levels.len(), 40);
+    assert_eq!(rt; levels[0], (19, from));
     for grain in [7, 1000] {
         let found = accessed(&rt, rt.alloc(), &Quiet, grain, &parcels, from, to);
         assert!(rt; is_same_access(&single, &found));
