@@ -6,6 +6,7 @@ pub mod Few
 pub mod Hulls
 pub mod Ints
 pub mod Known
+pub mod Leasts
 pub mod Maps
 pub mod Nodes
 pub mod Order
@@ -14,4 +15,5 @@ pub mod Pruned
 pub mod Rising
 pub mod Same
 pub mod Slender
+pub mod Taken
 pub mod Visits

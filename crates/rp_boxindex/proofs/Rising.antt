@@ -19,7 +19,7 @@ use Rattle.rp_boxindex.proofs.Exact.{meeting_ids_rise_spec}
 use Rattle.rp_boxindex.proofs.Counts.{not_counted}
 
 -- no later number is less
-abbrev IsRising : List ℕ → Type 0
+abbrev pub IsRising : List ℕ → Type 0
 IsRising [] = Unit {0}
 IsRising (x ∷ xs) = (count (λ y. ltb y x) xs ≡ 0) × IsRising xs
 
@@ -53,7 +53,7 @@ count_ids : (c : Bool) (b : IntegerBox) (r : ℕ → Bool) (es : List Entry) →
 count_ids c b r [] = refl
 count_ids c b r (e ∷ es) = count_ids_one (meets c b e) r e (filter (meets c b) es) (count (λ (x : Entry). meets c b x && r x.0) es) (count_ids c b r es)
 
-same_ids : (c : Bool) (b : IntegerBox) (xs ys : List Entry) → SameCounts xs ys → SameCounts (ids_that_meet c b xs) (ids_that_meet c b ys)
+pub same_ids : (c : Bool) (b : IntegerBox) (xs ys : List Entry) → SameCounts xs ys → SameCounts (ids_that_meet c b xs) (ids_that_meet c b ys)
 same_ids c b xs ys same r = count_ids c b r xs ∙ (same (λ e. meets c b e && r e.0) ∙ sym (count_ids c b r ys))
 
 less_is : (x y : ℕ) → nat_cmp x y ≡ Less → ltb y x ≡ false
@@ -66,7 +66,7 @@ none_below x (y ∷ ys) h =
     let rest = none_below x ys h.1 in
     omega arith
 
-rising_is : (xs : List ℕ) → IsStrictlySortedBy nat_cmp xs → IsRising xs
+pub rising_is : (xs : List ℕ) → IsStrictlySortedBy nat_cmp xs → IsRising xs
 unfolding IsStrictlySortedBy
 rising_is [] h = tt
 rising_is (x ∷ xs) h = (none_below x xs h.0, rising_is xs h.1)

@@ -1,5 +1,5 @@
--- A visit of a node: what is found, and how many steps it takes. s, t, u and v are counts of steps, in order.
-use Rattle.std.proofs.Common.{◌≡◌, ℕ, ◌+◌, ◌≤◌, max, ℤ, Bool, true, false, cond, not, ◌&&◌, List, [], ◌∷◌, ◌++◌, refl, sym, ap, ◌∙◌, arith, append-nil, append_assoc}
+-- A visit of a node: what is taken, and how many steps it takes. s, t, u and v are counts of steps, in order.
+use Rattle.std.proofs.Common.{◌≡◌, ℕ, ◌+◌, ◌≤◌, max, ℤ, Bool, true, false, cond, not, ◌&&◌, List, [], ◌∷◌, ◌++◌, refl, sym, ap, ◌∙◌, arith, append-nil}
 use Rattle.rp_geometry.specs.Geometry.{IntegerBox}
 use Rattle.rp_boxindex.specs.Counts.{count}
 use Rattle.rp_boxindex.specs.Bound.{meets_on_x}
@@ -8,12 +8,14 @@ use Rattle.rp_boxindex.specs.Meeting.{is_below, do_meet, ids_that_meet}
 use Rattle.rp_boxindex.specs.tree.Cost.{AllLow, most_steps, most_steps_low}
 use Rattle.rp_boxindex.specs.tree.Nodes.{high, IsTop, AreWithin, AreParts}
 use Rattle.rp_boxindex.specs.tree.Order.{low}
+use Rattle.rp_boxindex.specs.tree.Taking.{taken}
 use Rattle.rp_boxindex.specs.tree.Views.{TreeView}
 use Rattle.rp_boxindex.proofs.Bounds.{one_side, one_side_low, two_sides, two_sides_low}
 use Rattle.rp_boxindex.proofs.Changes.{count_parts}
 use Rattle.rp_boxindex.proofs.Pruned.{none_reaches, none_after, low_before, some_meets, ids-none, ids-unmet, ids-append}
 use Rattle.rp_boxindex.proofs.Hulls.{none_in_hull}
 use Rattle.rp_boxindex.proofs.Counts.{when}
+use Rattle.rp_boxindex.proofs.Taken.{taken-append}
 
 -- the steps where the left side alone is visited, of any tree and then of a low one
 pub only_left : (c : Bool) (b : IntegerBox) {tree left right : TreeView} {e : Entry} → AreParts tree left e right → (s t u : ℕ) → t ≡ s + 1 → u ≤ t + most_steps (count (meets_on_x c b) left.entries) left.height → u ≤ s + most_steps (count (meets_on_x c b) tree.entries) tree.height
@@ -86,32 +88,32 @@ both_sides_low c b {tree} {left} {right} {e} top parts is reach s t u v step le 
     let bound : most_steps_low l left.height + most_steps_low m right.height + 1 ≤ most_steps_low k tree.height = two_sides_low (most_steps_low l left.height) (most_steps_low m right.height) k l m tree.height left.height right.height (max left.height right.height) same same' less some gt ft lower in
     omega arith
 
--- nothing is found where no box reaches far enough
-pub found_none : (c : Bool) (b : IntegerBox) (top : ℤ) (es : List Entry) (out : List ℕ) → IsTop top es → is_below c b.x1 top ≡ false → out ≡ out ++ ids_that_meet c b es
-found_none c b top es out is short = sym (ap (λ ids. out ++ ids) (ids-none c b es (none_reaches c b top es is short)) ∙ append-nil out)
+-- nothing is taken where no box reaches far enough
+pub found_none : {S : Type 0} (after : S → ℕ → S) (taker : S) (c : Bool) (b : IntegerBox) (top : ℤ) (es : List Entry) → IsTop top es → is_below c b.x1 top ≡ false → taker ≡ taken after taker (ids_that_meet c b es)
+found_none after taker c b top es is short = sym (ap (taken after taker) (ids-none c b es (none_reaches c b top es is short)))
 
 -- nor where the hull does not meet the box
-pub found_none_in_hull : (c : Bool) (b hull : IntegerBox) (es : List Entry) (out : List ℕ) → AreWithin hull es → do_meet c b hull ≡ false → out ≡ out ++ ids_that_meet c b es
-found_none_in_hull c b hull es out within apart = sym (ap (λ ids. out ++ ids) (ids-unmet c b es (none_in_hull c b hull es within apart)) ∙ append-nil out)
+pub found_none_in_hull : {S : Type 0} (after : S → ℕ → S) (taker : S) (c : Bool) (b hull : IntegerBox) (es : List Entry) → AreWithin hull es → do_meet c b hull ≡ false → taker ≡ taken after taker (ids_that_meet c b es)
+found_none_in_hull after taker c b hull es within apart = sym (ap (taken after taker) (ids-unmet c b es (none_in_hull c b hull es within apart)))
 
 and_fails : (p q : Bool) → q ≡ false → (p && q) ≡ false
 and_fails true q h = h
 and_fails false q h = refl
 
--- all is found on the left where the node's box begins too late
-pub found_left : (c : Bool) (b : IntegerBox) {tree left right : TreeView} {e : Entry} (out new : List ℕ) → AreParts tree left e right → is_below c (low e) b.x2 ≡ false → new ≡ out ++ ids_that_meet c b left.entries → new ≡ out ++ ids_that_meet c b tree.entries
-found_left c b {tree} {left} {right} {e} out new parts late is =
+-- all is taken on the left where the node's box begins too late
+pub found_left : {S : Type 0} (after : S → ℕ → S) (taker new : S) (c : Bool) (b : IntegerBox) {tree left right : TreeView} {e : Entry} → AreParts tree left e right → is_below c (low e) b.x2 ≡ false → new ≡ taken after taker (ids_that_meet c b left.entries) → new ≡ taken after taker (ids_that_meet c b tree.entries)
+found_left after taker new c b {tree} {left} {right} {e} parts late is =
     let own : cond {A = ℕ} (meets_on_x c b e) 1 0 ≡ 0 = when (meets_on_x c b e) false (and_fails (is_below c b.x1 (high e)) (is_below c (low e) b.x2) late) in
     let rest = none_after c b e right.entries parts.between.after late in
     let none : count (meets_on_x c b) (e ∷ right.entries) ≡ 0 = omega arith in
     let whole : ids_that_meet c b tree.entries ≡ ids_that_meet c b left.entries = ap (ids_that_meet c b) parts.entries ∙ (ids-append c b left.entries (e ∷ right.entries) ∙ (ap (λ ids. ids_that_meet c b left.entries ++ ids) (ids-none c b (e ∷ right.entries) none) ∙ append-nil (ids_that_meet c b left.entries))) in
-    is ∙ ap (λ ids. out ++ ids) (sym whole)
+    is ∙ ap (taken after taker) (sym whole)
 
--- what is found on the left, at the node and on the right
-pub found_all : (c : Bool) (b : IntegerBox) {tree left right : TreeView} {e : Entry} (out new more all : List ℕ) → AreParts tree left e right → new ≡ out ++ ids_that_meet c b left.entries → more ≡ new ++ ids_that_meet c b (e ∷ []) → all ≡ more ++ ids_that_meet c b right.entries → all ≡ out ++ ids_that_meet c b tree.entries
-found_all c b {tree} {left} {right} {e} out new more all parts p q r =
+-- what is taken on the left, at the node and on the right
+pub found_all : {S : Type 0} (after : S → ℕ → S) (taker new more all : S) (c : Bool) (b : IntegerBox) {tree left right : TreeView} {e : Entry} → AreParts tree left e right → new ≡ taken after taker (ids_that_meet c b left.entries) → more ≡ taken after new (ids_that_meet c b (e ∷ [])) → all ≡ taken after more (ids_that_meet c b right.entries) → all ≡ taken after taker (ids_that_meet c b tree.entries)
+found_all after taker new more all c b {tree} {left} {right} {e} parts p q r =
     let own = ids_that_meet c b (e ∷ []) in
     let ls = ids_that_meet c b left.entries in
     let rs = ids_that_meet c b right.entries in
     let whole : ids_that_meet c b tree.entries ≡ ls ++ (own ++ rs) = ap (ids_that_meet c b) parts.entries ∙ (ids-append c b left.entries (e ∷ right.entries) ∙ ap (λ ids. ls ++ ids) (ids-append c b (e ∷ []) right.entries)) in
-    rw (r, q, p, whole, append_assoc, append_assoc)
+    rw (r, q, p, whole, taken-append after taker ls (own ++ rs), taken-append after (taken after taker ls) own rs) refl

@@ -1,5 +1,5 @@
 -- Which boxes meet a box.
-use Rattle.std.specs.Prelude.{ℕ, Bool, cond, ◌&&◌, ℤ, int_lt, int_le, List, map}
+use Rattle.std.specs.Prelude.{ℕ, Bool, cond, ◌&&◌, ℤ, int_lt, int_le, List, [], ◌∷◌, map, Option, Some, None}
 use Rattle.std.specs.List.{filter}
 use Rattle.std.specs.FinMap.{entries}
 use Rattle.rp_geometry.specs.Geometry.{IntegerBox, boxes_meet, closed_boxes_meet}
@@ -29,3 +29,8 @@ ids_that_meet closed b es = map (λ e. e.0) (filter (meets closed b) es)
 -- the ids of the boxes that meet a box, in rising order
 abbrev pub meeting_ids : Bool → IntegerBox → Boxes → List ℕ
 meeting_ids closed b boxes = ids_that_meet closed b (entries boxes)
+
+-- the first number of a list that passes a test
+abbrev pub first_that : (ℕ → Bool) → List ℕ → Option ℕ
+first_that passes [] = None
+first_that passes (id ∷ ids) = cond (passes id) (Some id) (first_that passes ids)

@@ -2,4 +2,5 @@
 pub mod Cost
 pub mod Nodes
 pub mod Order
+pub mod Taking
 pub mod Views

@@ -4,18 +4,20 @@ ghost use Rattle.std.specs.FinMap as map;
 ghost use Rattle.rp_space.specs.Boxes.{integer_box};
 ghost use Rattle.rp_boxindex.specs.Bound.{count_on_x, IsGreatestExponent};
 ghost use Rattle.rp_boxindex.specs.Fault.{is_known};
-ghost use Rattle.rp_boxindex.specs.Meeting.{meeting_ids};
+ghost use Rattle.rp_boxindex.specs.Meeting.{first_that, meeting_ids};
 
+use crate::choice::Choice;
 use crate::fault::IndexFault;
+use crate::lows::Lows;
 use crate::place::Place;
 use crate::query::Query;
 use crate::search::collect;
 use crate::steps::Steps;
+use crate::take::{Ids, Least};
 use crate::tree::{Node, Tree};
 use crate::watch::Watch;
 use rp_space::IntBox;
 use std::alloc::{AllocError, Global};
-use std::collections::BTreeMap;
 use std::marker::Model;
 use std::sync::ledger::Ledger;
 
@@ -24,7 +26,7 @@ use std::sync::ledger::Ledger;
 /// The boxes stand in the tree alone. Beside it stands the least x of each, by which the tree finds an id.
 #[derive(Drop)]
 pub struct Index {
-    lows: BTreeMap<u32, i32>,
+    lows: Lows,
     tree: Tree,
 }
 
@@ -41,7 +43,7 @@ impl Model for Index {
 
     ghost view = { λ a. map.from_entries a.tree.entries };
 
-    ghost invariant = { λ a. SameCounts (lows_of a.tree.entries) a.lows.entries };
+    ghost invariant = { λ a. SameCounts (lows_of a.tree.entries) a.lows.map.entries };
 }
 
 impl Index {
@@ -50,7 +52,7 @@ impl Index {
         ensures { result ≡ map.empty }
     {
         Index {
-            lows: BTreeMap::new(alloc),
+            lows: Lows::new(alloc),
             tree: Tree::new(),
         }
     }
@@ -64,9 +66,9 @@ impl Index {
         ensures known { IfErr result (λ fault. is_known fault ≡ map.contains_key self.old id) }
         ensures err { OnErr result (self.new ≡ self.old) }
     {
-        // Only for what `len` ensures: fewer than 2^63 ids, so the tree is not too high, and none twice.
-        let _ = self.lows.len();
-        if self.lows.contains_key(&id) {
+        // Fewer than 2^63 ids, so the tree is not too high, and none twice.
+        self.lows.show_order();
+        if self.lows.contains(id) {
             return Err(IndexFault::Known);
         }
         let node = Node::alone(alloc, (id, bounds))?;
@@ -81,9 +83,9 @@ impl Index {
         ensures there { result ≡ map.contains_key self.old id }
         ensures gone { self.new ≡ map.remove self.old id }
     {
-        // Only for what `len` ensures: fewer than 2^63 ids, so the tree is not too high, and none twice.
-        let _ = self.lows.len();
-        let Some(x) = self.lows.remove(&id) else {
+        // Fewer than 2^63 ids, so the tree is not too high, and none twice.
+        self.lows.show_order();
+        let Some(x) = self.lows.remove(id) else {
             return false;
         };
         let tree = self.tree.take();
@@ -109,15 +111,45 @@ impl Index {
         ensures rises { steps.old ≤ steps.new }
         ensures few { (h : ℕ) → IsGreatestExponent (map.len self.now) h → steps.new ≤ steps.old + (count_on_x closed (integer_box bounds.now) self.now + 1) * (2 * h + 2) }
     {
-        // Only for what `len` ensures: no id twice.
-        let _ = self.lows.len();
+        // No id twice.
+        self.lows.show_order();
         let query = Query {
             bounds: *bounds,
             closed,
         };
-        let mut ids = Vec::new(alloc);
+        let mut ids = Ids {
+            list: Vec::new(alloc),
+        };
         collect(&self.tree, &query, watch, steps, &mut ids)?;
+        let mut ids = ids.list;
         ids.sort_unstable();
         Ok(ids)
+    }
+
+    /// The least id that passes a test and whose box meets a box, as `meeting` says. `None` exactly where there is none. Takes
+    /// no memory, and at most as many steps as `meeting`.
+    pub fn first<C: Choice, W: Watch, L: Ledger>(
+        &self,
+        bounds: &IntBox,
+        closed: bool,
+        choice: &C,
+        watch: &W,
+        steps: &mut Steps<L>,
+    ) -> Option<u32>
+        ensures first { result ≡ first_that (C.passes choice.now) (meeting_ids closed (integer_box bounds.now) self.now) }
+        ensures rises { steps.old ≤ steps.new }
+        ensures few { (h : ℕ) → IsGreatestExponent (map.len self.now) h → steps.new ≤ steps.old + (count_on_x closed (integer_box bounds.now) self.now + 1) * (2 * h + 2) }
+    {
+        // No id twice.
+        self.lows.show_order();
+        let query = Query {
+            bounds: *bounds,
+            closed,
+        };
+        let mut least = Least { choice, id: None };
+        match collect(&self.tree, &query, watch, steps, &mut least) {
+            Ok(()) => least.id,
+            Err(never) => match never {},
+        }
     }
 }

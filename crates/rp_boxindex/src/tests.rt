@@ -1,6 +1,6 @@
 ghost use Rattle.std.specs.Prelude.{◌≡◌, ◌<◌};
 
-use crate::{Index, IndexFault, Quiet, Steps, Watch};
+use crate::{Choice, Index, IndexFault, Quiet, Steps, Watch};
 use rp_space::IntBox;
 use std::alloc::{AllocError, Global};
 use std::marker::Brand;
@@ -128,5 +128,59 @@ fn few_nodes_are_visited_where_all_boxes_meet_on_x(rt: HostRuntime) -> Result<()
     assert_eq!(rt; open.as_slice(), [500].as_slice());
     // At each of the ten levels at most two nodes.
     assert!(rt; (1..=20).contains(&visits.0.load(Ordering::SeqCst)));
+    Ok(())
+}
+
+/// The ids from one on.
+#[derive(Clone, Copy)]
+struct AtLeast(u32);
+
+impl Choice for AtLeast {
+    ghost use Rattle.std.specs.Prelude.{nat_le};
+
+    ghost passes = { λ least id. nat_le least.0 id };
+
+    fn passes(&self, id: u32) -> bool {
+        self.0 <= id
+    }
+}
+
+/// A search for the first id with a count of its own.
+fn first<C: Choice, W: Watch, L: Ledger>(
+    index: &Index,
+    bounds: &IntBox,
+    choice: &C,
+    watch: &W,
+    blank: Blank,
+) -> Option<u32>
+    requires name { blank.name ≡ L.name }
+    requires parts { blank.parts ≡ L.parts }
+    requires some { 0 < L.parts }
+{
+    let mut steps = Steps::<L>::new(blank);
+    index.first(bounds, true, choice, watch, &mut steps)
+}
+
+#[test]
+fn the_first_id_is_found_by_few_visits(rt: HostRuntime) -> Result<(), Fail> {
+    let alloc = rt.alloc();
+    let mut index = Index::new(alloc);
+    for i in 0..1023u16 {
+        index.insert(alloc, i as u32, slice(i))?;
+    }
+    let visits = Visits(AtomicU64::new(0));
+    assert_eq!(rt;
+        first::<_, _, Brand>(&index, &slice(500), &AtLeast(0), &visits, Blank::new(1)),
+        Some(499)
+    );
+    assert_eq!(rt;
+        first::<_, _, Brand>(&index, &slice(500), &AtLeast(501), &visits, Blank::new(1)),
+        Some(501)
+    );
+    assert_eq!(rt;
+        first::<_, _, Brand>(&index, &slice(500), &AtLeast(502), &visits, Blank::new(1)),
+        None
+    );
+    assert!(rt; (3..=504).contains(&visits.0.load(Ordering::SeqCst)));
     Ok(())
 }

@@ -13,7 +13,7 @@ returns-then-not-is_reached_from-clause-found g t c =
     let b : IntegerBox = integer_box c.args.query.now.bounds in
     let top : ℤ = c.visit-node.result.top in
     let short : is_below closed b.x1 top ≡ false = search rules in
-    found_none closed b top c.args.tree.now.entries c.args.out.now.items c.visit-node.ensures.top short
+    found_none g.T.Take.after c.args.taker.now closed b top c.args.tree.now.entries c.visit-node.ensures.top short
 
 pub returns-then-not-is_met_by-clause-found : goal.returns-then-not-is_met_by-clause-found
 returns-then-not-is_met_by-clause-found g t c =
@@ -21,7 +21,7 @@ returns-then-not-is_met_by-clause-found g t c =
     let b : IntegerBox = integer_box c.args.query.now.bounds in
     let hull : IntegerBox = integer_box c.visit-node.result.hull in
     let apart : do_meet closed b hull ≡ false = search rules in
-    found_none_in_hull closed b hull c.args.tree.now.entries c.args.out.now.items c.visit-node.ensures.hull apart
+    found_none_in_hull g.T.Take.after c.args.taker.now closed b hull c.args.tree.now.entries c.visit-node.ensures.hull apart
 
 pub returns-in_err-collect-clause-most : goal.returns-in_err-collect-clause-most
 returns-in_err-collect-clause-most g t c =
@@ -40,7 +40,7 @@ returns-then-not-reaches-clause-found g t c =
     let closed : Bool = c.args.query.now.closed in
     let b : IntegerBox = integer_box c.args.query.now.bounds in
     let late : is_below closed (low c.visit-node.result.entry) b.x2 ≡ false = search rules in
-    found_left closed b c.args.out.now.items c.collect.new.out.items c.visit-node.ensures.parts late c.in_ok-collect.ensures.found
+    found_left g.T.Take.after c.args.taker.now c.collect.new.taker closed b c.visit-node.ensures.parts late c.in_ok-collect.ensures.found
 
 pub returns-then-not-reaches-clause-most : goal.returns-then-not-reaches-clause-most
 returns-then-not-reaches-clause-most g t c =
@@ -70,7 +70,7 @@ pub returns-clause-found : goal.returns-clause-found
 returns-clause-found g t c =
     let closed : Bool = c.args.query.now.closed in
     let b : IntegerBox = integer_box c.args.query.now.bounds in
-    on_ok_weaker c.collect-2.result (found_all closed b c.args.out.now.items c.collect.new.out.items c.collect_one.new.out.items c.collect-2.new.out.items c.visit-node.ensures.parts c.in_ok-collect.ensures.found c.in_ok-collect_one.ensures) c.collect-2.ensures.found
+    on_ok_weaker c.collect-2.result (found_all g.T.Take.after c.args.taker.now c.collect.new.taker c.collect_one.new.taker c.collect-2.new.taker closed b c.visit-node.ensures.parts c.in_ok-collect.ensures.found c.in_ok-collect_one.ensures) c.collect-2.ensures.found
 
 pub returns-clause-most : goal.returns-clause-most
 returns-clause-most g t c =

@@ -1,4 +1,4 @@
-use Rattle.std.proofs.Common.{◌≡◌, ℤ, ◌^◌, ◌<◌, false, ◌∷◌, None, length, sym, ap, ◌∙◌, arith, rules, w32}
+use Rattle.std.proofs.Common.{◌≡◌, ℤ, false, ◌∷◌, None, sym, ap, ◌∙◌, rules, w32}
 use Rattle.std.proofs.lemmas.Int.{to_z-of_z}
 use mir.Val.{SFits}
 use Rattle.std.specs.Ordering.{nat_cmp}
@@ -13,46 +13,45 @@ use Rattle.rp_boxindex.proofs.Known.{none_of, memory_is_not_known}
 use Rattle.rp_boxindex.proofs.Maps.{contains_is, ids_unique, place_is_free, kept_inserted, map_inserted}
 use Rattle.rp_boxindex.proofs.index.Index.insert.Goals as goal
 
-pub returns-then-contains_key-clause-known : goal.returns-then-contains_key-clause-known
-returns-then-contains_key-clause-known c = sym (contains_is c.self.inside.tree.entries c.self.inside.lows.entries c.args.self.now c.args.id c.self.invariant c.self.view_is ∙ (sym c.contains_key.ensures ∙ c.if-contains_key.true))
+pub returns-then-contains-clause-known : goal.returns-then-contains-clause-known
+returns-then-contains-clause-known c = sym (contains_is c.self.inside.tree.entries c.self.inside.lows.map.entries c.args.self.now c.args.id c.self.invariant c.self.view_is ∙ (sym c.contains.ensures ∙ c.if-contains.true))
 
 pub returns-in_err-node-clause-known : goal.returns-in_err-node-clause-known
 returns-in_err-node-clause-known c =
-    let absent : contains_key c.args.self.now c.args.id ≡ false = contains_is c.self.inside.tree.entries c.self.inside.lows.entries c.args.self.now c.args.id c.self.invariant c.self.view_is ∙ (sym c.contains_key.ensures ∙ c.if-contains_key.false) in
+    let absent : contains_key c.args.self.now c.args.id ≡ false = contains_is c.self.inside.tree.entries c.self.inside.lows.map.entries c.args.self.now c.args.id c.self.invariant c.self.view_is ∙ (sym c.contains.ensures ∙ c.if-contains.false) in
     memory_is_not_known c.from_residual.result _ (contains_key c.args.self.now c.args.id) absent c.from_residual.ensures.1
 
 pub returns-in_err-insert-clause-known : goal.returns-in_err-insert-clause-known
 returns-in_err-insert-clause-known c =
-    let absent : contains_key c.args.self.now c.args.id ≡ false = contains_is c.self.inside.tree.entries c.self.inside.lows.entries c.args.self.now c.args.id c.self.invariant c.self.view_is ∙ (sym c.contains_key.ensures ∙ c.if-contains_key.false) in
+    let absent : contains_key c.args.self.now c.args.id ≡ false = contains_is c.self.inside.tree.entries c.self.inside.lows.map.entries c.args.self.now c.args.id c.self.invariant c.self.view_is ∙ (sym c.contains.ensures ∙ c.if-contains.false) in
     memory_is_not_known c.from_residual-in_err-insert.result _ (contains_key c.args.self.now c.args.id) absent c.from_residual-in_err-insert.ensures.1
 
 pub with-requires-clause-fits : goal.with-requires-clause-fits
 with-requires-clause-fits c =
-    let small : length c.self.inside.lows.entries < 2 ^ 63 = omega (arith, c.len.ensures.len, c.len.ensures.small) in
-    rw c.take-tree.ensures.taken (not_too_high c.self.inside.tree c.self.inside.lows.entries c.self.invariant c.take-tree.ensures.slender small)
+    rw c.take-tree.ensures.taken (not_too_high c.self.inside.tree c.self.inside.lows.map.entries c.self.invariant c.take-tree.ensures.slender c.show_order.ensures.small)
 
 pub with-requires-clause-free : goal.with-requires-clause-free
 with-requires-clause-free c =
-    let absent : lookup (is_at (nat_cmp c.args.id)) c.self.inside.lows.entries ≡ None = none_of _ (sym c.contains_key.ensures ∙ c.if-contains_key.false) in
-    rw (c.in_ok-node.ensures, c.take-tree.ensures.taken) (place_is_free c.self.inside.tree.entries c.self.inside.lows.entries c.args.id c.args.bounds c.self.invariant absent)
+    let absent : lookup (is_at (nat_cmp c.args.id)) c.self.inside.lows.map.entries ≡ None = none_of _ (sym c.contains.ensures ∙ c.if-contains.false) in
+    rw (c.in_ok-node.ensures, c.take-tree.ensures.taken) (place_is_free c.self.inside.tree.entries c.self.inside.lows.map.entries c.args.id c.args.bounds c.self.invariant absent)
 
 pub invariant_of-self-2 : goal.invariant_of-self-2
 invariant_of-self-2 c =
-    let absent : lookup (is_at (nat_cmp c.args.id)) c.self.inside.lows.entries ≡ None = none_of _ (sym c.contains_key.ensures ∙ c.if-contains_key.false) in
+    let absent : lookup (is_at (nat_cmp c.args.id)) c.self.inside.lows.map.entries ≡ None = none_of _ (sym c.contains.ensures ∙ c.if-contains.false) in
     let given = c.with.ensures.entries in
     let grown : SameCounts c.with.result.entries ((c.args.id, c.args.bounds) ∷ c.self.inside.tree.entries) = rw (c.in_ok-node.ensures, c.take-tree.ensures.taken) at given in
     let x : ℤ = low (c.args.id, c.args.bounds) in
     let x_fits : SFits w32 x = search rules in
     let put_given = c.in_ok-insert.ensures.entries in
-    let put : c.insert.new.self.entries ≡ insert_entry nat_cmp c.self.inside.lows.entries c.args.id x = simp to_z-of_z at put_given in
-    kept_inserted c.self.inside.tree.entries c.with.result.entries c.self.inside.lows.entries c.insert.new.self.entries c.args.id c.args.bounds c.self.invariant absent grown put
+    let put : c.insert.new.self.map.entries ≡ insert_entry nat_cmp c.self.inside.lows.map.entries c.args.id x = simp to_z-of_z at put_given in
+    kept_inserted c.self.inside.tree.entries c.with.result.entries c.self.inside.lows.map.entries c.insert.new.self.map.entries c.args.id c.args.bounds c.self.invariant absent grown put
 
 pub returns-clause-new : goal.returns-clause-new
-returns-clause-new c = contains_is c.self.inside.tree.entries c.self.inside.lows.entries c.args.self.now c.args.id c.self.invariant c.self.view_is ∙ (sym c.contains_key.ensures ∙ c.if-contains_key.false)
+returns-clause-new c = contains_is c.self.inside.tree.entries c.self.inside.lows.map.entries c.args.self.now c.args.id c.self.invariant c.self.view_is ∙ (sym c.contains.ensures ∙ c.if-contains.false)
 
 pub returns-clause-ok : goal.returns-clause-ok
 returns-clause-ok c =
     let given = c.with.ensures.entries in
     let grown : SameCounts c.with.result.entries ((c.args.id, c.args.bounds) ∷ c.self.inside.tree.entries) = rw (c.in_ok-node.ensures, c.take-tree.ensures.taken) at given in
-    let kept : SameCounts (lows_of c.with.result.entries) c.insert.new.self.entries = invariant_of-self-2 c in
-    map_inserted c.self.inside.tree.entries c.with.result.entries c.args.id c.args.bounds grown (ids_unique c.with.result.entries c.insert.new.self.entries kept c.in_ok-insert.ensures.ordered) ∙ ap (λ (m : Boxes). insert m c.args.id c.args.bounds) c.self.view_is
+    let kept : SameCounts (lows_of c.with.result.entries) c.insert.new.self.map.entries = invariant_of-self-2 c in
+    map_inserted c.self.inside.tree.entries c.with.result.entries c.args.id c.args.bounds grown (ids_unique c.with.result.entries c.insert.new.self.map.entries kept c.in_ok-insert.ensures.ordered) ∙ ap (λ (m : Boxes). insert m c.args.id c.args.bounds) c.self.view_is

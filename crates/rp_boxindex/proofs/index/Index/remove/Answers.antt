@@ -1,4 +1,4 @@
-use Rattle.std.proofs.Common.{◌≡◌, ℕ, ℤ, ◌^◌, ◌<◌, true, ◌++◌, List, Option, Some, MatchOption, length, sym, ap, ◌∙◌, arith, rules, is_some, w32}
+use Rattle.std.proofs.Common.{◌≡◌, ℕ, ℤ, true, ◌++◌, List, Option, Some, MatchOption, sym, ap, ◌∙◌, rules, is_some, w32}
 use Rattle.std.proofs.lemmas.Int.{to_z-of_z}
 use mir.Val.{SFits}
 use Rattle.std.specs.Ordering.{nat_cmp}
@@ -17,18 +17,17 @@ use Rattle.rp_boxindex.proofs.index.Index.remove.Goals as goal
 
 pub without-rest-requires : goal.without-rest-requires
 without-rest-requires c =
-    let small : length c.self.inside.lows.entries < 2 ^ 63 = omega (arith, c.len.ensures.len, c.len.ensures.small) in
-    rw c.take-tree.ensures.taken (record { fits = not_too_high c.self.inside.tree c.self.inside.lows.entries c.self.invariant c.take-tree.ensures.slender small })
+    rw c.take-tree.ensures.taken (record { fits = not_too_high c.self.inside.tree c.self.inside.lows.map.entries c.self.invariant c.take-tree.ensures.slender c.show_order.ensures.small })
 
 -- the entry that is taken out
-entry_taken : (c : goal.Joined-self-rest) → IsTaken c.self.inside.tree.entries c.without-rest.result.0.entries c.remove.new.self.entries c.args.id
+entry_taken : (c : goal.Joined-self-rest) → IsTaken c.self.inside.tree.entries c.without-rest.result.0.entries c.remove.new.self.map.entries c.args.id
 entry_taken c =
     let k : ℕ = c.args.id in
     let x : ℤ = c.in-Some.x in
     let t : List Entry = c.self.inside.tree.entries in
     let gone : Option Entry = c.without-rest.result.1 in
     let rest : List Entry = c.without-rest.result.0.entries in
-    let there : lookup (is_at (nat_cmp k)) c.self.inside.lows.entries ≡ Some x = sym c.remove.ensures.value ∙ c.in-Some.is in
+    let there : lookup (is_at (nat_cmp k)) c.self.inside.lows.map.entries ≡ Some x = sym c.remove.ensures.value ∙ c.in-Some.is in
     let shrunk_given = c.without-rest.ensures.entries in
     let shrunk : SameCounts t (option_to_list gone ++ rest) = rw c.take-tree.ensures.taken at shrunk_given in
     let found_given = c.without-rest.ensures.gone in
@@ -36,23 +35,23 @@ entry_taken c =
     let x_fits : SFits w32 x = search rules in
     let found : MatchOption gone (count (is_at_place place) t ≡ 0) (λ e. is_at_place place e ≡ true) = simp (c.take-tree.ensures.taken, to_z-of_z) at found_given in
     let out : IsTakenOut t rest place gone = record { shrunk = shrunk; found = found } in
-    taken t rest c.self.inside.lows.entries c.remove.new.self.entries k x gone c.self.invariant there c.remove.ensures.entries out
+    taken t rest c.self.inside.lows.map.entries c.remove.new.self.map.entries k x gone c.self.invariant there c.remove.ensures.entries out
 
 pub invariant_of-self-2 : goal.invariant_of-self-2
 invariant_of-self-2 c = (entry_taken c).kept
 
 pub returns-in_default-clause-there : goal.returns-in_default-clause-there
-returns-in_default-clause-there c = sym (contains_is c.self.inside.tree.entries c.self.inside.lows.entries c.args.self.now c.args.id c.self.invariant c.self.view_is ∙ (ap is_some (sym c.remove.ensures.value) ∙ ap is_some c.in_default.is))
+returns-in_default-clause-there c = sym (contains_is c.self.inside.tree.entries c.self.inside.lows.map.entries c.args.self.now c.args.id c.self.invariant c.self.view_is ∙ (ap is_some (sym c.remove.ensures.value) ∙ ap is_some c.in_default.is))
 
 pub returns-in_default-clause-gone : goal.returns-in_default-clause-gone
 returns-in_default-clause-gone c =
-    let none : count (has_id c.args.id) c.self.inside.tree.entries ≡ 0 = sym (same_ids_there c.self.inside.tree.entries c.self.inside.lows.entries c.args.id c.self.invariant) ∙ none_at c.self.inside.lows.entries c.args.id (sym c.remove.ensures.value ∙ c.in_default.is) in
+    let none : count (has_id c.args.id) c.self.inside.tree.entries ≡ 0 = sym (same_ids_there c.self.inside.tree.entries c.self.inside.lows.map.entries c.args.id c.self.invariant) ∙ none_at c.self.inside.lows.map.entries c.args.id (sym c.remove.ensures.value ∙ c.in_default.is) in
     map_without c.self.inside.tree.entries c.args.id none ∙ ap (λ (m : Boxes). remove m c.args.id) c.self.view_is
 
 pub returns-clause-there : goal.returns-clause-there
-returns-clause-there c = sym (contains_is c.self.inside.tree.entries c.self.inside.lows.entries c.args.self.now c.args.id c.self.invariant c.self.view_is ∙ (ap is_some (sym c.remove.ensures.value) ∙ ap is_some c.in-Some.is))
+returns-clause-there c = sym (contains_is c.self.inside.tree.entries c.self.inside.lows.map.entries c.args.self.now c.args.id c.self.invariant c.self.view_is ∙ (ap is_some (sym c.remove.ensures.value) ∙ ap is_some c.in-Some.is))
 
 pub returns-clause-gone : goal.returns-clause-gone
 returns-clause-gone c =
     let out = entry_taken c in
-    map_removed c.self.inside.tree.entries c.without-rest.result.0.entries c.args.id out.entry out.shrunk out.id (ids_unique c.self.inside.tree.entries c.self.inside.lows.entries c.self.invariant c.len.ensures.ordered) ∙ ap (λ (m : Boxes). remove m c.args.id) c.self.view_is
+    map_removed c.self.inside.tree.entries c.without-rest.result.0.entries c.args.id out.entry out.shrunk out.id (ids_unique c.self.inside.tree.entries c.self.inside.lows.map.entries c.self.invariant c.show_order.ensures.ordered) ∙ ap (λ (m : Boxes). remove m c.args.id) c.self.view_is
