@@ -1,8 +1,11 @@
 pub mod Places
-pub mod Numbers
+pub mod Put
 pub mod Emptied
 pub mod Boxed
+pub mod Hulls
 pub mod Reached
 pub mod Passed
 pub mod Skipped
 pub mod Behind
+pub mod Owned
+pub mod Floored

@@ -1,4 +1,4 @@
--- The lots that an index doesn't answer are passed over.
+-- The lots that an index doesn't answer are passed over; those that it answers besides are not near.
 use Rattle.std.proofs.Common.{◌≡◌, ◌≢◌, ℕ, zero, suc, ◌+◌, ◌-◌, ◌<◌, ◌≤◌, ◌==◌, Bool, true, false, ◌&&◌, not, cond, List, [], ◌∷◌, ◌++◌, ⊎_elim, map, filter, length, drop, Option, Some, None, slice_get, refl, sym, ap, ◌∙◌, subst, arith}
 use Rattle.std.specs.Prelude.{option_map}
 use Rattle.std.specs.List.{AllByRecursion}
@@ -8,7 +8,7 @@ use Rattle.std.specs.Option.{option_to_list}
 use Rattle.std.specs.declared.cmp.Ordering.TheVariants.{Less}
 use Rattle.std.proofs.lemmas.Bool.Decides.{nat_tests, Decides-eqb}
 use Rattle.std.proofs.lemmas.List.{drop_all, length-map}
-use Rattle.std.proofs.lemmas.List.Filters.{length-filter_both}
+use Rattle.std.proofs.lemmas.List.Kept.{IsStrictlySortedBy-filter}
 use Rattle.std.proofs.lemmas.List.Sums.{sum_by-cons}
 use Rattle.std.proofs.lemmas.Map.Keys.{sorted_head, sorted_tail}
 use Rattle.std.proofs.lemmas.Option.{get_or_from_slice_get, slice_get-map}
@@ -20,12 +20,14 @@ use Rattle.rp_model.specs.states.State.{Lot, is_live, live_lots, lots_of_layer, 
 use Rattle.rp_model.specs.commands.Row.{count_pairs, lot_parts}
 use Rattle.rp_states.proofs.Listing.{all_kept}
 use Rattle.rp_boxindex.specs.Boxes.{Boxes}
+use Rattle.rp_boxindex.specs.Meeting.{meeting_ids}
 use Rattle.rp_nearby.specs.declared.near.Reach.{Reach}
-use Rattle.rp_nearby.specs.Near.{may_meet, others_in, pairs_with, is_near, is_other_in, is_other_at, lots_at, AreWithin, AreReached, AreNear}
+use Rattle.rp_nearby.specs.Indexed.{hull_of_parts, NoneBehind}
+use Rattle.rp_nearby.specs.Near.{may_meet, others_in, pairs_with, is_near, is_closed, is_other_in, is_other_at, lots_at, other_places, AreWithin, AreNear}
 use Rattle.rp_nearby.proofs.Boxed.{none_behind_lots}
-use Rattle.rp_nearby.proofs.Numbers.{same_or_not}
+use Rattle.rp_nearby.proofs.Put.{same_or_not}
 use Rattle.rp_nearby.proofs.Places.{item_at, drop_item}
-use Rattle.rp_nearby.proofs.Reached.{AreAllNear, places_near}
+use Rattle.rp_nearby.proofs.Reached.{places_from, places_rise, places_within, AreAllNear, places_near}
 
 -- the first lot is among the others, or not
 pub others_first : {S : Type 0} (y x : Label) (l : Lot S) (ls : List (Lot S)) → others_in y x (l ∷ ls) ≡ cond (is_other_in y x l) (l ∷ others_in y x ls) (others_in y x ls)
@@ -88,6 +90,10 @@ pairs_near r ps (l ∷ ls) = sum_by-cons count l.parts (lot_parts ls) ∙ ap (λ
     by true e = none (count l.parts) (pairs_with r ps near) e
     by false e = sym (sum_by-cons count l.parts (lot_parts near))
 
+-- so lists with the same near lots have as many
+pub pairs_same : (r : Reach) (ps : List Part) (ls ms : List (Lot (Unit {0}))) → filter (is_near r ps) ls ≡ filter (is_near r ps) ms → pairs_with r ps ls ≡ pairs_with r ps ms
+pairs_same r ps ls ms e = pairs_near r ps ls ∙ ap (pairs_with r ps) e ∙ sym (pairs_near r ps ms)
+
 -- a place that isn't the first
 not_first : (n k : ℕ) (places : List ℕ) → k ≢ n → Listed k (n ∷ places) → Listed k places
 not_first n k places d first = absurd (d refl)
@@ -114,7 +120,7 @@ module _ (r : Reach) (ps : List Part) (y x : Label) (lots : List (Lot (Unit {0})
     -- a lot whose place isn't left is passed over
     step_over : (places : List ℕ) → (Listed n places → ⊥) → AllByRecursion (λ j. n + 1 ≤ j) places → AreAllNear r ps lots n places → chosen r ps y x (lots_at lots places) ≡ chosen r ps y x (drop n lots)
     step_over places none above h =
-        rest places (record { rising = h.rising; behind = above; within = h.within; all = λ k m f on live near. h.all k m (omega (arith, f)) on live near; only = h.only })
+        rest places (record { rising = h.rising; behind = above; within = h.within; all = λ k m f on live near. h.all k m (omega (arith, f)) on live near })
         ∙ sym (ap (chosen r ps y x) left_first ∙ passed r ps y x l (drop (n + 1) lots) (λ live near. none (h.all n l (omega arith) at live near)))
 
     -- the lot of the first place
@@ -126,7 +132,6 @@ module _ (r : Reach) (ps : List Part) (y x : Label) (lots : List (Lot (Unit {0})
           behind = subst (λ (i : ℕ). AllByRecursion (λ j. i + 1 ≤ j) places) same (above_first k places h.rising);
           within = h.within.1;
           all = λ i m f on live near. not_first k i places (λ g. absurd (omega (arith, f, g, same))) (h.all i m (omega (arith, f)) on live near);
-          only = λ i m on here. h.only i m (later on) here;
         }))
         ∙ sym (ap (chosen r ps y x) left_first)
 
@@ -159,20 +164,6 @@ module _ (r : Reach) (ps : List Part) (y x : Label) (lots : List (Lot (Unit {0})
   near_chosen : (from : ℕ) (places : List ℕ) → from ≤ length lots → AreAllNear r ps lots from places → chosen r ps y x (lots_at lots places) ≡ chosen r ps y x (drop from lots)
   near_chosen from places f h = left_chosen (length lots - from) from (omega (arith, f)) places h
 
-  -- all lots at such places are near
-  lots_near : (places : List ℕ) → ((k : ℕ) (l : Lot (Unit {0})) → Listed k places → slice_get lots k ≡ Some l → is_near r ps l ≡ true) → AllByRecursion (λ l. is_near r ps l ≡ true) (lots_at lots places)
-  lots_near [] only = tt
-  lots_near (k ∷ places) only = by (slice_get lots k) refl (lots_near places (λ i l on at. only i l (later on) at))
-    where
-      by : (o : Option (Lot (Unit {0}))) → slice_get lots k ≡ o → AllByRecursion (λ l. is_near r ps l ≡ true) (lots_at lots places) → AllByRecursion (λ l. is_near r ps l ≡ true) (option_to_list o ++ lots_at lots places)
-      by None e rest = rest
-      by (Some l) e rest = (only k l first e, rest)
-
--- a list of items that all pass
-filter_all : {A : Type 0} (test : A → Bool) (xs : List A) → AllByRecursion (λ x. test x ≡ true) xs → filter test xs ≡ xs
-filter_all test [] h = refl
-filter_all test (x ∷ xs) h = ap (λ (b : Bool). cond b (x ∷ filter test xs) (filter test xs)) h.0 ∙ ap (λ (ys : List _). x ∷ ys) (filter_all test xs h.1)
-
 -- the others among lots at places stand at the places of the others
 others_at : (y x : Label) (lots history : List (Lot (Unit {0}))) → history ≡ map bare_lot lots → (places : List ℕ) → AreWithin lots places → lots_at lots (filter (is_other_at y x history) places) ≡ others_in y x (lots_at lots places)
 others_at y x lots history e [] w = refl
@@ -193,17 +184,17 @@ others_at y x lots history e (k ∷ places) w =
     by l at true rest = ap (λ (o : Option (Lot (Unit {0}))). option_to_list o ++ lots_at lots (filter (is_other_at y x history) places)) at ∙ ap (λ (ls : List (Lot (Unit {0}))). l ∷ ls) rest
     by l at false rest = rest
 
--- so the others among the places that are reached are those that are wanted
-pub others_near : (r : Reach) (bs : List IntegerBox) (y x : Label) (from : ℕ) (history : List (Lot (Unit {0}))) (boxes : Boxes) (places : List ℕ) → from ≤ length history → AreReached r bs boxes from places → AreNear r bs y x from history boxes (filter (is_other_at y x history) places)
-others_near r bs y x from history boxes places f h lots ps kept own =
+-- so the others among the places that are reached are those that are wanted, and such as may be answered besides
+pub others_near : (r : Reach) (hull : IntegerBox) (y x : Label) (from : ℕ) (history : List (Lot (Unit {0}))) (live : Boxes) → from ≤ length history → AreNear r hull y x from history live (other_places r hull y x from history live)
+others_near r hull y x from history live f lots ps kept own =
     let many : length history ≡ length lots = ap length kept.bare ∙ length-map lots bare_lot in
-    let all = places_near r ps lots boxes kept.indexed from kept.few (none_behind_lots lots boxes kept.indexed) places (subst (λ (cs : List IntegerBox). AreReached r cs boxes from places) own h) in
-    let near = all_kept (λ (l : Lot (Unit {0})). is_near r ps l ≡ true) (λ (l : Lot (Unit {0})). not (label_eq x l.id)) (lots_of_layer y (live_lots (lots_at lots places)))
-    (all_kept (λ (l : Lot (Unit {0})). is_near r ps l ≡ true) (λ (l : Lot (Unit {0})). label_eq l.layer y) (live_lots (lots_at lots places))
-    (all_kept (λ (l : Lot (Unit {0})). is_near r ps l ≡ true) is_live (lots_at lots places) (lots_near r ps y x lots places all.only))) in
-    others_at y x lots history kept.bare places all.within
-    ∙ sym (filter_all (is_near r ps) (others_in y x (lots_at lots places)) near)
-    ∙ near_chosen r ps y x lots from places (omega (arith, f, many)) all
+    let all = places_near r ps lots live from kept.indexed (none_behind_lots is_live lots live kept.indexed) in
+    ap (λ (b : IntegerBox). chosen r ps y x lots history (places_from from (meeting_ids (is_closed r) b live))) own
+    ∙ ap (filter (is_near r ps)) (others_at y x lots history kept.bare (places_from from (meeting_ids (is_closed r) (hull_of_parts ps) live)) all.within)
+    ∙ near_chosen r ps y x lots from (places_from from (meeting_ids (is_closed r) (hull_of_parts ps) live)) (omega (arith, f, many)) all
+  where
+    chosen : Reach → List Part → Label → Label → List (Lot (Unit {0})) → List (Lot (Unit {0})) → List ℕ → List (Lot (Unit {0}))
+    chosen r ps y x lots history ks = filter (is_near r ps) (lots_at lots (filter (is_other_at y x history) ks))
 
 -- ---- how many places there are
 
@@ -221,13 +212,18 @@ above_none : (places : List ℕ) → AllByRecursion (λ k. 0 ≤ k) places
 above_none [] = tt
 above_none (k ∷ places) = (omega arith, above_none places)
 
--- so those that pass a test are no more than there are lots
-pub passed_few : {A : Type 0} (test : ℕ → Bool) (xs : List A) (places : List ℕ) → IsStrictlySortedBy nat_cmp places → AreWithin xs places → length (filter test places) ≤ length xs
-passed_few test xs places rising within =
-    let both = length-filter_both test (λ k. not (test k)) (λ k. refl) places in
-    let few = rising_few 0 (length xs) places rising (above_none places) within (omega arith) in
-    omega (arith, both, few)
+-- places within, in rising order, so no more than there are lots
+pub record ArePlaces {A : Type 0} (xs : List A) (places : List ℕ) : Type 0 where
+  pub within : AreWithin xs places
+  pub rising : IsStrictlySortedBy nat_cmp places
+  pub few : length places ≤ length xs
 
--- and they are within
-pub passed_within : {A : Type 0} (test : ℕ → Bool) (xs : List A) (places : List ℕ) → AreWithin xs places → AreWithin xs (filter test places)
-passed_within test xs places within = all_kept (λ (k : ℕ). k < length xs) test places within
+-- those of the others that are reached are such
+pub others_places : {S : Type 0} (r : Reach) (hull : IntegerBox) (y x : Label) (from : ℕ) (history : List (Lot S)) (live : Boxes) → NoneBehind live (length history) → ArePlaces history (other_places r hull y x from history live)
+others_places r hull y x from history live none =
+    let test = is_other_at y x history in
+    let reached = places_from from (meeting_ids (is_closed r) hull live) in
+    let within = all_kept (λ (k : ℕ). k < length history) test reached (places_within (is_closed r) hull live from history none) in
+    let rising = IsStrictlySortedBy-filter nat_cmp test reached (places_rise (is_closed r) hull live from) in
+    let few = rising_few 0 (length history) (filter test reached) rising (above_none (filter test reached)) within (omega arith) in
+    record { within = within; rising = rising; few = omega (arith, few) }

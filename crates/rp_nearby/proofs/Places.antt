@@ -1,8 +1,8 @@
 -- Lots at places, one after the other.
-use Rattle.std.proofs.Common.{◌≡◌, ℕ, zero, suc, ◌+◌, ◌<◌, ◌≤◌, Bool, true, false, List, [], ◌∷◌, ◌++◌, ⊎_elim, map, length, drop, get_or, Option, Some, None, slice_get, refl, ap, ◌∙◌, subst, sym, arith}
+use Rattle.std.proofs.Common.{◌≡◌, ℕ, zero, suc, ◌+◌, ◌<◌, Bool, true, false, List, [], ◌∷◌, ◌++◌, map, length, drop, get_or, Option, Some, None, slice_get, refl, ap, ◌∙◌, subst, sym, arith}
 use Rattle.std.specs.Option.{option_to_list}
 use Rattle.std.specs.Prelude.{IsTrue, option_map, Result, Ok, Err, IfOk}
-use Rattle.std.proofs.lemmas.Bool.{cases_lt, or_left, or_right}
+use Rattle.std.proofs.lemmas.Bool.{or_left, or_right}
 use Rattle.std.proofs.lemmas.List.{drop_more, get_or_default, length-map}
 use Rattle.std.proofs.lemmas.Option.{slice_get-map, slice_get_read}
 use Rattle.rp_language.specs.Name.{Label, label_eq, is_among}
@@ -25,10 +25,6 @@ pub item_at : {A : Type 0} (xs : List A) (j : ℕ) → j < length xs → (x : A)
 item_at [] j f = absurd (omega arith)
 item_at (x ∷ xs) zero f = (x, refl)
 item_at (x ∷ xs) (suc j) f = item_at xs j (omega arith)
-
--- a place without an item is past the list
-pub past_all : {A : Type 0} (xs : List A) (j : ℕ) → slice_get xs j ≡ None → length xs ≤ j
-past_all xs j e = ⊎_elim (λ f. absurd (let item = item_at xs j f in let at = item.1 in cc (at, e))) (λ f. f) (cases_lt j (length xs))
 
 -- what is left of a list begins with the item
 pub drop_item : {X : Type 0} (xs : List X) (i : ℕ) (x : X) → i < length xs → x ≡ get_or xs i x → drop i xs ≡ x ∷ drop (i + 1) xs

@@ -1,18 +1,17 @@
--- The places that an index answers are those of the lots that may meet a list of parts.
-use Rattle.std.proofs.Common.{◌≡◌, ℕ, ◌+◌, ◌*◌, ◌/◌, ◌%◌, ◌<◌, ◌≤◌, ◌==◌, Bool, true, false, not, cond, leb, List, [], ◌∷◌, ◌⊎◌, ⊎_elim, map, filter, length, Option, Some, None, slice_get, refl, sym, ap, ◌∙◌, subst, arith}
+-- The places that an index answers are those of the lots around which the box meets a box, so of all that have a part which may meet one of a list.
+use Rattle.std.proofs.Common.{◌≡◌, ℕ, ◌<◌, ◌≤◌, ◌==◌, Bool, true, false, not, cond, leb, List, [], ◌∷◌, ◌⊎◌, ⊎_elim, filter, length, Option, Some, None, slice_get, refl, sym, ap, ◌∙◌, subst, arith}
 use Rattle.std.specs.Prelude.{option_map, sum_by, count_by}
-use Rattle.std.specs.List.{AllByRecursion, list_any, Contains}
+use Rattle.std.specs.List.{AllByRecursion, list_any}
 use Rattle.std.specs.List.Sorted.{IsStrictlySortedBy}
 use Rattle.std.specs.Ordering.{nat_cmp}
 use Rattle.std.specs.FinMap.{get}
 use Rattle.std.proofs.lemmas.Bool.{cases_lt, or_cases, or_left, or_right, eq-eqb, le-leb, leb-true}
 use Rattle.std.proofs.lemmas.Bool.Decides.{nat_tests, Decides-eqb}
+use Rattle.std.proofs.lemmas.List.Kept.{IsStrictlySortedBy-filter}
 use Rattle.std.proofs.lemmas.List.Sums.{sum_by-cons}
-use Rattle.std.proofs.lemmas.Option.{get_or_from_slice_get, slice_get_within, slice_get-get_or, slice_get-map}
-use Rattle.rp_algebra.proofs.Listed.{Listed, first, later, listed_left, listed_right, listed_cases, listed_at, place_of, of_all}
+use Rattle.rp_algebra.proofs.Listed.{Listed, first, later, of_all}
 use Rattle.rp_geometry.specs.Geometry.{IntegerBox}
 use Rattle.rp_geometry.specs.sets.Shape.{Part}
-use Rattle.rp_geometry.specs.parts.Parts.{most_parts}
 use Rattle.rp_space.specs.declared.bounds.IntBox.{IntBox}
 use Rattle.rp_space.specs.Boxes.{integer_box}
 use Rattle.rp_model.specs.states.State.{Lot, is_live}
@@ -20,11 +19,12 @@ use Rattle.rp_model.specs.commands.Row.{count_pairs}
 use Rattle.rp_boxindex.specs.Boxes.{Boxes}
 use Rattle.rp_boxindex.specs.Laws.{is_there_and_meets}
 use Rattle.rp_boxindex.specs.Meeting.{do_meet, meeting_ids}
-use Rattle.rp_boxindex.proofs.Exact.{meeting_ids_are_exact_spec}
+use Rattle.rp_boxindex.proofs.Exact.{meeting_ids_are_exact_spec, meeting_ids_rise_spec}
 use Rattle.rp_nearby.specs.declared.near.Reach.{Reach}
 use Rattle.rp_nearby.specs.declared.near.Reach.TheVariants.{Overlap, Touch}
-use Rattle.rp_nearby.specs.Indexed.{bounds_of, NoneBehind, live_bounds, IsIndexed}
-use Rattle.rp_nearby.specs.Near.{may_meet, is_near, is_closed, numbers_near, places_from, AreWithin, AreReached}
+use Rattle.rp_nearby.specs.Indexed.{hull_of_parts, box_at, NoneBehind, hull_if, IsIndexOf}
+use Rattle.rp_nearby.specs.Near.{may_meet, is_near, is_closed, AreWithin}
+use Rattle.rp_nearby.proofs.Hulls.{part_within, wider_meet}
 
 -- ---- what stands in a list
 
@@ -38,26 +38,6 @@ listed_number : (n : ℕ) (xs : List ℕ) → Listed n xs → list_any (λ i. i 
 listed_number n [] l = elim l [ ]
 listed_number n (x ∷ xs) first = or_left (n == n) (list_any (λ i. i == n) xs) (eq-eqb n n refl)
 listed_number n (x ∷ xs) (later l) = or_right (x == n) (list_any (λ i. i == n) xs) (listed_number n xs l)
-
--- what stands in a list has a place
-contained : {A : Type 0} (x : A) (xs : List A) → Listed x xs → Contains xs x
-contained x xs l = let p = place_of x xs l in (p.0, slice_get_within xs p.0 x p.1, get_or_from_slice_get xs p.0 x x p.1)
-
--- and back
-pub listed : {A : Type 0} (x : A) (xs : List A) → Contains xs x → Listed x xs
-listed x xs c = listed_at x xs c.0 (slice_get-get_or xs c.0 x c.1 ∙ ap Some c.2)
-
--- the image of an item
-image_listed : {A B : Type 0} (f : A → B) (x : A) (xs : List A) → Listed x xs → Listed (f x) (map f xs)
-image_listed f x [] l = elim l [ ]
-image_listed f x (y ∷ xs) first = first
-image_listed f x (y ∷ xs) (later l) = later (image_listed f x xs l)
-
--- an item of which it is the image
-image_of : {A B : Type 0} (f : A → B) (y : B) (xs : List A) → Listed y (map f xs) → (x : A) × Listed x xs × (f x ≡ y)
-image_of f y [] l = elim l [ ]
-image_of f y (x ∷ xs) first = (x, first, refl)
-image_of f y (x ∷ xs) (later l) = let o = image_of f y xs l in (o.0, later o.1, o.2)
 
 -- an item that passes stays
 stays_listed : {A : Type 0} (test : A → Bool) (x : A) (xs : List A) → test x ≡ true → Listed x xs → Listed x (filter test xs)
@@ -80,7 +60,25 @@ stayed : {A : Type 0} (test : A → Bool) (x : A) (xs : List A) → Listed x (fi
 stayed test x [] l = elim l [ ]
 stayed test x (y ∷ xs) l = stayed_by test x y xs (stayed test x xs) (test y) refl l
 
--- ---- pairs
+-- ---- boxes that meet
+
+-- the place of a box that meets is answered
+pub box_reached : (closed : Bool) (b c : IntegerBox) (boxes : Boxes) (k : ℕ) → box_at boxes k ≡ Some c → do_meet closed b c ≡ true → Listed k (meeting_ids closed b boxes)
+box_reached closed b c boxes k at m = number_listed k (meeting_ids closed b boxes) (meeting_ids_are_exact_spec closed b boxes k ∙ by (get boxes k) at)
+  where
+    by : (o : Option IntBox) → option_map integer_box o ≡ Some c → is_there_and_meets closed b o ≡ true
+    by None e = absurd (cc)
+    by (Some d) e = let same : integer_box d ≡ c = cc in subst (λ (a : IntegerBox). do_meet closed b a ≡ true) (sym same) m
+
+-- a place that is answered has a box
+pub reached_box : (closed : Bool) (b : IntegerBox) (boxes : Boxes) (k : ℕ) → Listed k (meeting_ids closed b boxes) → box_at boxes k ≡ None → ⊥
+reached_box closed b boxes k l none = by (get boxes k) none (sym (meeting_ids_are_exact_spec closed b boxes k) ∙ listed_number k (meeting_ids closed b boxes) l)
+  where
+    by : (o : Option IntBox) → option_map integer_box o ≡ None → is_there_and_meets closed b o ≡ true → ⊥
+    by None e f = absurd (cc)
+    by (Some d) e f = absurd (cc)
+
+-- ---- parts that meet
 
 -- where a sum is above 0, it is so for an item
 some_item : {A : Type 0} (f : A → ℕ) (xs : List A) → 0 < sum_by f xs → (x : A) × Listed x xs × (0 < f x)
@@ -96,175 +94,71 @@ counted true h = refl
 counted false h = absurd (omega (arith, h))
 
 -- two parts that may meet
-pub record MeetingParts (r : Reach) (ps qs : List Part) : Type 0 where
-  pub part : Part
-  pub listed : Listed part ps
-  pub other : Part
-  pub place : ℕ
-  pub at : slice_get qs place ≡ Some other
-  pub meet : may_meet r part other ≡ true
+record MeetingParts (r : Reach) (ps qs : List Part) : Type 0 where
+  part : Part
+  listed : Listed part ps
+  other : Part
+  other_listed : Listed other qs
+  meet : may_meet r part other ≡ true
 
 -- lots that are near have such parts
 parts_meet : (r : Reach) (ps qs : List Part) → 0 < count_pairs (may_meet r) ps qs → MeetingParts r ps qs
 parts_meet r ps qs h =
     let p = some_item (λ (a : Part). count_by (λ (c : Part). may_meet r a c) qs) ps h in
     let q = some_item (λ (c : Part). cond (may_meet r p.0 c) 1 0) qs p.2 in
-    let at = place_of q.0 qs q.1 in
-    record { part = p.0; listed = p.1; other = q.0; place = at.0; at = at.1; meet = counted (may_meet r p.0 q.0) q.2 }
+    record { part = p.0; listed = p.1; other = q.0; other_listed = q.1; meet = counted (may_meet r p.0 q.0) q.2 }
 
 -- what may meet does so as the index is asked
 as_asked : (r : Reach) (p q : Part) → may_meet r p q ≡ do_meet (is_closed r) p.bounds q.bounds
 as_asked Overlap p q = refl
 as_asked Touch p q = refl
 
--- a test that passes counts
-counts : (b : Bool) → b ≡ true → 0 < cond b 1 0
-counts true e = omega arith
-counts false e = absurd (cc)
-
--- an item above 0 makes a sum so
-item_counts : {A : Type 0} (f : A → ℕ) (xs : List A) (x : A) → Listed x xs → 0 < f x → 0 < sum_by f xs
-item_counts f [] x l h = elim l [ ]
-item_counts f (x ∷ xs) y first h = let all = sum_by-cons f x xs in omega (arith, h, all)
-item_counts f (x ∷ xs) y (later l) h = let all = sum_by-cons f x xs in let rest = item_counts f xs y l h in omega (arith, rest, all)
-
--- two parts that may meet make a pair
-some_pair : (r : Reach) (ps qs : List Part) (p q : Part) → Listed p ps → Listed q qs → may_meet r p q ≡ true → 0 < count_pairs (may_meet r) ps qs
-some_pair r ps qs p q l m e =
-    item_counts (λ (a : Part). count_by (λ (c : Part). may_meet r a c) qs) ps p l (item_counts (λ (c : Part). cond (may_meet r p c) 1 0) qs q m (counts (may_meet r p q) e))
-
--- a lot with a pair is near
-pair_near : (n : ℕ) → 0 < n → not (n == 0) ≡ true
-pair_near n h = grind (arith, nat_tests)
-
 -- a lot that is near has a pair
 has_pair : (n : ℕ) → not (n == 0) ≡ true → 0 < n
 has_pair n e = grind (arith, nat_tests)
 
--- ---- numbers
-
--- the number of a part is among those near
-number_near : (r : Reach) (ps : List Part) (boxes : Boxes) (p : Part) (n : ℕ) → Listed p ps → Listed n (meeting_ids (is_closed r) p.bounds boxes) → Listed n (numbers_near r (bounds_of ps) boxes)
-number_near r [] boxes p n l m = elim l [ ]
-number_near r (q ∷ ps) boxes p n first m = listed_left n (meeting_ids (is_closed r) p.bounds boxes) (numbers_near r (bounds_of ps) boxes) m
-number_near r (q ∷ ps) boxes p n (later l) m = listed_right n (meeting_ids (is_closed r) q.bounds boxes) (numbers_near r (bounds_of ps) boxes) (number_near r ps boxes p n l m)
-
--- a box under a number, and one that it meets
-record MeetingBox (r : Reach) (bs : List IntegerBox) (boxes : Boxes) (n : ℕ) : Type 0 where
-  asked : IntegerBox
-  listed : Listed asked bs
-  box : IntBox
-  at : get boxes n ≡ Some box
-  meet : do_meet (is_closed r) asked (integer_box box) ≡ true
-
--- a number that is near has such boxes
-near_number : (r : Reach) (bs : List IntegerBox) (boxes : Boxes) (n : ℕ) → Listed n (numbers_near r bs boxes) → MeetingBox r bs boxes n
-near_number r [] boxes n l = elim l [ ]
-near_number r (b ∷ bs) boxes n l = ⊎_elim
-    (λ k. has_box (get boxes n) refl (sym (meeting_ids_are_exact_spec (is_closed r) b boxes n) ∙ listed_number n (meeting_ids (is_closed r) b boxes) k))
-    (λ k. let m = near_number r bs boxes n k in record { asked = m.asked; listed = later m.listed; box = m.box; at = m.at; meet = m.meet })
-    (listed_cases n (meeting_ids (is_closed r) b boxes) (numbers_near r bs boxes) l)
-  where
-    has_box : (o : Option IntBox) → get boxes n ≡ o → is_there_and_meets (is_closed r) b o ≡ true → MeetingBox r (b ∷ bs) boxes n
-    has_box None f e = absurd (cc)
-    has_box (Some c) f e = record { asked = b; listed = first; box = c; at = f; meet = e }
-
--- a box that is there meets, where the box of its part does
-box_meets : (closed : Bool) (b c : IntegerBox) (o : Option IntBox) → option_map integer_box o ≡ Some c → do_meet closed b c ≡ true → is_there_and_meets closed b o ≡ true
-box_meets closed b c None e m = absurd (cc)
-box_meets closed b c (Some e) f m = let same : integer_box e ≡ c = cc in subst (λ (a : IntegerBox). do_meet closed b a ≡ true) (sym same) m
+-- the box around a lot that is near meets the box around the list
+hulls_meet : (r : Reach) (ps : List Part) (l : Lot (Unit {0})) → is_near r ps l ≡ true → do_meet (is_closed r) (hull_of_parts ps) (hull_of_parts l.parts) ≡ true
+hulls_meet r ps l near =
+    let pair = parts_meet r ps l.parts (has_pair (count_pairs (may_meet r) ps l.parts) near) in
+    wider_meet (is_closed r) pair.part.bounds pair.other.bounds (hull_of_parts ps) (hull_of_parts l.parts) (part_within pair.part ps pair.listed) (part_within pair.other l.parts pair.other_listed)
+    (sym (as_asked r pair.part pair.other) ∙ pair.meet)
 
 -- ---- places
 
--- a place that has such a number
-record MeetingPlace (r : Reach) (bs : List IntegerBox) (boxes : Boxes) (from k : ℕ) : Type 0 where
-  behind : from ≤ k
-  part : ℕ
-  few : part < most_parts
-  found : MeetingBox r bs boxes (k * most_parts + part)
+-- the places from one on that are answered
+abbrev pub places_from : ℕ → List ℕ → List ℕ
+places_from from ids = filter (λ k. leb from k) ids
 
--- the places that have them
-place_found : (r : Reach) (bs : List IntegerBox) (boxes : Boxes) (from k : ℕ) → Listed k (places_from from (numbers_near r bs boxes)) → MeetingPlace r bs boxes from k
-place_found r bs boxes from k l =
-    let s = stayed (λ c. leb from c) k (map (λ (i : ℕ). i / most_parts) (numbers_near r bs boxes)) l in
-    let o = image_of (λ (i : ℕ). i / most_parts) k (numbers_near r bs boxes) s.0 in
-    record {
-      behind = leb-true from k s.1;
-      part = o.0 % most_parts;
-      few = least o.0;
-      found = subst (MeetingBox r bs boxes) (sym (split o.0 k o.2)) (near_number r bs boxes o.0 o.1);
-    }
-  where
-    split : (n k : ℕ) → n / most_parts ≡ k → k * most_parts + n % most_parts ≡ n
-    split n k e = omega (arith, e)
+module _ (closed : Bool) (b : IntegerBox) (boxes : Boxes) (from : ℕ) where
+  -- they rise
+  pub places_rise : IsStrictlySortedBy nat_cmp (places_from from (meeting_ids closed b boxes))
+  places_rise = IsStrictlySortedBy-filter nat_cmp (λ k. leb from k) (meeting_ids closed b boxes) (meeting_ids_rise_spec closed b boxes)
 
-    least : (n : ℕ) → n % most_parts < most_parts
-    least n = omega arith
+  -- none of them is behind those with boxes
+  pub places_within : {A : Type 0} (xs : List A) → NoneBehind boxes (length xs) → AreWithin xs (places_from from (meeting_ids closed b boxes))
+  places_within xs none = of_all (λ (k : ℕ). k < length xs) (places_from from (meeting_ids closed b boxes)) (λ k l. by k (stayed (λ c. leb from c) k (meeting_ids closed b boxes) l).0 (cases_lt k (length xs)))
+    where
+      by : (k : ℕ) → Listed k (meeting_ids closed b boxes) → (k < length xs) ⊎ (length xs ≤ k) → k < length xs
+      by k l c = ⊎_elim (λ f. f) (λ f. absurd (reached_box closed b boxes k l (none k f))) c
 
--- no place behind those with boxes is among them
-pub places_within : {A : Type 0} (r : Reach) (bs : List IntegerBox) (xs : List A) (boxes : Boxes) (from : ℕ) (places : List ℕ) → NoneBehind boxes (length xs) → AreReached r bs boxes from places → AreWithin xs places
-places_within r bs xs boxes from places none h =
-    of_all (λ (k : ℕ). k < length xs) places (λ k l. by k (place_found r bs boxes from k (listed k (places_from from (numbers_near r bs boxes)) (h.only k (contained k places l)))) (cases_lt k (length xs)))
-  where
-    by : (k : ℕ) → MeetingPlace r bs boxes from k → (k < length xs) ⊎ (length xs ≤ k) → k < length xs
-    by k p c = ⊎_elim (λ f. f) (λ f. absurd (some (ap (option_map integer_box) (sym p.found.at) ∙ none k f p.part p.few))) c
-      where
-        some : Some (integer_box p.found.box) ≡ None → ⊥
-        some g = cc
-
--- places from one on, in rising order: those of all live lots that have a part that may meet one of a list
+-- places from one on, in rising order, with those of all live lots that have a part that may meet one of a list
 pub record AreAllNear (r : Reach) (ps : List Part) (lots : List (Lot (Unit {0}))) (from : ℕ) (places : List ℕ) : Type 0 where
   pub rising : IsStrictlySortedBy nat_cmp places
   pub behind : AllByRecursion (λ k. from ≤ k) places
   pub within : AreWithin lots places
   pub all : (k : ℕ) (l : Lot (Unit {0})) → from ≤ k → slice_get lots k ≡ Some l → is_live l ≡ true → is_near r ps l ≡ true → Listed k places
-  pub only : (k : ℕ) (l : Lot (Unit {0})) → Listed k places → slice_get lots k ≡ Some l → is_near r ps l ≡ true
 
-module _ (r : Reach) (ps : List Part) (lots : List (Lot (Unit {0}))) (boxes : Boxes) (h : IsIndexed lots boxes) (from : ℕ) where
-  -- the place of a live lot that is near is among them
-  near_found : ((k : ℕ) (l : Lot (Unit {0})) → slice_get lots k ≡ Some l → length l.parts ≤ most_parts) → (k : ℕ) (l : Lot (Unit {0})) → from ≤ k → slice_get lots k ≡ Some l → is_live l ≡ true → is_near r ps l ≡ true → Listed k (places_from from (numbers_near r (bounds_of ps) boxes))
-  near_found few k l f at live near =
-      let pair = parts_meet r ps l.parts (has_pair (count_pairs (may_meet r) ps l.parts) near) in
-      let j : ℕ = pair.place in
-      let within : j < most_parts = (let w = slice_get_within l.parts j pair.other pair.at in let m = few k l at in omega (arith, w, m)) in
-      let n : ℕ = k * most_parts + j in
-      let box : option_map integer_box (get boxes n) ≡ Some pair.other.bounds =
-      h k j within ∙ ap (λ (o : Option (Lot (Unit {0}))). slice_get (live_bounds o) j) at ∙ ap (λ (b : Bool). slice_get (cond b (bounds_of l.parts) []) j) live ∙ slice_get-map (λ (p : Part). p.bounds) l.parts j ∙ ap (option_map (λ (p : Part). p.bounds)) pair.at in
-      let meets = box_meets (is_closed r) pair.part.bounds pair.other.bounds (get boxes n) box (sym (as_asked r pair.part pair.other) ∙ pair.meet) in
-      let on = number_listed n (meeting_ids (is_closed r) pair.part.bounds boxes) (meeting_ids_are_exact_spec (is_closed r) pair.part.bounds boxes n ∙ meets) in
-      let all = number_near r ps boxes pair.part n pair.listed on in
-      let place : n / most_parts ≡ k = place_is k j within in
-      stays_listed (λ c. leb from c) k (map (λ (i : ℕ). i / most_parts) (numbers_near r (bounds_of ps) boxes)) (le-leb from k f)
-      (subst (λ (i : ℕ). Listed i (map (λ (i : ℕ). i / most_parts) (numbers_near r (bounds_of ps) boxes))) place (image_listed (λ (i : ℕ). i / most_parts) n (numbers_near r (bounds_of ps) boxes) all))
-    where
-      place_is : (k j : ℕ) → j < most_parts → (k * most_parts + j) / most_parts ≡ k
-      place_is k j f = omega (arith, f)
-
-  -- and no other
-  found_near : (k : ℕ) (l : Lot (Unit {0})) → MeetingPlace r (bounds_of ps) boxes from k → slice_get lots k ≡ Some l → is_near r ps l ≡ true
-  found_near k l p at =
-      let m = p.found in
-      let asked = image_of (λ (a : Part). a.bounds) m.asked ps m.listed in
-      let under : slice_get (cond (is_live l) (bounds_of l.parts) []) p.part ≡ Some (integer_box m.box) =
-      sym (ap (option_map integer_box) (sym m.at) ∙ h k p.part p.few ∙ ap (λ (o : Option (Lot (Unit {0}))). slice_get (live_bounds o) p.part) at) in
-      let other = own_part (is_live l) l.parts p.part (integer_box m.box) under in
-      pair_near (count_pairs (may_meet r) ps l.parts)
-      (some_pair r ps l.parts asked.0 other.0 asked.1 other.1
-      (as_asked r asked.0 other.0 ∙ ap (λ (b : IntegerBox). do_meet (is_closed r) b other.0.bounds) asked.2 ∙ ap (do_meet (is_closed r) m.asked) other.2 ∙ m.meet))
-    where
-      own_part : (b : Bool) (qs : List Part) (j : ℕ) (c : IntegerBox) → slice_get (cond b (bounds_of qs) []) j ≡ Some c → (q : Part) × Listed q qs × (q.bounds ≡ c)
-      own_part false qs j c e = absurd (cc)
-      own_part true qs j c e = let o = image_of (λ (a : Part). a.bounds) c qs (listed_at c (bounds_of qs) j e) in o
-
-  -- so the places that have the numbers, in rising order, are those that are wanted
-  pub places_near : ((k : ℕ) (l : Lot (Unit {0})) → slice_get lots k ≡ Some l → length l.parts ≤ most_parts) → NoneBehind boxes (length lots) → (places : List ℕ) → AreReached r (bounds_of ps) boxes from places → AreAllNear r ps lots from places
-  places_near few none places a = record {
-    rising = a.rising;
-    behind = of_all (λ (k : ℕ). from ≤ k) places (λ k l. (place k l).behind);
-    within = places_within r (bounds_of ps) lots boxes from places none a;
-    all = λ k l f at live near. listed k places (a.all k (contained k (places_from from (numbers_near r (bounds_of ps) boxes)) (near_found few k l f at live near)));
-    only = λ k l on at. found_near k l (place k on) at;
-  }
-    where
-      place : (k : ℕ) → Listed k places → MeetingPlace r (bounds_of ps) boxes from k
-      place k l = place_found r (bounds_of ps) boxes from k (listed k (places_from from (numbers_near r (bounds_of ps) boxes)) (a.only k (contained k places l)))
+-- the places around which the box meets that around the list are such
+pub places_near : (r : Reach) (ps : List Part) (lots : List (Lot (Unit {0}))) (live : Boxes) (from : ℕ) → IsIndexOf is_live lots live → NoneBehind live (length lots) → AreAllNear r ps lots from (places_from from (meeting_ids (is_closed r) (hull_of_parts ps) live))
+places_near r ps lots live from h none = record {
+  rising = places_rise (is_closed r) (hull_of_parts ps) live from;
+  behind = of_all (λ (k : ℕ). from ≤ k) (places_from from ids) (λ k l. leb-true from k (stayed (λ c. leb from c) k ids l).1);
+  within = places_within (is_closed r) (hull_of_parts ps) live from lots none;
+  all = λ k l f at lives near.
+      let box : box_at live k ≡ Some (hull_of_parts l.parts) = h k ∙ ap (hull_if is_live) at ∙ ap (λ (b : Bool). cond b (Some (hull_of_parts l.parts)) None) lives in
+      stays_listed (λ c. leb from c) k ids (le-leb from k f) (box_reached (is_closed r) (hull_of_parts ps) (hull_of_parts l.parts) live k box (hulls_meet r ps l near));
+}
+  where
+    ids : List ℕ
+    ids = meeting_ids (is_closed r) (hull_of_parts ps) live

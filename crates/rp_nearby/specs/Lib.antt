@@ -1,2 +1,3 @@
 pub mod Indexed
 pub mod Near
+pub mod Owner

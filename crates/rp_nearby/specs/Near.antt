@@ -1,12 +1,9 @@
--- The lots that may meet a list of parts, found by the boxes of their parts.
-use Rattle.std.specs.Prelude.{◌≡◌, ℕ, ◌/◌, ◌<◌, ◌==◌, Bool, true, false, ◌&&◌, not, nat_le, List, [], ◌∷◌, ◌++◌, map, filter, length, drop, Some, None, slice_get}
-use Rattle.std.specs.List.{AllByRecursion, Contains}
-use Rattle.std.specs.List.Sorted.{IsStrictlySortedBy}
-use Rattle.std.specs.Ordering.{nat_cmp}
+-- The lots that may meet a list of parts, found by the boxes around lots.
+use Rattle.std.specs.Prelude.{◌≡◌, ℕ, ◌<◌, ◌==◌, Bool, true, false, ◌&&◌, not, nat_le, List, [], ◌∷◌, ◌++◌, filter, length, drop, Some, None, slice_get}
+use Rattle.std.specs.List.{AllByRecursion}
 use Rattle.std.specs.Option.{option_to_list}
 use Rattle.rp_geometry.specs.Geometry.{IntegerBox}
 use Rattle.rp_geometry.specs.sets.Shape.{Part}
-use Rattle.rp_geometry.specs.parts.Parts.{most_parts}
 use Rattle.rp_language.specs.Name.{Label, label_eq}
 use Rattle.rp_walks.specs.Form.{near_pair, touching_pair}
 use Rattle.rp_model.specs.states.State.{Lot, is_live, live_lots, lots_of_layer, other_lots}
@@ -15,7 +12,7 @@ use Rattle.rp_boxindex.specs.Boxes.{Boxes}
 use Rattle.rp_boxindex.specs.Meeting.{meeting_ids}
 use Rattle.rp_nearby.specs.declared.near.Reach.{Reach}
 use Rattle.rp_nearby.specs.declared.near.Reach.TheVariants.{Overlap, Touch}
-use Rattle.rp_nearby.specs.Indexed.{bounds_of, AreKeptIn}
+use Rattle.rp_nearby.specs.Indexed.{hull_of_parts, AreKeptIn}
 
 -- the boxes of two parts let them meet
 abbrev pub may_meet : Reach → Part → Part → Bool
@@ -56,22 +53,11 @@ abbrev pub is_closed : Reach → Bool
 is_closed Overlap = false
 is_closed Touch = true
 
--- the numbers of the boxes that let their parts meet one of these boxes, of each in turn
-abbrev pub numbers_near : Reach → List IntegerBox → Boxes → List ℕ
-numbers_near r [] boxes = []
-numbers_near r (b ∷ bs) boxes = meeting_ids (is_closed r) b boxes ++ numbers_near r bs boxes
+-- the places from one on of the live lots of the layer that have another id, around which the box meets this one
+abbrev pub other_places : {S : Type 0} → Reach → IntegerBox → Label → Label → ℕ → List (Lot S) → Boxes → List ℕ
+other_places r hull y x from history live = filter (is_other_at y x history) (filter (λ k. nat_le from k) (meeting_ids (is_closed r) hull live))
 
--- the places of the lots whose parts have the numbers, from a place on
-abbrev pub places_from : ℕ → List ℕ → List ℕ
-places_from from numbers = filter (λ k. nat_le from k) (map (λ n. n / most_parts) numbers)
-
--- the places from one on, in rising order, whose lots have a box that may meet one of these
-pub record AreReached (r : Reach) (bs : List IntegerBox) (boxes : Boxes) (from : ℕ) (places : List ℕ) : Type 0 where
-  pub rising : IsStrictlySortedBy nat_cmp places
-  pub all : (k : ℕ) → Contains (places_from from (numbers_near r bs boxes)) k → Contains places k
-  pub only : (k : ℕ) → Contains places k → Contains (places_from from (numbers_near r bs boxes)) k
-
--- of all lots that are kept in the history and the index, the places are those, in order, of the live lots of the layer, from a place on, that have another id and a part that may meet one of the parts with these boxes
-abbrev pub AreNear : Reach → List IntegerBox → Label → Label → ℕ → List (Lot (Unit {0})) → Boxes → List ℕ → Type 0
-AreNear r bs y x from history boxes places =
-    (lots : List (Lot (Unit {0}))) (ps : List Part) → AreKeptIn history boxes lots → bs ≡ bounds_of ps → lots_at lots places ≡ filter (is_near r ps) (others_in y x (drop from lots))
+-- of all lots that are kept in the history and the index, those at the places have among them, in order, exactly the live lots of the layer, from a place on, that have another id and a part that may meet one of the parts within this hull
+abbrev pub AreNear : Reach → IntegerBox → Label → Label → ℕ → List (Lot (Unit {0})) → Boxes → List ℕ → Type 0
+AreNear r hull y x from history live places =
+    (lots : List (Lot (Unit {0}))) (ps : List Part) → AreKeptIn history live lots → hull ≡ hull_of_parts ps → filter (is_near r ps) (lots_at lots places) ≡ filter (is_near r ps) (others_in y x (drop from lots))

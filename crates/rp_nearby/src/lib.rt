@@ -1,11 +1,21 @@
-//! The boxes of the parts of live lots, in an index that finds the lots which may meet a shape without a look at each.
 #![tactic(auto)]
+//! A box around each lot, in indexes that find the lots which may meet a shape, or have a point, without a look at each.
+//!
+//! The boxes are kept under the places of the lots: those of new lots are all taken in, or none where memory runs out, and
+//! lots that end leave the index of live ones without memory. [`LotBoxes::near`] answers the places of live lots of a layer,
+//! from a place on, with another id than one, around which the box meets a box: so of each that has a part which may meet a
+//! part within it, in rising order. [`LotBoxes::owner`] answers the first lot of a layer that has a point, now or after a
+//! line. The lemmas show that what the walks over all lots come to is what they come to over these, for every tester.
 
 mod boxes;
+mod moment;
 mod near;
+mod owner;
 
-pub use boxes::LiveBoxes;
+pub use boxes::LotBoxes;
+pub use moment::{Moment, is_there};
 pub use near::Reach;
+pub use owner::Holder;
 
 #[cfg(test)]
 mod tests;

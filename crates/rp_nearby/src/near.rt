@@ -1,10 +1,14 @@
-//! The lots that may meet a shape, found by the boxes of their parts.
-ghost use Rattle.std.specs.Prelude.{◌≡◌, ◌<◌, ◌≤◌, filter, length, IfOk};
+//! The lots that may meet a shape, found by the boxes around them.
+ghost use Rattle.std.specs.Prelude.{◌≡◌, ◌<◌, ◌≤◌, filter, length, nat_le, IfOk};
+ghost use Rattle.std.specs.List.Sorted.{IsStrictlySortedBy};
+ghost use Rattle.std.specs.Ordering.{nat_cmp};
+ghost use Rattle.rp_space.specs.Boxes.{integer_box};
 ghost use Rattle.rp_history.specs.Lots.{lot_of};
-ghost use Rattle.rp_nearby.specs.Indexed.{boxes_in, NoneBehind};
-ghost use Rattle.rp_nearby.specs.Near.{is_other_in, is_other_at, places_from, AreWithin, AreReached, AreNear};
+ghost use Rattle.rp_boxindex.specs.Meeting.{meeting_ids};
+ghost use Rattle.rp_nearby.specs.Indexed.{NoneBehind};
+ghost use Rattle.rp_nearby.specs.Near.{is_closed, is_other_in, is_other_at, other_places, AreWithin, AreNear};
 
-use crate::boxes::{LiveBoxes, MAX_PARTS};
+use crate::boxes::LotBoxes;
 use rp_boxindex::{Steps, Watch};
 use rp_history::{History, LotLine};
 use rp_space::{IntBox, Listed, Name};
@@ -21,37 +25,40 @@ pub enum Reach {
     Touch,
 }
 
-impl LiveBoxes {
-    /// The places, in rising order, of the live lots of a layer, from a place on, that have another id and a part whose box
-    /// may meet one of the boxes. Answers `AllocError` only for want of memory.
+impl LotBoxes {
+    /// The places, in rising order, of the live lots of a layer, from a place on, that have another id and around which the
+    /// box meets a box: so of each of them that has a part which may meet a part within that box.
+    /// Answers `AllocError` only for want of memory.
     pub fn near<W: Watch>(
         &self,
         alloc: Global,
         watch: &W,
         history: &History,
-        boxes: &[IntBox],
+        hull: &IntBox,
         layer: &Name,
         id: &Name,
         from: usize,
         reach: Reach,
     ) -> Result<Listed<usize>, AllocError>
         requires from { from ≤ length history.now }
-        requires behind { NoneBehind self.now.index (length history.now) }
-        ensures near { IfOk result (λ places. AreNear reach (boxes_in boxes.now) layer.now id.now from history.now self.now.index places.items) }
+        requires behind { NoneBehind self.now.live (length history.now) }
+        ensures exact { IfOk result (λ places. places.items ≡ other_places reach (integer_box hull.now) layer.now id.now from history.now self.now.live) }
+        ensures near { IfOk result (λ places. AreNear reach (integer_box hull.now) layer.now id.now from history.now self.now.live places.items) }
         ensures within { IfOk result (λ places. AreWithin history.now places.items) }
+        ensures rising { IfOk result (λ places. IsStrictlySortedBy nat_cmp places.items) }
         ensures few { IfOk result (λ places. length places.items ≤ length history.now) }
     {
-        let places = self.reached::<W, Brand>(alloc, watch, boxes, from, reach, Blank::new(1))?;
+        let places = self.reached::<W, Brand>(alloc, watch, hull, from, reach, Blank::new(1))?;
         others(alloc, history, &places, layer, id)
     }
 
-    /// The places from one on, in rising order, whose lots have a box that may meet one of the boxes.
+    /// The places from one on, in rising order, of the live lots around which the box meets a box.
     /// Answers `AllocError` only for want of memory.
     fn reached<W: Watch, L: Ledger>(
         &self,
         alloc: Global,
         watch: &W,
-        boxes: &[IntBox],
+        hull: &IntBox,
         from: usize,
         reach: Reach,
         blank: Blank,
@@ -59,14 +66,15 @@ impl LiveBoxes {
         requires name { blank.name ≡ L.name }
         requires parts { blank.parts ≡ L.parts }
         requires some { 0 < L.parts }
-        ensures { IfOk result (λ places. AreReached reach (boxes_in boxes.now) self.now.index from places.items) }
+        ensures { IfOk result (λ places. places.items ≡ filter (λ k. nat_le from k) (meeting_ids (is_closed reach) (integer_box hull.now) self.now.live)) }
     {
+        let closed = matches!(reach, Reach::Touch);
         let mut steps = Steps::<L>::new(blank);
-        let numbers = self.meeting(alloc, watch, boxes, reach, &mut steps)?;
-        let mut places = places_from(alloc, &numbers, from)?;
-        places.sort_unstable();
-        places.dedup();
-        Ok(places)
+        let ids = self.live.meeting(alloc, hull, closed, watch, &mut steps)?;
+        ids.iter()
+            .map(|id| *id as usize)
+            .filter(|place| from <= *place)
+            .collect(alloc)
     }
 }
 
@@ -97,16 +105,4 @@ fn others(
         }
     }
     Ok(list)
-}
-
-/// The places of the lots whose parts have some numbers, of each number in turn, from a place on.
-/// Answers `AllocError` only for want of memory.
-fn places_from(alloc: Global, numbers: &[u32], from: usize) -> Result<Vec<usize>, AllocError>
-    ensures { IfOk result (λ places. places.items ≡ places_from from numbers.now) }
-{
-    numbers
-        .iter()
-        .map(|number| *number as usize / MAX_PARTS)
-        .filter(|place| from <= *place)
-        .collect(alloc)
 }
