@@ -1,5 +1,7 @@
-//! Work in halves: items are judged in several threads, and the answers are those of one thread, in order.
 #![tactic(auto)]
+//! Work in halves: items are judged in several threads, and the answers are those of one thread, in order.
+//!
+//! [`judge_all`] finds the meanings of all items in order, for every grain. How the work is split no contract tells.
 
 mod halves;
 mod judge;

@@ -2,7 +2,7 @@ ghost use Rattle.std.specs.Prelude.{ℕ, ◌*◌, ◌≤◌, ◌^◌};
 
 use super::{Judge, judge_all};
 use std::alloc::{AllocError, Global};
-use std::sync::atomic::{AtomicBool, Ordering};
+use std::sync::atomic::{AtomicBool, AtomicUsize, Ordering};
 use std::test::Fail;
 
 /// The numbers from 0 on, each of which means its square.
@@ -79,5 +79,50 @@ fn two_items_are_judged_at_once(rt: HostRuntime) -> Result<(), Fail> {
     for met in &pair.met {
         assert!(rt; met.load(Ordering::SeqCst));
     }
+    Ok(())
+}
+
+/// So many items, each of which means its number. How many are judged at once is counted, and the most of these counts.
+#[derive(Drop)]
+struct Counted {
+    count: usize,
+    now: AtomicUsize,
+    most: AtomicUsize,
+}
+
+impl Judge for Counted {
+    type Out = usize;
+
+    ghost size = { λ s. s.count };
+
+    ghost meaning = { λ _ i. i };
+
+    fn count(&self) -> usize {
+        self.count
+    }
+
+    fn judge(&self, _alloc: Global, i: usize) -> Result<usize, AllocError> {
+        let now = self.now.fetch_add(1, Ordering::SeqCst);
+        self.most.fetch_max(now, Ordering::SeqCst);
+        // Long enough for others to begin.
+        for _ in 0..100_000u32 {
+            let _ = self.now.load(Ordering::SeqCst);
+        }
+        self.now.fetch_sub(1, Ordering::SeqCst);
+        Ok(i)
+    }
+}
+
+#[test]
+fn few_threads_judge_many_items(rt: HostRuntime) -> Result<(), Fail> {
+    let counted = Counted {
+        count: 1000,
+        now: AtomicUsize::new(0),
+        most: AtomicUsize::new(0),
+    };
+    let numbers = judge_all(&rt, rt.alloc(), 1, &counted)?;
+    assert_eq!(rt; numbers.len(), 1000);
+    // The first of those that run at once finds no other one.
+    assert!(rt; counted.most.load(Ordering::SeqCst) < 8);
     Ok(())
 }

@@ -14,6 +14,8 @@ use Rattle.rp_model.specs.commands.Checks.{refuse_if, and_then, check_new, check
 use Rattle.rp_model.specs.commands.Row.{Reply, accepted, check, check_size, reply_lines, FormedChild, new_lot, parts_with_id, joined_parts, child_parts, lot_parts, first_empty_child, count_with_each, count_among, row_retire, row_cut, row_subdivide, row_consolidate, row_neighbours, first_outside_child, first_overlapping_children, touched_lots}
 use Rattle.rp_states.proofs.Accepted.{each_ok}
 use Rattle.rp_states.proofs.Looked.{looked_up}
+use Rattle.rp_region.specs.Makes.{work_after, TellsMore}
+use Rattle.rp_region.proofs.Grows.{no_more}
 use Rattle.rp_history.specs.Lots.{lots_in}
 use Rattle.rp_parcels.specs.declared.fault.ParcelFault.{ParcelFault}
 use Rattle.rp_parcels.specs.Rows.{Cause, refuses, limited, wanting, cause_of, EndsBy, Changes}
@@ -21,9 +23,15 @@ use Rattle.rp_machine.specs.declared.fault.RowFault.{RowFault}
 use Rattle.rp_machine.specs.declared.reply.Reply.{Reply as CodeReply}
 use Rattle.rp_machine.specs.Faults.{cause_of_row}
 use Rattle.rp_machine.specs.Named.{state_with}
-use Rattle.rp_machine.specs.Replies.{IsAnswered, Runs}
+use Rattle.rp_machine.specs.Replies.{FailsAt, IsAnswered, Runs}
 
 -- ---- from the lots to the state
+
+-- what a row of the register comes to, without what is said where memory ran out
+pub fails_at : (c : Cause) (old new : Work) (o : Outcome Work Reply) → EndsBy c old new o → FailsAt c new o
+fails_at (refuses r) old new o h = h
+fails_at limited old new o h = h
+fails_at wanting old new o h = tt
 
 -- a change of the lots that was answered was run in the state
 pub change_run : {A : Type 0} (y : Label) (ks : List (Kept (Unit {0}))) (asked : Result A ParcelFault) (r : Result CodeReply RowFault) (n : ℕ) (old new : Work) (before after : List (Lot (Unit {0}))) (walk : Walk Work Reply) (o : Outcome Work Reply)
@@ -33,7 +41,7 @@ change_run y ks (Ok x) r n old new before after walk o answered change same =
     (record { change = lots_replaced change.ids change.new; says = sym same ∙ change.says; state = ap (state_with y ks) change.lots })
 change_run y ks (Err e) (Ok r) n old new before after walk o answered change same = absurd answered
 change_run y ks (Err e) (Err f) n old new before after walk o answered change same = (
-  subst (EndsBy (cause_of_row f) new) same (subst (λ (c : Cause). EndsBy c new (walk old)) (sym answered) change.0),
+  subst (FailsAt (cause_of_row f) new) same (fails_at (cause_of_row f) old new (walk old) (subst (λ (c : Cause). EndsBy c old new (walk old)) (sym answered) change.0)),
   ap (state_with y ks) change.1,
 )
 
@@ -147,13 +155,18 @@ checked_only : (o : Option Refusal) (c : Change (Unit {0})) (w : Work) → with_
 checked_only None c w = refl
 checked_only (Some r) c w = refl
 
+-- it leaves this work
+with_work_after : (w : Work) (o : Outcome Work Reply) → work_after (with_work w o) ≡ w
+with_work_after w (done r v) = refl
+with_work_after w (stopped e v) = refl
+
 -- it ends by the same cause with any work
-ends_with : (c : Cause) (w : Work) (o : Outcome Work Reply) → EndsBy c no_work o → EndsBy c w (with_work w o)
+ends_with : (c : Cause) (w : Work) (o : Outcome Work Reply) → EndsBy c no_work no_work o → EndsBy c w w (with_work w o)
 ends_with (refuses r) w o h = ap (with_work w) h
 ends_with limited w o h = ap (with_work w) h
-ends_with wanting w o h = tt
+ends_with wanting w o h = record { told = no_more w; untold = subst (TellsMore w) (sym (with_work_after w o)) (no_more w) }
 
 -- so a retirement may come behind any work
 pub retire_later : {A : Type 0} (asked : Result A ParcelFault) (n : ℕ) (w : Work) (s : PlainState) (after : List (Lot (Unit {0}))) (x : Label) → Changes asked n no_work no_work s.lots after (row_retire (lots_in [] s.lots) x) → Changes asked n w w s.lots after (row_retire (lots_in [] s.lots) x)
 retire_later (Ok a) n w s after x h = record { ids = h.ids; new = h.new; says = sym (checked_only (check_live (lots_in [] s.lots) x) (lots_replaced (x ∷ []) []) w) ∙ ap (with_work w) h.says; lots = h.lots }
-retire_later (Err e) n w s after x h = (subst (EndsBy (cause_of e) w) (checked_only (check_live (lots_in [] s.lots) x) (lots_replaced (x ∷ []) []) w) (ends_with (cause_of e) w (row_retire (lots_in [] s.lots) x no_work) h.0), h.1)
+retire_later (Err e) n w s after x h = (subst (EndsBy (cause_of e) w w) (checked_only (check_live (lots_in [] s.lots) x) (lots_replaced (x ∷ []) []) w) (ends_with (cause_of e) w (row_retire (lots_in [] s.lots) x no_work) h.0), h.1)

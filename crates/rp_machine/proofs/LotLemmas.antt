@@ -29,7 +29,8 @@ use Rattle.rp_machine.specs.declared.fault.RowFault.{RowFault}
 use Rattle.rp_machine.specs.declared.reply.Reply.{Reply as CodeReply}
 use Rattle.rp_machine.specs.Faults.{cause_of_row}
 use Rattle.rp_machine.specs.Lots.{lots_under}
-use Rattle.rp_machine.specs.Replies.{Walks, Runs, reply_told}
+use Rattle.rp_machine.specs.Replies.{FailsAt, Walks, Runs, reply_told}
+use Rattle.rp_machine.proofs.Changes.{fails_at}
 
 -- ---- questions
 
@@ -45,9 +46,9 @@ question_run r asked n old new s c d e is h =
     (subst (λ (r : Result CodeReply RowFault). Runs r n new s s (row first_tester s d old)) (sym is) (asked_run asked n new s (row first_tester s d old) h))
 
 -- a question to the register that has a fault
-pub question_fails : (r : Result (Listed CodeVerdict) RowFault) (f : RowFault) (e : ParcelFault) (w : Work) (o p : Outcome Work Reply) → r ≡ Err f → cause_of_row f ≡ cause_of e → EndsWith e w o → o ≡ p → Walks r w p
-question_fails r f e w o p is cause ends same =
-    subst (λ (r : Result (Listed CodeVerdict) RowFault). Walks r w p) (sym is) (subst (EndsBy (cause_of_row f) w) same (subst (λ (c : Cause). EndsBy c w o) (sym cause) ends))
+pub question_fails : (r : Result (Listed CodeVerdict) RowFault) (f : RowFault) (e : ParcelFault) (old w : Work) (o p : Outcome Work Reply) → r ≡ Err f → cause_of_row f ≡ cause_of e → EndsWith e old w o → o ≡ p → Walks r w p
+question_fails r f e old w o p is cause ends same =
+    subst (λ (r : Result (Listed CodeVerdict) RowFault). Walks r w p) (sym is) (subst (FailsAt (cause_of_row f) w) same (fails_at (cause_of_row f) old w o (subst (λ (c : Cause). EndsBy c old w o) (sym cause) ends)))
 
 -- ---- lots without parts
 

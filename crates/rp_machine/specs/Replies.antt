@@ -3,14 +3,14 @@ use Rattle.std.specs.Prelude.{◌≡◌, ℕ, List, [], ◌∷◌, map, Result, 
 use Rattle.rp_geometry.specs.sets.Shape.{Part}
 use Rattle.rp_geometry.specs.searches.ProofLine.{ProofLine}
 use Rattle.rp_language.specs.Expression.{Expression, first_unknown_among}
-use Rattle.rp_walks.specs.Walk.{Outcome, done, Walk, Work, first_tester, ◌>>=◌}
+use Rattle.rp_walks.specs.Walk.{Outcome, done, stopped, limit_met, Walk, Work, first_tester, ◌>>=◌}
 use Rattle.rp_walks.specs.Form.{form}
 use Rattle.rp_model.specs.states.State.{PlainState, Change, changed, parts_in}
 use Rattle.rp_model.specs.commands.Verdict.{Verdict, says_ok, refused, limit, unknown}
-use Rattle.rp_model.specs.commands.Row.{Reply, reply_lines, check, with_forms}
+use Rattle.rp_model.specs.commands.Row.{Reply, refusal, reply_lines, check, with_forms}
 use Rattle.rp_space.specs.Listed.{Listed}
 use Rattle.rp_parcels.specs.declared.fault.ParcelFault.{ParcelFault}
-use Rattle.rp_parcels.specs.Rows.{cause_of, EndsBy}
+use Rattle.rp_parcels.specs.Rows.{Cause, refuses, limited, wanting, cause_of}
 use Rattle.rp_report.specs.declared.answer.Verdict.{Verdict as CodeVerdict}
 use Rattle.rp_report.specs.Views.{refusal_of, verdict_of}
 use Rattle.rp_machine.specs.declared.fault.RowFault.{RowFault}
@@ -21,10 +21,16 @@ use Rattle.rp_machine.specs.Faults.{cause_of_row}
 
 -- ---- what the row of a command comes to
 
+-- what a row comes to where it has a fault of this cause, at this work; nothing is said where memory ran out
+abbrev pub FailsAt : Cause → Work → Outcome Work Reply → Type 0
+FailsAt (refuses r) w o = o ≡ done (refusal r) w
+FailsAt limited w o = o ≡ stopped limit_met w
+FailsAt wanting w o = Unit {0}
+
 -- a question was answered, and the work is this: the row comes to the lines, or has the fault
 abbrev pub Walks : Result (Listed CodeVerdict) RowFault → Work → Outcome Work Reply → Type 0
 Walks (Ok lines) w o = o ≡ done (reply_lines (map verdict_of lines.items)) w
-Walks (Err e) w o = EndsBy (cause_of_row e) w o
+Walks (Err e) w o = FailsAt (cause_of_row e) w o
 
 -- the verdict lines of a reply
 abbrev pub lines_of : CodeReply → List Verdict
@@ -40,7 +46,7 @@ pub record HasCome (n : ℕ) (before after : PlainState) (r : CodeReply) (w : Wo
 -- the line with the number was carried out, and the work is this: the row comes to the reply and its change was made, or it has the fault and the state is as before
 abbrev pub Runs : Result CodeReply RowFault → ℕ → Work → PlainState → PlainState → Outcome Work Reply → Type 0
 Runs (Ok r) n w before after o = HasCome n before after r w o
-Runs (Err e) n w before after o = EndsBy (cause_of_row e) w o × (after ≡ before)
+Runs (Err e) n w before after o = FailsAt (cause_of_row e) w o × (after ≡ before)
 
 -- the reply to a question
 abbrev pub reply_told : Result (Listed CodeVerdict) RowFault → Result CodeReply RowFault
@@ -57,7 +63,7 @@ IsAnswered (Err e) r = IsErrAnd r (λ f. cause_of_row f ≡ cause_of e)
 -- the first walk of a row was made, and the work is this: the row goes on from its result, or has the fault
 abbrev pub GoesOn : {A B : Type 0} → (A → B) → Result A RowFault → Work → (B → Walk Work Reply) → Outcome Work Reply → Type 0
 GoesOn view (Ok x) w next o = o ≡ next (view x) w
-GoesOn view (Err e) w next o = EndsBy (cause_of_row e) w o
+GoesOn view (Err e) w next o = FailsAt (cause_of_row e) w o
 
 -- the row of one expression, by what comes behind its form
 abbrev pub row_of_form : PlainState → Expression → (List Part → Walk Work Reply) → Walk Work Reply

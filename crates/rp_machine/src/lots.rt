@@ -7,7 +7,7 @@ ghost use Rattle.rp_model.specs.commands.Verdict.{Verdict as ModelVerdict, neigh
 ghost use Rattle.rp_model.specs.commands.Row.{row};
 ghost use Rattle.rp_history.specs.Lots.{lot_of};
 ghost use Rattle.rp_parcels.specs.Access.{told_chain, told_levels};
-ghost use Rattle.rp_parcels.specs.Points.{owner_verdict};
+ghost use Rattle.rp_nearby.specs.Owner.{owner_verdict};
 ghost use Rattle.rp_report.specs.Views.{verdict_of};
 ghost use Rattle.rp_machine.specs.Replies.{Walks};
 ghost use Rattle.rp_machine.specs.Lots.{lots_under};
@@ -23,7 +23,7 @@ use rp_space::{Name, Names, Point};
 use std::alloc::{AllocError, Global};
 use std::thread::Threads;
 
-/// The most parcels, or pairs of parcels, that are judged in a row in one thread.
+/// A run of at most so many parcels, or pairs of parcels, is not split.
 const GRAIN: usize = 16;
 
 /// A verdict line, and one for each of some ids. Answers `AllocError` only for want of memory.

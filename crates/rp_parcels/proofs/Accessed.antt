@@ -20,7 +20,12 @@ use Rattle.rp_nearby.specs.Near.{lots_at, AreWithin}
 use Rattle.rp_verdicts.proofs.Access.{places_below}
 use Rattle.rp_parcels.specs.Judged.{with_all_lines}
 use Rattle.rp_parcels.specs.Touching.{lists_at, places_among, links_that_meet}
-use Rattle.rp_parcels.proofs.Walked.{check_passes}
+use Rattle.rp_region.specs.Makes.{OnlyTells}
+use Rattle.rp_region.proofs.Grows.{then_tells, pass_tells, count_tells}
+use Rattle.rp_region.proofs.Left.{IsLeft, next_left}
+use Rattle.rp_parcels.specs.Rows.{Cause, EndsBy, FailsBy}
+use Rattle.rp_parcels.proofs.Tells.{check_tells, among_lists_tells}
+use Rattle.rp_parcels.proofs.Walked.{begun, check_passes, check_fails}
 use Rattle.rp_parcels.proofs.Linked.{lists_of_lots, ids_counted, touching_among, judged_places, among_shown}
 
 module _ (lots : List (Lot (Unit {0}))) (x z : Label) where
@@ -36,6 +41,28 @@ module _ (lots : List (Lot (Unit {0}))) (x z : Label) where
     count_tests (count_among touching_pair lists)
     links_told ls lists
 
+  -- the end of the row
+  abbrev pub told_links : List (Lot (Unit {0})) → List (ℕ × ℕ) → Walk Work Reply
+  told_links ls links = pass (reply_lines (access_by_links (ids_of ls) links x z))
+
+  -- the row only appends lines
+  pub links_told_tells : (ls : List (Lot (Unit {0}))) (lists : List (List Part)) → OnlyTells (links_told ls lists)
+  links_told_tells ls lists = then_tells (links_among_lists first_tester [] (numbered_lists 0 lists)) (told_links ls) (among_lists_tells [] (numbered_lists 0 lists)) (λ links. pass_tells (reply_lines (access_by_links (ids_of ls) links x z)))
+
+  counted_told_tells : (ls : List (Lot (Unit {0}))) (lists : List (List Part)) → OnlyTells (counted_told ls lists)
+  counted_told_tells ls lists = then_tells (count_tests (count_among touching_pair lists)) (λ _. links_told ls lists) (count_tells (count_among touching_pair lists)) (λ _. links_told_tells ls lists)
+
+  pub access_tells : OnlyTells (row_access first_tester (lots_in [] lots) x z)
+  access_tells =
+      let ls = layer_lots (lots_in [] lots) x in
+      check_tells (check_access (lots_in [] lots) x z) (counted_told ls (lot_parts ls)) (counted_told_tells ls (lot_parts ls))
+
+  -- its checks fail
+  pub access_fails : (c : Cause) (w : Work) → FailsBy c (check_access (lots_in [] lots) x z) → EndsBy c w w (row_access first_tester (lots_in [] lots) x z w)
+  access_fails c w h =
+      let ls = layer_lots (lots_in [] lots) x in
+      check_fails c (check_access (lots_in [] lots) x z) (counted_told ls (lot_parts ls)) w (counted_told_tells ls (lot_parts ls)) h
+
   module _ (y : Label) (places : List ℕ) (checked : check_access (lots_in [] lots) x z ≡ None) (layer : y ≡ layer_with_id (lots_in [] lots) x) (found : lots_at lots places ≡ lots_of_layer y (live_lots lots)) (within : AreWithin lots places) where
     -- the lots at the places are those of the layer
     lots_there : layer_lots (lots_in [] lots) x ≡ lots_at lots places
@@ -48,17 +75,22 @@ module _ (lots : List (Lot (Unit {0}))) (x z : Label) where
         ∙ ap (λ (ls : List (Lot (Unit {0}))). counted_told ls (lot_parts ls) w) lots_there
         ∙ ap (λ (lists : List (List Part)). counted_told (lots_at lots places) lists w) (lists_of_lots lots places within)
 
-    -- what is left behind the count
-    pub counted_left : (n : ℕ) (w : Work) → n ≡ count_among touching_pair (lists_at lots places) → after_first (λ _. links_told (lots_at lots places) (lists_at lots places)) (count_tests n w) ≡ row_access first_tester (lots_in [] lots) x z w
-    counted_left n w counted = ap (λ (k : ℕ). after_first (λ _. links_told (lots_at lots places) (lists_at lots places)) (count_tests k w)) counted ∙ sym (row_left w)
+    -- the row begins with the count
+    pub access_begins : (n : ℕ) (w : Work) → n ≡ count_among touching_pair (lists_at lots places) → IsLeft w (row_access first_tester (lots_in [] lots) x z) w (count_tests n >> links_told (lots_at lots places) (lists_at lots places))
+    access_begins n w counted =
+        begun (count_tests n >> links_told (lots_at lots places) (lists_at lots places)) w
+        (ap (λ (k : ℕ). after_first (λ _. links_told (lots_at lots places) (lists_at lots places)) (count_tests k w)) counted ∙ sym (row_left w))
+
+    -- and goes on behind it
+    pub access_goes_on : (n : ℕ) (w v : Work) → n ≡ count_among touching_pair (lists_at lots places) → count_tests n w ≡ done tt v → IsLeft w (row_access first_tester (lots_in [] lots) x z) v (links_told (lots_at lots places) (lists_at lots places))
+    access_goes_on n w v counted made = next_left (count_tests n) (λ _. links_told (lots_at lots places) (lists_at lots places)) (count_tells n) (access_begins n w counted) made
 
     -- the row, once the tests are counted and made
     pub row_walked : (n : ℕ) (w v : Work) → n ≡ count_among touching_pair (lists_at lots places) → count_tests n w ≡ done tt v
         → row_access first_tester (lots_in [] lots) x z w
         ≡ done (reply_lines (access_by_links (ids_of (lots_at lots places)) (links_that_meet (touching_among 0 (lists_at lots places)) (judged_places lots (places_among lots places))) x z)) (with_all_lines v (judged_places lots (places_among lots places)))
     row_walked n w v counted made =
-        row_left w
-        ∙ ap (after_first (λ _. links_told (lots_at lots places) (lists_at lots places))) (ap (λ (k : ℕ). count_tests k w) (sym counted) ∙ made)
+        sym (access_goes_on n w v counted made).same
         ∙ ap (after_first (λ links. pass (reply_lines (access_by_links (ids_of (lots_at lots places)) links x z)))) (among_shown lots 0 places [] v)
 
     -- both ids have a number

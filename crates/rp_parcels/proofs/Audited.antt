@@ -1,16 +1,16 @@
 -- Live lots that are behind another one, counted and shown to be apart.
-use Rattle.std.proofs.Common.{◌≡◌, ℕ, zero, suc, ◌+◌, ◌<◌, ◌≤◌, Bool, true, false, not, cond, List, [], ◌∷◌, map, filter, length, drop, get_or, Option, Some, None, slice_get, refl, sym, ap, ◌∙◌, subst, arith}
+use Rattle.std.proofs.Common.{◌≡◌, ℕ, zero, suc, ◌+◌, ◌<◌, ◌≤◌, Bool, true, false, not, cond, List, [], ◌∷◌, filter, length, drop, Option, Some, None, slice_get, refl, sym, ap, ◌∙◌, subst, arith}
 use Rattle.std.specs.Prelude.{is_some, is_none}
 use Rattle.std.specs.List.{AllByRecursion}
 use Rattle.rp_geometry.specs.sets.Shape.{Part, shape_of_parts}
 use Rattle.rp_geometry.specs.sets.Sets.{Overlaps}
 use Rattle.rp_language.specs.Name.{label_eq}
-use Rattle.rp_walks.specs.Walk.{Outcome, Work, after_first, first_tester}
+use Rattle.rp_walks.specs.Walk.{Work, first_tester}
 use Rattle.rp_history.specs.declared.lot.LotLine.{LotLine}
 use Rattle.rp_history.specs.Lots.{lot_of}
 use Rattle.rp_model.specs.states.State.{Lot, bare_lot, is_live, live_lots, lots_of_layer}
 use Rattle.rp_model.specs.states.Sound.{Pairwise}
-use Rattle.rp_model.specs.commands.Row.{lot_parts, all_apart, all_apart_from}
+use Rattle.rp_model.specs.commands.Row.{lot_parts, all_apart_from}
 use Rattle.rp_states.proofs.Labels.{label_is}
 use Rattle.rp_states.proofs.Listing.{all_passed}
 use Rattle.rp_algebra.proofs.Listed.{all_map}
@@ -18,7 +18,6 @@ use Rattle.rp_nearby.proofs.Behind.{live_first}
 use Rattle.rp_parcels.specs.Kept.{AreSound}
 use Rattle.rp_nearby.specs.declared.near.Reach.TheVariants.{Overlap}
 use Rattle.rp_nearby.specs.Near.{is_near}
-use Rattle.rp_parcels.proofs.Found.{line_at}
 use Rattle.rp_nearby.proofs.Skipped.{apart_near}
 use Rattle.rp_parcels.proofs.Alone.{ApartLots, live_apart}
 
@@ -44,14 +43,6 @@ apart_behind lots sound k l within at live =
 
 -- ---- one after the other
 
--- the line of a lot that is known to be at its place
-pub own_line : (lots history : List (Lot (Unit {0}))) (lines : List LotLine) → history ≡ map bare_lot lots → map lot_of lines ≡ history → (k : ℕ) (line : LotLine) → k < length lots → line ≡ get_or lines k line → (l : Lot (Unit {0})) → slice_get lots k ≡ Some l → bare_lot l ≡ lot_of line
-own_line lots history lines e f k line within is l at =
-    let item = line_at lots history lines e f k line within is in
-    let same : Some l ≡ Some item.0 = sym at ∙ item.1 in
-    let g : l ≡ item.0 = cc in
-    ap (λ (m : Lot (Unit {0})). bare_lot m) g ∙ item.2
-
 -- a lot is live where its line has no end
 pub line_is_live : (l : Lot (Unit {0})) (line item : LotLine) (r b : Bool) → bare_lot l ≡ lot_of line → line ≡ item → is_some item.ended ≡ not r → r ≡ b → is_live l ≡ b
 line_is_live l line item r b e i f g = ap (λ (m : Lot (Unit {0})). is_live m) e ∙ ap (λ (m : LotLine). is_none m.ended) i ∙ turned item.ended r f ∙ g
@@ -70,11 +61,6 @@ live_few (l ∷ lots) = by (is_live l) (live_few lots)
     by : (b : Bool) → length (live_lots lots) ≤ length lots → length (cond b (l ∷ live_lots lots) (live_lots lots)) ≤ suc (length lots)
     by true later = omega (arith, later)
     by false later = omega (arith, later)
-
--- a live lot is shown to be apart from those behind it, and then the others are left
-pub shown_next : (lots : List (Lot (Unit {0}))) (k : ℕ) (l : Lot (Unit {0})) (w : Work) (o : Outcome Work (Unit {0})) → k < length lots → slice_get lots k ≡ Some l → is_live l ≡ true → all_apart first_tester (live_lots (drop k lots)) w ≡ o →
-    after_first (λ _. all_apart first_tester (live_lots (drop (k + 1) lots))) (all_apart_from first_tester l.parts (lot_parts (lots_of_layer l.layer (live_lots (drop (k + 1) lots)))) w) ≡ o
-shown_next lots k l w o within at live left = sym (ap (λ (ls : List (Lot (Unit {0}))). all_apart first_tester ls w) (live_first lots k l within at live)) ∙ left
 
 -- the tests of the near lots are those of all
 pub near_alone : (near : List (Lot (Unit {0}))) (ps : List Part) (qs : List Part) (ls : List (Lot (Unit {0}))) (w : Work) → qs ≡ ps → near ≡ filter (is_near Overlap ps) ls → all_apart_from first_tester qs (lot_parts near) w ≡ all_apart_from first_tester ps (lot_parts ls) w

@@ -6,8 +6,11 @@ pub mod Checked
 pub mod Repeated
 pub mod Moved
 pub mod Divided
+pub mod Tells
 pub mod Walked
+pub mod Counted
 pub mod Searched
+pub mod Sieved
 pub mod Owned
 pub mod Fit
 pub mod Rows
@@ -16,10 +19,9 @@ pub mod Alone
 pub mod Audited
 pub mod Framed
 pub mod Shown
-pub mod Collected
 pub mod Touched
 pub mod Linked
-pub mod Layered
+pub mod Paired
 pub mod Numbers
 pub mod Accessed
 pub mod Untold

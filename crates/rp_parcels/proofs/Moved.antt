@@ -1,16 +1,18 @@
--- The index of a register through a change, as its history and its regions change.
-use Rattle.std.proofs.Common.{◌≡◌, ℕ, ◌+◌, ◌<◌, ◌≤◌, List, [], ◌∷◌, ◌++◌, map, length, get_or, refl, sym, ap, ◌∙◌, subst, append-nil, arith, rules}
+-- The indexes of a register through a change, as its history and its regions change.
+use Rattle.std.proofs.Common.{◌≡◌, ℕ, ◌+◌, ◌≤◌, List, [], ◌∷◌, ◌++◌, map, length, refl, sym, ap, ◌∙◌, subst, arith, rules}
 use Rattle.std.specs.FinMap.{empty}
 use Rattle.std.proofs.lemmas.List.{length-append, length-map}
 use Rattle.rp_geometry.specs.Geometry.{IntegerBox}
 use Rattle.rp_geometry.specs.sets.Shape.{Part}
 use Rattle.rp_language.specs.Name.{Label, is_among}
-use Rattle.rp_model.specs.states.State.{Lot, bare_lot, ended_at, born_at, lots_replaced, most_kept_parts}
+use Rattle.rp_space.specs.declared.bounds.IntBox.{IntBox}
+use Rattle.rp_model.specs.states.State.{Lot, NewLot, bare_lot, ended_at, born_at, lots_replaced, most_kept_parts}
+use Rattle.rp_states.proofs.Plain.{images_twice}
 use Rattle.rp_history.specs.declared.lot.Birth.{Birth}
 use Rattle.rp_history.specs.Lots.{new_lot_of, lots_after}
 use Rattle.rp_boxindex.specs.Boxes.{Boxes}
-use Rattle.rp_nearby.specs.Indexed.{bounds_of, AreUnder, StayUnder, NoneBehind, ArePacked, IsIndexed, AreEmptied}
-use Rattle.rp_nearby.proofs.Boxed.{indexed_after, indexed_again, indexed_none, indexed_packed, none_behind_lots}
+use Rattle.rp_nearby.specs.Indexed.{boxes_in, hull_of_parts, NoneBehind, ArePut, StaySame, IsIndexed, AreEmptied}
+use Rattle.rp_nearby.proofs.Boxed.{indexed_after, indexed_again, indexed_back, indexed_ended, indexed_none, none_behind_live, none_behind_ever}
 use Rattle.rp_parcels.specs.Kept.{lots_with_parts, AreSound, IsRegister}
 use Rattle.rp_parcels.specs.Register.{new_lots}
 use Rattle.rp_parcels.proofs.Sizes.{few_lots}
@@ -23,22 +25,19 @@ new_lists [] (ps ∷ lists) e = absurd (omega (arith, e))
 new_lists (b ∷ births) [] e = absurd (omega (arith, e))
 new_lists (b ∷ births) (ps ∷ lists) e = let f : length births ≡ length lists = omega (arith, e) in ap (λ (ls : List (List Part)). ps ∷ ls) (new_lists births lists f)
 
--- so are their boxes
-new_bounds : (births : List Birth) (lists : List (List Part)) → length births ≡ length lists → map (λ a. bounds_of a.parts) (new_lots births lists) ≡ map bounds_of lists
-new_bounds [] [] e = refl
-new_bounds [] (ps ∷ lists) e = absurd (omega (arith, e))
-new_bounds (b ∷ births) [] e = absurd (omega (arith, e))
-new_bounds (b ∷ births) (ps ∷ lists) e = let f : length births ≡ length lists = omega (arith, e) in ap (λ (ls : List (List IntegerBox)). bounds_of ps ∷ ls) (new_bounds births lists f)
+-- so are the boxes around them
+new_hulls : (births : List Birth) (lists : List (List Part)) → length births ≡ length lists → map (λ a. hull_of_parts a.parts) (new_lots births lists) ≡ map hull_of_parts lists
+new_hulls births lists e = sym (images_twice (λ (a : NewLot (Unit {0})). a.parts) hull_of_parts (new_lots births lists)) ∙ ap (map hull_of_parts) (new_lists births lists e)
 
 -- no lots
-pub register_none : IsRegister [] [] 0 empty
+pub register_none : IsRegister [] [] 0 empty empty
 register_none = record { each = refl; bare = refl; sound = search rules; count = refl; indexed = indexed_none }
 
--- the boxes of each place stand first
-pub packed : (history : List (Lot (Unit {0}))) (lists : List (List Part)) (parts : ℕ) (boxes : Boxes) → IsRegister history lists parts boxes → ArePacked boxes
-packed history lists parts boxes h = indexed_packed (lots_with_parts history lists) boxes h.indexed
+-- there are as many boxes as regions
+pub hulls_counted : (bs : List IntBox) (lists : List (List Part)) → boxes_in bs ≡ map hull_of_parts lists → length (boxes_in bs) ≡ length lists
+hulls_counted bs lists e = ap length e ∙ length-map lists hull_of_parts
 
-module _ (history : List (Lot (Unit {0}))) (lists : List (List Part)) (parts : ℕ) (boxes : Boxes) (h : IsRegister history lists parts boxes) (count : ℕ) (e : count ≡ length lists) where
+module _ (history : List (Lot (Unit {0}))) (lists : List (List Part)) (parts : ℕ) (live ever : Boxes) (h : IsRegister history lists parts live ever) (count : ℕ) (e : count ≡ length lists) where
   -- its lots
   abbrev lots : List (Lot (Unit {0}))
   lots = lots_with_parts history lists
@@ -51,42 +50,33 @@ module _ (history : List (Lot (Unit {0}))) (lists : List (List Part)) (parts : �
   bare : history ≡ map bare_lot lots
   bare = sym h.bare ∙ sym (bare-with_parts history lists h.each)
 
-  -- behind the lots there are no boxes
-  pub free_places : NoneBehind boxes count
-  free_places = subst (NoneBehind boxes) (sym counted) (none_behind_lots lots boxes h.indexed)
+  -- behind the lots neither index has boxes
+  pub free_live : NoneBehind live count
+  free_live = subst (NoneBehind live) (sym counted) (none_behind_live lots live ever h.indexed)
 
-  -- where no boxes are left behind the lots, all is as before
-  pub register_restored : (new : Boxes) → ((k : ℕ) → k < count → StayUnder boxes new k) → NoneBehind new count → IsRegister history lists parts new
-  register_restored new stay none =
-      register_again history lists parts boxes new h
-      (indexed_again lots boxes new h.indexed (subst (λ (n : ℕ). (k : ℕ) → k < n → StayUnder boxes new k) counted stay) (subst (NoneBehind new) counted none))
+  pub free_ever : NoneBehind ever count
+  free_ever = subst (NoneBehind ever) (sym counted) (none_behind_ever lots live ever h.indexed)
+
+  -- where every place has what it had, all is as before
+  pub register_stays : (live2 ever2 : Boxes) → StaySame live live2 → StaySame ever ever2 → IsRegister history lists parts live2 ever2
+  register_stays live2 ever2 s t = register_again history lists parts live ever live2 ever2 h (indexed_again lots live ever h.indexed live2 ever2 s t)
+
+  -- so it is where boxes were put in behind the lots and are taken out again
+  pub register_restored : (bs : List IntegerBox) (m k live2 ever2 : Boxes) → ArePut live m count bs → ArePut ever k count bs → ArePut m live2 count [] → ArePut k ever2 count [] → IsRegister history lists parts live2 ever2
+  register_restored bs m k live2 ever2 p q s t = register_again history lists parts live ever live2 ever2 h (indexed_back lots live ever h.indexed count bs bs m k live2 ever2 counted p q s t)
 
   module _ (n : ℕ) (ids : List Label) (after : List (Lot (Unit {0}))) where
-    -- boxes were put in behind the lots, and those of the lots that end were taken out
-    pub indexed_replaced : (births : List Birth) (more : List (List Part)) (m new : Boxes) → length births ≡ length more → after ≡ lots_after n history (lots_replaced ids (map new_lot_of births))
-        → ((k : ℕ) → k < count → StayUnder boxes m k) → ((d : ℕ) → AreUnder m (count + d) (get_or (map bounds_of more) d [])) → AreEmptied after count (λ y. is_among y ids) m new
-        → IsIndexed (lots_after n lots (lots_replaced ids (new_lots births more))) new
-    indexed_replaced births more m new f is stay put emptied =
-        indexed_after n ids lots after (map (born_at n) (map new_lot_of births)) (new_lots births more) (map bounds_of more) boxes m new h.indexed
-        (is ∙ ap (λ (ls : List (Lot (Unit {0}))). map (ended_at n ids) ls ++ map (born_at n) (map new_lot_of births)) bare)
-        (new_bounds births more f)
-        (record {
-          stay = subst (λ (c : ℕ). (k : ℕ) → k < c → StayUnder boxes m k) counted stay;
-          put = subst (λ (c : ℕ). (d : ℕ) → AreUnder m (c + d) (get_or (map bounds_of more) d [])) counted put;
-          emptied = subst (λ (c : ℕ). AreEmptied after c (λ y. is_among y ids) m new) counted emptied;
-        })
+    -- boxes were put in behind the lots, and those of the lots that end were taken out of the first index
+    pub indexed_replaced : (births : List Birth) (more : List (List Part)) (hulls : List IntegerBox) (m live2 ever2 : Boxes) → length births ≡ length more → after ≡ lots_after n history (lots_replaced ids (map new_lot_of births)) → hulls ≡ map hull_of_parts more
+        → ArePut live m count hulls → ArePut ever ever2 count hulls → AreEmptied after count (λ y. is_among y ids) m live2 → IsIndexed (lots_after n lots (lots_replaced ids (new_lots births more))) live2 ever2
+    indexed_replaced births more hulls m live2 ever2 f is own put also emptied =
+        let tail = map (born_at n) (map new_lot_of births) in
+        indexed_after n ids lots (new_lots births more) hulls (new_hulls births more f ∙ sym own) count counted after tail
+        (is ∙ ap (λ (ls : List (Lot (Unit {0}))). map (ended_at n ids) ls ++ tail) bare) live ever h.indexed m live2 ever2 put also emptied
 
-    -- boxes of the lots that end were taken out
-    pub indexed_ended : (new : Boxes) → after ≡ map (ended_at n ids) history → AreEmptied after count (λ y. is_among y ids) boxes new → IsIndexed (lots_after n lots (lots_replaced ids [])) new
-    indexed_ended new is emptied =
-        indexed_after n ids lots after [] [] [] boxes boxes new h.indexed
-        (is ∙ ap (map (ended_at n ids)) bare ∙ sym (append-nil (map (ended_at n ids) (map bare_lot lots))))
-        refl
-        (record {
-          stay = λ k f j g. refl;
-          put = λ d. none_behind_lots lots boxes h.indexed (length lots + d) (omega arith);
-          emptied = subst (λ (c : ℕ). AreEmptied after c (λ y. is_among y ids) boxes new) counted emptied;
-        })
+    -- boxes of the lots that end were taken out of it
+    pub indexed_retired : (live2 : Boxes) → after ≡ map (ended_at n ids) history → AreEmptied after count (λ y. is_among y ids) live live2 → IsIndexed (lots_after n lots (lots_replaced ids [])) live2 ever
+    indexed_retired live2 is emptied = indexed_ended n ids lots after count live ever live2 counted h.indexed (is ∙ ap (map (ended_at n ids)) bare) emptied
 
 -- there is room for new lots, where all are sound afterwards
 pub room_for : (n : ℕ) (ids : List Label) (lots : List (Lot (Unit {0}))) (births : List Birth) (more : List (List Part)) → length births ≡ length more → AreSound (lots_after n lots (lots_replaced ids (new_lots births more))) → length lots + length more ≤ most_kept_parts

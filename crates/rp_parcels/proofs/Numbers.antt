@@ -1,10 +1,9 @@
 -- Lots of a layer by their numbers: what is left of them behind one more.
 use Rattle.std.proofs.Common.{◌≡◌, ℕ, zero, suc, ◌+◌, ◌<◌, Bool, true, false, cond, List, [], ◌∷◌, ◌++◌, map, length, drop, take, get_or, slice_get, Option, Some, None, refl, sym, ap, ap₂, ◌∙◌, arith, append_assoc, append-nil}
-use Rattle.std.specs.Option.{option_to_list}
 use Rattle.std.specs.List.{filter_map}
 use Rattle.std.proofs.lemmas.List.{drop_more, take_more, map-append}
 use Rattle.rp_language.specs.Name.{Label, label_eq}
-use Rattle.rp_model.specs.states.State.{Lot, bare_lot, live_lots, lots_of_layer, ids_of, place_among}
+use Rattle.rp_model.specs.states.State.{Lot, bare_lot, ids_of, place_among}
 use Rattle.rp_model.specs.commands.Verdict.{Verdict, level_lines}
 use Rattle.rp_history.specs.declared.lot.LotLine.{LotLine}
 use Rattle.rp_history.specs.Lots.{lot_of}
@@ -46,38 +45,6 @@ pub line_id : (lots history : List (Lot (Unit {0}))) (lines : List LotLine) → 
 line_id lots history lines e f k line within is =
     let item = line_at lots history lines e f k line within is in
     second_id lots k k item.0 item.1 ∙ ap (λ (l : Lot (Unit {0})). l.id) item.2
-
--- a place more
-pub place_more : (lots : List (Lot (Unit {0}))) (places : List ℕ) (k : ℕ) (l : Lot (Unit {0})) → slice_get lots k ≡ Some l → lots_at lots (places ++ k ∷ []) ≡ lots_at lots places ++ l ∷ []
-place_more lots [] k l at = ap (λ (o : Option (Lot (Unit {0}))). option_to_list o ++ []) at
-place_more lots (j ∷ places) k l at =
-    ap (λ (ls : List (Lot (Unit {0}))). option_to_list (slice_get lots j) ++ ls) (place_more lots places k l at) ∙ sym (append_assoc (option_to_list (slice_get lots j)) (lots_at lots places) (l ∷ []))
-
--- it is within
-pub within_more : {A : Type 0} (xs : List A) (places : List ℕ) (k : ℕ) → AreWithin xs places → k < length xs → AreWithin xs (places ++ k ∷ [])
-within_more xs [] k w h = (h, tt)
-within_more xs (j ∷ places) k w h = (w.0, within_more xs places k w.1 h)
-
--- ---- the lots of a layer
-
--- a live lot of the layer goes behind those found
-pub layer_taken : (lots : List (Lot (Unit {0}))) (y : Label) (places more : List ℕ) (k : ℕ) (l : Lot (Unit {0})) (rest all : List (Lot (Unit {0}))) → slice_get lots k ≡ Some l → label_eq l.layer y ≡ true → live_lots (drop k lots) ≡ l ∷ rest →
-    lots_at lots places ++ lots_of_layer y (live_lots (drop k lots)) ≡ all → more ≡ places ++ k ∷ [] → lots_at lots more ++ lots_of_layer y rest ≡ all
-layer_taken lots y places more k l rest all at own live left e =
-    ap (λ (ks : List ℕ). lots_at lots ks ++ lots_of_layer y rest) e
-    ∙ ap (λ (ls : List (Lot (Unit {0}))). ls ++ lots_of_layer y rest) (place_more lots places k l at)
-    ∙ append_assoc (lots_at lots places) (l ∷ []) (lots_of_layer y rest)
-    ∙ sym (ap (λ (b : Bool). lots_at lots places ++ cond b (l ∷ lots_of_layer y rest) (lots_of_layer y rest)) own)
-    ∙ sym (ap (λ (ls : List (Lot (Unit {0}))). lots_at lots places ++ lots_of_layer y ls) live)
-    ∙ left
-
--- a live lot of another layer is passed over
-pub layer_passed : (lots : List (Lot (Unit {0}))) (y : Label) (places : List ℕ) (k : ℕ) (l : Lot (Unit {0})) (rest all : List (Lot (Unit {0}))) → label_eq l.layer y ≡ false → live_lots (drop k lots) ≡ l ∷ rest →
-    lots_at lots places ++ lots_of_layer y (live_lots (drop k lots)) ≡ all → lots_at lots places ++ lots_of_layer y rest ≡ all
-layer_passed lots y places k l rest all other live left =
-    sym (ap (λ (b : Bool). lots_at lots places ++ cond b (l ∷ lots_of_layer y rest) (lots_of_layer y rest)) other)
-    ∙ sym (ap (λ (ls : List (Lot (Unit {0}))). lots_at lots places ++ lots_of_layer y ls) live)
-    ∙ left
 
 -- ---- links
 

@@ -4,7 +4,7 @@ use Rattle.std.specs.List.{AllByRecursion}
 use Rattle.std.proofs.lemmas.List.Sums.{sum_by-cons}
 use Rattle.rp_geometry.specs.sets.Shape.{Shape, Part, shape_of_parts}
 use Rattle.rp_geometry.specs.sets.Sets.{IsNonempty}
-use Rattle.rp_geometry.specs.parts.Parts.{AreOf, IsPart, IsRegion, most_parts}
+use Rattle.rp_geometry.specs.parts.Parts.{AreOf, IsPart, IsRegion}
 use Rattle.rp_geometry.proofs.Members.{not_in_nothing}
 use Rattle.rp_model.specs.states.State.{Lot, lot_of_parts, parts_under_lots, most_kept_parts}
 use Rattle.rp_states.proofs.Listing.{all_unmapped}
@@ -45,7 +45,3 @@ region_each lots h = by lots (all_unmapped (λ (l : Lot Shape). AreOf IsPart l.s
     by [] all k l e = absurd (cc)
     by (m ∷ ls) all zero l e = let same : m ≡ l = cc in subst (λ (a : Lot (Unit {0})). IsRegion a.parts) same all.0.all
     by (m ∷ ls) all (suc k) l e = by ls all.1 k l e
-
--- each sound lot has few parts
-pub few_parts_each : (lots : List (Lot (Unit {0}))) → AreSound lots → (k : ℕ) (l : Lot (Unit {0})) → slice_get lots k ≡ Some l → length l.parts ≤ most_parts
-few_parts_each lots h k l e = (region_each lots h k l e).few

@@ -8,19 +8,23 @@ use Rattle.rp_geometry.specs.parts.Parts.{most_parts}
 use Rattle.rp_geometry.specs.sets.Shape.{Part}
 use Rattle.rp_language.specs.Name.{Label}
 use Rattle.rp_walks.specs.Walk.{Outcome, done, stopped, Walk, Work, pass, after_first, ◌>>=◌, ◌>>◌, count_tests, strict_test, with_lines, first_tester}
-use Rattle.rp_walks.specs.Form.{near_pair, subtract, subtract_part, if_at_most}
+use Rattle.rp_walks.specs.Form.{near_pair, common_nearby, subtract, subtract_part, if_at_most}
 use Rattle.rp_walks.specs.Compare.{is_covered}
 use Rattle.rp_model.specs.states.State.{Lot, NewLot, layer_with_id, lots_replaced, parts_under_lots, most_kept_parts}
 use Rattle.rp_model.specs.commands.Verdict.{Refusal, gap}
 use Rattle.rp_model.specs.commands.Checks.{refuse_if, and_then, check_subdivide}
-use Rattle.rp_model.specs.commands.Row.{Reply, accepted, check, check_size, new_lot, parts_with_id, joined_parts, FormedChild, child_parts, count_among, first_empty_child, first_outside_child, first_overlapping_children, row_subdivide}
+use Rattle.rp_model.specs.commands.Row.{Reply, accepted, check, check_size, new_lot, parts_with_id, joined_parts, FormedChild, child_parts, count_among, first_empty_child, first_outside_child, first_overlapping_child, first_overlapping_children, row_subdivide}
 use Rattle.rp_history.specs.Lots.{lots_in}
+use Rattle.rp_region.specs.Makes.{OnlyTells}
 use Rattle.rp_region.specs.Pairs.{IsLast}
+use Rattle.rp_region.proofs.Grows.{then_tells, pass_tells, count_tells}
+use Rattle.rp_region.proofs.Left.{IsLeft, all_left, left_as, next_left, cut_left}
 use Rattle.rp_parcels.specs.declared.child.Child.{Child}
 use Rattle.rp_parcels.specs.Register.{child_of}
-use Rattle.rp_parcels.specs.Rows.{Cause, refuses, limited, wanting, EndsBy, RefusesBy}
+use Rattle.rp_parcels.specs.Rows.{Cause, refuses, limited, wanting, EndsBy, RefusesBy, FailsBy}
 use Rattle.rp_nearby.proofs.Places.{drop_item}
-use Rattle.rp_parcels.proofs.Walked.{check_passes, step_made}
+use Rattle.rp_parcels.proofs.Tells.{size_tells, check_tells, common_tells, cover_tells, outside_on, outside_child_tells, overlap_on, overlapping_child_tells, double_on, double_on_tells, overlapping_tells}
+use Rattle.rp_parcels.proofs.Walked.{left_by, check_left, check_fails}
 
 -- ---- several lists are taken away one after the other
 
@@ -37,12 +41,57 @@ subtract_both (p ∷ ps) qs current w =
     (λ left v. then_split (if_at_most most_parts left v) (λ next. subtract first_tester next (ps ++ qs)) (λ next. subtract first_tester next ps) (λ rest. subtract first_tester rest qs) (λ next u. subtract_both ps qs next u))
 
 -- what is left to be taken away, with the next child first
-pub left_to_take : (children : List Child) (i : ℕ) (c : Child) (left : List Part) (w : Work) (o : Outcome Work (List Part)) → i < length children → c ≡ get_or children i c → subtract first_tester left (joined_parts (child_parts (map child_of (drop i children)))) w ≡ o →
-    after_first (λ rest. subtract first_tester rest (joined_parts (child_parts (map child_of (drop (i + 1) children))))) (subtract first_tester left c.region w) ≡ o
-left_to_take children i c left w o h e k =
-    sym (subtract_both c.region (joined_parts (child_parts (map child_of (drop (i + 1) children)))) left w)
-    ∙ sym (ap (λ (cs : List Child). subtract first_tester left (joined_parts (child_parts (map child_of cs))) w) (drop_item children i c h e))
-    ∙ k
+pub left_to_take : {start now : Work} {whole : Walk Work (List Part)} (children : List Child) (i : ℕ) (c : Child) (left : List Part) → i < length children → c ≡ get_or children i c → IsLeft start whole now (subtract first_tester left (joined_parts (child_parts (map child_of (drop i children))))) →
+    IsLeft start whole now (subtract first_tester left c.region >>= (λ rest. subtract first_tester rest (joined_parts (child_parts (map child_of (drop (i + 1) children))))))
+left_to_take {now = now} children i c left h e k =
+    let rest = joined_parts (child_parts (map child_of (drop (i + 1) children))) in
+    left_by (subtract first_tester left c.region >>= (λ more. subtract first_tester more rest)) (sym (subtract_both c.region rest left now))
+    (left_as (ap (λ (cs : List Child). subtract first_tester left (joined_parts (child_parts (map child_of cs)))) (drop_item children i c h e)) k)
+
+-- ---- one child after the other
+
+-- the next child and the rest are left of the search for one that is outside
+pub outside_left : {start now : Work} {whole : Walk Work (Option Refusal)} (qs : List Part) (k : ℕ) (children : List Child) (i : ℕ) (c : Child) → i < length children → c ≡ get_or children i c → IsLeft start whole now (first_outside_child first_tester qs k (map child_of (drop i children))) →
+    IsLeft start whole now (is_covered first_tester c.region qs >>= outside_on qs k (map child_of (drop (i + 1) children)))
+outside_left qs k children i c h e l = left_as (ap (λ (cs : List Child). first_outside_child first_tester qs k (map child_of cs)) (drop_item children i c h e)) l
+
+-- and behind its tests
+pub outside_next : {start now new : Work} {whole : Walk Work (Option Refusal)} (qs : List Part) (k : ℕ) (children : List Child) (i : ℕ) (c : Child) (b : Bool) → i < length children → c ≡ get_or children i c → IsLeft start whole now (first_outside_child first_tester qs k (map child_of (drop i children))) →
+    is_covered first_tester c.region qs now ≡ done b new → IsLeft start whole new (outside_on qs k (map child_of (drop (i + 1) children)) b)
+outside_next qs k children i c b h e l made =
+    next_left (is_covered first_tester c.region qs) (outside_on qs k (map child_of (drop (i + 1) children))) (cover_tells c.region qs) (outside_left qs k children i c h e l) made
+
+-- the next child and the rest are left of the search for one that overlaps another
+pub overlap_left : {start now : Work} {whole : Walk Work (Option Refusal)} (m : ℕ) (ps : List Part) (n : ℕ) (children : List Child) (i : ℕ) (c : Child) → i < length children → c ≡ get_or children i c → IsLeft start whole now (first_overlapping_child first_tester m ps n (map child_of (drop i children))) →
+    IsLeft start whole now (common_nearby first_tester ps c.region >>= overlap_on m ps n (map child_of (drop (i + 1) children)))
+overlap_left m ps n children i c h e l = left_as (ap (λ (cs : List Child). first_overlapping_child first_tester m ps n (map child_of cs)) (drop_item children i c h e)) l
+
+-- and behind its tests
+pub overlap_next : {start now new : Work} {whole : Walk Work (Option Refusal)} (m : ℕ) (ps : List Part) (n : ℕ) (children : List Child) (i : ℕ) (c : Child) (b : Bool) → i < length children → c ≡ get_or children i c → IsLeft start whole now (first_overlapping_child first_tester m ps n (map child_of (drop i children))) →
+    common_nearby first_tester ps c.region now ≡ done b new → IsLeft start whole new (overlap_on m ps n (map child_of (drop (i + 1) children)) b)
+overlap_next m ps n children i c b h e l made =
+    next_left (common_nearby first_tester ps c.region) (overlap_on m ps n (map child_of (drop (i + 1) children))) (common_tells ps c.region) (overlap_left m ps n children i c h e l) made
+
+-- the next child and the rest are left of the search for two that overlap
+pub double_left : {start now : Work} {whole : Walk Work (Option Refusal)} (children : List Child) (i : ℕ) (c : Child) → i < length children → c ≡ get_or children i c → IsLeft start whole now (first_overlapping_children first_tester (i + 1) (map child_of (drop i children))) →
+    IsLeft start whole now (first_overlapping_child first_tester (i + 1) c.region (i + 1 + 1) (map child_of (drop (i + 1) children)) >>= double_on (i + 1) (map child_of (drop (i + 1) children)))
+double_left children i c h e l = left_as (ap (λ (cs : List Child). first_overlapping_children first_tester (i + 1) (map child_of cs)) (drop_item children i c h e)) l
+
+-- a fault of its tests with those behind it ends the search
+pub double_fails : {start now : Work} {whole : Walk Work (Option Refusal)} (children : List Child) (i : ℕ) (c : Child) → i < length children → c ≡ get_or children i c → IsLeft start whole now (first_overlapping_children first_tester (i + 1) (map child_of (drop i children))) →
+    (cause : Cause) (new : Work) → RefusesBy cause now new (first_overlapping_child first_tester (i + 1) c.region (i + 1 + 1) (map child_of (drop (i + 1) children)) now) → RefusesBy cause start new (whole start)
+double_fails children i c h e l (refuses r) new k = sym (double_left children i c h e l).same ∙ ap (after_first (double_on (i + 1) (map child_of (drop (i + 1) children)))) k
+double_fails children i c h e l limited new k = sym (double_left children i c h e l).same ∙ ap (after_first (double_on (i + 1) (map child_of (drop (i + 1) children)))) k
+double_fails children i c h e l wanting new k =
+    let cs = map child_of (drop (i + 1) children) in
+    cut_left (first_overlapping_child first_tester (i + 1) c.region (i + 1 + 1) cs) (double_on (i + 1) cs) (double_on_tells (i + 1) cs (overlapping_tells (i + 1 + 1) cs)) (double_left children i c h e l) new k
+
+-- behind its tests the further ones are left
+pub double_next : {start now new : Work} {whole : Walk Work (Option Refusal)} (children : List Child) (i : ℕ) (c : Child) → i < length children → c ≡ get_or children i c → IsLeft start whole now (first_overlapping_children first_tester (i + 1) (map child_of (drop i children))) →
+    first_overlapping_child first_tester (i + 1) c.region (i + 1 + 1) (map child_of (drop (i + 1) children)) now ≡ done None new → IsLeft start whole new (first_overlapping_children first_tester (i + 1 + 1) (map child_of (drop (i + 1) children)))
+double_next children i c h e l made =
+    let cs = map child_of (drop (i + 1) children) in
+    next_left (first_overlapping_child first_tester (i + 1) c.region (i + 1 + 1) cs) (double_on (i + 1) cs) (overlapping_child_tells (i + 1) c.region (i + 1 + 1) cs) (double_left children i c h e l) made
 
 -- ---- the line of a strict test
 
@@ -57,13 +106,11 @@ told_last cell (Some points) b w v e m =
 
 -- ---- the row
 
--- a refusal of a step is that of the row
-pub refuses_ends : (c : Cause) (o : Outcome Work (Option Refusal)) (rest : Walk Work Reply) (v : Work) → RefusesBy c v o → EndsBy c v (after_first (λ r. check r rest) o)
-refuses_ends (refuses r) o rest v h = ap (after_first (λ q. check q rest)) h
-refuses_ends limited o rest v h = ap (after_first (λ q. check q rest)) h
-refuses_ends wanting o rest v h = tt
-
 module _ (lots : List (Lot (Unit {0}))) (x : Label) (cs : List FormedChild) where
+  -- the row
+  abbrev pub subdividing : Walk Work Reply
+  subdividing = row_subdivide first_tester (lots_in [] lots) x cs
+
   -- the lots of the children
   abbrev pub child_lots : List (NewLot (Unit {0}))
   child_lots = map (λ c. new_lot (layer_with_id (lots_in [] lots) x) c.id c.parts (x ∷ [])) cs
@@ -79,6 +126,10 @@ module _ (lots : List (Lot (Unit {0}))) (x : Label) (cs : List FormedChild) wher
   -- whether there is a gap, and then the end
   abbrev pub after_cover : Bool → Walk Work Reply
   after_cover covered = check (refuse_if (not covered) gap) divided
+
+  -- it only appends lines
+  pub after_cover_tells : (covered : Bool) → OnlyTells (after_cover covered)
+  after_cover_tells covered = check_tells (refuse_if (not covered) gap) divided (pass_tells (accepted (lots_replaced (x ∷ []) child_lots)))
 
   module _ (whole : List Part) where
     -- behind the search for two children that overlap
@@ -97,34 +148,61 @@ module _ (lots : List (Lot (Unit {0}))) (x : Label) (cs : List FormedChild) wher
     abbrev pub before_inside : Walk Work Reply
     before_inside = first_outside_child first_tester whole 1 cs >>= (λ r. check r before_count)
 
-    -- the checks pass, and the size is left
-    pub sized : (w : Work) → first_checks ≡ None → whole ≡ parts_with_id (lots_in [] lots) x → after_first (λ _. before_inside) (check_size (parts_under_lots lots + length (joined_parts (child_parts cs))) most_kept_parts w) ≡ row_subdivide first_tester (lots_in [] lots) x cs w
-    sized w checked parts = by parts
-      where
-        by : whole ≡ parts_with_id (lots_in [] lots) x → after_first (λ _. before_inside) (check_size (parts_under_lots lots + length (joined_parts (child_parts cs))) most_kept_parts w) ≡ row_subdivide first_tester (lots_in [] lots) x cs w
-        by e = ap (λ (qs : List Part). after_first (λ _. first_outside_child first_tester qs 1 cs >>= (λ r. check r (count_tests (count_among near_pair (child_parts cs)) >> (first_overlapping_children first_tester 1 cs >>= (λ q. check q (is_covered first_tester qs (joined_parts (child_parts cs)) >>= after_cover)))))) (check_size (parts_under_lots lots + length (joined_parts (child_parts cs))) most_kept_parts w)) e
-            ∙ sym (check_passes first_checks _ w checked)
+    -- the size
+    abbrev pub size_first : Walk Work (Unit {0})
+    size_first = check_size (parts_under_lots lots + length (joined_parts (child_parts cs))) most_kept_parts
 
-    module _ (w : Work) (checked : first_checks ≡ None) (parts : whole ≡ parts_with_id (lots_in [] lots) x) (room : check_size (parts_under_lots lots + length (joined_parts (child_parts cs))) most_kept_parts w ≡ done tt w) where
-      -- the row, with the search for a child that is outside first
-      pub roomy : before_inside w ≡ row_subdivide first_tester (lots_in [] lots) x cs w
-      roomy = step_made (check_size (parts_under_lots lots + length (joined_parts (child_parts cs))) most_kept_parts) (λ _. before_inside) w w tt (row_subdivide first_tester (lots_in [] lots) x cs w) (sized w checked parts) room
+    -- they only append lines
+    pub before_cover_tells : OnlyTells before_cover
+    before_cover_tells = then_tells (is_covered first_tester whole (joined_parts (child_parts cs))) after_cover (cover_tells whole (joined_parts (child_parts cs))) after_cover_tells
+
+    pub before_pairs_tells : OnlyTells before_pairs
+    before_pairs_tells = then_tells (first_overlapping_children first_tester 1 cs) (λ r. check r before_cover) (overlapping_tells 1 cs) (λ r. check_tells r before_cover before_cover_tells)
+
+    pub before_count_tells : OnlyTells before_count
+    before_count_tells = then_tells (count_tests (count_among near_pair (child_parts cs))) (λ _. before_pairs) (count_tells (count_among near_pair (child_parts cs))) (λ _. before_pairs_tells)
+
+    pub before_inside_tells : OnlyTells before_inside
+    before_inside_tells = then_tells (first_outside_child first_tester whole 1 cs) (λ r. check r before_count) (outside_child_tells whole 1 cs) (λ r. check_tells r before_count before_count_tells)
+
+    size_tells_first : OnlyTells (size_first >> before_inside)
+    size_tells_first = then_tells size_first (λ _. before_inside) (size_tells (parts_under_lots lots + length (joined_parts (child_parts cs))) most_kept_parts) (λ _. before_inside_tells)
+
+  -- the row only appends lines
+  pub subdivide_tells : OnlyTells subdividing
+  subdivide_tells = let whole = parts_with_id (lots_in [] lots) x in check_tells first_checks (size_first whole >> before_inside whole) (size_tells_first whole)
+
+  -- its checks fail
+  pub subdivide_fails : (c : Cause) (w : Work) → FailsBy c first_checks → EndsBy c w w (subdividing w)
+  subdivide_fails c w h = let whole = parts_with_id (lots_in [] lots) x in check_fails c first_checks (size_first whole >> before_inside whole) w (size_tells_first whole) h
+
+  module _ (whole : List Part) (w : Work) (checked : first_checks ≡ None) (parts : whole ≡ parts_with_id (lots_in [] lots) x) where
+    -- they pass, and the size is left
+    pub sized : IsLeft w subdividing w (size_first whole >> before_inside whole)
+    sized =
+        let own = parts_with_id (lots_in [] lots) x in
+        left_as (ap (λ (qs : List Part). size_first qs >> before_inside qs) (sym parts)) (check_left first_checks (size_first own >> before_inside own) checked (all_left w subdividing))
+
+    module _ (room : size_first whole w ≡ done tt w) where
+      -- there is room, and the search for a child that is outside is left
+      pub roomy : IsLeft w subdividing w (before_inside whole)
+      roomy = next_left (size_first whole) (λ _. before_inside whole) (size_tells (parts_under_lots lots + length (joined_parts (child_parts cs))) most_kept_parts) sized room
 
       module _ (v : Work) (inside : first_outside_child first_tester whole 1 cs w ≡ done None v) where
-        -- with the count first
-        pub within_whole : before_count v ≡ row_subdivide first_tester (lots_in [] lots) x cs w
-        within_whole = step_made (first_outside_child first_tester whole 1 cs) (λ r. check r before_count) w v None (row_subdivide first_tester (lots_in [] lots) x cs w) roomy inside
+        -- none is outside, and the count is left
+        pub within_whole : IsLeft w subdividing v (before_count whole)
+        within_whole = next_left (first_outside_child first_tester whole 1 cs) (λ r. check r (before_count whole)) (outside_child_tells whole 1 cs) roomy inside
 
         module _ (u : Work) (counted : count_tests (count_among near_pair (child_parts cs)) v ≡ done tt u) where
-          -- with the search for two children that overlap first
-          pub pairs_counted : before_pairs u ≡ row_subdivide first_tester (lots_in [] lots) x cs w
-          pairs_counted = step_made (count_tests (count_among near_pair (child_parts cs))) (λ _. before_pairs) v u tt (row_subdivide first_tester (lots_in [] lots) x cs w) within_whole counted
+          -- it is made, and the search for two children that overlap is left
+          pub pairs_counted : IsLeft w subdividing u (before_pairs whole)
+          pairs_counted = next_left (count_tests (count_among near_pair (child_parts cs))) (λ _. before_pairs whole) (count_tells (count_among near_pair (child_parts cs))) within_whole counted
 
           module _ (t : Work) (apart : first_overlapping_children first_tester 1 cs u ≡ done None t) where
-            -- with the cover first
-            pub all_apart : before_cover t ≡ row_subdivide first_tester (lots_in [] lots) x cs w
-            all_apart = step_made (first_overlapping_children first_tester 1 cs) (λ r. check r before_cover) u t None (row_subdivide first_tester (lots_in [] lots) x cs w) pairs_counted apart
+            -- no two overlap, and the search for a gap is left
+            pub children_apart : IsLeft w subdividing t (before_cover whole)
+            children_apart = next_left (first_overlapping_children first_tester 1 cs) (λ r. check r (before_cover whole)) (overlapping_tells 1 cs) pairs_counted apart
 
-            -- with the gap first
-            pub cover_walked : (b : Bool) (z : Work) → is_covered first_tester whole (joined_parts (child_parts cs)) t ≡ done b z → after_cover b z ≡ row_subdivide first_tester (lots_in [] lots) x cs w
-            cover_walked b z e = step_made (is_covered first_tester whole (joined_parts (child_parts cs))) after_cover t z b (row_subdivide first_tester (lots_in [] lots) x cs w) all_apart e
+            -- it is made, and the end is left
+            pub cover_walked : (b : Bool) (z : Work) → is_covered first_tester whole (joined_parts (child_parts cs)) t ≡ done b z → IsLeft w subdividing z (after_cover b)
+            cover_walked b z e = next_left (is_covered first_tester whole (joined_parts (child_parts cs))) after_cover (cover_tells whole (joined_parts (child_parts cs))) children_apart e

@@ -173,20 +173,20 @@ new_parts (b ∷ births) (ps ∷ lists) e = let f : length births ≡ length lis
     ∙ sym (sum_by-cons (λ (qs : List Part). length qs) ps lists)
 
 -- a register is one after a change
-pub register_after : (n : ℕ) (ids : List Label) (births : List Birth) (ls new : List (Lot (Unit {0}))) (lists more all : List (List Part)) (parts count : ℕ) (old boxes : Boxes) → IsRegister ls lists parts old → length births ≡ length more →
-    IsFitChange n (lots_with_parts ls lists) ids (new_lots births more) → new ≡ lots_after n ls (lots_replaced ids (map new_lot_of births)) → all ≡ lists ++ more → count ≡ sum_by (λ ps. length ps) more → IsIndexed (lots_after n (lots_with_parts ls lists) (lots_replaced ids (new_lots births more))) boxes → IsRegister new all (parts + count) boxes
-register_after n ids births ls new lists more all parts count old boxes h e fit f g k i =
+pub register_after : (n : ℕ) (ids : List Label) (births : List Birth) (ls new : List (Lot (Unit {0}))) (lists more all : List (List Part)) (parts count : ℕ) (live ever live2 ever2 : Boxes) → IsRegister ls lists parts live ever → length births ≡ length more →
+    IsFitChange n (lots_with_parts ls lists) ids (new_lots births more) → new ≡ lots_after n ls (lots_replaced ids (map new_lot_of births)) → all ≡ lists ++ more → count ≡ sum_by (λ ps. length ps) more → IsIndexed (lots_after n (lots_with_parts ls lists) (lots_replaced ids (new_lots births more))) live2 ever2 → IsRegister new all (parts + count) live2 ever2
+register_after n ids births ls new lists more all parts count live ever live2 ever2 h e fit f g k i =
     let together = ap₂ lots_with_parts f g ∙ after_with_parts n ids births ls lists more h.each in
     record {
       each = ap length f ∙ length-append (map (ended_at n ids) ls) (map (born_at n) (map new_lot_of births)) ∙ ap₂ ◌+◌ (length-map ls (ended_at n ids) ∙ h.each) (length-map (map new_lot_of births) (born_at n) ∙ length-map births new_lot_of ∙ e) ∙ sym (length-append lists more) ∙ sym (ap length g);
       bare = ap (map bare_lot) f ∙ still_bare n ids births ls h.bare ∙ sym f;
       sound = subst AreSound (sym together) fit.sound;
       count = ap₂ ◌+◌ h.count (k ∙ sym (new_parts births more e)) ∙ sym (parts_after n ids (new_lots births more) (lots_with_parts ls lists)) ∙ sym (ap parts_under_lots together);
-      indexed = subst (λ (lots : List (Lot (Unit {0}))). IsIndexed lots boxes) (sym together) i;
+      indexed = subst (λ (lots : List (Lot (Unit {0}))). IsIndexed lots live2 ever2) (sym together) i;
     }
 
 -- what a register keeps of its own
-module _ {boxes : Boxes} (ls : List (Lot (Unit {0}))) (lists : List (List Part)) (parts : ℕ) (lots : List (Lot (Unit {0}))) (h : IsRegister ls lists parts boxes) (seen : lots_with_parts ls lists ≡ lots) where
+module _ {live ever : Boxes} (ls : List (Lot (Unit {0}))) (lists : List (List Part)) (parts : ℕ) (lots : List (Lot (Unit {0}))) (h : IsRegister ls lists parts live ever) (seen : lots_with_parts ls lists ≡ lots) where
   -- as many lots as regions
   pub lots_counted : length lots ≡ length lists
   lots_counted = sym (ap length seen) ∙ length-with_parts ls lists h.each
@@ -207,13 +207,13 @@ module _ {boxes : Boxes} (ls : List (Lot (Unit {0}))) (lists : List (List Part))
   pub lot_parts_at : (k : ℕ) → option_map (λ l. l.parts) (slice_get lots k) ≡ slice_get lists k
   lot_parts_at k = sym (ap (λ (ms : List (Lot (Unit {0}))). option_map (λ (l : Lot (Unit {0})). l.parts) (slice_get ms k)) seen) ∙ parts_at ls lists h.each k
 
-  -- its index has the boxes of its live lots
-  pub lots_indexed : IsIndexed lots boxes
-  lots_indexed = subst (λ (ms : List (Lot (Unit {0}))). IsIndexed ms boxes) seen h.indexed
+  -- its indexes have the boxes around its lots
+  pub lots_indexed : IsIndexed lots live ever
+  lots_indexed = subst (λ (ms : List (Lot (Unit {0}))). IsIndexed ms live ever) seen h.indexed
 
--- a register stays one with the boxes of its live lots in another index
-pub register_again : (ls : List (Lot (Unit {0}))) (lists : List (List Part)) (parts : ℕ) (old boxes : Boxes) → IsRegister ls lists parts old → IsIndexed (lots_with_parts ls lists) boxes → IsRegister ls lists parts boxes
-register_again ls lists parts old boxes h i = record { each = h.each; bare = h.bare; sound = h.sound; count = h.count; indexed = i }
+-- a register stays one with the boxes around its lots in other indexes
+pub register_again : (ls : List (Lot (Unit {0}))) (lists : List (List Part)) (parts : ℕ) (live ever live2 ever2 : Boxes) → IsRegister ls lists parts live ever → IsIndexed (lots_with_parts ls lists) live2 ever2 → IsRegister ls lists parts live2 ever2
+register_again ls lists parts live ever live2 ever2 h i = record { each = h.each; bare = h.bare; sound = h.sound; count = h.count; indexed = i }
 
 -- lots of the history end, and so do those of the register
 pub ended_together : (n : ℕ) (ids : List Label) (ls new : List (Lot (Unit {0}))) (lists : List (List Part)) (lots : List (Lot (Unit {0}))) → lots_with_parts ls lists ≡ lots → new ≡ map (ended_at n ids) ls → lots_with_parts new lists ≡ lots_after n lots (lots_replaced ids [])
@@ -221,13 +221,13 @@ ended_together n ids ls new lists lots seen e =
     ap (λ (ks : List (Lot (Unit {0}))). lots_with_parts ks lists) e ∙ all_ended_with_parts n ids ls lists ∙ ap (map (ended_at n ids)) seen ∙ sym (append-nil (map (ended_at n ids) lots))
 
 -- a register whose lots end is one
-pub register_ended : (n : ℕ) (ids : List Label) (ls new : List (Lot (Unit {0}))) (lists : List (List Part)) (parts : ℕ) (old boxes : Boxes) → IsRegister ls lists parts old → IsFitChange n (lots_with_parts ls lists) ids [] → new ≡ map (ended_at n ids) ls → IsIndexed (lots_after n (lots_with_parts ls lists) (lots_replaced ids [])) boxes → IsRegister new lists parts boxes
-register_ended n ids ls new lists parts old boxes h fit e i =
+pub register_ended : (n : ℕ) (ids : List Label) (ls new : List (Lot (Unit {0}))) (lists : List (List Part)) (parts : ℕ) (live ever live2 ever2 : Boxes) → IsRegister ls lists parts live ever → IsFitChange n (lots_with_parts ls lists) ids [] → new ≡ map (ended_at n ids) ls → IsIndexed (lots_after n (lots_with_parts ls lists) (lots_replaced ids [])) live2 ever2 → IsRegister new lists parts live2 ever2
+register_ended n ids ls new lists parts live ever live2 ever2 h fit e i =
     let together = ended_together n ids ls new lists (lots_with_parts ls lists) refl e in
     record {
       each = ap length e ∙ length-map ls (ended_at n ids) ∙ h.each;
       bare = ap (map bare_lot) (e ∙ sym (append-nil (map (ended_at n ids) ls))) ∙ still_bare n ids [] ls h.bare ∙ append-nil (map (ended_at n ids) ls) ∙ sym e;
       sound = subst AreSound (sym together) fit.sound;
       count = h.count ∙ sym (ended_parts n ids (lots_with_parts ls lists)) ∙ sym (ap parts_under_lots (together ∙ append-nil (map (ended_at n ids) (lots_with_parts ls lists))));
-      indexed = subst (λ (lots : List (Lot (Unit {0}))). IsIndexed lots boxes) (sym together) i;
+      indexed = subst (λ (lots : List (Lot (Unit {0}))). IsIndexed lots live2 ever2) (sym together) i;
     }

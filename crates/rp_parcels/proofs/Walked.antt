@@ -1,64 +1,68 @@
 -- Walks that are made step by step, and rows that end.
 use Rattle.std.proofs.Common.{◌≡◌, Option, None, sym, ap, ◌∙◌, subst}
-use Rattle.std.specs.Prelude.{Result, Ok, Err}
-use Rattle.rp_walks.specs.Walk.{Outcome, done, Walk, Work, after_first, ◌>>=◌}
+use Rattle.rp_walks.specs.Walk.{Outcome, Walk, Work, after_first, ◌>>=◌}
 use Rattle.rp_model.specs.commands.Verdict.{Refusal}
 use Rattle.rp_model.specs.commands.Row.{Reply, check}
 use Rattle.rp_region.specs.declared.fault.OpFault.{OpFault}
 use Rattle.rp_region.specs.declared.fault.OpFault.TheVariants.{Limit, Memory}
-use Rattle.rp_region.specs.Makes.{IsFaultOf}
+use Rattle.rp_region.specs.Makes.{work_after, TellsMore, IsCutShort, IsFaultOf, OnlyTells}
+use Rattle.rp_region.proofs.Grows.{no_more, more_still}
+use Rattle.rp_region.proofs.Left.{IsLeft, left_as, fault_left, cut_left}
 use Rattle.rp_parcels.specs.Faults.{fault_of_parcels}
-use Rattle.rp_parcels.specs.Rows.{Cause, refuses, limited, wanting, cause_of, EndsBy, FailsBy, FailsWith, Walks}
+use Rattle.rp_parcels.specs.Rows.{Cause, refuses, limited, wanting, cause_of, EndsBy, RefusesBy, FailsBy}
+use Rattle.rp_parcels.proofs.Tells.{check_tells}
 
--- ---- walks
+-- ---- what is left
 
--- the first step of what is left has a fault of an operation
-pub fault_first : {A B : Type 0} (e : OpFault) (first : Walk Work A) (next : A → Walk Work B) (w v : Work) (o : Outcome Work B) → after_first next (first w) ≡ o → IsFaultOf e w v first → FailsWith e v o
-fault_first Limit first next w v o left m = sym left ∙ ap (after_first next) m
-fault_first (Memory e) first next w v o left m = tt
+-- at the start a walk that comes to the same as the whole one is left
+pub begun : {A : Type 0} {whole : Walk Work A} (left : Walk Work A) (w : Work) → left w ≡ whole w → IsLeft w whole w left
+begun left w e = record { same = e; told = no_more w }
 
--- the same of a step that was walked
-pub fails_first : {A B : Type 0} (e : OpFault) (next : A → Walk Work B) (v : Work) (p : Outcome Work A) (o : Outcome Work B) → after_first next p ≡ o → FailsWith e v p → FailsWith e v o
-fails_first Limit next v p o left m = sym left ∙ ap (after_first next) m
-fails_first (Memory e) next v p o left m = tt
+-- another walk that comes to the same is left
+pub left_by : {A : Type 0} {start now : Work} {whole left : Walk Work A} (other : Walk Work A) → other now ≡ left now → IsLeft start whole now left → IsLeft start whole now other
+left_by other e h = record { same = e ∙ h.same; told = h.told }
 
--- the same outcome in other words
-pub fails_as : {A : Type 0} (e : OpFault) (v : Work) (o p : Outcome Work A) → o ≡ p → FailsWith e v o → FailsWith e v p
-fails_as e v o p f h = subst (FailsWith e v) f h
+-- a walk that ends with the same work was given up as well
+pub cut_as : {A B : Type 0} (old new : Work) (o : Outcome Work A) (p : Outcome Work B) → work_after o ≡ work_after p → IsCutShort old new o → IsCutShort old new p
+cut_as old new o p e h = record { told = h.told; untold = subst (λ w. TellsMore new w) e h.untold }
 
--- the first step was made, and the rest is left
-pub step_made : {A B : Type 0} (first : Walk Work A) (next : A → Walk Work B) (w v : Work) (x : A) (o : Outcome Work B) → after_first next (first w) ≡ o → first w ≡ done x v → next x v ≡ o
-step_made first next w v x o left m = sym (ap (after_first next) m) ∙ left
+-- where what is left was given up, so was the whole walk
+pub cut_whole : {A : Type 0} {start now : Work} {whole left : Walk Work A} → IsLeft start whole now left → (new : Work) → IsCutShort now new (left now) → IsCutShort start new (whole start)
+cut_whole {start = start} {now = now} l new h = record { told = more_still start now new l.told h.told; untold = subst (λ o. TellsMore new (work_after o)) l.same h.untold }
 
 -- ---- rows
 
 -- a check of a row is failed
-pub check_fails : (c : Cause) (o : Option Refusal) (rest : Walk Work Reply) (w : Work) → FailsBy c o → EndsBy c w (check o rest w)
-check_fails (refuses r) o rest w h = ap (λ (p : Option Refusal). check p rest w) h
-check_fails limited o rest w h = absurd h
-check_fails wanting o rest w h = tt
+pub check_fails : (c : Cause) (o : Option Refusal) (rest : Walk Work Reply) (w : Work) → OnlyTells rest → FailsBy c o → EndsBy c w w (check o rest w)
+check_fails (refuses r) o rest w f h = ap (λ (p : Option Refusal). check p rest w) h
+check_fails limited o rest w f h = absurd h
+check_fails wanting o rest w f h = record { told = no_more w; untold = (check_tells o rest f).tells w }
 
 -- a check of a row passes
 pub check_passes : {W : Type 0} (o : Option Refusal) (rest : Walk W Reply) (w : W) → o ≡ None → check o rest w ≡ rest w
 check_passes o rest w h = ap (λ (p : Option Refusal). check p rest w) h
 
--- a row ends with what its walk has
-pub row_fails : (e : OpFault) (v : Work) (o : Outcome Work Reply) → FailsWith e v o → EndsBy (cause_of (fault_of_parcels e)) v o
-row_fails Limit v o h = h
-row_fails (Memory e) v o h = tt
+-- so what is behind it is left
+pub check_left : {start now : Work} {whole : Walk Work Reply} (o : Option Refusal) (rest : Walk Work Reply) → o ≡ None → IsLeft start whole now (check o rest) → IsLeft start whole now rest
+check_left o rest h l = left_as (ap (λ (p : Option Refusal). check p rest) h) l
 
--- a row ends as it goes on
-pub ends_as : (c : Cause) (v : Work) (o p : Outcome Work Reply) → o ≡ p → EndsBy c v p → EndsBy c v o
-ends_as c v o p f h = subst (EndsBy c v) (sym f) h
+-- a row whose walk has a fault of an operation
+pub row_fault : (e : OpFault) (old new : Work) (row : Walk Work Reply) → IsFaultOf e old new row → EndsBy (cause_of (fault_of_parcels e)) old new (row old)
+row_fault Limit old new row h = h
+row_fault (Memory e) old new row h = h
 
--- ---- one walk behind another
+-- a row ends with the fault of the first step of what is left
+pub step_fails : {A : Type 0} {start now : Work} {row : Walk Work Reply} (first : Walk Work A) (next : A → Walk Work Reply) → ((x : A) → OnlyTells (next x)) → IsLeft start row now (first >>= next) → (e : OpFault) (new : Work) → IsFaultOf e now new first →
+    EndsBy (cause_of (fault_of_parcels e)) start new (row start)
+step_fails {start = start} {row = row} first next each l e new h = row_fault e start new row (fault_left first next each l e new h)
 
--- the first was made, and so the result of the second is that of both
-pub walks_after : {A B C : Type 0} (view : C → B) (r : Result C OpFault) (first : Walk Work A) (next : A → Walk Work B) (x : A) (old mid new : Work) → first old ≡ done x mid → Walks view r mid new (next x) → Walks view r old new (first >>= next)
-walks_after view (Ok y) first next x old mid new m l = ap (after_first next) m ∙ l
-walks_after view (Err e) first next x old mid new m l = fails_as e new (next x mid) (after_first next (first old)) (sym (ap (after_first next) m)) l
+-- a row ends with the refusal that the first step of what is left has found
+pub refusal_ends : {start now : Work} {row : Walk Work Reply} (c : Cause) (first : Walk Work (Option Refusal)) (rest : Walk Work Reply) → OnlyTells rest → IsLeft start row now (first >>= (λ r. check r rest)) → (new : Work) → RefusesBy c now new (first now) → EndsBy c start new (row start)
+refusal_ends (refuses r) first rest f l new h = sym l.same ∙ ap (after_first (λ q. check q rest)) h
+refusal_ends limited first rest f l new h = sym l.same ∙ ap (after_first (λ q. check q rest)) h
+refusal_ends wanting first rest f l new h = cut_left first (λ r. check r rest) (λ r. check_tells r rest f) l new h
 
--- the same walk in other words
-pub walks_as : {A B : Type 0} (view : A → B) (r : Result A OpFault) (old new : Work) (walk other : Walk Work B) → walk old ≡ other old → Walks view r old new walk → Walks view r old new other
-walks_as view (Ok y) old new walk other e h = sym e ∙ h
-walks_as view (Err f) old new walk other e h = fails_as f new (walk old) (other old) e h
+-- a walk that looks for a refusal has a fault of an operation
+pub fault_refuses : (e : OpFault) (old new : Work) (walk : Walk Work (Option Refusal)) → IsFaultOf e old new walk → RefusesBy (cause_of (fault_of_parcels e)) old new (walk old)
+fault_refuses Limit old new walk h = h
+fault_refuses (Memory e) old new walk h = h

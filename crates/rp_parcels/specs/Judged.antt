@@ -65,3 +65,7 @@ CountsNothing j = j.work.tests ≡ 0
 abbrev pub with_all_lines : Work → List Judged → Work
 with_all_lines w [] = w
 with_all_lines w (j ∷ js) = with_all_lines (with_lines w j.work.proofs) js
+
+-- the lines of all pairs are told, in order, without a test
+abbrev pub telling_all : List Judged → Walk Work (Unit {0})
+telling_all js w = done tt (with_all_lines w js)

@@ -3,6 +3,8 @@ pub mod Kept
 pub mod Register
 pub mod Rows
 pub mod Judged
+pub mod Counted
+pub mod Behind
 pub mod Touching
 pub mod Access
 pub mod Walks

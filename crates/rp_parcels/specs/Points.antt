@@ -1,23 +1,10 @@
 -- Whose a point is.
-use Rattle.std.specs.Prelude.{◌≡◌, Bool, ◌&&◌, IsTrue, ◌↔◌, List, Option, Some, None}
+use Rattle.std.specs.Prelude.{◌≡◌, Bool, ◌&&◌, IsTrue, ◌↔◌, List, Option, Some}
 use Rattle.std.specs.List.{list_any}
 use Rattle.rp_geometry.specs.Geometry.{RationalPoint, IsPoint}
 use Rattle.rp_language.specs.Name.{Label, label_eq}
-use Rattle.rp_model.specs.states.State.{Lot, is_live, is_alive_after}
-use Rattle.rp_model.specs.commands.Verdict.{Verdict}
+use Rattle.rp_model.specs.states.State.{Lot}
 use Rattle.rp_model.specs.commands.Row.{is_in_parts}
-use Rattle.rp_parcels.specs.declared.points.Moment.{Moment}
-use Rattle.rp_parcels.specs.declared.points.Moment.TheVariants.{Now, After}
-
--- a lot is there at a moment
-abbrev pub is_there : {S : Type 0} → Moment → Lot S → Bool
-is_there Now = is_live
-is_there (After n) = is_alive_after n
-
--- the verdict that tells an owner
-abbrev pub owner_verdict : Option Label → Verdict
-owner_verdict None = Verdict.nobody
-owner_verdict (Some x) = Verdict.parcel x
 
 -- a lot with the id is among the lots, and has the point
 abbrev pub has_point : {S : Type 0} → List (Lot S) → RationalPoint → Label → Bool

@@ -6,8 +6,7 @@ use Rattle.rp_language.specs.Name.{Label}
 use Rattle.rp_model.specs.states.State.{Lot, NewLot, lots_replaced}
 use Rattle.rp_model.specs.commands.Verdict.{Refusal, known, unknown, repeated, layers, same_name, too_few, empty_region, overlaps, empty_side, empty_child, outside_lot, children_overlap, gap}
 use Rattle.rp_model.specs.commands.Row.{Reply, refusal, accepted}
-use Rattle.rp_region.specs.declared.fault.OpFault.{OpFault}
-use Rattle.rp_region.specs.declared.fault.OpFault.TheVariants.{Limit as OpLimit, Memory as OpMemory}
+use Rattle.rp_region.specs.Makes.{IsCutShort}
 use Rattle.rp_region.specs.Pairs.{IsLast}
 use Rattle.rp_history.specs.Lots.{lots_after}
 use Rattle.rp_parcels.specs.declared.fault.ParcelFault.{ParcelFault}
@@ -48,20 +47,20 @@ line_of_fault _ = None
 abbrev pub IsTold : List ProofLine → ParcelFault → Type 0
 IsTold lines e = IfSome (line_of_fault e) (λ line. IsLast line lines)
 
--- what a row comes to where its call has a fault of this cause, at this work; nothing is said where memory ran out
-abbrev pub EndsBy : Cause → Work → Outcome Work Reply → Type 0
-EndsBy (refuses r) w o = o ≡ done (refusal r) w
-EndsBy limited w o = o ≡ stopped limit_met w
-EndsBy wanting w o = Unit {0}
+-- what a row comes to where its call has a fault of this cause, from the work old to the work new; where memory ran out it was given up on the way
+abbrev pub EndsBy : Cause → Work → Work → Outcome Work Reply → Type 0
+EndsBy (refuses r) old new o = o ≡ done (refusal r) new
+EndsBy limited old new o = o ≡ stopped limit_met new
+EndsBy wanting old new o = IsCutShort old new o
 
 -- the same of a fault
-abbrev pub EndsWith : ParcelFault → Work → Outcome Work Reply → Type 0
-EndsWith e w o = EndsBy (cause_of e) w o
+abbrev pub EndsWith : ParcelFault → Work → Work → Outcome Work Reply → Type 0
+EndsWith e old new o = EndsBy (cause_of e) old new o
 
 -- a question was asked, from the work old to the work new: its row comes to the reply, as the model sees it, or has the fault
 abbrev pub Answers : {A : Type 0} → (A → Reply) → Result A ParcelFault → Work → Work → Walk Work Reply → Type 0
 Answers view (Ok x) old new row = row old ≡ done (view x) new
-Answers view (Err e) old new row = EndsWith e new (row old)
+Answers view (Err e) old new row = EndsWith e old new (row old)
 
 -- a row comes to lots that end and lots that are born in their place, by the line with the number
 pub record IsAccepted (n : ℕ) (before after : List (Lot (Unit {0}))) (w : Work) (o : Outcome Work Reply) : Type 0 where
@@ -73,7 +72,7 @@ pub record IsAccepted (n : ℕ) (before after : List (Lot (Unit {0}))) (w : Work
 -- a change was asked for by the line with the number, from the work old to the work new: its row comes to a change, and the lots are as they are after it; or it has the fault, and the lots are as before
 abbrev pub Changes : {A : Type 0} → Result A ParcelFault → ℕ → Work → Work → List (Lot (Unit {0})) → List (Lot (Unit {0})) → Walk Work Reply → Type 0
 Changes (Ok x) n old new before after row = IsAccepted n before after new (row old)
-Changes (Err e) n old new before after row = EndsWith e new (row old) × (after ≡ before)
+Changes (Err e) n old new before after row = EndsWith e old new (row old) × (after ≡ before)
 
 -- what a check comes to where it is failed by this cause: the refusal; nothing is said where memory ran out
 abbrev pub FailsBy : Cause → Option Refusal → Type 0
@@ -86,23 +85,13 @@ abbrev pub Checks : {A : Type 0} → Result A ParcelFault → Option Refusal →
 Checks (Ok x) o = o ≡ None
 Checks (Err e) o = FailsBy (cause_of e) o
 
--- a walk ends with a fault of an operation: a limit is met; nothing is said where memory ran out
-abbrev pub FailsWith : {A : Type 0} → OpFault → Work → Outcome Work A → Type 0
-FailsWith OpLimit w o = o ≡ stopped limit_met w
-FailsWith (OpMemory e) w o = Unit {0}
-
--- a walk was made, from the work old to the work new: it comes to the result, as the model sees it, or has the fault
-abbrev pub Walks : {A B : Type 0} → (A → B) → Result A OpFault → Work → Work → Walk Work B → Type 0
-Walks view (Ok x) old new walk = walk old ≡ done (view x) new
-Walks view (Err e) old new walk = FailsWith e new (walk old)
-
--- what a walk that looks for a refusal comes to where its call has a fault of this cause
-abbrev pub RefusesBy : Cause → Work → Outcome Work (Option Refusal) → Type 0
-RefusesBy (refuses r) w o = o ≡ done (Some r) w
-RefusesBy limited w o = o ≡ stopped limit_met w
-RefusesBy wanting w o = Unit {0}
+-- what a walk that looks for a refusal comes to where its call has a fault of this cause, from the work old to the work new; where memory ran out it was given up on the way
+abbrev pub RefusesBy : Cause → Work → Work → Outcome Work (Option Refusal) → Type 0
+RefusesBy (refuses r) old new o = o ≡ done (Some r) new
+RefusesBy limited old new o = o ≡ stopped limit_met new
+RefusesBy wanting old new o = IsCutShort old new o
 
 -- a walk looked for a refusal, from the work old to the work new: there is none, or it has the fault
 abbrev pub Refuses : {A : Type 0} → Result A ParcelFault → Work → Work → Walk Work (Option Refusal) → Type 0
 Refuses (Ok x) old new walk = walk old ≡ done None new
-Refuses (Err e) old new walk = RefusesBy (cause_of e) new (walk old)
+Refuses (Err e) old new walk = RefusesBy (cause_of e) old new (walk old)

@@ -1,11 +1,9 @@
--- The lots of a layer at their places, which of them have parts whose closed boxes meet, and the numbers of places.
+-- Which lots at some places have parts whose closed boxes meet, and the numbers of places.
 use Rattle.std.specs.Prelude.{◌≡◌, ℕ, ◌<◌, Bool, not, ◌==◌, List, [], ◌∷◌, ◌++◌, map, length, get_or, cond}
 use Rattle.rp_geometry.specs.sets.Shape.{Part}
-use Rattle.rp_language.specs.Name.{Label}
 use Rattle.rp_walks.specs.Form.{touching_pair}
-use Rattle.rp_model.specs.states.State.{Lot, live_lots, lots_of_layer}
+use Rattle.rp_model.specs.states.State.{Lot}
 use Rattle.rp_model.specs.commands.Row.{count_pairs}
-use Rattle.rp_nearby.specs.Near.{lots_at, AreWithin}
 use Rattle.rp_parcels.specs.declared.pairs.Pair.{Pair}
 use Rattle.rp_parcels.specs.declared.pairs.Judged.{Judged}
 use Rattle.rp_parcels.specs.Judged.{pair_of, parts_at}
@@ -27,12 +25,6 @@ places_with lots j (k ∷ ks) = cond (is_touching (parts_at lots j) (parts_at lo
 abbrev pub places_among : {S : Type 0} → List (Lot S) → List ℕ → List Pair
 places_among lots [] = []
 places_among lots (j ∷ ks) = places_with lots j ks ++ places_among lots ks
-
--- the places are those of the live lots of one layer
-pub record AreOfLayer (lots : List (Lot (Unit {0}))) (places : List ℕ) : Type 0 where
-  pub layer : Label
-  pub there : lots_at lots places ≡ lots_of_layer layer (live_lots lots)
-  pub within : AreWithin lots places
 
 -- the places rise
 abbrev pub AreRising : List ℕ → Type 0

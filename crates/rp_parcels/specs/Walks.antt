@@ -4,9 +4,7 @@ use Rattle.rp_geometry.specs.sets.Shape.{Part}
 use Rattle.rp_language.specs.Name.{Label}
 use Rattle.rp_walks.specs.Walk.{Walk, Work, count_tests, first_tester, ◌>>◌}
 use Rattle.rp_model.specs.states.State.{Lot}
-use Rattle.rp_walks.specs.Form.{near_pair}
-use Rattle.rp_model.specs.commands.Verdict.{Refusal}
-use Rattle.rp_model.specs.commands.Row.{FormedChild, child_parts, count_among, first_overlapped, first_overlapping_children, touched_lots}
+use Rattle.rp_model.specs.commands.Row.{first_overlapped, touched_lots}
 use Rattle.rp_nearby.specs.declared.near.Reach.TheVariants.{Overlap, Touch}
 use Rattle.rp_nearby.specs.Near.{pairs_with}
 
@@ -21,9 +19,3 @@ abbrev pub touch_counted : {S : Type 0} → List Part → List (Lot S) → Walk 
 touch_counted ps lots = do
   count_tests (pairs_with Touch ps lots)
   touched_lots first_tester [] ps lots
-
--- the pairs of parts of children whose boxes share more than boundary are counted, and then the first two children that share a member are looked for
-abbrev pub children_counted : List FormedChild → Walk Work (Option Refusal)
-children_counted cs = do
-  count_tests (count_among near_pair (child_parts cs))
-  first_overlapping_children first_tester 1 cs

@@ -14,10 +14,9 @@ ghost use Rattle.rp_parcels.specs.Access.{access_reply, told_chain, told_levels}
 ghost use Rattle.rp_parcels.specs.Rows.{Answers, Checks};
 
 use crate::fault::ParcelFault;
-use crate::near::count_tests;
+use crate::links::{met_links, numbered_pairs};
 use crate::pairs::append_all;
 use crate::parcels::Parcels;
-use crate::touching::{met_links, numbered_pairs};
 use rp_access::{Links, chain, levels};
 use rp_boxindex::Watch;
 use rp_nearby::Reach;
@@ -43,8 +42,8 @@ impl Parcels {
     /// `Unknown(from)` and `Unknown(to)` where one isn't live; `Layers(to)` where the layers differ; `Limit` where too many
     /// pairs of parts of parcels of the layer have boxes that meet, the boundary included.
     ///
-    /// The items are the pairs of live parcels of the layer that have such a pair of parts. They are judged in threads, in
-    /// runs of at most `grain`, and the answer and the proof lines are the same for every grain.
+    /// The items are the pairs of live parcels of the layer that have such a pair of parts. They are judged in halves, and a
+    /// run of at most `grain` is not split; the answer and the proof lines are the same for every grain.
     pub fn access<R: Threads + Sync, W: Watch>(
         &self,
         rt: &R,
@@ -59,11 +58,10 @@ impl Parcels {
         ensures row { Answers access_reply result work.old work.new (row_access first_tester (lots_in [] self.now) from to) }
     {
         let layer = self.check_access(from, to)?;
-        let places = self.places_in(alloc, &layer)?;
-        count_tests(work, self.count_touching(alloc, watch, &places)?)?;
-        let pairs = self.touching(alloc, watch, &places)?;
-        let all = self.judge_pairs(rt, alloc, watch, grain, &pairs, Reach::Touch)?;
-        let numbers = numbered_pairs(alloc, &places, &pairs)?;
+        let places = self.live_places(alloc, Some(layer))?;
+        let near = self.later_pairs(alloc, watch, &places, Reach::Touch)?;
+        let all = self.judge_counted(rt, alloc, watch, grain, &near, Reach::Touch, work)?;
+        let numbers = numbered_pairs(alloc, &places, &near.pairs)?;
         let links = met_links(alloc, places.len(), &numbers, &all)?;
         let told = self.told_access(alloc, &places, &links, &from, &to)?;
         append_all(alloc, work, all)?;

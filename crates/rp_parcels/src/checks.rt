@@ -5,10 +5,11 @@ ghost use Rattle.rp_model.specs.states.State.{live_lot, layer_with_id, layer_of_
 ghost use Rattle.rp_model.specs.commands.Verdict.{repeated};
 ghost use Rattle.rp_model.specs.commands.Checks.{check_new, check_live, check_each, check_repeated, check_cut, check_subdivide, check_layer, check_consolidate};
 ghost use Rattle.rp_model.specs.commands.Row.{check_size};
+ghost use Rattle.rp_region.specs.Makes.{Makes};
 ghost use Rattle.rp_history.specs.Lots.{lots_in};
 ghost use Rattle.rp_parcels.specs.Kept.{AreSound};
 ghost use Rattle.rp_parcels.specs.declared.fault.ParcelFault.TheVariants.{Unknown};
-ghost use Rattle.rp_parcels.specs.Rows.{Walks, Checks};
+ghost use Rattle.rp_parcels.specs.Rows.{Checks};
 
 use crate::fault::ParcelFault;
 use crate::parcels::Parcels;
@@ -149,7 +150,7 @@ impl Parcels {
     /// `Limit` exactly where all parcels together would keep more than 65,536 parts with so many more.
     pub(crate) fn check_room(&self, parts: usize) -> Result<(), OpFault>
         ensures sound { AreSound self.now }
-        ensures walk { (w : Work) → Walks (λ x. x) result w w (check_size (parts_under_lots self.now + parts) most_kept_parts) }
+        ensures walk { (w : Work) → Makes (λ x. x) result w w (check_size (parts_under_lots self.now + parts) most_kept_parts) }
     {
         if !self.have_room_for(parts) {
             return Err(OpFault::Limit);

@@ -1,12 +1,22 @@
-//! The register of parcels: lots of one layer never share a point. Each call makes the checks, counts and tests of the row
-//! of its command.
 #![tactic(auto)]
+//! The register of parcels: live lots of one layer never share a point. Each call makes the checks, counts and tests of the
+//! row of its command.
+//!
+//! A register is by its type a sound one: ids are distinct, live parcels of one layer share no point, every parcel has
+//! one, ends are above births, origins stand before and are of the same layer, and the limits are kept. A call changes
+//! the lots exactly as its row says, or is refused for its first cause; then, and after want of memory, all lots are as
+//! before. The items of `neighbours`, `access` and `audit` are judged in halves; the answer, the count of tests and the
+//! proof lines are those of the row for every grain. The parcel at a point is the only one of its layer. Points that a
+//! refusal carries are those of its last proof line.
 
 mod access;
 mod audit;
+mod behind;
+mod boxes;
 mod checks;
 mod child;
 mod fault;
+mod links;
 mod near;
 mod neighbours;
 mod pairs;
@@ -15,7 +25,6 @@ mod points;
 mod register;
 mod reshape;
 mod subdivide;
-mod touching;
 
 pub use access::{Access, Levels};
 pub use child::Child;

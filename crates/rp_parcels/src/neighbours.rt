@@ -3,15 +3,15 @@ ghost use Rattle.std.specs.Prelude.{◌<◌, ◌≤◌, [], length};
 ghost use Rattle.rp_walks.specs.Walk.{first_tester};
 ghost use Rattle.rp_model.specs.commands.Verdict.{neighbour_lines};
 ghost use Rattle.rp_model.specs.commands.Row.{reply_lines, row_neighbours};
+ghost use Rattle.rp_region.specs.Makes.{Makes};
 ghost use Rattle.rp_history.specs.Lots.{lots_in};
 ghost use Rattle.rp_nearby.specs.Near.{others_in};
 ghost use Rattle.rp_parcels.specs.Judged.{parts_at};
 ghost use Rattle.rp_parcels.specs.Walks.{touch_counted};
-ghost use Rattle.rp_parcels.specs.Rows.{Walks, Answers};
+ghost use Rattle.rp_parcels.specs.Rows.{Answers};
 
 use crate::fault::ParcelFault;
-use crate::near::count_tests;
-use crate::pairs::{add_pairs, append_all, ids_that_meet};
+use crate::pairs::{NearPairs, add_pairs, append_all, ids_that_meet};
 use crate::parcels::Parcels;
 use rp_boxindex::Watch;
 use rp_nearby::Reach;
@@ -25,8 +25,8 @@ impl Parcels {
     /// order: `Unknown(id)` where it isn't live; `Limit` where too many pairs of their parts have boxes that meet, the
     /// boundary included.
     ///
-    /// The items are the other live parcels of the layer that have such a pair with it. They are judged in threads, in runs
-    /// of at most `grain`, and the answer and the proof lines are the same for every grain.
+    /// The items are the other live parcels of the layer that have such a pair with it. They are judged in halves, and a
+    /// run of at most `grain` is not split; the answer and the proof lines are the same for every grain.
     pub fn neighbours<R: Threads + Sync, W: Watch>(
         &self,
         rt: &R,
@@ -59,14 +59,17 @@ impl Parcels {
     ) -> Result<Names, OpFault>
         requires grain { 1 ≤ grain }
         requires place { place < length self.now }
-        ensures { Walks (λ ids. ids.items) result work.old work.new (touch_counted (parts_at self.now place) (others_in layer.now id.now self.now)) }
+        ensures { Makes (λ ids. ids.items) result work.old work.new (touch_counted (parts_at self.now place) (others_in layer.now id.now self.now)) }
     {
         let region = self.region_at(place);
         let near = self.near(alloc, watch, region, layer, id, 0, Reach::Touch)?;
-        count_tests(work, near.pairs)?;
         let mut pairs = Vec::new(alloc);
         add_pairs(&mut pairs, place, near.places.items())?;
-        let all = self.judge_pairs(rt, alloc, watch, grain, &pairs, Reach::Touch)?;
+        let near = NearPairs {
+            tests: near.pairs,
+            pairs,
+        };
+        let all = self.judge_counted(rt, alloc, watch, grain, &near, Reach::Touch, work)?;
         let ids = ids_that_meet(alloc, &all)?;
         append_all(alloc, work, all)?;
         Ok(ids)

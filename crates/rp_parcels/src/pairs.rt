@@ -1,10 +1,11 @@
 //! Pairs of parcels, judged in halves of work.
 ghost use Rattle.std.specs.Prelude.{◌≡◌, ◌≤◌, ◌++◌, length, map, IfOk, OnOk};
 ghost use Rattle.std.specs.List.{AllByRecursion};
-ghost use Rattle.rp_walks.specs.Walk.{most_tests};
-ghost use Rattle.rp_region.specs.Makes.{Makes};
-ghost use Rattle.rp_parcels.specs.Judged.{pair_of, ids_that_meet, pair_test, judged, judged_at, with_all_lines, IsPairWithin, ArePairsWithin, CountsNothing};
+ghost use Rattle.rp_walks.specs.Walk.{most_tests, count_tests};
+ghost use Rattle.rp_region.specs.Makes.{op_result, Makes};
+ghost use Rattle.rp_parcels.specs.Judged.{pair_of, ids_that_meet, pair_test, judged, judged_at, telling_all, IsPairWithin, ArePairsWithin, CountsNothing};
 
+use crate::near::count_tests;
 use crate::parcels::Parcels;
 use rp_boxindex::Watch;
 use rp_crew::{Judge, judge_all};
@@ -19,6 +20,13 @@ use std::thread::Threads;
 pub(crate) struct Pair {
     pub first: usize,
     pub second: usize,
+}
+
+/// Pairs of parcels, and how many pairs of their parts may meet.
+#[derive(Debug, Drop)]
+pub(crate) struct NearPairs {
+    pub tests: u64,
+    pub pairs: Vec<Pair>,
 }
 
 /// What the tests of a pair have shown: whether the two meet, and the proof lines. The id is that of the second parcel.
@@ -57,9 +65,9 @@ impl<W: Watch> Judge for Pairs<'_, W> {
 }
 
 impl Parcels {
-    /// What the tests of each pair show, in order. They are judged in halves, down to runs of at most `grain` pairs, and the
+    /// What the tests of each pair show, in order. They are judged in halves, and a run of at most `grain` is not split; the
     /// watch is told of each pair as its tests begin. Answers `AllocError` only for want of memory.
-    pub(crate) fn judge_pairs<R: Threads + Sync, W: Watch>(
+    fn judge_pairs<R: Threads + Sync, W: Watch>(
         &self,
         rt: &R,
         alloc: Global,
@@ -79,6 +87,29 @@ impl Parcels {
             reach,
         };
         judge_all(rt, alloc, grain, &pairs)
+    }
+
+    /// What the tests of each pair show, in order, once as many tests are counted as there are pairs of their parts. `Limit`
+    /// exactly where these are too many.
+    pub(crate) fn judge_counted<R: Threads + Sync, W: Watch>(
+        &self,
+        rt: &R,
+        alloc: Global,
+        watch: &W,
+        grain: usize,
+        near: &NearPairs,
+        reach: Reach,
+        work: &mut Work,
+    ) -> Result<Vec<Judged>, OpFault>
+        requires grain { 1 ≤ grain }
+        requires within { AllByRecursion (IsPairWithin self.now) near.now.pairs.items }
+        ensures counted { Makes (λ _. tt) result work.old work.new (count_tests near.now.tests) }
+        ensures few { OnOk result (work.new.tests ≤ most_tests) }
+        ensures shown { IfOk result (λ all. all.items ≡ map (judged reach self.now) near.now.pairs.items) }
+        ensures uncounted { IfOk result (λ all. AllByRecursion CountsNothing all.items) }
+    {
+        count_tests(work, near.tests)?;
+        Ok(self.judge_pairs(rt, alloc, watch, grain, &near.pairs, reach)?)
     }
 
     /// What the tests of a pair show. Answers `AllocError` only for want of memory.
@@ -147,11 +178,12 @@ pub(crate) fn ids_that_meet(alloc: Global, all: &[Judged]) -> Result<Names, Allo
     Ok(ids)
 }
 
-/// Appends the proof lines of all pairs in order; they are moved. Answers `AllocError` only for want of memory.
+/// Appends the proof lines of all pairs in order; they are moved. Answers `AllocError` only for want of memory; then the
+/// lines are those before, followed by a front of these.
 pub(crate) fn append_all(alloc: Global, work: &mut Work, all: Vec<Judged>) -> Result<(), AllocError>
     requires few { work.old.tests ≤ most_tests }
     requires uncounted { AllByRecursion CountsNothing all.items }
-    ensures { OnOk result (work.new ≡ with_all_lines work.old all.items) }
+    ensures { Makes (λ x. x) (op_result result) work.old work.new (telling_all all.items) }
 {
     for one in all {
         work.append(alloc, one.work)?;

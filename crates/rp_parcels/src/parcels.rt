@@ -10,10 +10,10 @@ ghost use Rattle.rp_parcels.specs.Register.{IsLater, IsFitChange, new_lots};
 ghost use Rattle.rp_parcels.specs.declared.fault.ParcelFault.TheVariants.{Unknown};
 ghost use Rattle.rp_parcels.specs.Rows.{Changes};
 
+use crate::boxes::hulls_of;
 use crate::fault::ParcelFault;
-use crate::near::boxes_of_each;
 use rp_history::{Birth, History};
-use rp_nearby::LiveBoxes;
+use rp_nearby::LotBoxes;
 use rp_region::Region;
 use rp_space::{Listed, Name};
 use std::alloc::{AllocError, Global};
@@ -32,8 +32,8 @@ pub struct Parcels {
     regions: Listed<Region>,
     // How many parts the regions have together.
     parts: usize,
-    // The boxes of the parts of live parcels.
-    boxes: LiveBoxes,
+    // A box around each parcel.
+    boxes: LotBoxes,
 }
 
 impl Model for Parcels {
@@ -45,7 +45,7 @@ impl Model for Parcels {
 
     ghost view = { λ a. lots_with_parts a.history a.regions.items };
 
-    ghost invariant = { λ a. IsRegister a.history a.regions.items a.parts a.boxes.index };
+    ghost invariant = { λ a. IsRegister a.history a.regions.items a.parts a.boxes.live a.boxes.ever };
 }
 
 impl Parcels {
@@ -57,7 +57,7 @@ impl Parcels {
             history: History::new(alloc),
             regions: Listed::new(alloc),
             parts: 0,
-            boxes: LiveBoxes::new(alloc),
+            boxes: LotBoxes::new(alloc),
         })
     }
 
@@ -88,9 +88,9 @@ impl Parcels {
         &self.regions.items()[place]
     }
 
-    /// The boxes of the parts of live parcels.
-    pub(crate) fn boxes(&self) -> &LiveBoxes
-        ensures indexed { IsIndexed self.now result.now.index }
+    /// A box around each parcel: of the live ones in one index, and of all that ever were in another.
+    pub(crate) fn boxes(&self) -> &LotBoxes
+        ensures indexed { IsIndexed self.now result.now.live result.now.ever }
         ensures sound { AreSound self.now }
     {
         &self.boxes
@@ -133,14 +133,14 @@ impl Parcels {
         let added = regions.items();
         let parts = count_parts(added);
         let first = self.regions.items().len();
-        let lists = boxes_of_each(alloc, added)?;
+        let hulls = hulls_of(alloc, added)?;
         self.regions.reserve(added.len())?;
-        self.boxes.add_all(alloc, first, lists.items())?;
+        self.boxes.add_all(alloc, first, hulls.items())?;
         if let Err(error) = self.history.note(alloc, line, births, ends) {
             self.boxes.remove_all(first, added.len());
             return Err(error);
         }
-        self.boxes.remove_ended(&self.history, first, ends);
+        self.boxes.end_all(&self.history, first, ends);
         self.regions.append(regions).unwrap();
         self.parts += parts;
         Ok(())
@@ -158,7 +158,7 @@ impl Parcels {
         self.live_place(id)?;
         self.history.end(line, id);
         let count = self.regions.items().len();
-        self.boxes.remove_ended(&self.history, count, &[id]);
+        self.boxes.end_all(&self.history, count, &[id]);
         Ok(())
     }
 }

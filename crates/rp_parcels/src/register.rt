@@ -8,10 +8,11 @@ ghost use Rattle.rp_model.specs.commands.Verdict.{empty_region};
 ghost use Rattle.rp_model.specs.commands.Checks.{check_new, refuse_if, and_then};
 ghost use Rattle.rp_model.specs.commands.Row.{first_overlapped, row_register};
 ghost use Rattle.rp_region.specs.Pairs.{IsLast};
+ghost use Rattle.rp_region.specs.Makes.{Makes};
 ghost use Rattle.rp_history.specs.Lots.{lots_in};
 ghost use Rattle.rp_parcels.specs.Kept.{AreSound};
 ghost use Rattle.rp_parcels.specs.Register.{IsLater};
-ghost use Rattle.rp_parcels.specs.Rows.{Walks, Changes, Checks, IsTold};
+ghost use Rattle.rp_parcels.specs.Rows.{Changes, Checks, IsTold};
 ghost use Rattle.rp_nearby.specs.Near.{lots_at, AreWithin};
 ghost use Rattle.rp_parcels.specs.Walks.{overlap_counted};
 
@@ -85,7 +86,7 @@ impl Parcels {
         work: &mut Work,
     ) -> Result<Option<(Name, Inside)>, OpFault>
         requires { is_among id.now (ids_of self.now) ≡ false }
-        ensures makes { Walks (option_map (λ f. f.0)) result work.old work.new (overlap_counted region.now (present_lots (lots_in layer.now self.now))) }
+        ensures makes { Makes (option_map (λ f. f.0)) result work.old work.new (overlap_counted region.now (present_lots (lots_in layer.now self.now))) }
         ensures told { IfOk result (λ o. IfSome o (λ f. IsLast (in_line f.1) work.new.proofs)) }
     {
         let near = self.near(alloc, watch, region, layer, id, 0, Reach::Overlap)?;
@@ -102,7 +103,7 @@ impl Parcels {
         work: &mut Work,
     ) -> Result<Option<(Name, Inside)>, OpFault>
         requires { AreWithin self.now places.now }
-        ensures makes { Walks (option_map (λ f. f.0)) result work.old work.new (first_overlapped first_tester region.now (lots_at self.now places.now)) }
+        ensures makes { Makes (option_map (λ f. f.0)) result work.old work.new (first_overlapped first_tester region.now (lots_at self.now places.now)) }
         ensures told { IfOk result (λ o. IfSome o (λ f. IsLast (in_line f.1) work.new.proofs)) }
     {
         for place in places {

@@ -7,10 +7,11 @@ ghost use Rattle.rp_walks.specs.Form.{if_at_most};
 ghost use Rattle.rp_model.specs.states.State.{layer_with_id, lots_replaced};
 ghost use Rattle.rp_model.specs.commands.Checks.{check_live};
 ghost use Rattle.rp_model.specs.commands.Row.{row_cut, row_consolidate, parts_with_id, joined_parts};
+ghost use Rattle.rp_region.specs.Makes.{Makes};
 ghost use Rattle.rp_history.specs.Lots.{lots_in, lots_after};
 ghost use Rattle.rp_parcels.specs.Kept.{AreSound};
 ghost use Rattle.rp_parcels.specs.Register.{IsLater, IsFitChange, new_lots, parts_divided};
-ghost use Rattle.rp_parcels.specs.Rows.{Walks, Changes, IsTold, cause_of, wanting};
+ghost use Rattle.rp_parcels.specs.Rows.{Changes, IsTold, cause_of, wanting};
 
 use crate::fault::ParcelFault;
 use crate::parcels::Parcels;
@@ -95,7 +96,7 @@ impl Parcels {
 
     /// The parts of some live parcels, in the order given. `Limit` exactly where these are more than 1,024. It makes no test.
     fn joined(&self, alloc: Global, ids: &[Name], work: &mut Work) -> Result<Region, OpFault>
-        ensures { Walks (λ region. region) result work.old work.new (if_at_most most_parts (joined_parts (map (λ x. parts_with_id (lots_in [] self.now) x) ids.now))) }
+        ensures { Makes (λ region. region) result work.old work.new (if_at_most most_parts (joined_parts (map (λ x. parts_with_id (lots_in [] self.now) x) ids.now))) }
     {
         let mut region = Region::none(alloc);
         for id in ids {

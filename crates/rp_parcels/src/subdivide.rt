@@ -8,10 +8,11 @@ ghost use Rattle.rp_walks.specs.Form.{near_pair, subtract};
 ghost use Rattle.rp_walks.specs.Compare.{show_then_no, is_covered};
 ghost use Rattle.rp_model.specs.commands.Row.{child_parts, joined_parts, count_with_each, count_among, first_empty_child, first_outside_child, first_overlapping_child, first_overlapping_children, row_subdivide};
 ghost use Rattle.rp_region.specs.Pairs.{IsLast};
+ghost use Rattle.rp_region.specs.Makes.{Makes};
 ghost use Rattle.rp_history.specs.Lots.{lots_in};
 ghost use Rattle.rp_parcels.specs.Kept.{AreSound};
 ghost use Rattle.rp_parcels.specs.Register.{IsLater, child_of};
-ghost use Rattle.rp_parcels.specs.Rows.{Walks, Changes, Checks, Refuses, IsTold};
+ghost use Rattle.rp_parcels.specs.Rows.{Changes, Checks, Refuses, IsTold};
 
 use crate::child::Child;
 use crate::fault::ParcelFault;
@@ -205,7 +206,7 @@ fn gap(
     children: &[Child],
     work: &mut Work,
 ) -> Result<Option<Inside>, OpFault>
-    ensures walk { Walks is_none result work.old work.new (is_covered first_tester whole.now (joined_parts (child_parts (map child_of children.now)))) }
+    ensures walk { Makes is_none result work.old work.new (is_covered first_tester whole.now (joined_parts (child_parts (map child_of children.now)))) }
     ensures told { IfOk result (λ o. IfSome o (λ points. IsLast (in_line points) work.new.proofs)) }
 {
     let left = left_of(alloc, whole, children, work)?;
@@ -219,7 +220,7 @@ fn left_of(
     children: &[Child],
     work: &mut Work,
 ) -> Result<Region, OpFault>
-    ensures { Walks (λ left. left) result work.old work.new (subtract first_tester whole.now (joined_parts (child_parts (map child_of children.now)))) }
+    ensures { Makes (λ left. left) result work.old work.new (subtract first_tester whole.now (joined_parts (child_parts (map child_of children.now)))) }
 {
     let mut left = whole.copy(alloc)?;
     for child in children {
@@ -235,7 +236,7 @@ fn outside(
     whole: &Region,
     work: &mut Work,
 ) -> Result<Option<Inside>, OpFault>
-    ensures walk { Walks is_none result work.old work.new (is_covered first_tester region.now whole.now) }
+    ensures walk { Makes is_none result work.old work.new (is_covered first_tester region.now whole.now) }
     ensures told { IfOk result (λ o. IfSome o (λ points. IsLast (in_line points) work.new.proofs)) }
 {
     let left = region.minus(alloc, whole, work)?;
@@ -245,7 +246,7 @@ fn outside(
 /// What shows that a region has a point, by a test of its first part, which isn't counted; `None` exactly where it has no
 /// part.
 fn point_of(alloc: Global, region: &Region, work: &mut Work) -> Result<Option<Inside>, OpFault>
-    ensures walk { Walks is_none result work.old work.new (show_then_no first_tester region.now) }
+    ensures walk { Makes is_none result work.old work.new (show_then_no first_tester region.now) }
     ensures told { IfOk result (λ o. IfSome o (λ points. IsLast (in_line points) work.new.proofs)) }
 {
     match region.parts() {

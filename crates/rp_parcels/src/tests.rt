@@ -156,6 +156,21 @@ fn two_sides(rt: &impl Abort, alloc: Global) -> Parcels
     parcels
 }
 
+/// How many live parcels an audit clears, and the proof lines.
+fn audit_lines<R: Abort + Threads + Sync, W: Watch>(
+    rt: &R,
+    alloc: Global,
+    watch: &W,
+    grain: usize,
+    parcels: &Parcels,
+) -> (u32, Proofs)
+    requires { 1 ≤ grain }
+{
+    let mut work = Work::new(alloc);
+    let count = parcels.audit(rt, alloc, watch, grain, &mut work);
+    (count.expect(rt, "no audit"), work.into_proofs())
+}
+
 /// How many live parcels an audit clears, and how many proof lines it has.
 fn audited<R: Abort + Threads + Sync, W: Watch>(
     rt: &R,
@@ -166,9 +181,8 @@ fn audited<R: Abort + Threads + Sync, W: Watch>(
 ) -> (u32, usize)
     requires { 1 ≤ grain }
 {
-    let mut work = Work::new(alloc);
-    let count = parcels.audit(rt, alloc, watch, grain, &mut work);
-    (count.expect(rt, "no audit"), work.proofs().len())
+    let (count, lines) = audit_lines(rt, alloc, watch, grain, parcels);
+    (count, lines.items().len())
 }
 
 /// Whether the neighbours of a parcel are these.
@@ -575,6 +589,7 @@ fn building(rt: &impl Abort, alloc: Global) -> Parcels
 fn is_same_line(first: &Proof, second: &Proof) -> bool {
     match (first, second) {
         (Proof::At(point), Proof::At(other)) => *point == *other,
+        (Proof::Out(terms), Proof::Out(others)) => terms.items() == others.items(),
         (Proof::Apart(terms), Proof::Apart(others)) => terms.items() == others.items(),
         _ => false,
     }
@@ -588,6 +603,19 @@ fn are_same_lines(lines: &[Proof], others: &[Proof]) -> bool {
         }
     }
     lines.len() == others.len()
+}
+
+#[test]
+fn audit_of_a_building_is_the_same_for_every_grain(rt: HostRuntime) {
+    let parcels = building(&rt, rt.alloc());
+    let single = audit_lines(&rt, rt.alloc(), &Quiet, 1, &parcels);
+    assert_eq!(rt; single.0, 40);
+    assert_eq!(rt; single.1.items().len(), 20);
+    for grain in [7, 1000] {
+        let (count, lines) = audit_lines(&rt, rt.alloc(), &Quiet, grain, &parcels);
+        assert_eq!(rt; count, 40);
+        assert!(rt; are_same_lines(single.1.items(), lines.items()));
+    }
 }
 
 /// Whether access is the same: the chain, the levels with their ids and the proof lines.

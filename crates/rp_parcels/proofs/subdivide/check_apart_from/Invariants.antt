@@ -1,9 +1,13 @@
 use Rattle.std.proofs.Common.{◌≡◌, ◌+◌, map, drop}
 use Rattle.rp_walks.specs.Walk.{first_tester}
 use Rattle.rp_model.specs.commands.Row.{first_overlapping_child}
+use Rattle.rp_region.proofs.Left.{IsLeft}
 use Rattle.rp_parcels.specs.Register.{child_of}
 use Rattle.rp_parcels.proofs.subdivide.check_apart_from.Given as goal
 
 -- the children still to come are left
 abbrev pub invariant-loop-child : goal.invariant-loop-child
-invariant-loop-child l = (first_overlapping_child first_tester l.first l.region l.number (map child_of (drop l.child-index l.behind)) l.work ≡ first_overlapping_child first_tester l.first l.region (l.first + 1) (map child_of l.behind) l.fn.work) × (l.number ≡ l.first + 1 + l.child-index)
+invariant-loop-child l = record {
+  left : IsLeft l.fn.work (first_overlapping_child first_tester l.first l.region (l.first + 1) (map child_of l.behind)) l.work (first_overlapping_child first_tester l.first l.region l.number (map child_of (drop l.child-index l.behind)));
+  counted : l.number ≡ l.first + 1 + l.child-index;
+}

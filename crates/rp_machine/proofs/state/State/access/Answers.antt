@@ -19,7 +19,7 @@ returns-in_err-access g c =
     let p = err_from_is_err_and c.from_residual.result c.from_residual.ensures.1 in
     let s = c.args.self.now in
     let w = c.args.work.now in
-    question_fails c.from_residual.result p.0 c.in_err-access.field-0.0 c.access.new.work (row_access first_tester (lots_in [] c.parcels.result.now) c.args.from c.args.to w) (row_access first_tester s c.args.from c.args.to w) p.1 p.2 c.in_err-access.ensures.row
+    question_fails c.from_residual.result p.0 c.in_err-access.field-0.0 w c.access.new.work (row_access first_tester (lots_in [] c.parcels.result.now) c.args.from c.args.to w) (row_access first_tester s c.args.from c.args.to w) p.1 p.2 c.in_err-access.ensures.row
     (ap (λ (lots : List (Lot (Unit {0}))). row_access first_tester (lots_in [] lots) c.args.from c.args.to w) c.parcels.ensures ∙ same_access s c.args.from c.args.to w)
 
 pub chain_lines-requires : goal.chain_lines-requires

@@ -14,7 +14,7 @@ returns-in_err-ids g c =
     let p = err_from_is_err_and c.from_residual.result c.from_residual.ensures.1 in
     let s = c.args.self.now in
     let w = c.args.work.now in
-    question_fails c.from_residual.result p.0 c.in_err-ids.field-0.0 c.neighbours.new.work (row_neighbours first_tester (lots_in [] c.parcels.result.now) c.args.id w) (row_neighbours first_tester s c.args.id w) p.1 p.2 c.in_err-ids.ensures.row
+    question_fails c.from_residual.result p.0 c.in_err-ids.field-0.0 w c.neighbours.new.work (row_neighbours first_tester (lots_in [] c.parcels.result.now) c.args.id w) (row_neighbours first_tester s c.args.id w) p.1 p.2 c.in_err-ids.ensures.row
     (ap (λ (lots : List (Lot (Unit {0}))). row_neighbours first_tester (lots_in [] lots) c.args.id w) c.parcels.ensures ∙ same_neighbours s c.args.id w)
 
 pub neighbour_lines-requires : goal.neighbour_lines-requires

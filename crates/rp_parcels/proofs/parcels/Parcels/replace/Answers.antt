@@ -1,18 +1,18 @@
-use Rattle.std.proofs.Common.{ℕ, ◌+◌, ◌≤◌, List, [], ◌++◌, map, length, get_or, sum_by, ap, ap₂, sym, ◌∙◌, subst, arith}
+use Rattle.std.proofs.Common.{ℕ, ◌+◌, ◌≤◌, List, ◌++◌, map, length, sum_by, ap, ap₂, sym, ◌∙◌, subst, arith}
 use Rattle.std.proofs.lemmas.List.{length-map}
-use Rattle.rp_geometry.specs.Geometry.{IntegerBox}
 use Rattle.rp_geometry.specs.sets.Shape.{Part}
+use Rattle.rp_space.specs.Boxes.{integer_box}
 use Rattle.rp_model.specs.states.State.{Lot, lots_replaced, most_kept_parts}
 use Rattle.rp_history.specs.Lots.{lots_after, AreNew}
-use Rattle.rp_nearby.specs.Indexed.{bounds_of, boxes_in, lists_in, AreShort, AreUnder, NoneBehind}
+use Rattle.rp_boxindex.specs.Boxes.{Boxes}
+use Rattle.rp_nearby.specs.Indexed.{boxes_in, hull_of_parts, ArePut}
+use Rattle.rp_nearby.proofs.Put.{none_behind_put}
 use Rattle.rp_parcels.specs.Kept.{lots_with_parts, AreSound, IsRegister}
 use Rattle.rp_parcels.specs.Register.{IsLater, IsFitChange, new_lots}
-use Rattle.rp_parcels.proofs.Together.{born_before, new_to_history, after_with_parts, register_after, lots_counted, lots_sound, lots_parts}
+use Rattle.rp_parcels.proofs.Together.{born_before, new_to_history, after_with_parts, register_after, lots_counted, lots_sound, lots_parts, new_parts}
 use Rattle.rp_parcels.proofs.Sizes.{few_lots, few_parts}
-use Rattle.rp_parcels.proofs.Together.{new_parts}
 use Rattle.rp_parcels.proofs.Later.{later_after}
-use Rattle.rp_nearby.proofs.Numbers.{stay_twice}
-use Rattle.rp_parcels.proofs.Moved.{free_places, packed, indexed_replaced, register_restored, room_for}
+use Rattle.rp_parcels.proofs.Moved.{hulls_counted, free_live, free_ever, indexed_replaced, register_stays, register_restored, room_for}
 use Rattle.rp_parcels.proofs.parcels.Parcels.replace.Goals as goal
 
 pub count_parts-parts-requires : goal.count_parts-parts-requires
@@ -25,24 +25,22 @@ add_all-requires-clause-small c =
     let room = room_for c.args.line c.args.ends.now c.args.self.now c.args.births.now c.args.regions.items c.requires.each c.requires.fit.sound in
     let added = ap length c.items-added.ensures in
     let old = ap length c.items-first.ensures in
-    let each = ap length c.items.ensures ∙ sym (length-map c.in_ok-lists.lists.items (λ list. boxes_in list.items)) ∙ ap length c.in_ok-lists.ensures.value ∙ length-map c.items-added.result.now bounds_of in
-    omega (arith, many, room, added, old, each)
+    let hulls = ap length c.items.ensures in
+    let each = sym (length-map c.in_ok-hulls.hulls.items integer_box) ∙ hulls_counted c.in_ok-hulls.hulls.items c.items-added.result.now c.in_ok-hulls.ensures in
+    omega (arith, many, room, added, old, hulls, each)
 
-pub add_all-requires-clause-short : goal.add_all-requires-clause-short
-add_all-requires-clause-short c = subst AreShort (sym c.items.ensures) c.in_ok-lists.ensures.short
+pub add_all-requires-clause-live_free : goal.add_all-requires-clause-live_free
+add_all-requires-clause-live_free c = let own = c.self.inside in free_live own.history own.regions.items own.parts own.boxes.live own.boxes.ever c.self.invariant (length c.items-first.result.now) (ap length c.items-first.ensures)
 
-pub add_all-requires-clause-packed : goal.add_all-requires-clause-packed
-add_all-requires-clause-packed c = packed c.self.inside.history c.self.inside.regions.items c.self.inside.parts c.self.inside.boxes.index c.self.invariant
-
-pub add_all-requires-clause-free : goal.add_all-requires-clause-free
-add_all-requires-clause-free c =
-    free_places c.self.inside.history c.self.inside.regions.items c.self.inside.parts c.self.inside.boxes.index c.self.invariant (length c.items-first.result.now) (ap length c.items-first.ensures)
+pub add_all-requires-clause-ever_free : goal.add_all-requires-clause-ever_free
+add_all-requires-clause-ever_free c = let own = c.self.inside in free_ever own.history own.regions.items own.parts own.boxes.live own.boxes.ever c.self.invariant (length c.items-first.result.now) (ap length c.items-first.ensures)
 
 pub invariant_of-self-in_err-add_all : goal.invariant_of-self-in_err-add_all
 invariant_of-self-in_err-add_all c =
-    subst (λ (lists : List (List Part)). IsRegister c.self.inside.history lists c.self.inside.parts c.add_all.new.self.index) (sym c.in_ok-reserve.ensures.items)
-    (register_restored c.self.inside.history c.self.inside.regions.items c.self.inside.parts c.self.inside.boxes.index c.self.invariant (length c.items-first.result.now) (ap length c.items-first.ensures)
-    c.add_all.new.self.index c.add_all.ensures.rest c.in_err-add_all.ensures.err)
+    let own = c.self.inside in
+    subst (λ (lists : List (List Part)). IsRegister own.history lists own.parts c.add_all.new.self.live c.add_all.new.self.ever) (sym c.in_ok-reserve.ensures.items)
+    (register_stays own.history own.regions.items own.parts own.boxes.live own.boxes.ever c.self.invariant (length c.items-first.result.now) (ap length c.items-first.ensures)
+    c.add_all.new.self.live c.add_all.new.self.ever c.in_err-add_all.ensures.live_stays c.in_err-add_all.ensures.ever_stays)
 
 pub note-requires-clause-later : goal.note-requires-clause-later
 note-requires-clause-later c =
@@ -61,21 +59,26 @@ remove_all-requires-clause-small c =
     let old = ap length c.items-first.ensures in
     omega (arith, many, room, added, old)
 
-pub remove_all-requires-clause-behind : goal.remove_all-requires-clause-behind
-remove_all-requires-clause-behind c =
-    subst (λ (n : ℕ). NoneBehind c.add_all.new.self.index (length c.items-first.result.now + n))
-    (ap length c.items.ensures ∙ sym (length-map c.in_ok-lists.lists.items (λ list. boxes_in list.items)) ∙ ap length c.in_ok-lists.ensures.value ∙ length-map c.items-added.result.now bounds_of)
-    c.add_all.ensures.behind
+pub remove_all-requires-clause-live_behind : goal.remove_all-requires-clause-live_behind
+remove_all-requires-clause-live_behind c =
+    let many = hulls_counted c.items.result.now c.items-added.result.now (ap boxes_in c.items.ensures ∙ c.in_ok-hulls.ensures) in
+    none_behind_put c.self.inside.boxes.live c.add_all.new.self.live (length c.items-first.result.now) _ (boxes_in c.items.result.now) c.in_ok-add_all.ensures.live (ap (λ (n : ℕ). length c.items-first.result.now + n) (sym many))
+
+pub remove_all-requires-clause-ever_behind : goal.remove_all-requires-clause-ever_behind
+remove_all-requires-clause-ever_behind c =
+    let many = hulls_counted c.items.result.now c.items-added.result.now (ap boxes_in c.items.ensures ∙ c.in_ok-hulls.ensures) in
+    none_behind_put c.self.inside.boxes.ever c.add_all.new.self.ever (length c.items-first.result.now) _ (boxes_in c.items.result.now) c.in_ok-add_all.ensures.ever (ap (λ (n : ℕ). length c.items-first.result.now + n) (sym many))
 
 pub invariant_of-self-in-Err : goal.invariant_of-self-in-Err
 invariant_of-self-in-Err c =
-    subst (λ (history : List (Lot (Unit {0}))). IsRegister history c.reserve.new.self.items c.self.inside.parts c.remove_all.new.self.index) (sym c.in-Err.ensures.err)
-    (subst (λ (lists : List (List Part)). IsRegister c.self.inside.history lists c.self.inside.parts c.remove_all.new.self.index) (sym c.in_ok-reserve.ensures.items)
-    (register_restored c.self.inside.history c.self.inside.regions.items c.self.inside.parts c.self.inside.boxes.index c.self.invariant (length c.items-first.result.now) (ap length c.items-first.ensures) c.remove_all.new.self.index
-    (λ k f. stay_twice c.self.inside.boxes.index c.add_all.new.self.index c.remove_all.new.self.index k (c.add_all.ensures.rest k f) (c.remove_all.ensures.rest k f)) c.remove_all.ensures.gone))
+    let own = c.self.inside in
+    subst (λ (history : List (Lot (Unit {0}))). IsRegister history c.reserve.new.self.items own.parts c.remove_all.new.self.live c.remove_all.new.self.ever) (sym c.in-Err.ensures.err)
+    (subst (λ (lists : List (List Part)). IsRegister own.history lists own.parts c.remove_all.new.self.live c.remove_all.new.self.ever) (sym c.in_ok-reserve.ensures.items)
+    (register_restored own.history own.regions.items own.parts own.boxes.live own.boxes.ever c.self.invariant (length c.items-first.result.now) (ap length c.items-first.ensures) (boxes_in c.items.result.now)
+    c.add_all.new.self.live c.add_all.new.self.ever c.remove_all.new.self.live c.remove_all.new.self.ever c.in_ok-add_all.ensures.live c.in_ok-add_all.ensures.ever c.remove_all.ensures.live c.remove_all.ensures.ever))
 
-pub remove_ended-requires-clause-small : goal.remove_ended-requires-clause-small
-remove_ended-requires-clause-small c =
+pub end_all-requires : goal.end_all-requires
+end_all-requires c =
     let few = few_lots c.args.self.now (lots_sound c.self.inside.history c.self.inside.regions.items c.self.inside.parts c.args.self.now c.self.invariant c.self.view_is) in
     let many = lots_counted c.self.inside.history c.self.inside.regions.items c.self.inside.parts c.args.self.now c.self.invariant c.self.view_is in
     let old = ap length c.items-first.ensures in
@@ -93,10 +96,12 @@ invariant_of-self-2 c =
     let fit = subst (λ (ls : List (Lot (Unit {0}))). IsFitChange c.args.line ls c.args.ends.now (new_lots c.args.births.now c.args.regions.items)) (sym c.self.view_is) c.requires.fit in
     let regions = rw c.unwrap.ensures at c.append.ensures.ok in
     let first = ap length c.items-first.ensures in
-    let put = subst (λ (bounds : List (List IntegerBox)). (d : ℕ) → AreUnder c.add_all.new.self.index ((length c.items-first.result.now) + d) (get_or bounds d [])) (ap lists_in c.items.ensures ∙ c.in_ok-lists.ensures.value ∙ ap (map bounds_of) c.items-added.ensures) c.in_ok-add_all.ensures.ok in
-    let indexed = indexed_replaced c.self.inside.history c.self.inside.regions.items c.self.inside.parts c.self.inside.boxes.index c.self.invariant (length c.items-first.result.now) first c.args.line c.args.ends.now c.note.new.self c.args.births.now c.args.regions.items
-    c.add_all.new.self.index c.remove_ended.new.self.index c.requires.each c.in_default.ensures.ok c.add_all.ensures.rest put c.remove_ended.ensures.emptied in
-    register_after c.args.line c.args.ends.now c.args.births.now c.self.inside.history c.note.new.self c.self.inside.regions.items c.args.regions.items c.append.new.self.items c.self.inside.parts c.count_parts-parts.result c.self.inside.boxes.index c.remove_ended.new.self.index c.self.invariant c.requires.each
+    let own = c.self.inside in
+    let hulls = ap boxes_in c.items.ensures ∙ c.in_ok-hulls.ensures ∙ ap (map hull_of_parts) c.items-added.ensures in
+    let also = subst (λ (m : Boxes). ArePut own.boxes.ever m (length c.items-first.result.now) (boxes_in c.items.result.now)) (sym c.end_all.ensures.ever) c.in_ok-add_all.ensures.ever in
+    let indexed = indexed_replaced own.history own.regions.items own.parts own.boxes.live own.boxes.ever c.self.invariant (length c.items-first.result.now) first c.args.line c.args.ends.now c.note.new.self c.args.births.now c.args.regions.items
+    (boxes_in c.items.result.now) c.add_all.new.self.live c.end_all.new.self.live c.end_all.new.self.ever c.requires.each c.in_default.ensures.ok hulls c.in_ok-add_all.ensures.live also c.end_all.ensures.live in
+    register_after c.args.line c.args.ends.now c.args.births.now c.self.inside.history c.note.new.self c.self.inside.regions.items c.args.regions.items c.append.new.self.items c.self.inside.parts c.count_parts-parts.result own.boxes.live own.boxes.ever c.end_all.new.self.live c.end_all.new.self.ever c.self.invariant c.requires.each
     fit c.in_default.ensures.ok (regions ∙ ap (λ (ls : List (List Part)). ls ++ c.args.regions.items) c.in_ok-reserve.ensures.items) (c.count_parts-parts.ensures ∙ ap (sum_by (λ (ps : List Part). length ps)) c.items-added.ensures) indexed
 
 pub returns-clause-ok : goal.returns-clause-ok
