@@ -1,8 +1,10 @@
+#![tactic(auto)]
 //! Where bytes come from and where they go, with faults.
 //!
-//! A [`Source`] gives bytes and a [`Sink`] takes them. Each counts its faults, the reads or writes
-//! that failed, and answers [`Failed`] only where that count rose in the call.
-#![tactic(auto)]
+//! A [`Source`] gives bytes and a [`Sink`] takes them. Each counts its faults, the reads or writes that failed, and
+//! answers [`Failed`] only where that count rose in the call. A read takes the next bytes; a put appends its piece, or
+//! where it fails a prefix of it. The forms in memory fail exactly where they are told to, or where their room ends;
+//! the tests pin what each form tells of its bytes and faults.
 
 mod failed;
 mod sink;

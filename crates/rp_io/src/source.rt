@@ -19,11 +19,12 @@ pub trait Source {
     /// nonempty buffer is the end of the input.
     ///
     /// Answers [`Failed`] only where the count of faults rose in this call. Then nothing is said of
-    /// the bytes still to come, nor of those in the buffer.
+    /// the bytes still to come, nor of those in the buffer. Otherwise the count stays.
     fn read(&mut self, buf: &mut [u8]) -> Result<usize, Failed>
         ensures counts { faults self.old ≤ faults self.new }
         ensures limit { faults self.new ≤ last_count }
         ensures failed { OnErr result (HasRisen (faults self.old) (faults self.new)) }
+        ensures same { OnOk result (faults self.new ≡ faults self.old) }
 
         ensures within { IfOk result (λ n. n ≤ length buf.new) }
         ensures taken { IfOk result (λ n. Takes (left self.old) (left self.new) n buf.new) }
@@ -91,6 +92,7 @@ impl Source for MemorySource<'_> {
         ensures counts { self.old.faults ≤ self.new.faults }
         ensures limit { self.new.faults ≤ last_count }
         ensures failed { OnErr result (HasRisen self.old.faults self.new.faults) }
+        ensures same { OnOk result (self.new.faults ≡ self.old.faults) }
 
         ensures within { IfOk result (λ n. n ≤ length buf.new) }
         ensures taken { IfOk result (λ n. Takes (Some self.old.left) (Some self.new.left) n buf.new) }

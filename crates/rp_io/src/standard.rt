@@ -43,13 +43,13 @@ impl<R: Read> Source for StdSource<R> {
         ensures counts { read_faults self.old ≤ read_faults self.new }
         ensures limit { read_faults self.new ≤ last_count }
         ensures failed { OnErr result (HasRisen (read_faults self.old) (read_faults self.new)) }
+        ensures same { OnOk result (read_faults self.new ≡ read_faults self.old) }
         ensures within { IfOk result (λ n. n ≤ length buf.new) }
         ensures taken { IfOk result (λ n. Takes None None n buf.new) }
         ensures end { IfOk result (λ n. n ≡ 0 → 0 < length buf.new → IsAtEnd None) }
 
         // The count, and the bytes where the reader tells them.
         ensures risen { OnErr result (read_faults self.new ≡ next_count (read_faults self.old)) }
-        ensures same { OnOk result (read_faults self.new ≡ read_faults self.old) }
         ensures bytes { ReadConsumes (R.remaining (reader_of self.old)) (R.remaining (reader_of self.new))
             result buf.new }
     {

@@ -12,8 +12,8 @@ IsWhole before after bytes = IfSome before (λ left. (bytes ≡ left) × (after 
 abbrev pub IsPastLimit : Option (List ℕ) → ℕ → Type 0
 IsPastLimit before limit = IfSome before (λ left. limit < length left)
 
--- why the source was not read whole; nothing is claimed where memory ran out
+-- why the source was not read whole: a read failed, or no read failed and there were more bytes than the limit; nothing is claimed where memory ran out
 abbrev pub HasCause : ℕ → ℕ → Option (List ℕ) → ℕ → IntakeFault → Type 0
 HasCause faults_before faults_after left limit Failed = HasRisen faults_before faults_after
-HasCause faults_before faults_after left limit TooLong = IsPastLimit left limit
+HasCause faults_before faults_after left limit TooLong = (faults_after ≡ faults_before) × IsPastLimit left limit
 HasCause faults_before faults_after left limit (Memory e) = Unit {0}

@@ -44,7 +44,7 @@ fn zeros(alloc: Global, length: usize) -> Result<Vec<u8>, AllocError>
 
 /// Reads a source to its end, in pieces: all its bytes, of which there may be `limit`.
 ///
-/// Answers [`IntakeFault::TooLong`] as soon as the source gives a byte past the limit.
+/// Answers [`IntakeFault::TooLong`] as soon as the source gives a byte past the limit; then no read failed.
 pub fn read_whole<S: Source>(
     alloc: Global,
     source: &mut S,

@@ -478,6 +478,51 @@ fn stops_where_a_read_or_a_put_fails(rt: HostRuntime) -> Result<(), Fail> {
     Ok(())
 }
 
+/// The status of the tool over a sink whose put of this number fails, counted from 1.
+fn status_where_a_put_fails<R: Threads + Sync>(
+    rt: &R,
+    alloc: Global,
+    texts: &[&str],
+    input: &[u8],
+    number: u32,
+) -> Result<u8, AllocError> {
+    let words = words_of(alloc, texts)?;
+    let failing = [(number, 0)];
+    let mut source = MemorySource::new(input, 1000, &[]);
+    let mut sink = MemorySink::new(alloc, 10_000, &failing)?;
+    Ok(memory_status(rt, alloc, &words, &mut source, &mut sink))
+}
+
+#[test]
+fn there_is_one_put_for_each_line(rt: HostRuntime) -> Result<(), Fail> {
+    let alloc = rt.alloc();
+    let script = b"rp 2\nmember all 0.000 0.000 0.000 1\n\nempty none\nno command\n";
+    let report = b"> 1 member all 0 0 0 1\n= yes\n";
+    // With as many lines as the output has, of which each has its line feed.
+    let rows: [(&[&str], &[u8], u8); 10] = [
+        (&["run"], script, 7),
+        (&["run", "brief"], script, 7),
+        (&["run"], b"# a note\n\n", 0),
+        (&["check"], report, 1),
+        (&["script"], script, 3),
+        (&["script"], b"\n", 0),
+        (&["upgrade"], script, 5),
+        (&["upgrade"], b"", 1),
+        (&["make", "1", "0"], b"", 5),
+        (&["trial", "1", "0"], b"", 4),
+    ];
+    for (texts, input, lines) in rows {
+        let lines = u32::from(lines);
+        let whole = status_where_a_put_fails(&rt, alloc, texts, input, lines + 1)?;
+        assert!(rt; whole <= REFUSED, "one put more, on {texts:?}");
+        if lines > 0 {
+            let cut = status_where_a_put_fails(&rt, alloc, texts, input, lines)?;
+            assert_eq!(rt; cut, PUT_FAILED, "the last put, on {texts:?}");
+        }
+    }
+    Ok(())
+}
+
 #[test]
 fn puts_the_mark_by_itself(rt: HostRuntime) -> Result<(), Fail> {
     let rows = [

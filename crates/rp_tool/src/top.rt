@@ -96,7 +96,7 @@ pub fn tool<R: Threads + Sync, S: Source, K: Sink>(
     // What each other status says.
     ensures read_failed { result ≡ READ_FAILED → HasRisen (S.faults source.old) (S.faults source.new) }
     ensures put_failed { result ≡ PUT_FAILED → HasRisen (K.faults sink.old) (K.faults sink.new) }
-    ensures too_long { result ≡ TOO_LONG → IsPastLimit (S.left source.old) (most_input_bytes (map string_bytes words.now)) }
+    ensures too_long { result ≡ TOO_LONG → (S.faults source.new ≡ S.faults source.old) × IsPastLimit (S.left source.old) (most_input_bytes (map string_bytes words.now)) }
     ensures nothing_written { (result ≡ READ_FAILED) ⊎ (result ≡ TOO_LONG) → sink.new ≡ sink.old }
 
     // When an input past the limit of its task is refused, and when one within it is done.

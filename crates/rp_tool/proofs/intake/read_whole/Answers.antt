@@ -1,4 +1,4 @@
-use Rattle.std.proofs.Common.{◌<◌, ◌+◌, length, sym, subst, arith}
+use Rattle.std.proofs.Common.{◌<◌, ◌+◌, length, refl, sym, ◌∙◌, subst, arith}
 use Rattle.rp_tool.proofs.IntakeLemmas.{ReadsOn, ReadsOn-start, IsWhole-at_end, IsPastLimit-from_read, IsAppended, length-piece, ReadsOn-appended}
 use Rattle.rp_tool.proofs.intake.read_whole.Goals as goal
 
@@ -6,7 +6,7 @@ pub loop-piece-init : goal.loop-piece-init
 loop-piece-init g c =
     let left = g.S.Source.left c.args.source.now in
     record {
-      counts = omega arith;
+      faults = refl;
       within = omega (arith, c.new-whole.ensures.len);
       nonempty = omega (arith, c.in_ok-piece.ensures);
       reads_on = subst (ReadsOn left left) (sym c.new-whole.ensures.items) (ReadsOn-start left);
@@ -21,10 +21,12 @@ returns-then-count-eq0-clause-whole g c =
 
 pub returns-then-count-limit-clause-cause : goal.returns-then-count-limit-clause-cause
 returns-then-count-limit-clause-cause g c =
-    let past : c.args.limit < length c.loop-piece.whole.items + c.in_ok-count.count = omega (arith, c.if-count-limit.true, c.len.ensures, c.loop-piece.invariant.within, c.loop-piece.whole.ok.0) in
-    IsPastLimit-from_read (g.S.Source.left c.args.source.now) (g.S.Source.left c.loop-piece.source) (g.S.Source.left c.read.new.self)
-    c.loop-piece.whole.items c.read.new.buf c.in_ok-count.count c.args.limit c.loop-piece.invariant.reads_on
-    c.in_ok-count.ensures.taken past
+    let past : c.args.limit < length c.loop-piece.whole.items + c.in_ok-count.count = omega (arith, c.if-count-limit.true, c.len.ensures, c.loop-piece.invariant.within, c.loop-piece.whole.ok.0) in (
+      c.in_ok-count.ensures.same ∙ c.loop-piece.invariant.faults,
+      IsPastLimit-from_read (g.S.Source.left c.args.source.now) (g.S.Source.left c.loop-piece.source) (g.S.Source.left c.read.new.self)
+          c.loop-piece.whole.items c.read.new.buf c.in_ok-count.count c.args.limit c.loop-piece.invariant.reads_on
+          c.in_ok-count.ensures.taken past,
+    )
 
 pub loop-piece-preserved : goal.loop-piece-preserved
 loop-piece-preserved g c =
@@ -40,7 +42,7 @@ loop-piece-preserved g c =
     } in
     let count = length-piece read c.read.new.buf piece.items c.deref.result.now new c.in_ok-count.count piece.len appended in
     record {
-      counts = omega (arith, c.loop-piece.invariant.counts, c.in_ok-count.ensures.counts);
+      faults = c.in_ok-count.ensures.same ∙ c.loop-piece.invariant.faults;
       within = omega (arith, c.in_ok-extend_from_slice.ensures.len, count, c.if-count-limit.false, c.len.ensures, c.loop-piece.invariant.within);
       nonempty = c.loop-piece.invariant.nonempty;
       reads_on =

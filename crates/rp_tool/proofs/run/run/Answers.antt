@@ -1,8 +1,12 @@
-use Rattle.std.proofs.Common.{refl, arith, sym, subst}
+use Rattle.std.proofs.Common.{ℕ, ◌≤◌, refl, arith, sym, subst}
+use Rattle.std.proofs.lemmas.Result.{err_from_is_err_and}
 use Rattle.rp_model.specs.states.State.{state_of_parts}
 use Rattle.rp_model.specs.states.Sound.{IsLaterThan}
 use Rattle.rp_reports.specs.Machine.{Running}
 use Rattle.rp_syntax.specs.Versions.{version_of}
+use Rattle.rp_tool.specs.declared.fault.OutputFault.{OutputFault}
+use Rattle.rp_tool.specs.declared.fault.OutputFault.TheVariants.{Put, Memory}
+use Rattle.rp_tool.specs.Output.{HasOutputCause}
 use Rattle.rp_tool.proofs.SinkLemmas.{OnErr-holds}
 use Rattle.rp_tool.proofs.RunLemmas.{HasTold-start, HasTold-more, PutsFront-mark, PutsFront-nothing, PutsFront-run, PutsOutput-run}
 use Rattle.rp_tool.proofs.run.run.Goals as goal
@@ -51,3 +55,15 @@ returns-in_err-refused-clause-front g c =
     (PutsFront-run c.args.brief c.args.script.now (g.K.Sink.said c.args.sink.now) (g.K.Sink.said c.loop-line.sink) (g.K.Sink.said c.run_line.new.sink)
     c.loop-line.machine c.loop-line.number c.loop-line.rest.now c.in-Some.line.now c.in-Some.behind.now c.loop-line.refused c.loop-line.invariant.told
     c.in-Some.ensures.next c.in_err-refused.ensures.front)
+
+-- a fault since a later count is one since an earlier count
+earlier_cause : (k m n : ℕ) (e : OutputFault) → k ≤ m → HasOutputCause m n e → HasOutputCause k n e
+earlier_cause k m n Put f h = omega (arith, f, h)
+earlier_cause k m n (Memory e) f h = tt
+
+pub returns-in_err-refused-clause-cause : goal.returns-in_err-refused-clause-cause
+returns-in_err-refused-clause-cause g c =
+    let p = err_from_is_err_and c.from_residual-in_err-refused.result c.from_residual-in_err-refused.ensures.1 in
+    rw (p.1, p.2)
+    (earlier_cause (g.K.Sink.faults c.args.sink.now) (g.K.Sink.faults c.loop-line.sink) (g.K.Sink.faults c.run_line.new.sink) c.in_err-refused.field-0.0
+    c.loop-line.invariant.counts c.in_err-refused.ensures.cause)

@@ -9,6 +9,7 @@ read-tells g c =
       counts = omega arith;
       limit = omega arith;
       failed = grind (arith, common_steps);
+      same = grind (arith, common_steps);
       within = grind (arith, common_steps);
       taken = grind (arith, common_steps);
       end = grind (arith, common_steps);
