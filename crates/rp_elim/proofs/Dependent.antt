@@ -133,7 +133,7 @@ dependent_of strict (t ∷ u ∷ v ∷ []) f g h same e =
 dependent_of strict (t ∷ u ∷ v ∷ w ∷ ws) f g h same e = absurd (cc)
 
 -- three half-spaces with independent normals do not refute
-three_independent : (strict : Bool) (f g h : HalfSpace) → (meeting_weight f g h ≡ pos 0 → ⊥) → refutation_of_three strict f g h ≡ None
+pub three_independent : (strict : Bool) (f g h : HalfSpace) → (meeting_weight f g h ≡ pos 0 → ⊥) → refutation_of_three strict f g h ≡ None
 unfolding refutation_of_three
 three_independent strict f g h n =
     let us = normal_terms (minors_of_three f g h) in

@@ -6,5 +6,5 @@ use Rattle.rp_elim.specs.declared.couple.Couple.TheInside.{Inside}
 
 -- the kept axes are those of the two half-spaces, and the kept sign is that of their minor there
 pub record IsPrepared (p : Inside) : Type 0 where
-  pub axes : (p.u, p.v) ≡ axes_of p.first p.second
-  pub last : has_sign p.positive (minor_on (axes_of p.first p.second) p.first p.second) ≡ true
+  pub axes : (p.u, p.v) ≡ axes_of p.cross.first p.cross.second
+  pub last : has_sign p.positive (minor_on (axes_of p.cross.first p.cross.second) p.cross.first p.cross.second) ≡ true

@@ -2,7 +2,7 @@
 use Rattle.std.specs.Prelude.{◌≡◌, ◌*◌, ◌^◌}
 use Rattle.rp_algebra.specs.Within.{IsWithin}
 use Rattle.rp_geometry.specs.searches.Vertex.{det2}
-use Rattle.rp_elim.specs.declared.triple.Cross.TheInside.{Inside}
+use Rattle.rp_elim.specs.declared.cross.Cross.TheInside.{Inside}
 
 -- the kept minors are those of the two half-spaces
 pub record HasMinors (p : Inside) : Type 0 where

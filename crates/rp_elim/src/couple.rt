@@ -1,33 +1,36 @@
 //! Two half-spaces, with what the refutations by them and a further one share.
-ghost use Rattle.std.specs.Prelude.{◌≡◌, ◌&&◌, true, not, pos, MatchOption};
+ghost use Rattle.std.specs.Prelude.{◌≡◌, ◌&&◌, Bool, true, not, pos, None, MatchOption};
 ghost use Rattle.rp_geometry.specs.searches.Elimination.{refutation_of_three};
 ghost use Rattle.rp_space.specs.TwoHalfSpaces.{two_of};
 ghost use Rattle.rp_elim.specs.Axes.{axes_of, minor_on};
 ghost use Rattle.rp_elim.specs.Sides.{has_sign};
 
+use crate::cross::Cross;
 use crate::minors::{Axis, axes_of, minor, minors_on_axes};
 use crate::refutation::refutation;
 use rp_space::{Half, Outside};
 use std::marker::Model;
 
+/// The last 64 bits of a number.
+const LAST_WORD: i128 = 0xffff_ffff_ffff_ffff;
+
 /// Two half-spaces with independent normals. A contract sees the two.
 #[derive(Drop)]
 pub struct Couple {
-    first: Half,
-    second: Half,
+    cross: Cross,
     u: Axis,
     v: Axis,
     positive: bool,
 }
 
 impl Model for Couple {
-    ghost use Rattle.rp_space.specs.TwoHalfSpaces.{TwoHalfSpaces, two_of};
+    ghost use Rattle.rp_space.specs.TwoHalfSpaces.{TwoHalfSpaces};
 
     ghost Value = { TwoHalfSpaces };
 
     ghost use Rattle.rp_elim.specs.CoupleSign.{IsPrepared};
 
-    ghost view = { λ p. two_of p.first p.second };
+    ghost view = { λ p. p.cross };
 
     ghost invariant = { IsPrepared };
 }
@@ -41,8 +44,7 @@ impl Couple {
         match sign_of(minor(f, g, u, v)) {
             None => None,
             Some(positive) => Some(Couple {
-                first: *f,
-                second: *g,
+                cross: Cross::new(f, g),
                 u,
                 v,
                 positive,
@@ -50,15 +52,28 @@ impl Couple {
         }
     }
 
+    /// Whether the determinant with a third half-space is seen not to be 0 by its last 64 bits, which take one product of
+    /// a word for each coefficient: then the three do not refute, since their normals are independent.
+    pub fn is_passed_over(&self, h: &Half) -> bool
+        ensures { result ≡ true → (strict : Bool) → refutation_of_three strict self.now.first self.now.second h.now ≡ None }
+    {
+        self.cross.weight(h) & LAST_WORD != 0
+    }
+
     /// The refutation by the two half-spaces and a third one, if they refute.
-    /// The signs are tried first: where two differ nothing else need be computed.
+    /// Only three with dependent normals have multiples that cancel, so the determinant is tried first, and then the signs.
     pub fn refutation(&self, strict: bool, h: &Half) -> Option<Outside>
         ensures { result ≡ refutation_of_three strict self.now.first self.now.second h.now }
     {
-        if !have_one_sign(self.positive, &self.first, &self.second, h, self.u, self.v) {
+        if self.cross.weight(h) != 0 {
             return None;
         }
-        let minors = minors_on_axes(&self.first, &self.second, h, self.u, self.v);
+        let f = self.cross.first();
+        let g = self.cross.second();
+        if !have_one_sign(self.positive, f, g, h, self.u, self.v) {
+            return None;
+        }
+        let minors = minors_on_axes(f, g, h, self.u, self.v);
         refutation(strict, &minors)
     }
 }

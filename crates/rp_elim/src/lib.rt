@@ -1,8 +1,28 @@
-//! The first outside certificate: the first few multiples of half-spaces that show that nothing is there.
-//! Multipliers come from signed minors, so each step is exact and within 128 bits.
 #![tactic(auto)]
+//! The first outside certificate: the first few multiples of half-spaces that show that nothing is there.
+//!
+//! That a list of half-spaces has a solution or multiples that add up to a contradiction, and never both, is Farkas'
+//! lemma (1902) for weak sides and Motzkin's theorem of the alternative (1936) for strict ones. That four multiples are
+//! enough is Carathéodory's theorem (1911), which says here what Helly's (1923) says: where each four of the
+//! half-spaces have a common point, all have one. The laws are those of `rp_alternative`, where they are proved by
+//! adding one half-space after the other, and not by eliminating one unknown after the other.
+//!
+//! So the sets of one, two, three and four half-spaces of a cell and the cube are tried, in the order of their places
+//! (`search.rt`). What is found is the first certificate, passes its check, and there is none exactly where the cell,
+//! or its weak system, has a solution. The multipliers of a set are signed minors of the coefficients (`minors.rt`),
+//! below 2^75 by their form, so each step is exact and within 128 bits. A set whose multipliers are not determined up
+//! to a factor is never the first certificate, since a smaller set then is one. The signs are compared before the
+//! determinants: two normals that do not oppose each other on each axis never cancel, so most pairs cost a few
+//! comparisons. Of three the determinant comes first: where it is not 0 they never cancel, so most cost three products
+//! of one word each.
+//!
+//! Where all but one half-space have a solution, that one is in every certificate, and only the sets that contain it
+//! are tried ([`first_outside_through`]). Of the sets of one size that share a half-space the first is the one whose
+//! others come first, so what is found is the first of all. A certificate of at most two terms is found by itself
+//! ([`first_outside_of_two`]), where it is the first: two boxes apart always have one.
 
 mod couple;
+mod cross;
 mod lowest;
 mod minors;
 mod placed;

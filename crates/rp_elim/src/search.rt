@@ -8,9 +8,10 @@ ghost use Rattle.rp_geometry.specs.searches.Elimination.{refutation_of_one, refu
 ghost use Rattle.rp_elim.specs.FewTerms.{first_of_two};
 
 use crate::couple::Couple;
+use crate::cross::Cross;
 use crate::minors::{are_parallel, is_without_normal, may_cancel, minors_of_two};
 use crate::refutation::{positive_refutation, refutation};
-use crate::triple::{Cross, Triple};
+use crate::triple::Triple;
 use rp_space::{Half, Outside, Term, with_cube};
 
 /// The first outside certificate of a cell (Farkas, Motzkin): the first few of its half-spaces and the cube's six, by
@@ -172,6 +173,9 @@ fn first_three_with_couple(strict: bool, couple: &Couple, hs: &[Half]) -> Option
     ensures { result ≡ first_of (refutation_of_three strict couple.now.first couple.now.second) hs.now }
 {
     for h in hs {
+        if couple.is_passed_over(h) {
+            continue;
+        }
         if let Some(terms) = couple.refutation(strict, h) {
             return Some(terms);
         }

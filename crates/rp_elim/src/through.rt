@@ -11,11 +11,12 @@ ghost use Rattle.rp_elim.specs.Sides.{three_of};
 ghost use Rattle.rp_elim.specs.HeldFast.{two_in_order, three_in_order, four_in_order, first_through};
 
 use crate::couple::Couple;
+use crate::cross::Cross;
 use crate::minors::minors_of_four;
 use crate::placed::{Placed, others_of};
 use crate::refutation::refutation;
 use crate::search::{refutation_of_one, refutation_of_two};
-use crate::triple::{Cross, Triple};
+use crate::triple::Triple;
 use rp_space::{Half, Outside, keep_bounds};
 
 /// The first outside certificate of a cell in which the half-spaces before one and those behind it have a solution

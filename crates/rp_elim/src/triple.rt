@@ -1,98 +1,15 @@
 //! Three half-spaces, with what the refutations by them and a further one share.
-ghost use Rattle.std.specs.Prelude.{◌≡◌, ◌*◌, ◌^◌, ◌&&◌, true, false, not, pos, neg_ℤ, MatchOption};
-ghost use Rattle.rp_algebra.specs.Within.{IsWithin};
+ghost use Rattle.std.specs.Prelude.{◌≡◌, ◌&&◌, false, not, pos, MatchOption};
 ghost use Rattle.rp_geometry.specs.searches.Vertex.{meeting_weight};
 ghost use Rattle.rp_geometry.specs.searches.Elimination.{minors_of_four, refutation_of_four};
-ghost use Rattle.rp_space.specs.TwoHalfSpaces.{two_of};
 ghost use Rattle.rp_elim.specs.Factors.{AreFactorsSmall};
 ghost use Rattle.rp_elim.specs.Sides.{has_sign, three_of, HaveMixedMinors};
 
+use crate::cross::Cross;
 use crate::minors::minors_of_four;
 use crate::refutation::refutation;
 use rp_space::{Half, Outside, Term};
 use std::marker::Model;
-
-/// The cross product of the normals of two half-spaces, as 2 by 2 minors. A contract sees the two half-spaces.
-#[derive(Drop)]
-pub struct Cross {
-    first: Half,
-    second: Half,
-    bc: i64,
-    ac: i64,
-    ab: i64,
-}
-
-impl Model for Cross {
-    ghost use Rattle.rp_space.specs.TwoHalfSpaces.{TwoHalfSpaces, two_of};
-
-    ghost Value = { TwoHalfSpaces };
-
-    ghost use Rattle.rp_elim.specs.CrossMinors.{HasMinors};
-
-    ghost view = { λ p. two_of p.first p.second };
-
-    ghost invariant = { HasMinors };
-}
-
-impl Cross {
-    /// The cross product of two half-spaces' normals.
-    pub fn new(f: &Half, g: &Half) -> Cross
-        ensures { result ≡ two_of f.now g.now }
-    {
-        let (fa, fb, fc, _) = f.numbers();
-        let (ga, gb, gc, _) = g.numbers();
-        Cross {
-            first: *f,
-            second: *g,
-            bc: fb * gc - fc * gb,
-            ac: fa * gc - fc * ga,
-            ab: fa * gb - fb * ga,
-        }
-    }
-
-    /// The same cross product.
-    fn copy(&self) -> Cross
-        ensures { result ≡ self.now }
-    {
-        Cross {
-            first: self.first,
-            second: self.second,
-            bc: self.bc,
-            ac: self.ac,
-            ab: self.ab,
-        }
-    }
-
-    /// The determinant of the coefficients of the two half-spaces and a third one.
-    pub fn weight(&self, h: &Half) -> i128
-        ensures value { result ≡ meeting_weight self.now.first self.now.second h.now }
-        ensures small { IsWithin (6 * 2 ^ 72) result }
-    {
-        let (a, b, c, _) = h.numbers();
-        a as i128 * self.bc as i128 - b as i128 * self.ac as i128 + c as i128 * self.ab as i128
-    }
-
-    /// Whether the determinant with a third half-space is above 0 (`positive`), or below 0.
-    fn has_sign(&self, positive: bool, h: &Half) -> bool
-        ensures { result ≡ has_sign positive (meeting_weight self.now.first self.now.second h.now) }
-    {
-        let weight = self.weight(h);
-        if positive { weight > 0 } else { weight < 0 }
-    }
-
-    /// Whether the negative of the determinant with a third half-space is above 0. `None` where it is 0.
-    pub fn opposite_sign(&self, h: &Half) -> Option<bool>
-        ensures { MatchOption result (meeting_weight self.now.first self.now.second h.now ≡ pos 0) (λ s. has_sign s (neg_ℤ (meeting_weight self.now.first self.now.second h.now)) ≡ true) }
-    {
-        if self.has_sign(false, h) {
-            return Some(true);
-        }
-        if self.has_sign(true, h) {
-            return Some(false);
-        }
-        None
-    }
-}
 
 /// Three half-spaces with independent normals. A contract sees the three.
 #[derive(Drop)]
@@ -124,8 +41,8 @@ impl Triple {
             None => None,
             Some(positive) => Some(Triple {
                 ef: ef.copy(),
-                eg: Cross::new(&ef.first, g),
-                fg: Cross::new(&ef.second, g),
+                eg: Cross::new(ef.first(), g),
+                fg: Cross::new(ef.second(), g),
                 positive,
             }),
         }
@@ -156,7 +73,7 @@ fn minors_of_crosses(ef: &Cross, eg: &Cross, h: &Half) -> [Term; 4]
     ensures value { result ≡ minors_of_four ef.now.first ef.now.second eg.now.second h.now }
     ensures small { AreFactorsSmall result }
 {
-    minors_of_four(&ef.first, &ef.second, &eg.second, h)
+    minors_of_four(ef.first(), ef.second(), eg.second(), h)
 }
 
 /// Whether the first three of the four minors have the sign of the last one. Two are taken at once, since which of them

@@ -3,7 +3,7 @@ use Rattle.rp_algebra.proofs.Machine.{code, fits_by, is_by, within_by}
 use Rattle.rp_geometry.specs.Geometry.{half_space_of}
 use Rattle.rp_geometry.specs.searches.Vertex.{meeting_weight}
 use Rattle.rp_elim.proofs.Mixed.{weight_along_third}
-use Rattle.rp_elim.proofs.triple.Cross.weight.Goals as goal
+use Rattle.rp_elim.proofs.cross.Cross.weight.Goals as goal
 
 pub overflow_mul-result : goal.overflow_mul-result
 overflow_mul-result c = fits_by (search code depth 30 fits 100000) tt

@@ -1,7 +1,7 @@
 use Rattle.std.proofs.Common.{◌∙◌}
 use Rattle.rp_algebra.proofs.Machine.{code, fits_by, is_by, within_by}
 use Rattle.rp_geometry.specs.searches.Vertex.{det2}
-use Rattle.rp_elim.proofs.triple.Cross.new.Goals as goal
+use Rattle.rp_elim.proofs.cross.Cross.new.Goals as goal
 
 pub invariant_of-result : goal.invariant_of-result
 invariant_of-result c =

@@ -1,0 +1,105 @@
+//! The cross product of the normals of two half-spaces: with it the determinant with a third one takes three products.
+ghost use Rattle.std.specs.Prelude.{◌≡◌, ◌*◌, ◌^◌, true, pos, neg_ℤ, MatchOption};
+ghost use Rattle.rp_algebra.specs.Within.{IsWithin};
+ghost use Rattle.rp_geometry.specs.searches.Vertex.{meeting_weight};
+ghost use Rattle.rp_space.specs.TwoHalfSpaces.{two_of};
+ghost use Rattle.rp_elim.specs.Sides.{has_sign};
+
+use rp_space::Half;
+use std::marker::Model;
+
+/// The cross product of the normals of two half-spaces, as 2 by 2 minors. A contract sees the two half-spaces.
+#[derive(Drop)]
+pub struct Cross {
+    first: Half,
+    second: Half,
+    bc: i64,
+    ac: i64,
+    ab: i64,
+}
+
+impl Model for Cross {
+    ghost use Rattle.rp_space.specs.TwoHalfSpaces.{TwoHalfSpaces, two_of};
+
+    ghost Value = { TwoHalfSpaces };
+
+    ghost use Rattle.rp_elim.specs.CrossMinors.{HasMinors};
+
+    ghost view = { λ p. two_of p.first p.second };
+
+    ghost invariant = { HasMinors };
+}
+
+impl Cross {
+    /// The cross product of two half-spaces' normals.
+    pub fn new(f: &Half, g: &Half) -> Cross
+        ensures { result ≡ two_of f.now g.now }
+    {
+        let (fa, fb, fc, _) = f.numbers();
+        let (ga, gb, gc, _) = g.numbers();
+        Cross {
+            first: *f,
+            second: *g,
+            bc: fb * gc - fc * gb,
+            ac: fa * gc - fc * ga,
+            ab: fa * gb - fb * ga,
+        }
+    }
+
+    /// The first half-space.
+    pub fn first(&self) -> &Half
+        ensures { result.now ≡ self.now.first }
+    {
+        &self.first
+    }
+
+    /// The second half-space.
+    pub fn second(&self) -> &Half
+        ensures { result.now ≡ self.now.second }
+    {
+        &self.second
+    }
+
+    /// The same cross product.
+    pub fn copy(&self) -> Cross
+        ensures { result ≡ self.now }
+    {
+        Cross {
+            first: self.first,
+            second: self.second,
+            bc: self.bc,
+            ac: self.ac,
+            ab: self.ab,
+        }
+    }
+
+    /// The determinant of the coefficients of the two half-spaces and a third one.
+    pub fn weight(&self, h: &Half) -> i128
+        ensures value { result ≡ meeting_weight self.now.first self.now.second h.now }
+        ensures small { IsWithin (6 * 2 ^ 72) result }
+    {
+        let (a, b, c, _) = h.numbers();
+        a as i128 * self.bc as i128 - b as i128 * self.ac as i128 + c as i128 * self.ab as i128
+    }
+
+    /// Whether the determinant with a third half-space is above 0 (`positive`), or below 0.
+    pub fn has_sign(&self, positive: bool, h: &Half) -> bool
+        ensures { result ≡ has_sign positive (meeting_weight self.now.first self.now.second h.now) }
+    {
+        let weight = self.weight(h);
+        if positive { weight > 0 } else { weight < 0 }
+    }
+
+    /// Whether the negative of the determinant with a third half-space is above 0. `None` where it is 0.
+    pub fn opposite_sign(&self, h: &Half) -> Option<bool>
+        ensures { MatchOption result (meeting_weight self.now.first self.now.second h.now ≡ pos 0) (λ s. has_sign s (neg_ℤ (meeting_weight self.now.first self.now.second h.now)) ≡ true) }
+    {
+        if self.has_sign(false, h) {
+            return Some(true);
+        }
+        if self.has_sign(true, h) {
+            return Some(false);
+        }
+        None
+    }
+}
