@@ -4,4 +4,5 @@ pub mod Defined
 pub mod Divided
 pub mod Registered
 pub mod Repeated
+pub mod TakenAway
 pub mod United

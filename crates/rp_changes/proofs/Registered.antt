@@ -10,8 +10,7 @@ use Rattle.rp_model.specs.commands.Verdict.{Refusal, known, empty_region, overla
 use Rattle.rp_model.specs.commands.Checks.{refuse_if, and_then, check_new}
 use Rattle.rp_model.specs.commands.Row.{Reply, accepted, check, check_size, new_lot, lot_parts, count_with_each, first_overlapped, row_register}
 use Rattle.rp_nearby.specs.declared.near.Reach.TheVariants.{Overlap}
-use Rattle.rp_nearby.specs.Near.{others_in, is_near}
-use Rattle.rp_nearby.proofs.Passed.{pairs_near}
+use Rattle.rp_nearby.specs.Near.{others_in, is_near, pairs_with}
 use Rattle.rp_nearby.proofs.Skipped.{search_near, others_all}
 use Rattle.rp_reports.specs.Check.{Trail, follow_count, line_tester}
 use Rattle.rp_follow.proofs.Left.{IsLeft, all_left, left_as, next_left}
@@ -42,15 +41,15 @@ new_id s x o e = by (is_among x (ids_of s.lots)) refl
     by false f = refl
     by true f = absurd (let g : and_then (refuse_if true (known x)) o ≡ None = sym (ap (λ (b : Bool). and_then (refuse_if b (known x)) o) f) ∙ e in cc (g))
 
-module _ (s : PlainState) (x : Label) (ps : List Part) (o : Option Refusal) (checked : and_then (check_new s x) o ≡ None) (near : List (Lot (Unit {0}))) (all : near ≡ filter (is_near Overlap ps) (others_in s.layer x s.lots)) where
-  -- the near ones are those of all lots of the layer
-  own : near ≡ filter (is_near Overlap ps) (present_lots s)
-  own = all ∙ ap (filter (is_near Overlap ps)) (others_all s.layer x s.lots (new_id s x o checked))
+module _ (s : PlainState) (x : Label) (ps : List Part) (o : Option Refusal) (checked : and_then (check_new s x) o ≡ None) where
+  -- the other live lots of the layer are all of them
+  others : others_in s.layer x s.lots ≡ present_lots s
+  others = others_all s.layer x s.lots (new_id s x o checked)
 
-  -- pairs with all are those with the near ones
-  pub present_counted : count_with_each near_pair ps (lot_parts near) ≡ count_with_each near_pair ps (lot_parts (present_lots s))
-  present_counted = ap (λ (ls : List (Lot (Unit {0}))). count_with_each near_pair ps (lot_parts ls)) own ∙ sym (pairs_near Overlap ps (present_lots s))
+  -- so are their pairs
+  pub present_counted : pairs_with Overlap ps (others_in s.layer x s.lots) ≡ count_with_each near_pair ps (lot_parts (present_lots s))
+  present_counted = ap (pairs_with Overlap ps) others
 
   -- a search among all is one among the near ones
-  pub present_searched : (u : Trail) → first_overlapped line_tester ps near u ≡ first_overlapped line_tester ps (present_lots s) u
-  present_searched u = ap (λ (ls : List (Lot (Unit {0}))). first_overlapped line_tester ps ls u) own ∙ search_near line_tester ps (present_lots s) u
+  pub present_searched : (near : List (Lot (Unit {0}))) → near ≡ filter (is_near Overlap ps) (others_in s.layer x s.lots) → (u : Trail) → first_overlapped line_tester ps near u ≡ first_overlapped line_tester ps (present_lots s) u
+  present_searched near all u = ap (λ (ls : List (Lot (Unit {0}))). first_overlapped line_tester ps ls u) (all ∙ ap (filter (is_near Overlap ps)) others) ∙ search_near line_tester ps (present_lots s) u

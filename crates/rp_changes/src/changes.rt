@@ -1,5 +1,5 @@
 //! Names that are defined, and lots that are registered, become one or end: the rest of each row, behind its forms.
-ghost use Rattle.std.specs.Prelude.{◌≡◌, ◌≤◌, ◌++◌, ◌∷◌, [], length, map, IfOk};
+ghost use Rattle.std.specs.Prelude.{◌≡◌, ◌≤◌, ◌++◌, ◌∷◌, [], length, map, IfOk, OnOk};
 ghost use Rattle.rp_geometry.specs.parts.Parts.{most_parts};
 ghost use Rattle.rp_walks.specs.Form.{if_at_most};
 ghost use Rattle.rp_model.specs.commands.Row.{row_define, row_consolidate, row_retire, parts_with_id, joined_parts};
@@ -8,7 +8,6 @@ ghost use Rattle.rp_follow.specs.Follows.{Follows};
 ghost use Rattle.rp_register.specs.Replies.{Replies};
 
 use crate::checks::{check_consolidate, check_room, live_place};
-use crate::children::append_parts;
 use rp_follow::{Form, Lost};
 use rp_history::Birth;
 use rp_register::{Born, Change, Register, Reply, RowEnd};
@@ -88,6 +87,16 @@ fn append_copy(alloc: Global, form: &mut Form, more: &Form) -> Result<(), Lost>
         return Err(Lost::Limit);
     }
     append_parts(alloc, form, more)?;
+    Ok(())
+}
+
+/// Puts copies of the parts of a form behind those of another. Answers `AllocError` only for want of memory.
+fn append_parts(alloc: Global, form: &mut Form, more: &Form) -> Result<(), AllocError>
+    ensures { OnOk result (form.new.items ≡ form.old.items ++ more.now.items) }
+{
+    for part in more.items() {
+        form.push(part.copy(alloc)?)?;
+    }
     Ok(())
 }
 

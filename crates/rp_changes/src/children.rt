@@ -1,6 +1,7 @@
 //! The children of a subdivision: what is asked of them.
-ghost use Rattle.std.specs.Prelude.{◌≡◌, ◌+◌, ◌*◌, ◌≤◌, ◌++◌, length, map, option_map, IfOk, OnOk};
-ghost use Rattle.rp_walks.specs.Form.{near_pair};
+ghost use Rattle.std.specs.Prelude.{◌≡◌, ◌+◌, ◌*◌, ◌≤◌, length, map, not, option_map, IfOk};
+ghost use Rattle.rp_walks.specs.Compare.{is_covered};
+ghost use Rattle.rp_walks.specs.Form.{near_pair, subtract};
 ghost use Rattle.rp_model.specs.commands.Verdict.{empty_child, outside_lot, children_overlap};
 ghost use Rattle.rp_model.specs.commands.Row.{child_parts, joined_parts, count_with_each, count_among, first_empty_child, first_outside_child, first_overlapping_child, first_overlapping_children};
 ghost use Rattle.rp_reports.specs.Check.{line_tester};
@@ -8,9 +9,9 @@ ghost use Rattle.rp_follow.specs.Follows.{Follows};
 ghost use Rattle.rp_changes.specs.Children.{formed_child};
 
 use crate::child::Child;
-use rp_follow::{Form, Lost, Trail, common};
+use rp_follow::{Form, Lost, Trail, common, copy, differed};
 use rp_nearby::Reach;
-use rp_register::{count_pairs, within};
+use rp_register::{count_pairs, is_empty, within};
 use rp_space::Names;
 use std::alloc::{AllocError, Global};
 
@@ -136,23 +137,31 @@ fn first_overlapping_with(
     Ok(None)
 }
 
-/// The parts of all children, one after the other. Answers `AllocError` only for want of memory.
-pub(crate) fn all_parts(alloc: Global, children: &[Child]) -> Result<Form, AllocError>
-    ensures { IfOk result (λ form. form.items ≡ joined_parts (child_parts (map formed_child children.now))) }
+/// Whether a form has a point that no child has, on the next lines: the children are taken away one after the other.
+pub(crate) fn has_gap(
+    alloc: Global,
+    whole: &Form,
+    children: &[Child],
+    trail: &mut Trail<'_>,
+) -> Result<bool, Lost>
+    ensures { Follows not result trail.old trail.new (is_covered line_tester whole.now.items (joined_parts (child_parts (map formed_child children.now)))) }
 {
-    let mut form = Form::new(alloc);
-    for child in children {
-        append_parts(alloc, &mut form, &child.form)?;
-    }
-    Ok(form)
+    let left = left_of(alloc, whole, children, trail)?;
+    Ok(!is_empty(&left, trail)?)
 }
 
-/// Puts copies of the parts of a form behind those of another. Answers `AllocError` only for want of memory.
-pub(crate) fn append_parts(alloc: Global, form: &mut Form, more: &Form) -> Result<(), AllocError>
-    ensures { OnOk result (form.new.items ≡ form.old.items ++ more.now.items) }
+/// What is left of a form outside all children, on the next lines.
+fn left_of(
+    alloc: Global,
+    whole: &Form,
+    children: &[Child],
+    trail: &mut Trail<'_>,
+) -> Result<Form, Lost>
+    ensures { Follows (λ left. left.items) result trail.old trail.new (subtract line_tester whole.now.items (joined_parts (child_parts (map formed_child children.now)))) }
 {
-    for part in more.items() {
-        form.push(part.copy(alloc)?)?;
+    let mut left = copy(alloc, whole)?;
+    for child in children {
+        left = differed(alloc, &left, &child.form, trail)?;
     }
-    Ok(())
+    Ok(left)
 }

@@ -9,11 +9,11 @@ ghost use Rattle.rp_register.specs.Replies.{Replies, new_lot_of, reply_of};
 use crate::checks::{check_cut, check_room, check_subdivide, layer_of};
 use crate::child::Child;
 use crate::children::{
-    all_parts, child_ids, count_near, count_parts, first_empty, first_outside, first_overlapping,
+    child_ids, count_near, count_parts, first_empty, first_outside, first_overlapping, has_gap,
 };
 use rp_follow::{Form, Trail, differed, joined};
 use rp_history::Birth;
-use rp_register::{Born, Change, Register, Reply, RowEnd, count_tests, within};
+use rp_register::{Born, Change, Register, Reply, RowEnd, count_tests};
 use rp_report::Refusal;
 use rp_space::{Listed, Name, Names};
 use std::alloc::{AllocError, Global};
@@ -74,8 +74,7 @@ pub(crate) fn subdivide(
     if let Some((first, second)) = first_overlapping(children.items(), trail)? {
         return Err(RowEnd::Refused(Refusal::ChildrenOverlap(first, second)));
     }
-    let all = all_parts(alloc, children.items())?;
-    if !within(alloc, whole, &all, trail)? {
+    if has_gap(alloc, whole, children.items(), trail)? {
         return Err(RowEnd::Refused(Refusal::Gap));
     }
     let born = children_born(alloc, layer_of(register, &id), id, children)?;

@@ -12,7 +12,7 @@ use crate::checks::{check_registration, check_room};
 use rp_follow::{Form, Lost, Trail, common};
 use rp_history::Birth;
 use rp_nearby::Reach;
-use rp_register::{Change, Parcel, Register, Reply, RowEnd, count_tests, pairs_with};
+use rp_register::{Change, Parcel, Register, Reply, RowEnd, count_tests};
 use rp_report::Refusal;
 use rp_space::{Name, Names};
 use std::alloc::Global;
@@ -32,9 +32,8 @@ pub(crate) fn make_lot(
     check_registration(register, id, &form)?;
     check_room(register, form.items().len())?;
     let near = register.near(alloc, &form, &register.layer(), &id, 0, Reach::Overlap)?;
-    let pairs = pairs_with(&form, near.items(), Reach::Overlap);
-    count_tests(trail, pairs)?;
-    if let Some(other) = first_overlapped(&form, near.items(), trail)? {
+    count_tests(trail, near.pairs)?;
+    if let Some(other) = first_overlapped(&form, near.parcels.items(), trail)? {
         return Err(RowEnd::Refused(Refusal::Overlaps(other)));
     }
     let birth = Birth {

@@ -1,42 +1,48 @@
 //! The half-spaces that the lines of a part test drop.
 ghost use Rattle.std.specs.Prelude.{◌≡◌, ◌≤◌, ◌++◌, ◌∷◌, [], length};
+ghost use Rattle.std.specs.Option.{option_map};
 ghost use Rattle.rp_geometry.specs.Geometry.{complement, half_space_eq, is_listed};
 ghost use Rattle.std.specs.List.{position};
 ghost use Rattle.rp_walks.specs.Walk.{done};
 ghost use Rattle.rp_reports.specs.Check.{next_proof, without, dropped_by, follow_drops};
+ghost use Rattle.rp_cert.specs.Lines.{line_of};
 
 use crate::trail::Trail;
 use rp_cert::{Proof, check_outside};
 use rp_space::{Half, System, joined};
 
-/// Takes the lines that drop half-spaces of a cell, one after the other, as long as they pass. What is kept is left.
-pub(crate) fn follow_drops(kept: &mut System, trail: &mut Trail<'_>)
+/// Takes the lines that drop half-spaces of a cell, one after the other, as long as they pass. What is kept is left, and
+/// what the next line says is answered, so that it isn't read again.
+pub(crate) fn follow_drops(kept: &mut System, trail: &mut Trail<'_>) -> Option<Proof>
     requires { length kept.old.items ≤ 64 }
     ensures value { follow_drops trail.old.lines kept.old.items trail.old ≡ done kept.new.items trail.new }
     ensures few { length kept.new.items ≤ 64 }
+    ensures next { option_map line_of result ≡ next_proof trail.new.lines }
 {
-    while let Some(half) = dropped(kept.as_slice(), trail) {
+    let mut next = trail.next_proof();
+    while let Some(half) = dropped(kept.as_slice(), &next) {
         remove(kept, &half);
         trail.take();
+        next = trail.next_proof();
     }
+    next
 }
 
-/// The half-space that the next line drops: it is kept, and the multiples show that none of the others' members is outside
-/// it.
-fn dropped(kept: &[Half], trail: &Trail<'_>) -> Option<Half>
+/// The half-space that a line drops: it is kept, and the multiples show that none of the others' members is outside it.
+fn dropped(kept: &[Half], next: &Option<Proof>) -> Option<Half>
     requires { length kept.now ≤ 64 }
-    ensures { result ≡ dropped_by kept.now (next_proof trail.now.lines) }
+    ensures { result ≡ dropped_by kept.now (option_map line_of next.now) }
 {
-    let Proof::Dropped(half, terms) = trail.next_proof()? else {
+    let Some(Proof::Dropped(half, terms)) = next else {
         return None;
     };
-    if !is_listed(&half, kept) {
+    if !is_listed(half, kept) {
         return None;
     }
-    if !check_outside(outside_of(&half, kept).as_slice(), terms.items(), true) {
+    if !check_outside(outside_of(half, kept).as_slice(), terms.items(), true) {
         return None;
     }
-    Some(half)
+    Some(*half)
 }
 
 /// The cell of all half-spaces but the first place of one of them, and then of its complement.

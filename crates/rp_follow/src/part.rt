@@ -43,11 +43,11 @@ fn made_inside(alloc: Global, cell: &[Half], trail: &mut Trail<'_>) -> Result<Ke
 {
     keep_halves(cell);
     let mut kept = joined(cell, &[]);
-    follow_drops(&mut kept, trail);
+    let next = follow_drops(&mut kept, trail);
     if kept.len() > MAX_HALVES {
         return Err(Lost::Limit);
     }
-    let bounds = follow_box(trail)?;
+    let bounds = follow_box(next, trail)?;
     let slim = kept.as_slice();
     follow_sides(slim, &bounds, trail)?;
     let halves = Halves::copy_of(alloc, slim)?;

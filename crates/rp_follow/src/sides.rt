@@ -1,8 +1,10 @@
 //! The box that the lines of a part test give, and what shows its sides.
 ghost use Rattle.std.specs.Prelude.{◌≡◌, ◌≤◌, true, length, IfOk};
+ghost use Rattle.std.specs.Option.{option_map};
 ghost use Rattle.rp_geometry.specs.Geometry.{box_half_spaces, is_box_in_bounds};
 ghost use Rattle.rp_reports.specs.Check.{next_proof, is_proper_box, box_by_line, follow_side, follow_sides};
 ghost use Rattle.rp_space.specs.Boxes.{integer_box};
+ghost use Rattle.rp_cert.specs.Lines.{line_of};
 ghost use Rattle.rp_follow.specs.Follows.{Follows};
 
 use crate::drops::is_listed;
@@ -11,12 +13,13 @@ use crate::trail::Trail;
 use rp_cert::{Proof, check_outside};
 use rp_space::{Half, IntBox, box_halves, cube, joined};
 
-/// The box that the next line gives.
-pub(crate) fn follow_box(trail: &mut Trail<'_>) -> Result<IntBox, Lost>
+/// The box that the next line gives, of which is known what it says.
+pub(crate) fn follow_box(next: Option<Proof>, trail: &mut Trail<'_>) -> Result<IntBox, Lost>
+    requires { option_map line_of next ≡ next_proof trail.old.lines }
     ensures follows { Follows integer_box result trail.old trail.new (λ t. box_by_line (next_proof t.lines) t) }
     ensures bounds { IfOk result (λ bounds. is_box_in_bounds (integer_box bounds) ≡ true) }
 {
-    match trail.next_proof() {
+    match next {
         Some(Proof::Bounds(bounds)) => trail.take_if(is_proper(&bounds), bounds),
         _ => Err(trail.nothing_due()),
     }

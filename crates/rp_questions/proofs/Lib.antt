@@ -1,12 +1,13 @@
 pub mod Ancestors
 pub mod Counted
 pub mod Linked
-pub mod Owned
+pub mod PairsLeft
 pub mod PieceLemmas
 pub mod ShownApart
 pub mod Touching
 pub mod Sliced
 pub mod LotLinks
+pub mod LaterLots
 pub mod LayerLots
 pub mod Chained
 pub mod Accessed

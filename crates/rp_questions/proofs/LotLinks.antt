@@ -4,8 +4,7 @@ use Rattle.std.specs.List.{AllByRecursion}
 use Rattle.std.proofs.lemmas.List.{take_more, get_or_default}
 use Rattle.rp_geometry.specs.sets.Shape.{Part}
 use Rattle.rp_walks.specs.Walk.{Walk, ◌>>=◌}
-use Rattle.rp_walks.specs.Form.{touching_pair}
-use Rattle.rp_model.specs.commands.Row.{count_with_each, count_among, numbered_lists, link_lists, links_with_list, links_among_lists, lot_parts}
+use Rattle.rp_model.specs.commands.Row.{numbered_lists, link_lists, links_with_list, links_among_lists, lot_parts}
 use Rattle.rp_reports.specs.Check.{Trail, line_tester}
 use Rattle.rp_access.specs.Chain.{AreJoined}
 use Rattle.rp_access.specs.Laws.{AreLinksOf}
@@ -28,13 +27,6 @@ pub numbered_lot : (ls : List Parcel) (k i : ℕ) (l : Parcel) → i < length ls
 numbered_lot ls k i l h e =
     let next : k + i + 1 ≡ k + (i + 1) = omega arith in
     ap (λ (ms : List Parcel). numbered_lists (k + i) (parts_here ms)) (drop_item ls i l h e) ∙ ap (λ m. (k + i, (lot_here l).parts) ∷ numbered_lists m (parts_here (drop (i + 1) ls))) next
-
--- pairs of the lot at a place and the later ones come before the others
-pub counted_lot : (ls : List Parcel) (i : ℕ) (l : Parcel) (later : List Parcel) → later ≡ drop (i + 1) ls → i < length ls → l ≡ get_or ls i l
-    → count_among touching_pair (parts_here (drop i ls)) ≡ count_with_each touching_pair (lot_here l).parts (parts_here later) + count_among touching_pair (parts_here (drop (i + 1) ls))
-counted_lot ls i l later r h e =
-    ap (λ (ms : List Parcel). count_among touching_pair (parts_here ms)) (drop_item ls i l h e)
-    ∙ ap (λ (ms : List Parcel). count_with_each touching_pair (lot_here l).parts (parts_here ms) + count_among touching_pair (parts_here (drop (i + 1) ls))) (sym r)
 
 -- ---- steps
 

@@ -13,8 +13,7 @@ use Rattle.rp_follow.specs.declared.lost.Lost.{Lost}
 use Rattle.rp_follow.specs.Follows.{StopsBy}
 use Rattle.rp_follow.proofs.Left.{IsLeft, next_left, stop_left, end_left}
 use Rattle.rp_nearby.specs.declared.near.Reach.TheVariants.{Touch}
-use Rattle.rp_nearby.specs.Near.{others_in, is_near}
-use Rattle.rp_nearby.proofs.Passed.{pairs_near}
+use Rattle.rp_nearby.specs.Near.{others_in, is_near, pairs_with}
 use Rattle.rp_nearby.proofs.Skipped.{touch_near}
 use Rattle.rp_register.specs.declared.parcel.Parcel.{Parcel}
 use Rattle.rp_register.specs.There.{lot_here, lots_here}
@@ -52,45 +51,40 @@ count_left s x l near t e n = record {
       ∙ sym (ap (λ (o : Option Refusal). check o (count_by s x (live_lot x s.lots)) t) (check_found s x (Some l) e) ∙ ap (λ (o : Option (Lot (Unit {0}))). count_by s x o t) e);
 }
 
-module _ (s : PlainState) (x : Label) (p : Parcel) (near : List Parcel) (t : Trail) (live : live_lot x s.lots ≡ Some (lot_here p)) (all : lots_here near ≡ filter (is_near Touch (lot_here p).parts) (others_in (lot_here p).layer x s.lots)) (pairs : ℕ) (counted : pairs ≡ count_with_each touching_pair p.form.now.items (lot_parts (lots_here near))) where
-  -- the others of its layer
-  abbrev others : List (Lot (Unit {0}))
-  others = others_in (lot_here p).layer x s.lots
+-- the other live lots of a lot's layer
+abbrev pub others : PlainState → Label → Parcel → List (Lot (Unit {0}))
+others s x p = others_in (lot_here p).layer x s.lots
 
+module _ (s : PlainState) (x : Label) (p : Parcel) (t : Trail) (live : live_lot x s.lots ≡ Some (lot_here p)) where
   -- the count is left
-  counting : IsLeft t (row_neighbours line_tester s x) t (count_and_touch p.form.now.items others)
-  counting = count_left s x (lot_here p) others t live refl
-
-  -- pairs with all others are those with the near ones
-  all_counted : pairs ≡ count_with_each touching_pair p.form.now.items (lot_parts others)
-  all_counted = counted ∙ ap (λ (ls : List (Lot (Unit {0}))). count_with_each touching_pair p.form.now.items (lot_parts ls)) all ∙ sym (pairs_near Touch p.form.now.items others)
-
-  -- tests of all others are those of the near ones
-  all_touched : (tested : List Parcel) (u : Trail) → tested ≡ near → touched_lots line_tester [] p.form.now.items (lots_here tested) u ≡ touched_lots line_tester [] p.form.now.items others u
-  all_touched tested u same = ap (λ (ls : List (Lot (Unit {0}))). touched_lots line_tester [] p.form.now.items ls u) (ap lots_here same ∙ all) ∙ touch_near line_tester [] p.form.now.items others u
+  counting : IsLeft t (row_neighbours line_tester s x) t (count_and_touch p.form.now.items (others s x p))
+  counting = count_left s x (lot_here p) (others s x p) t live refl
 
   -- the pairs are too many
-  pub count_stops : (e : Lost) (u : Trail) → StopsBy e u (follow_count pairs t) → StopsBy e u (row_neighbours line_tester s x t)
-  count_stops e u m =
-      stop_left (follow_count (count_with_each touching_pair p.form.now.items (lot_parts others))) (λ _. touch_and_tell p.form.now.items others) counting e u
-      (subst (λ (n : ℕ). StopsBy e u (follow_count n t)) all_counted m)
+  pub count_stops : (e : Lost) (u : Trail) → StopsBy e u (follow_count (pairs_with Touch p.form.now.items (others s x p)) t) → StopsBy e u (row_neighbours line_tester s x t)
+  count_stops e u m = stop_left (follow_count (pairs_with Touch p.form.now.items (others s x p))) (λ _. touch_and_tell p.form.now.items (others s x p)) counting e u m
 
-  -- they are counted: the tests are left
-  touching : {u : Trail} → follow_count pairs t ≡ done tt u → IsLeft t (row_neighbours line_tester s x) u (touch_and_tell p.form.now.items others)
-  touching {u = u} m =
-      next_left (follow_count (count_with_each touching_pair p.form.now.items (lot_parts others))) (λ _. touch_and_tell p.form.now.items others) counting
-      (subst (λ (n : ℕ). follow_count n t ≡ done tt u) all_counted m)
+  module _ (near : List Parcel) (all : lots_here near ≡ filter (is_near Touch (lot_here p).parts) (others s x p)) (pairs : ℕ) (counted : pairs ≡ pairs_with Touch p.form.now.items (others s x p)) where
+    -- tests of all others are those of the near ones
+    all_touched : (tested : List Parcel) (u : Trail) → tested ≡ near → touched_lots line_tester [] p.form.now.items (lots_here tested) u ≡ touched_lots line_tester [] p.form.now.items (others s x p) u
+    all_touched tested u same = ap (λ (ls : List (Lot (Unit {0}))). touched_lots line_tester [] p.form.now.items ls u) (ap lots_here same ∙ all) ∙ touch_near line_tester [] p.form.now.items (others s x p) u
 
-  -- a test stops
-  pub touch_stops : (tested : List Parcel) (e : Lost) (u v : Trail) → tested ≡ near → follow_count pairs t ≡ done tt u → StopsBy e v (touched_lots line_tester [] p.form.now.items (lots_here tested) u) → StopsBy e v (row_neighbours line_tester s x t)
-  touch_stops tested e u v same m h =
-      stop_left (touched_lots line_tester [] p.form.now.items others) told_neighbours (touching m) e v
-      (subst (λ (o : Outcome Trail (List Label)). StopsBy e v o) (all_touched tested u same) h)
+    -- they are counted: the tests are left
+    touching : {u : Trail} → follow_count pairs t ≡ done tt u → IsLeft t (row_neighbours line_tester s x) u (touch_and_tell p.form.now.items (others s x p))
+    touching {u = u} m =
+        next_left (follow_count (pairs_with Touch p.form.now.items (others s x p))) (λ _. touch_and_tell p.form.now.items (others s x p)) counting
+        (subst (λ (n : ℕ). follow_count n t ≡ done tt u) counted m)
 
-  -- all are told
-  pub touch_told : (tested : List Parcel) (ids : List Label) (u v : Trail) → tested ≡ near → follow_count pairs t ≡ done tt u → touched_lots line_tester [] p.form.now.items (lots_here tested) u ≡ done ids v
-      → row_neighbours line_tester s x t ≡ done (reply_lines (neighbour_lines ids)) v
-  touch_told tested ids u v same m h =
-      end_left (done (reply_lines (neighbour_lines ids)) v)
-      (next_left (touched_lots line_tester [] p.form.now.items others) told_neighbours (touching m) (sym (all_touched tested u same) ∙ h))
-      refl
+    -- a test stops
+    pub touch_stops : (tested : List Parcel) (e : Lost) (u v : Trail) → tested ≡ near → follow_count pairs t ≡ done tt u → StopsBy e v (touched_lots line_tester [] p.form.now.items (lots_here tested) u) → StopsBy e v (row_neighbours line_tester s x t)
+    touch_stops tested e u v same m h =
+        stop_left (touched_lots line_tester [] p.form.now.items (others s x p)) told_neighbours (touching m) e v
+        (subst (λ (o : Outcome Trail (List Label)). StopsBy e v o) (all_touched tested u same) h)
+
+    -- all are told
+    pub touch_told : (tested : List Parcel) (ids : List Label) (u v : Trail) → tested ≡ near → follow_count pairs t ≡ done tt u → touched_lots line_tester [] p.form.now.items (lots_here tested) u ≡ done ids v
+        → row_neighbours line_tester s x t ≡ done (reply_lines (neighbour_lines ids)) v
+    touch_told tested ids u v same m h =
+        end_left (done (reply_lines (neighbour_lines ids)) v)
+        (next_left (touched_lots line_tester [] p.form.now.items (others s x p)) told_neighbours (touching m) (sym (all_touched tested u same) ∙ h))
+        refl

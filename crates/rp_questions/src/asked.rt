@@ -11,8 +11,8 @@ use crate::lot_lines::{add_each, neighbour_lines};
 use crate::points::owner_verdict;
 use crate::touched::touched;
 use rp_follow::Trail;
-use rp_nearby::Reach;
-use rp_register::{Moment, Register, RowEnd, count_tests, one_line, pairs_with};
+use rp_nearby::{Moment, Reach};
+use rp_register::{Register, RowEnd, count_tests, one_line};
 use rp_report::{Refusal, Verdict, Verdicts};
 use rp_space::{Name, Point};
 use std::alloc::Global;
@@ -30,9 +30,8 @@ pub fn neighbours(
         return Err(RowEnd::Refused(Refusal::Unknown(id)));
     };
     let near = register.near(alloc, lot.form, &lot.line.layer, &id, 0, Reach::Touch)?;
-    let pairs = pairs_with(lot.form, near.items(), Reach::Touch);
-    count_tests(trail, pairs)?;
-    let ids = touched(alloc, lot.form, near.items(), trail)?;
+    count_tests(trail, near.pairs)?;
+    let ids = touched(alloc, lot.form, near.parcels.items(), trail)?;
     Ok(neighbour_lines(alloc, ids.items())?)
 }
 

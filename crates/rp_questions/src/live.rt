@@ -5,7 +5,8 @@ ghost use Rattle.rp_model.specs.commands.Verdict.{lot_lines};
 ghost use Rattle.rp_report.specs.Views.{verdict_of};
 
 use crate::lot_lines::lot_line;
-use rp_register::{Moment, Register, is_there};
+use rp_nearby::{Moment, is_there};
+use rp_register::Register;
 use rp_report::Verdicts;
 use std::alloc::{AllocError, Global};
 

@@ -10,13 +10,14 @@ ghost use Rattle.rp_report.specs.Views.{refusal_of};
 ghost use Rattle.rp_register.specs.There.{lot_here, lots_here};
 ghost use Rattle.rp_register.specs.Replies.{Tells};
 
-use crate::links::{Pairs, joined, links_among, pairs_among};
+use crate::layer::{later_in_layer, lots_in_layer};
+use crate::links::{Pairs, joined, links_among};
 use crate::route_lines::access_lines;
 use rp_follow::Trail;
-use rp_register::{Moment, Parcel, Register, RowEnd, count_tests, is_there};
+use rp_register::{Register, RowEnd, count_tests};
 use rp_report::{Refusal, Verdicts};
-use rp_space::{Listed, Name};
-use std::alloc::{AllocError, Global};
+use rp_space::Name;
+use std::alloc::Global;
 
 /// `access`: a shortest chain of live lots of one layer from one to another, each in contact with the next, and the level of
 /// each lot of the layer that has one.
@@ -34,9 +35,10 @@ pub fn access(
         Err(refusal) => return Err(RowEnd::Refused(refusal)),
     };
     let lots = lots_in_layer(alloc, register, &layer)?;
-    count_tests(trail, pairs_among(lots.items()))?;
+    let later = later_in_layer(alloc, register, &layer)?;
+    count_tests(trail, later.pairs)?;
     let mut pairs = Pairs::new(alloc);
-    links_among(&mut pairs, lots.items(), trail)?;
+    links_among(&mut pairs, lots.items(), later.counts.items(), trail)?;
     let links = joined(alloc, lots.items().len(), pairs.items())?;
     Ok(access_lines(alloc, lots.items(), &links, &from, &to)?)
 }
@@ -57,30 +59,4 @@ fn layer_of_both(register: &Register, from: &Name, to: &Name) -> Result<Name, Re
         return Err(Refusal::Layers(*to));
     }
     Ok(first.line.layer)
-}
-
-/// The live lots of a layer, in the order of registration. Answers `AllocError` only for want of memory.
-fn lots_in_layer<'a>(
-    alloc: Global,
-    register: &'a Register,
-    layer: &Name,
-) -> Result<Listed<Parcel<'a>>, AllocError>
-    ensures value { IfOk result (λ list. lots_here list.items ≡ lots_of_layer layer.now (live_lots register.now.lots)) }
-    ensures few { IfOk result (λ list. length list.items ≤ most_kept_parts) }
-{
-    let mut list = Listed::new(alloc);
-    for place in 0..register.count_lots() {
-        let lot = register.parcel_at(place);
-        if is_in_layer(&lot, layer) {
-            list.push(lot)?;
-        }
-    }
-    Ok(list)
-}
-
-/// Whether a lot is live and of the layer.
-fn is_in_layer(lot: &Parcel<'_>, layer: &Name) -> bool
-    ensures { result ≡ (is_live (lot_here lot.now) && label_eq (lot_here lot.now).layer layer.now) }
-{
-    is_there(lot.line, Moment::Now) && lot.line.layer == *layer
 }

@@ -1,49 +1,43 @@
--- The index of the boxes of lots, through a change.
-use Rattle.std.proofs.Common.{◌≡◌, ℕ, ◌+◌, ◌<◌, ◌≤◌, List, [], ◌∷◌, ◌++◌, map, length, get_or, refl, sym, ap, ◌∙◌, subst, arith}
+-- The indexes of the boxes around lots, through a change.
+use Rattle.std.proofs.Common.{◌≡◌, ℕ, ◌+◌, ◌≤◌, List, [], ◌∷◌, ◌++◌, map, length, refl, sym, ap, ◌∙◌, subst, arith}
 use Rattle.std.specs.FinMap.{empty}
-use Rattle.std.specs.List.{AllByRecursion}
 use Rattle.std.proofs.lemmas.List.{length-append, length-map}
 use Rattle.rp_geometry.specs.Geometry.{IntegerBox}
 use Rattle.rp_geometry.specs.sets.Shape.{Part}
-use Rattle.rp_geometry.specs.parts.Parts.{most_parts}
 use Rattle.rp_language.specs.Name.{Label, is_among}
 use Rattle.rp_model.specs.states.State.{Lot, ended_at, born_at, lots_replaced, most_kept_parts}
 use Rattle.rp_history.specs.Lots.{lots_after, new_lot_of as bare_new_lot}
+use Rattle.rp_space.specs.declared.bounds.IntBox.{IntBox}
 use Rattle.rp_space.specs.Listed.{Listed}
 use Rattle.rp_boxindex.specs.Boxes.{Boxes}
-use Rattle.rp_nearby.specs.Indexed.{bounds_of, AreUnder, StayUnder, NoneBehind, ArePacked, IsIndexed, AreEmptied}
-use Rattle.rp_nearby.proofs.Boxed.{indexed_none, none_behind_lots, indexed_packed, indexed_again, indexed_after}
+use Rattle.rp_nearby.specs.Indexed.{boxes_in, hull_of_parts, NoneBehind, ArePut, StaySame, IsIndexed, AreEmptied}
+use Rattle.rp_nearby.proofs.Boxed.{indexed_none, none_behind_live, none_behind_ever, indexed_again, indexed_back, indexed_after}
 use Rattle.rp_register.specs.declared.reply.Born.{Born}
 use Rattle.rp_register.specs.Kept.{lots_with_forms, AreFew, AreLots}
 use Rattle.rp_register.specs.Replies.{new_lot_of}
 use Rattle.rp_register.proofs.KeptLots.{length-with_forms, bare-with_forms}
 
 -- no lots at all
-pub no_lots : AreLots [] [] 0 empty
+pub no_lots : AreLots [] [] 0 empty empty
 no_lots = record { each = refl; bare = refl; distinct = refl; count = refl; few = record { few_lots = omega arith; few_parts = omega arith; each_few = tt }; indexed = indexed_none }
 
--- what holds of all holds of the last ones
-all_last : {A : Type 0} (P : A → Type 0) (xs ys : List A) → AllByRecursion P (xs ++ ys) → AllByRecursion P ys
-all_last P [] ys h = h
-all_last P (x ∷ xs) ys h = all_last P xs ys h.1
+-- there are as many boxes as forms
+pub hulls_counted : (bs : List IntBox) (fs : List (Listed Part)) → boxes_in bs ≡ map (λ f. hull_of_parts f.items) fs → length (boxes_in bs) ≡ length fs
+hulls_counted bs fs e = ap length e ∙ length-map fs (λ (f : Listed Part). hull_of_parts f.items)
 
--- the forms of new lots have few parts
-pub new_forms_few : (n : ℕ) (ids : List Label) (born : List Born) (lots : List (Lot (Unit {0}))) → AreFew (lots_after n lots (lots_replaced ids (map new_lot_of born))) → AllByRecursion (λ (f : Listed Part). length f.items ≤ most_parts) (map (λ b. b.form) born)
-new_forms_few n ids born lots h = each born (all_last (λ (l : Lot (Unit {0})). length l.parts ≤ most_parts) (map (ended_at n ids) lots) (map (born_at n) (map new_lot_of born)) h.each_few)
-  where
-    each : (bs : List Born) → AllByRecursion (λ (l : Lot (Unit {0})). length l.parts ≤ most_parts) (map (born_at n) (map new_lot_of bs)) → AllByRecursion (λ (f : Listed Part). length f.items ≤ most_parts) (map (λ b. b.form) bs)
-    each [] k = tt
-    each (b ∷ bs) k = (k.0, each bs k.1)
+-- the boxes around new lots are those around their forms
+born_hulls : (born : List Born) → map (λ a. hull_of_parts a.parts) (map new_lot_of born) ≡ map (λ f. hull_of_parts f.items) (map (λ b. b.form) born)
+born_hulls [] = refl
+born_hulls (b ∷ born) = ap (λ (bs : List IntegerBox). hull_of_parts b.form.items ∷ bs) (born_hulls born)
 
--- the boxes of new lots are those of their forms
-born_boxes : (born : List Born) → map (λ a. bounds_of a.parts) (map new_lot_of born) ≡ map (λ f. bounds_of f.items) (map (λ b. b.form) born)
-born_boxes [] = refl
-born_boxes (b ∷ born) = ap (λ (bs : List (List IntegerBox)). bounds_of b.form.items ∷ bs) (born_boxes born)
-
-module _ (ls : List (Lot (Unit {0}))) (forms : List (Listed Part)) (parts : ℕ) (boxes : Boxes) (h : AreLots ls forms parts boxes) where
+module _ (ls : List (Lot (Unit {0}))) (forms : List (Listed Part)) (parts : ℕ) (live ever : Boxes) (h : AreLots ls forms parts live ever) where
   -- the lots as they are kept
   abbrev pub kept : List (Lot (Unit {0}))
   kept = lots_with_forms ls forms
+
+  -- as many as there are forms
+  many : (n : ℕ) → n ≡ length forms → n ≡ length kept
+  many n e = e ∙ sym (length-with_forms ls forms h.each)
 
   -- there is room for new lots
   pub room_for : (n : ℕ) (ids : List Label) (born : List Born) → AreFew (lots_after n kept (lots_replaced ids (map new_lot_of born))) → length forms + length (map (λ (b : Born). b.form) born) ≤ most_kept_parts
@@ -54,38 +48,29 @@ module _ (ls : List (Lot (Unit {0}))) (forms : List (Listed Part)) (parts : ℕ)
       let most = few.few_lots in
       omega (arith, all, old, new, most)
 
-  -- behind the lots there are no boxes
-  pub free_behind : (n : ℕ) → n ≡ length forms → NoneBehind boxes n
-  free_behind n e = subst (λ (i : ℕ). NoneBehind boxes i) (length-with_forms ls forms h.each ∙ sym e) (none_behind_lots kept boxes h.indexed)
+  -- behind the lots neither index has boxes
+  pub free_live : (n : ℕ) → n ≡ length forms → NoneBehind live n
+  free_live n e = subst (λ (i : ℕ). NoneBehind live i) (sym (many n e)) (none_behind_live kept live ever h.indexed)
 
-  -- the boxes of each place stand first
-  pub packed : ArePacked boxes
-  packed = indexed_packed kept boxes h.indexed
+  pub free_ever : (n : ℕ) → n ≡ length forms → NoneBehind ever n
+  free_ever n e = subst (λ (i : ℕ). NoneBehind ever i) (sym (many n e)) (none_behind_ever kept live ever h.indexed)
 
-  -- where those of the lots stay and no others are left, all is as before
-  pub lots_restored : (n : ℕ) → n ≡ length forms → (new : Boxes) → ((k : ℕ) → k < n → StayUnder boxes new k) → NoneBehind new n → AreLots ls forms parts new
-  lots_restored n e new stay none =
-      let same = e ∙ sym (length-with_forms ls forms h.each) in
-      record {
-        each = h.each;
-        bare = h.bare;
-        distinct = h.distinct;
-        count = h.count;
-        few = h.few;
-        indexed = indexed_again kept boxes new h.indexed (subst (λ (i : ℕ). (k : ℕ) → k < i → StayUnder boxes new k) same stay) (subst (λ (i : ℕ). NoneBehind new i) same none);
-      }
+  -- lots are kept over other indexes that are about them
+  kept_over : (live2 ever2 : Boxes) → IsIndexed kept live2 ever2 → AreLots ls forms parts live2 ever2
+  kept_over live2 ever2 indexed = record { each = h.each; bare = h.bare; distinct = h.distinct; count = h.count; few = h.few; indexed = indexed }
+
+  -- where every place has what it had, all is as before
+  pub lots_stay : (live2 ever2 : Boxes) → StaySame live live2 → StaySame ever ever2 → AreLots ls forms parts live2 ever2
+  lots_stay live2 ever2 s t = kept_over live2 ever2 (indexed_again kept live ever h.indexed live2 ever2 s t)
+
+  -- so it is where boxes were put in behind the lots and are taken out again
+  pub lots_restored : (n : ℕ) → n ≡ length forms → (bs : List IntegerBox) (m e live2 ever2 : Boxes) → ArePut live m n bs → ArePut ever e n bs → ArePut m live2 n [] → ArePut e ever2 n [] → AreLots ls forms parts live2 ever2
+  lots_restored n same bs m e live2 ever2 p q s t = kept_over live2 ever2 (indexed_back kept live ever h.indexed n bs bs m e live2 ever2 (many n same) p q s t)
 
   -- lots end, and others are born behind them
-  pub indexed_replaced : (n : ℕ) (ids : List Label) (born : List Born) (history : List (Lot (Unit {0}))) (first : ℕ) (lists : List (List IntegerBox)) (m after : Boxes) → first ≡ length forms → history ≡ lots_after n ls (lots_replaced ids (map bare_new_lot (map (λ b. b.birth) born))) →
-      lists ≡ map (λ f. bounds_of f.items) (map (λ b. b.form) born) → ((k : ℕ) → k < first → StayUnder boxes m k) → ((d : ℕ) → AreUnder m (first + d) (get_or lists d [])) → AreEmptied history first (λ y. is_among y ids) m after → IsIndexed (lots_after n kept (lots_replaced ids (map new_lot_of born))) after
-  indexed_replaced n ids born history first lists m after e f g stay put emptied =
-      let same = e ∙ sym (length-with_forms ls forms h.each) in
+  pub indexed_replaced : (n : ℕ) (ids : List Label) (born : List Born) (history : List (Lot (Unit {0}))) (first : ℕ) (hulls : List IntegerBox) (m live2 ever2 : Boxes) → first ≡ length forms → history ≡ lots_after n ls (lots_replaced ids (map bare_new_lot (map (λ b. b.birth) born))) →
+      hulls ≡ map (λ f. hull_of_parts f.items) (map (λ b. b.form) born) → ArePut live m first hulls → ArePut ever ever2 first hulls → AreEmptied history first (λ y. is_among y ids) m live2 → IsIndexed (lots_after n kept (lots_replaced ids (map new_lot_of born))) live2 ever2
+  indexed_replaced n ids born history first hulls m live2 ever2 e f g put also emptied =
       let tail = map (born_at n) (map bare_new_lot (map (λ (b : Born). b.birth) born)) in
-      indexed_after n ids kept history tail (map new_lot_of born) lists boxes m after h.indexed
-      (f ∙ ap (λ (ks : List (Lot (Unit {0}))). map (ended_at n ids) ks ++ tail) (sym h.bare ∙ sym (bare-with_forms ls forms h.each)))
-      (born_boxes born ∙ sym g)
-      (record {
-        stay = subst (λ (i : ℕ). (k : ℕ) → k < i → StayUnder boxes m k) same stay;
-        put = subst (λ (i : ℕ). (d : ℕ) → AreUnder m (i + d) (get_or lists d [])) same put;
-        emptied = subst (λ (i : ℕ). AreEmptied history i (λ y. is_among y ids) m after) same emptied;
-      })
+      indexed_after n ids kept (map new_lot_of born) hulls (born_hulls born ∙ sym g) first (many first e) history tail
+      (f ∙ ap (λ (ks : List (Lot (Unit {0}))). map (ended_at n ids) ks ++ tail) (sym h.bare ∙ sym (bare-with_forms ls forms h.each))) live ever h.indexed m live2 ever2 put also emptied

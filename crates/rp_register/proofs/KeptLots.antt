@@ -1,14 +1,15 @@
 -- A history and the forms of its lots, together.
-use Rattle.std.proofs.Common.{◌≡◌, ℕ, zero, suc, ◌+◌, ◌≤◌, Bool, true, false, ◌&&◌, cond, List, [], ◌∷◌, ◌++◌, map, length, Some, slice_get, sum_by, refl, sym, ap, ap₂, ◌∙◌, subst, arith}
+use Rattle.std.proofs.Common.{◌≡◌, ℕ, zero, suc, ◌+◌, Bool, true, false, ◌&&◌, cond, List, [], ◌∷◌, ◌++◌, map, length, Option, Some, None, slice_get, sum_by, refl, sym, ap, ap₂, ◌∙◌, subst, arith}
 use Rattle.std.specs.Prelude.{IsTrue, option_map}
 use Rattle.std.specs.List.{AllByRecursion}
 use Rattle.std.proofs.lemmas.List.{length-append, length-map, map-append}
 use Rattle.std.proofs.lemmas.List.Sums.{sum_by-append, sum_by-cons}
+use Rattle.rp_geometry.specs.Geometry.{RationalPoint}
 use Rattle.rp_geometry.specs.sets.Shape.{Part}
-use Rattle.rp_geometry.specs.parts.Parts.{most_parts}
 use Rattle.rp_language.specs.Name.{Label, label_eq, is_among}
 use Rattle.rp_model.specs.states.State.{Lot, NewLot, is_live, live_lots, live_lot, lot_with_id, ids_of, bare_lot, ended_at, born_at, lots_replaced, parts_under_lots}
 use Rattle.rp_model.specs.states.Sound.{are_distinct}
+use Rattle.rp_model.specs.commands.Row.{is_in_parts}
 use Rattle.rp_states.proofs.Picked.{pick}
 use Rattle.rp_states.proofs.Replaced.{ended_parts, born_parts}
 use Rattle.rp_history.specs.declared.lot.Birth.{Birth}
@@ -16,8 +17,10 @@ use Rattle.rp_history.specs.Lots.{lots_after, AreBornBefore, AreNew, new_lot_of 
 use Rattle.rp_space.specs.Listed.{Listed}
 use Rattle.rp_boxindex.specs.Boxes.{Boxes}
 use Rattle.rp_nearby.specs.Indexed.{IsIndexed, AreKeptIn}
+use Rattle.rp_nearby.specs.Owner.{KnowsOwners}
+use Rattle.rp_nearby.proofs.Boxed.{kept_in}
 use Rattle.rp_register.specs.declared.reply.Born.{Born}
-use Rattle.rp_register.specs.Kept.{with_parts, lots_with_forms, AreFew, AreLots}
+use Rattle.rp_register.specs.Kept.{with_parts, lots_with_forms, has_point, AreFew, AreLots}
 use Rattle.rp_register.specs.Replies.{new_lot_of}
 
 -- ---- lots with forms
@@ -167,9 +170,9 @@ new_parts (b ∷ born) =
     ∙ sym (sum_by-cons (λ (f : Listed Part). length f.items) b.form (map (λ b. b.form) born))
 
 -- lots are kept after a change
-pub lots_kept_after : (n : ℕ) (ids : List Label) (born : List Born) (ls new : List (Lot (Unit {0}))) (forms all : List (Listed Part)) (parts count : ℕ) (boxes after : Boxes) → AreLots ls forms parts boxes → AreFew (lots_after n (lots_with_forms ls forms) (lots_replaced ids (map new_lot_of born))) → IsTrue (are_distinct (ids_of new)) →
-    new ≡ lots_after n ls (lots_replaced ids (map bare_new_lot (map (λ b. b.birth) born))) → all ≡ forms ++ map (λ b. b.form) born → count ≡ sum_by (λ f. length f.items) (map (λ b. b.form) born) → IsIndexed (lots_after n (lots_with_forms ls forms) (lots_replaced ids (map new_lot_of born))) after → AreLots new all (parts + count) after
-lots_kept_after n ids born ls new forms all parts count boxes after h few distinct f g k indexed =
+pub lots_kept_after : (n : ℕ) (ids : List Label) (born : List Born) (ls new : List (Lot (Unit {0}))) (forms all : List (Listed Part)) (parts count : ℕ) (live ever live2 ever2 : Boxes) → AreLots ls forms parts live ever → AreFew (lots_after n (lots_with_forms ls forms) (lots_replaced ids (map new_lot_of born))) → IsTrue (are_distinct (ids_of new)) →
+    new ≡ lots_after n ls (lots_replaced ids (map bare_new_lot (map (λ b. b.birth) born))) → all ≡ forms ++ map (λ b. b.form) born → count ≡ sum_by (λ f. length f.items) (map (λ b. b.form) born) → IsIndexed (lots_after n (lots_with_forms ls forms) (lots_replaced ids (map new_lot_of born))) live2 ever2 → AreLots new all (parts + count) live2 ever2
+lots_kept_after n ids born ls new forms all parts count live ever live2 ever2 h few distinct f g k indexed =
     let together = ap₂ lots_with_forms f g ∙ after_with_forms n ids born ls forms h.each in
     record {
       each = ap length f ∙ length-append (map (ended_at n ids) ls) (map (born_at n) (map bare_new_lot (map (λ b. b.birth) born))) ∙ ap₂ ◌+◌ (length-map ls (ended_at n ids) ∙ h.each) (length-map (map bare_new_lot (map (λ b. b.birth) born)) (born_at n) ∙ length-map (map (λ b. b.birth) born) bare_new_lot ∙ length-map born (λ b. b.birth) ∙ sym (length-map born (λ b. b.form))) ∙ sym (length-append forms (map (λ b. b.form) born)) ∙ sym (ap length g);
@@ -177,17 +180,11 @@ lots_kept_after n ids born ls new forms all parts count boxes after h few distin
       distinct = distinct;
       count = ap₂ ◌+◌ h.count (k ∙ sym (new_parts born)) ∙ sym (parts_after n ids (map new_lot_of born) (lots_with_forms ls forms)) ∙ sym (ap parts_under_lots together);
       few = subst AreFew (sym together) few;
-      indexed = subst (λ (lots : List (Lot (Unit {0}))). IsIndexed lots after) (sym together) indexed;
+      indexed = subst (λ (lots : List (Lot (Unit {0}))). IsIndexed lots live2 ever2) (sym together) indexed;
     }
 
--- a lot that stands at a place has few parts, where all have
-few_at : (lots : List (Lot (Unit {0}))) → AllByRecursion (λ (l : Lot (Unit {0})). length l.parts ≤ most_parts) lots → (k : ℕ) (l : Lot (Unit {0})) → slice_get lots k ≡ Some l → length l.parts ≤ most_parts
-few_at [] h k l e = absurd (cc)
-few_at (m ∷ lots) h zero l e = let f : m ≡ l = cc in subst (λ (n : Lot (Unit {0})). length n.parts ≤ most_parts) f h.0
-few_at (m ∷ lots) h (suc k) l e = few_at lots h.1 k l e
-
 -- what lots keep of their own
-module _ (ls : List (Lot (Unit {0}))) (forms : List (Listed Part)) (parts : ℕ) (boxes : Boxes) (lots : List (Lot (Unit {0}))) (h : AreLots ls forms parts boxes) (seen : lots_with_forms ls forms ≡ lots) where
+module _ (ls : List (Lot (Unit {0}))) (forms : List (Listed Part)) (parts : ℕ) (live ever : Boxes) (lots : List (Lot (Unit {0}))) (h : AreLots ls forms parts live ever) (seen : lots_with_forms ls forms ≡ lots) where
   -- as many lots as forms
   pub lots_counted : length lots ≡ length forms
   lots_counted = sym (ap length seen) ∙ length-with_forms ls forms h.each
@@ -212,10 +209,18 @@ module _ (ls : List (Lot (Unit {0}))) (forms : List (Listed Part)) (parts : ℕ)
   pub lot_parts_at : (k : ℕ) → option_map (λ l. l.parts) (slice_get lots k) ≡ option_map (λ f. f.items) (slice_get forms k)
   lot_parts_at k = sym (ap (λ (ms : List (Lot (Unit {0}))). option_map (λ (l : Lot (Unit {0})). l.parts) (slice_get ms k)) seen) ∙ parts_at ls forms h.each k
 
-  -- they stand in the history and the index
-  pub lots_kept_in : AreKeptIn ls boxes lots
-  lots_kept_in = record {
-    bare = lots_bare;
-    few = few_at lots lots_few.each_few;
-    indexed = subst (λ (ms : List (Lot (Unit {0}))). IsIndexed ms boxes) seen h.indexed;
-  }
+  -- around them there are boxes in the indexes
+  pub lots_indexed : IsIndexed lots live ever
+  lots_indexed = subst (λ (ms : List (Lot (Unit {0}))). IsIndexed ms live ever) seen h.indexed
+
+  -- they stand in the history and in the index of the live ones
+  pub lots_kept_in : AreKeptIn ls live lots
+  lots_kept_in = kept_in lots live ever lots_indexed ls lots_bare
+
+  -- whose a point is, is known by the forms
+  pub forms_know : (p : RationalPoint) → KnowsOwners (has_point forms p) lots p
+  forms_know p k l at = by (slice_get forms k) (sym (lot_parts_at k) ∙ ap (option_map (λ (m : Lot (Unit {0})). m.parts)) at)
+    where
+      by : (o : Option (Listed Part)) → option_map (λ f. f.items) o ≡ Some l.parts → (elim o as (λ _. Bool) [ None ↦ false | Some f ↦ is_in_parts f.items p ]) ≡ is_in_parts l.parts p
+      by None e = absurd (cc)
+      by (Some f) e = let same : f.items ≡ l.parts = cc in ap (λ (qs : List Part). is_in_parts qs p) same

@@ -1,8 +1,7 @@
 -- Lots at their places, with their forms.
-use Rattle.std.proofs.Common.{◌≡◌, ℕ, zero, suc, ◌+◌, ◌<◌, ◌≤◌, List, [], ◌∷◌, ◌++◌, map, length, drop, get_or, Some, slice_get, sym, ap, ◌∙◌, subst, append_assoc}
+use Rattle.std.proofs.Common.{◌≡◌, ℕ, zero, suc, ◌<◌, ◌≤◌, List, [], ◌∷◌, map, length, get_or, Some, slice_get, sym, ap, ◌∙◌, subst}
 use Rattle.std.specs.Prelude.{IsTrue, option_map}
 use Rattle.std.specs.List.{AllByRecursion}
-use Rattle.std.proofs.lemmas.List.{map-append}
 use Rattle.rp_geometry.specs.sets.Shape.{Part}
 use Rattle.rp_geometry.specs.parts.Parts.{AreOf, IsCheckedPart, most_parts}
 use Rattle.rp_language.specs.Name.{Label}
@@ -10,11 +9,9 @@ use Rattle.rp_model.specs.states.State.{Lot, PlainState, live_lot, ids_of, bare_
 use Rattle.rp_model.specs.states.Sound.{are_distinct}
 use Rattle.rp_history.specs.declared.lot.LotLine.{LotLine}
 use Rattle.rp_history.specs.Lots.{lot_of}
-use Rattle.rp_nearby.specs.Near.{lots_at}
-use Rattle.rp_nearby.proofs.Places.{lots_left}
 use Rattle.rp_register.specs.declared.parcel.Parcel.{Parcel}
 use Rattle.rp_register.specs.Kept.{IsSoundOnLines, with_parts}
-use Rattle.rp_register.specs.There.{lot_here, lots_here}
+use Rattle.rp_register.specs.There.{lot_here}
 use Rattle.rp_register.proofs.Placed.{live_here, line_at}
 
 -- ---- sizes
@@ -47,15 +44,3 @@ lot_at_place lots history lines k line ps e f within is parts =
 -- so is the live lot of an id
 pub live_lot_at : (x : Label) (lots history : List (Lot (Unit {0}))) (k : ℕ) (p : Parcel) → IsTrue (are_distinct (ids_of lots)) → history ≡ map bare_lot lots → k < length lots → slice_get history k ≡ live_lot x history → slice_get lots k ≡ Some (lot_here p) → Some (lot_here p) ≡ live_lot x lots
 live_lot_at x lots history k p d e within found at = sym at ∙ live_here x lots history d e k within found
-
--- ---- lots at places
-
--- the lots at the places so far, and one more
-pub lots_added : (lots : List (Lot (Unit {0}))) (places : List ℕ) (i k : ℕ) (p : Parcel) (found items : List Parcel) → i < length places → k ≡ get_or places i 0 → slice_get lots k ≡ Some (lot_here p) → items ≡ found ++ p ∷ []
-    → lots_here items ++ lots_at lots (drop (i + 1) places) ≡ lots_here found ++ lots_at lots (drop i places)
-lots_added lots places i k p found items h e at add =
-    let rest = lots_at lots (drop (i + 1) places) in
-    ap (λ (ps : List Parcel). lots_here ps ++ rest) add
-    ∙ ap (λ (ls : List (Lot (Unit {0}))). ls ++ rest) (map-append lot_here found (p ∷ []))
-    ∙ append_assoc (lots_here found) (lot_here p ∷ []) rest
-    ∙ ap (λ (ls : List (Lot (Unit {0}))). lots_here found ++ ls) (sym (lots_left lots places i k (lot_here p) h e at))

@@ -1,11 +1,13 @@
 -- What the check keeps between two answers.
-use Rattle.std.specs.Prelude.{◌≡◌, ℕ, ◌+◌, ◌≤◌, false, IsTrue, List, [], ◌∷◌, map, length}
+use Rattle.std.specs.Prelude.{◌≡◌, ℕ, ◌+◌, ◌≤◌, Bool, false, IsTrue, List, [], ◌∷◌, map, length, Some, None, slice_get}
 use Rattle.std.specs.List.{AllByRecursion}
+use Rattle.rp_geometry.specs.Geometry.{RationalPoint}
 use Rattle.rp_geometry.specs.sets.Shape.{Part}
 use Rattle.rp_geometry.specs.parts.Parts.{most_parts, IsCheckedPart}
 use Rattle.rp_language.specs.Name.{Label, is_among}
 use Rattle.rp_model.specs.states.State.{Kept, Lot, NewLot, Change, nothing_changes, name_added, lots_replaced, layer_changed, PlainState, state_of_parts, bare_lot, names_of, ids_of, parts_under_names, parts_under_lots, most_names, most_kept_parts}
 use Rattle.rp_model.specs.states.Sound.{are_distinct, IsSoundWith}
+use Rattle.rp_model.specs.commands.Row.{is_in_parts}
 use Rattle.rp_space.specs.Listed.{Listed}
 use Rattle.rp_boxindex.specs.Boxes.{Boxes}
 use Rattle.rp_nearby.specs.Indexed.{IsIndexed}
@@ -50,14 +52,18 @@ pub record AreFew (lots : List (Lot (Unit {0}))) : Type 0 where
   pub few_parts : parts_under_lots lots ≤ most_kept_parts
   pub each_few : AllByRecursion (λ (l : Lot (Unit {0})). length l.parts ≤ most_parts) lots
 
--- a history and forms make few lots with distinct ids, whose parts are counted, and whose live ones have their boxes in an index
-pub record AreLots (history : List (Lot (Unit {0}))) (forms : List (Listed Part)) (parts : ℕ) (boxes : Boxes) : Type 0 where
+-- a history and forms make few lots with distinct ids, whose parts are counted, and around which there are boxes in two indexes
+pub record AreLots (history : List (Lot (Unit {0}))) (forms : List (Listed Part)) (parts : ℕ) (live ever : Boxes) : Type 0 where
   pub each : length history ≡ length forms
   pub bare : map bare_lot history ≡ history
   pub distinct : IsTrue (are_distinct (ids_of history))
   pub count : parts ≡ parts_under_lots (lots_with_forms history forms)
   pub few : AreFew (lots_with_forms history forms)
-  pub indexed : IsIndexed (lots_with_forms history forms) boxes
+  pub indexed : IsIndexed (lots_with_forms history forms) live ever
+
+-- the form at a place, if there is one, has the point
+abbrev pub has_point : List (Listed Part) → RationalPoint → ℕ → Bool
+has_point forms p k = elim (slice_get forms k) [ None ↦ false | Some f ↦ is_in_parts f.items p ]
 
 -- ---- the state
 

@@ -1,16 +1,12 @@
--- Lots that are there at a moment, with their forms.
-use Rattle.std.specs.Prelude.{Bool, List, map}
-use Rattle.rp_model.specs.states.State.{Lot, is_live, is_alive_after}
+-- Lots with their forms.
+use Rattle.std.specs.Prelude.{◌≡◌, ℕ, ◌<◌, ◌≤◌, List, map, Result, Ok, Err}
+use Rattle.rp_walks.specs.Walk.{most_tests}
+use Rattle.rp_follow.specs.declared.lost.Lost.{Lost}
+use Rattle.rp_follow.specs.declared.lost.Lost.TheVariants.{Limit, Memory}
+use Rattle.rp_model.specs.states.State.{Lot}
 use Rattle.rp_history.specs.Lots.{lot_of}
-use Rattle.rp_register.specs.declared.there.Moment.{Moment}
-use Rattle.rp_register.specs.declared.there.Moment.TheVariants.{Now, After}
 use Rattle.rp_register.specs.declared.parcel.Parcel.{Parcel}
 use Rattle.rp_register.specs.Kept.{with_parts}
-
--- a lot is there at a moment
-abbrev pub is_there : {S : Type 0} → Moment → Lot S → Bool
-is_there Now = is_live
-is_there (After n) = is_alive_after n
 
 -- a lot with the parts of its form
 abbrev pub lot_here : Parcel → Lot (Unit {0})
@@ -19,3 +15,10 @@ lot_here p = with_parts (lot_of p.line.now) p.form.now.items
 -- so are all of a list
 abbrev pub lots_here : List Parcel → List (Lot (Unit {0}))
 lots_here ps = map lot_here ps
+
+-- so many pairs were counted, at most as many as a command may test; or a limit is met, where there are more; nothing is said where memory ran out
+abbrev pub CountsUpTo : {A : Type 0} → (A → ℕ) → Result A Lost → ℕ → Type 0
+CountsUpTo count (Ok x) n = (count x ≡ n) × (n ≤ most_tests)
+CountsUpTo count (Err Limit) n = most_tests < n
+CountsUpTo count (Err (Memory e)) n = Unit {0}
+CountsUpTo count (Err _) n = ⊥

@@ -1,38 +1,40 @@
-//! The boxes of the parts of forms.
-ghost use Rattle.std.specs.Prelude.{◌≡◌, ◌≤◌, IfOk, length, map};
-ghost use Rattle.std.specs.List.{AllByRecursion};
-ghost use Rattle.rp_geometry.specs.parts.Parts.{most_parts};
-ghost use Rattle.rp_nearby.specs.Indexed.{bounds_of, boxes_in, lists_in, AreShort};
+//! The boxes around forms.
+ghost use Rattle.std.specs.Prelude.{◌≡◌, IfOk, map};
+ghost use Rattle.rp_space.specs.Boxes.{integer_box};
+ghost use Rattle.rp_nearby.specs.Indexed.{bounds_of, boxes_in, hull_of_parts, joined};
 
 use rp_follow::{Form, Kept};
 use rp_space::{IntBox, Listed};
 use std::alloc::{AllocError, Global};
 
-/// The boxes of parts, in order. Answers `AllocError` only for want of memory.
-pub(crate) fn boxes_of(alloc: Global, parts: &[Kept]) -> Result<Listed<IntBox>, AllocError>
-    ensures boxes { IfOk result (λ boxes. boxes_in boxes.items ≡ bounds_of parts.now) }
-    ensures each { IfOk result (λ boxes. length boxes.items ≡ length parts.now) }
+/// The least box around the boxes of a form's parts; around none it is that of the cube.
+pub(crate) fn hull_of(form: &Form) -> IntBox
+    ensures { integer_box result ≡ hull_of_parts form.now.items }
 {
-    let mut boxes = Listed::new(alloc);
-    for part in parts {
-        boxes.push(part.bounds)?;
+    match form.items() {
+        [] => IntBox::cube(),
+        [first, rest @ ..] => joined(first, rest),
     }
-    Ok(boxes)
 }
 
-/// The boxes of the parts of forms, a list for each. Answers `AllocError` only for want of memory.
-pub(crate) fn boxes_of_each(
-    alloc: Global,
-    forms: &[Form],
-) -> Result<Listed<Listed<IntBox>>, AllocError>
-    requires { AllByRecursion (λ f. length f.items ≤ most_parts) forms.now }
-    ensures boxes { IfOk result (λ lists. lists_in lists.items ≡ map (λ f. bounds_of f.items) forms.now) }
-    ensures each { IfOk result (λ lists. length lists.items ≡ length forms.now) }
-    ensures short { IfOk result (λ lists. AreShort lists.items) }
+/// The least box around the boxes of a part and of further ones.
+fn joined(first: &Kept, rest: &[Kept]) -> IntBox
+    ensures { integer_box result ≡ joined first.now.bounds (bounds_of rest.now) }
 {
-    let mut lists = Listed::new(alloc);
-    for form in forms {
-        lists.push(boxes_of(alloc, form.items())?)?;
+    let mut hull = first.bounds;
+    for part in rest {
+        hull = hull.union(&part.bounds);
     }
-    Ok(lists)
+    hull
+}
+
+/// The boxes around forms, in order. Answers `AllocError` only for want of memory.
+pub(crate) fn hulls_of(alloc: Global, forms: &[Form]) -> Result<Listed<IntBox>, AllocError>
+    ensures { IfOk result (λ hulls. boxes_in hulls.items ≡ map (λ f. hull_of_parts f.items) forms.now) }
+{
+    let mut hulls = Listed::new(alloc);
+    for form in forms {
+        hulls.push(hull_of(form))?;
+    }
+    Ok(hulls)
 }

@@ -1,8 +1,14 @@
+#![tactic(auto)]
 //! What the check of a report keeps between two answers, and what the row of every command needs of it: the form of an
 //! expression, the lots that are there, and how many pairs of parts may meet.
-#![tactic(auto)]
+//!
+//! A [`Register`] is by its type a sound state of parts, as the lines of the report show them, and a change leaves one.
+//! The form of an expression is that of its parts, test by test on the next lines. Names and live lots are found by
+//! their ids, and the live lots near a form, all of them and no other, by the boxes around lots, and so is the lot that
+//! has a point.
 
 mod boxes;
+mod count;
 mod cover;
 mod form;
 mod lots;
@@ -10,19 +16,18 @@ mod member;
 mod names;
 mod near;
 mod operand;
-mod pairs;
 mod parcel;
 mod register;
 mod reply;
 mod there;
 
+pub use count::count_tests;
 pub use cover::{is_empty, within};
 pub use form::outside;
 pub use member::holds;
 pub use near::count_pairs;
 pub use operand::Operand;
-pub use pairs::{count_tests, pairs_with};
 pub use parcel::Parcel;
 pub use register::Register;
 pub use reply::{Born, Change, Reply, RowEnd, one_line, yes_or_no};
-pub use there::{Moment, is_there};
+pub use there::Near;

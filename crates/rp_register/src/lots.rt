@@ -1,19 +1,22 @@
 //! All lots that were ever registered, with their forms.
 ghost use Rattle.std.specs.Prelude.{◌≡◌, ◌+◌, ◌<◌, ◌≤◌, [], length, map, filter, drop, nat_le, slice_get, sum_by, option_copied, option_map, Some, IsTrue, IfOk, OnOk, OnErr};
-ghost use Rattle.rp_model.specs.states.State.{live_lot, parts_of_lot, bare_lot, ids_of, lots_replaced, parts_under_lots, most_kept_parts};
+ghost use Rattle.rp_model.specs.states.State.{live_lot, lots_of_layer, parts_of_lot, bare_lot, ids_of, lots_replaced, parts_under_lots, most_kept_parts};
 ghost use Rattle.rp_model.specs.states.Sound.{are_distinct};
+ghost use Rattle.rp_model.specs.commands.Row.{owner_line};
 ghost use Rattle.rp_history.specs.Lots.{lots_after, AreBornBefore, AreNew};
 ghost use Rattle.rp_nearby.specs.Near.{others_in, is_near, lots_at, AreWithin};
-ghost use Rattle.rp_register.specs.Kept.{AreFew};
+ghost use Rattle.rp_nearby.specs.Owner.{is_there, owner_verdict, BoxesHold};
+ghost use Rattle.rp_register.specs.Kept.{AreFew, has_point};
 ghost use Rattle.rp_register.specs.Replies.{new_lot_of};
 
-use crate::boxes::{boxes_of, boxes_of_each};
+use crate::boxes::{hull_of, hulls_of};
+use crate::member::holds;
 use crate::reply::Born;
 use rp_boxindex::Quiet;
 use rp_follow::Form;
 use rp_history::{Birth, History};
-use rp_nearby::{LiveBoxes, Reach};
-use rp_space::{Listed, Name};
+use rp_nearby::{Holder, LotBoxes, Moment, Reach};
+use rp_space::{Listed, Name, Point};
 use std::alloc::{AllocError, Global};
 use std::marker::Model;
 
@@ -21,7 +24,7 @@ use std::marker::Model;
 const MAX_PARTS: usize = 65536;
 
 /// All lots that were ever registered, in the order of registration, with their forms: at most 65,536 lots, with at most
-/// 65,536 parts together and 1,024 of each. The boxes of the parts of live ones stand in an index.
+/// 65,536 parts together and 1,024 of each. Around each there is a box in an index.
 #[derive(Debug, Drop)]
 pub(crate) struct Lots {
     history: History,
@@ -29,8 +32,8 @@ pub(crate) struct Lots {
     forms: Listed<Form>,
     // How many parts the forms have together.
     parts: usize,
-    // The boxes of the parts of live lots.
-    boxes: LiveBoxes,
+    // A box around each lot.
+    boxes: LotBoxes,
 }
 
 impl Model for Lots {
@@ -42,7 +45,7 @@ impl Model for Lots {
 
     ghost view = { λ a. lots_with_forms a.history a.forms.items };
 
-    ghost invariant = { λ a. AreLots a.history a.forms.items a.parts a.boxes.index };
+    ghost invariant = { λ a. AreLots a.history a.forms.items a.parts a.boxes.live a.boxes.ever };
 }
 
 impl Lots {
@@ -54,7 +57,7 @@ impl Lots {
             history: History::new(alloc),
             forms: Listed::new(alloc),
             parts: 0,
-            boxes: LiveBoxes::new(alloc),
+            boxes: LotBoxes::new(alloc),
         }
     }
 
@@ -85,8 +88,8 @@ impl Lots {
         &self.forms.items()[place]
     }
 
-    /// The places, in rising order, of the live lots of a layer, from a place on, that have another id and a part that may
-    /// meet one of a form's. Answers `AllocError` only for want of memory.
+    /// The places, in rising order, of live lots of a layer, from a place on, that have another id: of all those that have a
+    /// part which may meet one of a form's, and maybe of others. Answers `AllocError` only for want of memory.
     pub(crate) fn near(
         &self,
         alloc: Global,
@@ -97,21 +100,26 @@ impl Lots {
         reach: Reach,
     ) -> Result<Listed<usize>, AllocError>
         requires { from ≤ length self.now }
-        ensures near { IfOk result (λ places. lots_at self.now places.items ≡ filter (is_near reach form.now.items) (others_in layer.now id.now (drop from self.now))) }
+        ensures near { IfOk result (λ places. filter (is_near reach form.now.items) (lots_at self.now places.items) ≡ filter (is_near reach form.now.items) (others_in layer.now id.now (drop from self.now))) }
         ensures within { IfOk result (λ places. AreWithin self.now places.items) }
         ensures few { IfOk result (λ places. length places.items ≤ most_kept_parts) }
     {
-        let boxes = boxes_of(alloc, form.items())?;
-        self.boxes.near(
-            alloc,
-            &Quiet,
-            &self.history,
-            boxes.items(),
-            layer,
-            id,
-            from,
-            reach,
-        )
+        let hull = hull_of(form);
+        self.boxes.near(alloc, &Quiet, &self.history, &hull, layer, id, from, reach)
+    }
+
+    /// The first lot of a layer, of those that are there at a moment, that has the point; it is found without a walk over all
+    /// lots. `None` exactly where there is none.
+    pub(crate) fn owner(&self, layer: &Name, moment: Moment, point: &Point) -> Option<Name>
+        requires { BoxesHold self.now }
+        ensures { owner_verdict result ≡ owner_line (lots_of_layer layer.now (filter (is_there moment) self.now)) point.now }
+    {
+        let holder = HasPoint {
+            forms: self.forms.items(),
+            point,
+        };
+        self.boxes
+            .owner(&self.history, layer, moment, point, &holder)
     }
 
     /// Whether all lots together may keep so many more parts.
@@ -141,17 +149,35 @@ impl Lots {
         let added = forms.items();
         let parts = count_parts(added);
         let first = self.forms.items().len();
-        let lists = boxes_of_each(alloc, added)?;
+        let hulls = hulls_of(alloc, added)?;
         self.forms.reserve(added.len())?;
-        self.boxes.add_all(alloc, first, lists.items())?;
+        self.boxes.add_all(alloc, first, hulls.items())?;
         if let Err(error) = self.history.note(alloc, line, births.items(), ends) {
             self.boxes.remove_all(first, added.len());
             return Err(error);
         }
-        self.boxes.remove_ended(&self.history, first, ends);
+        self.boxes.end_all(&self.history, first, ends);
         self.forms.append(forms).unwrap();
         self.parts += parts;
         Ok(())
+    }
+}
+
+/// The forms of lots, by their places, and a point.
+#[derive(Clone, Copy)]
+struct HasPoint<'a> {
+    forms: &'a [Form],
+    point: &'a Point,
+}
+
+impl Holder for HasPoint<'_> {
+    ghost has = { λ s k. has_point s.forms.now s.point.now k };
+
+    fn has(&self, place: usize) -> bool {
+        match self.forms.get(place) {
+            None => false,
+            Some(form) => holds(form, self.point),
+        }
     }
 }
 

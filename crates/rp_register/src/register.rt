@@ -1,8 +1,10 @@
 //! What the check keeps between two answers: the present layer, what names stand for, and the lots.
 ghost use Rattle.std.specs.Prelude.{◌≡◌, ◌+◌, ◌<◌, ◌≤◌, ◌&&◌, Some, length, map, filter, drop, nat_le, slice_get, option_copied, option_map, IfOk, OnOk};
-ghost use Rattle.rp_model.specs.states.State.{opening, base_layer, parts_in, state_of_parts, bare_lot, changed, parts_under_names, parts_under_lots, most_names, most_kept_parts};
+ghost use Rattle.rp_model.specs.states.State.{opening, base_layer, parts_in, state_of_parts, bare_lot, lots_of_layer, changed, parts_under_names, parts_under_lots, most_names, most_kept_parts};
 ghost use Rattle.rp_model.specs.states.Sound.{IsLaterThan};
+ghost use Rattle.rp_model.specs.commands.Row.{owner_line};
 ghost use Rattle.rp_nearby.specs.Near.{others_in, is_near, lots_at, AreWithin};
+ghost use Rattle.rp_nearby.specs.Owner.{is_there, owner_verdict, BoxesHold};
 ghost use Rattle.rp_register.specs.Kept.{IsSoundOnLines, ComesFromKnown};
 ghost use Rattle.rp_register.specs.Replies.{change_of};
 
@@ -11,8 +13,8 @@ use crate::names::NamedForms;
 use crate::reply::Change;
 use rp_follow::Form;
 use rp_history::History;
-use rp_nearby::Reach;
-use rp_space::{Listed, Name};
+use rp_nearby::{Moment, Reach};
+use rp_space::{Listed, Name, Point};
 use std::alloc::{AllocError, Global};
 use std::marker::Model;
 
@@ -102,8 +104,8 @@ impl Register {
         self.lots.form_at(place)
     }
 
-    /// The places, in rising order, of the live lots of a layer, from a place on, that have another id and a part that may
-    /// meet one of a form's. Answers `AllocError` only for want of memory.
+    /// The places, in rising order, of live lots of a layer, from a place on, that have another id: of all those that have a
+    /// part which may meet one of a form's, and maybe of others. Answers `AllocError` only for want of memory.
     pub(crate) fn places_near(
         &self,
         alloc: Global,
@@ -114,11 +116,19 @@ impl Register {
         reach: Reach,
     ) -> Result<Listed<usize>, AllocError>
         requires { from ≤ length self.now.lots }
-        ensures near { IfOk result (λ places. lots_at self.now.lots places.items ≡ filter (is_near reach form.now.items) (others_in layer.now id.now (drop from self.now.lots))) }
+        ensures near { IfOk result (λ places. filter (is_near reach form.now.items) (lots_at self.now.lots places.items) ≡ filter (is_near reach form.now.items) (others_in layer.now id.now (drop from self.now.lots))) }
         ensures within { IfOk result (λ places. AreWithin self.now.lots places.items) }
         ensures few { IfOk result (λ places. length places.items ≤ most_kept_parts) }
     {
         self.lots.near(alloc, form, layer, id, from, reach)
+    }
+
+    /// The first lot of the present layer, of those that are there at a moment, that has the point.
+    pub(crate) fn owner_at(&self, moment: Moment, point: &Point) -> Option<Name>
+        requires { BoxesHold self.now.lots }
+        ensures { owner_verdict result ≡ owner_line (lots_of_layer self.now.layer (filter (is_there moment) self.now.lots)) point.now }
+    {
+        self.lots.owner(&self.layer, moment, point)
     }
 
     /// Whether one more name may stand for the form.

@@ -1,35 +1,28 @@
-//! The lots that are there at a moment, and those that are near a form, beside their forms.
+//! The lots that are near a form, and the one that has a point, beside their forms.
 ghost use Rattle.std.specs.Prelude.{◌≡◌, ◌<◌, ◌≤◌, Some, IfOk, filter, length, drop, slice_get, option_map};
-ghost use Rattle.rp_model.specs.states.State.{live_lot, most_kept_parts};
-ghost use Rattle.rp_history.specs.Lots.{lot_of};
-ghost use Rattle.rp_nearby.specs.Near.{others_in, is_near};
-ghost use Rattle.rp_register.specs.There.{is_there, lot_here, lots_here};
+ghost use Rattle.rp_geometry.specs.parts.Parts.{most_parts};
+ghost use Rattle.rp_model.specs.states.State.{live_lot, lots_of_layer, most_kept_parts};
+ghost use Rattle.rp_model.specs.commands.Row.{owner_line};
+ghost use Rattle.rp_nearby.specs.Near.{others_in, is_near, pairs_with, lots_at, AreWithin};
+ghost use Rattle.rp_nearby.specs.Owner.{is_there, owner_verdict};
+ghost use Rattle.rp_register.specs.There.{lot_here, lots_here, CountsUpTo};
 
+use crate::near::count_pairs;
 use crate::parcel::Parcel;
 use crate::register::Register;
-use rp_follow::Form;
-use rp_history::LotLine;
-use rp_nearby::Reach;
-use rp_space::{Listed, Name};
-use std::alloc::{AllocError, Global};
+use rp_follow::{Form, Lost};
+use rp_nearby::{Moment, Reach};
+use rp_space::{Listed, Name, Point};
+use std::alloc::Global;
 
-/// When lots are looked for.
-#[derive(Clone, Copy, Debug)]
-pub enum Moment {
-    /// Now.
-    Now,
-    /// After the line of this number.
-    After(u32),
-}
+/// The most tests that are counted in a command.
+const MAX_TESTS: u64 = 65536;
 
-/// Whether a lot is there at a moment.
-pub fn is_there(lot: &LotLine, moment: Moment) -> bool
-    ensures { result ≡ is_there moment (lot_of lot.now) }
-{
-    match moment {
-        Moment::Now => lot.ended.is_none(),
-        Moment::After(line) => lot.is_alive_after(line),
-    }
+/// The lots that are near a form, and how many pairs of their parts and its own may meet.
+#[derive(Debug, Drop)]
+pub struct Near<'a> {
+    pub parcels: Listed<Parcel<'a>>,
+    pub pairs: u64,
 }
 
 impl Register {
@@ -60,7 +53,7 @@ impl Register {
     }
 
     /// The live lots of a layer, from a place on, that have another id and a part that may meet one of a form's, in the order
-    /// of registration. Answers `AllocError` only for want of memory.
+    /// of registration, and how many pairs of parts these are. `Limit` exactly where these are more than a command may test.
     pub fn near(
         &self,
         alloc: Global,
@@ -69,16 +62,56 @@ impl Register {
         id: &Name,
         from: usize,
         reach: Reach,
-    ) -> Result<Listed<Parcel<'_>>, AllocError>
-        requires { from ≤ length self.now.lots }
-        ensures value { IfOk result (λ list. lots_here list.items ≡ filter (is_near reach form.now.items) (others_in layer.now id.now (drop from self.now.lots))) }
-        ensures few { IfOk result (λ list. length list.items ≤ most_kept_parts) }
+    ) -> Result<Near<'_>, Lost>
+        requires from { from ≤ length self.now.lots }
+        requires few { length form.now.items ≤ most_parts }
+        ensures parcels { IfOk result (λ near. lots_here near.parcels.items ≡ filter (is_near reach form.now.items) (others_in layer.now id.now (drop from self.now.lots))) }
+        ensures pairs { CountsUpTo (λ near. near.pairs) result (pairs_with reach form.now.items (others_in layer.now id.now (drop from self.now.lots))) }
+        ensures few { IfOk result (λ near. length near.parcels.items ≤ near.pairs) }
     {
         let places = self.places_near(alloc, form, layer, id, from, reach)?;
-        let mut list = Listed::new(alloc);
-        for place in places.items() {
-            list.push(self.parcel_at(*place))?;
+        self.counted(alloc, form, places.items(), reach)
+    }
+
+    /// Those of the lots at some places that have a part which may meet one of a form's, and how many pairs of parts these
+    /// are. `Limit` exactly where these are more than a command may test.
+    fn counted(
+        &self,
+        alloc: Global,
+        form: &Form,
+        places: &[usize],
+        reach: Reach,
+    ) -> Result<Near<'_>, Lost>
+        requires within { AreWithin self.now.lots places.now }
+        requires few { length form.now.items ≤ most_parts }
+        ensures parcels { IfOk result (λ near. lots_here near.parcels.items ≡ filter (is_near reach form.now.items) (lots_at self.now.lots places.now)) }
+        ensures pairs { CountsUpTo (λ near. near.pairs) result (pairs_with reach form.now.items (lots_at self.now.lots places.now)) }
+        ensures few { IfOk result (λ near. length near.parcels.items ≤ near.pairs) }
+    {
+        let mut near = Near {
+            parcels: Listed::new(alloc),
+            pairs: 0,
+        };
+        for place in places {
+            let parcel = self.parcel_at(*place);
+            let pairs = count_pairs(form, parcel.form, reach);
+            if pairs > MAX_TESTS - near.pairs {
+                return Err(Lost::Limit);
+            }
+            if pairs > 0 {
+                near.pairs += pairs;
+                near.parcels.push(parcel)?;
+            }
         }
-        Ok(list)
+        Ok(near)
+    }
+
+    /// The first lot of the present layer, of those that are there at a moment, that has the point; it is found without a
+    /// walk over all lots. `None` exactly where there is none.
+    pub fn owner(&self, moment: Moment, point: &Point) -> Option<Name>
+        ensures { owner_verdict result ≡ owner_line (lots_of_layer self.now.layer (filter (is_there moment) self.now.lots)) point.now }
+    {
+        self.keep_sound();
+        self.owner_at(moment, point)
     }
 }

@@ -1,4 +1,4 @@
-use Rattle.std.proofs.Common.{◌≡◌, ◌+◌, ℕ, Bool, List, [], ◌∷◌, map, length, refl, ap, sym, ◌∙◌, subst}
+use Rattle.std.proofs.Common.{◌≡◌, ◌+◌, ℕ, Bool, List, [], ◌∷◌, map, length, not, refl, ap, sym, ◌∙◌, subst}
 use Rattle.std.specs.Prelude.{option_map}
 use Rattle.std.proofs.lemmas.Result.{err_from_is_err_and}
 use Rattle.rp_geometry.specs.sets.Shape.{Part}
@@ -18,9 +18,9 @@ use Rattle.rp_changes.specs.Children.{formed_child}
 use Rattle.rp_changes.proofs.Divided.{parts_here, subdivide_reply, covered_rest, cover_left}
 use Rattle.rp_changes.proofs.divide.subdivide.Goals as goal
 
-pub returns-in_err-within : goal.returns-in_err-within
-returns-in_err-within c =
-    let p = err_from_is_err_and c.from_residual-in_err-within.result c.from_residual-in_err-within.ensures.1 in
+pub returns-in_err-has_gap : goal.returns-in_err-has_gap
+returns-in_err-has_gap c =
+    let p = err_from_is_err_and c.from_residual-in_err-has_gap.result c.from_residual-in_err-has_gap.ensures.1 in
     let s = c.args.register.now in
     let x = c.args.id in
     let cs = map formed_child c.args.children.items in
@@ -28,8 +28,8 @@ returns-in_err-within c =
     let v = c.first_outside.new.trail in
     let u = c.count_tests.new.trail in
     let z = c.first_overlapping.new.trail in
-    let y = c.within.new.trail in
-    let e = c.in_err-within.field-0.0 in
+    let y = c.has_gap.new.trail in
+    let e = c.in_err-has_gap.field-0.0 in
     let whole = c.form_at-whole.result.now.items in
     let named = sym (ap (check_subdivide s x) (c.items-2.ensures ∙ c.in_ok-ids.ensures ∙ ap (λ (ds : List Child). map (λ (f : FormedChild). f.id) (map formed_child ds)) c.items.ensures)) ∙ c.in_ok-place.ensures.checks in
     let some = sym (c.in_default.ensures ∙ ap (λ (ds : List Child). first_empty_child 1 (map formed_child ds)) c.items-3.ensures) in
@@ -38,11 +38,11 @@ returns-in_err-within c =
     let inside = ap (λ (ds : List Child). first_outside_child line_tester whole 1 (map formed_child ds) t) (sym c.items-5.ensures) ∙ c.in_ok-number.ensures ∙ ap (λ o. done (option_map outside_lot o) v) c.in_default-2.is in
     let counted = ap (λ (n : ℕ). follow_count n v) (sym (c.count_near.ensures ∙ ap (λ (ds : List Child). count_among near_pair (child_parts (map formed_child ds))) c.items-6.ensures)) ∙ c.in_ok-count_tests.ensures in
     let apart = ap (λ (ds : List Child). first_overlapping_children line_tester 1 (map formed_child ds) u) (sym c.items-7.ensures) ∙ c.in_ok-first.ensures ∙ ap (λ o. done (option_map (λ q. children_overlap q.0 q.1) o) z) c.in_default-3.is in
-    let joined = c.in_ok-all.ensures ∙ ap (λ (ds : List Child). joined_parts (child_parts (map formed_child ds))) c.items-8.ensures in
+    let joined = ap (λ (ds : List Child). joined_parts (child_parts (map formed_child ds))) c.items-8.ensures in
     rw (p.1, p.2)
     (stop_left (is_covered line_tester whole (joined_parts (child_parts cs))) (covered_rest s x cs)
     (cover_left s x cs whole t v u z named some (parts_here x s c.in_ok-place.place whole c.in_ok-place.ensures.lot c.form_at-whole.ensures) room inside counted apart) e y
-    (subst (λ (qs : List Part). StopsBy e y (is_covered line_tester whole qs z)) joined c.in_err-within.ensures))
+    (subst (λ (qs : List Part). StopsBy e y (is_covered line_tester whole qs z)) joined c.in_err-has_gap.ensures))
 
 pub returns : goal.returns
 returns c =
@@ -53,7 +53,7 @@ returns c =
     let v = c.first_outside.new.trail in
     let u = c.count_tests.new.trail in
     let z = c.first_overlapping.new.trail in
-    let y = c.within.new.trail in
+    let y = c.has_gap.new.trail in
     let whole = c.form_at-whole.result.now.items in
     let named = sym (ap (check_subdivide s x) (c.items-2.ensures ∙ c.in_ok-ids.ensures ∙ ap (λ (ds : List Child). map (λ (f : FormedChild). f.id) (map formed_child ds)) c.items.ensures)) ∙ c.in_ok-place.ensures.checks in
     let some = sym (c.in_default.ensures ∙ ap (λ (ds : List Child). first_empty_child 1 (map formed_child ds)) c.items-3.ensures) in
@@ -62,8 +62,8 @@ returns c =
     let inside = ap (λ (ds : List Child). first_outside_child line_tester whole 1 (map formed_child ds) t) (sym c.items-5.ensures) ∙ c.in_ok-number.ensures ∙ ap (λ o. done (option_map outside_lot o) v) c.in_default-2.is in
     let counted = ap (λ (n : ℕ). follow_count n v) (sym (c.count_near.ensures ∙ ap (λ (ds : List Child). count_among near_pair (child_parts (map formed_child ds))) c.items-6.ensures)) ∙ c.in_ok-count_tests.ensures in
     let apart = ap (λ (ds : List Child). first_overlapping_children line_tester 1 (map formed_child ds) u) (sym c.items-7.ensures) ∙ c.in_ok-first.ensures ∙ ap (λ o. done (option_map (λ q. children_overlap q.0 q.1) o) z) c.in_default-3.is in
-    let joined = c.in_ok-all.ensures ∙ ap (λ (ds : List Child). joined_parts (child_parts (map formed_child ds))) c.items-8.ensures in
-    let covered = ap (λ (qs : List Part). is_covered line_tester whole qs z) (sym joined) ∙ c.in_ok-within.ensures ∙ ap (λ (b : Bool). done b y) c.if-not-branch.false in
+    let joined = ap (λ (ds : List Child). joined_parts (child_parts (map formed_child ds))) c.items-8.ensures in
+    let covered = ap (λ (qs : List Part). is_covered line_tester whole qs z) (sym joined) ∙ c.in_ok-has_gap.ensures ∙ ap (λ (b : Bool). done (not b) y) c.if-branch.false in
     let born = c.in_ok-born.ensures ∙ ap (λ (l : Label). map (λ (f : FormedChild). new_lot l f.id f.parts (x ∷ [])) cs) c.layer_of.ensures in
     end_left (done (subdivide_reply s x cs) y)
     (next_left (is_covered line_tester whole (joined_parts (child_parts cs))) (covered_rest s x cs)

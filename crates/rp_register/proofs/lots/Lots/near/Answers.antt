@@ -2,38 +2,36 @@ use Rattle.std.proofs.Common.{◌≤◌, ◌<◌, ℕ, length, ap, sym, ◌∙�
 use Rattle.std.specs.List.{AllByRecursion}
 use Rattle.std.proofs.lemmas.List.{length-map}
 use Rattle.rp_model.specs.states.State.{bare_lot}
-use Rattle.rp_nearby.specs.Indexed.{bounds_of, boxes_in}
 use Rattle.rp_nearby.proofs.Places.{if_ok_then}
 use Rattle.rp_register.proofs.KeptLots.{lots_bare, lots_few, lots_kept_in}
-use Rattle.rp_register.proofs.Boxed.{free_behind}
+use Rattle.rp_register.proofs.Boxed.{free_live}
 use Rattle.rp_register.proofs.lots.Lots.near.Goals as goal
 
 pub near-requires-clause-from : goal.near-requires-clause-from
 near-requires-clause-from c _ =
-    let bare = lots_bare c.self.inside.history c.self.inside.forms.items c.self.inside.parts c.self.inside.boxes.index c.args.self.now c.self.invariant c.self.view_is in
+    let bare = lots_bare c.self.inside.history c.self.inside.forms.items c.self.inside.parts c.self.inside.boxes.live c.self.inside.boxes.ever c.args.self.now c.self.invariant c.self.view_is in
     subst (λ (n : ℕ). c.args.from ≤ n) (sym (ap length bare ∙ length-map c.args.self.now bare_lot)) c.requires
 
 pub near-requires-clause-behind : goal.near-requires-clause-behind
-near-requires-clause-behind c _ = free_behind c.self.inside.history c.self.inside.forms.items c.self.inside.parts c.self.inside.boxes.index c.self.invariant (length c.self.inside.history) c.self.invariant.each
+near-requires-clause-behind c _ = free_live c.self.inside.history c.self.inside.forms.items c.self.inside.parts c.self.inside.boxes.live c.self.inside.boxes.ever c.self.invariant (length c.self.inside.history) c.self.invariant.each
 
 pub returns-clause-near : goal.returns-clause-near
 returns-clause-near c =
     if_ok_then _ _ c.near.result
-    (λ places h. h c.args.self.now c.args.form.now.items (lots_kept_in c.self.inside.history c.self.inside.forms.items c.self.inside.parts c.self.inside.boxes.index c.args.self.now c.self.invariant c.self.view_is)
-    (ap boxes_in c.items-2.ensures ∙ c.in_ok-boxes.ensures.boxes ∙ ap bounds_of c.items.ensures))
+    (λ places h. h c.args.self.now c.args.form.now.items (lots_kept_in c.self.inside.history c.self.inside.forms.items c.self.inside.parts c.self.inside.boxes.live c.self.inside.boxes.ever c.args.self.now c.self.invariant c.self.view_is) c.hull_of-hull.ensures)
     c.near.ensures.near
 
 pub returns-clause-within : goal.returns-clause-within
 returns-clause-within c =
-    let bare = lots_bare c.self.inside.history c.self.inside.forms.items c.self.inside.parts c.self.inside.boxes.index c.args.self.now c.self.invariant c.self.view_is in
+    let bare = lots_bare c.self.inside.history c.self.inside.forms.items c.self.inside.parts c.self.inside.boxes.live c.self.inside.boxes.ever c.args.self.now c.self.invariant c.self.view_is in
     if_ok_then _ _ c.near.result
     (λ places h. subst (λ (n : ℕ). AllByRecursion (λ k. k < n) places.items) (ap length bare ∙ length-map c.args.self.now bare_lot) h)
     c.near.ensures.within
 
 pub returns-clause-few : goal.returns-clause-few
 returns-clause-few c =
-    let most = (lots_few c.self.inside.history c.self.inside.forms.items c.self.inside.parts c.self.inside.boxes.index c.args.self.now c.self.invariant c.self.view_is).few_lots in
-    let bare = lots_bare c.self.inside.history c.self.inside.forms.items c.self.inside.parts c.self.inside.boxes.index c.args.self.now c.self.invariant c.self.view_is in
+    let most = (lots_few c.self.inside.history c.self.inside.forms.items c.self.inside.parts c.self.inside.boxes.live c.self.inside.boxes.ever c.args.self.now c.self.invariant c.self.view_is).few_lots in
+    let bare = lots_bare c.self.inside.history c.self.inside.forms.items c.self.inside.parts c.self.inside.boxes.live c.self.inside.boxes.ever c.args.self.now c.self.invariant c.self.view_is in
     if_ok_then _ _ c.near.result
     (λ places h. let many = ap length bare ∙ length-map c.args.self.now bare_lot in omega (arith, h, many, most))
     c.near.ensures.few

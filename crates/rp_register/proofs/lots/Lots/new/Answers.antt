@@ -1,4 +1,5 @@
-use Rattle.std.proofs.Common.{List, sym, subst}
+use Rattle.std.proofs.Common.{List, [], sym, subst}
+use Rattle.std.specs.FinMap.{empty}
 use Rattle.rp_geometry.specs.sets.Shape.{Part}
 use Rattle.rp_model.specs.states.State.{Lot}
 use Rattle.rp_space.specs.Listed.{Listed}
@@ -9,6 +10,7 @@ use Rattle.rp_register.proofs.lots.Lots.new.Goals as goal
 
 pub invariant_of-result : goal.invariant_of-result
 invariant_of-result c =
-    subst (λ (m : Boxes). AreLots c.new.result c.new-2.result.items 0 m) (sym c.new-3.ensures.value)
-    (subst (λ (forms : List (Listed Part)). AreLots c.new.result forms 0 _) (sym c.new-2.ensures)
-    (subst (λ (history : List (Lot (Unit {0}))). AreLots history _ 0 _) (sym c.new.ensures) no_lots))
+    subst (λ (m : Boxes). AreLots c.new.result c.new-2.result.items 0 m c.new-3.result.ever) (sym c.new-3.ensures.live)
+    (subst (λ (m : Boxes). AreLots c.new.result c.new-2.result.items 0 empty m) (sym c.new-3.ensures.ever)
+    (subst (λ (forms : List (Listed Part)). AreLots c.new.result forms 0 empty empty) (sym c.new-2.ensures)
+    (subst (λ (history : List (Lot (Unit {0}))). AreLots history [] 0 empty empty) (sym c.new.ensures) no_lots)))

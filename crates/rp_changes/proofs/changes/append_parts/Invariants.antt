@@ -1,5 +1,5 @@
 use Rattle.std.proofs.Common.{◌≡◌, ◌++◌, take}
-use Rattle.rp_changes.proofs.children.append_parts.Given as goal
+use Rattle.rp_changes.proofs.changes.append_parts.Given as goal
 
 -- the parts so far are behind the others
 abbrev pub invariant-loop-part : goal.invariant-loop-part

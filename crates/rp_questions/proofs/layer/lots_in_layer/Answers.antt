@@ -1,8 +1,8 @@
 use Rattle.std.proofs.Common.{◌<◌, ◌∷◌, [], length, sym, ap, ◌∙◌, arith}
 use Rattle.std.proofs.lemmas.List.{length-append}
 use Rattle.rp_questions.proofs.LayerLots.{layer_live, layer_taken, layer_passed}
-use Rattle.rp_questions.proofs.routes.lots_in_layer.Goals as goal
-use Rattle.rp_questions.proofs.routes.lots_in_layer.Goals.{then-is_in_layer+in_ok-push, else-is_in_layer}
+use Rattle.rp_questions.proofs.layer.lots_in_layer.Goals as goal
+use Rattle.rp_questions.proofs.layer.lots_in_layer.Goals.{then-is_in_layer+in_ok-push, else-is_in_layer}
 
 pub loop-place-preserved : goal.loop-place-preserved
 loop-place-preserved c =

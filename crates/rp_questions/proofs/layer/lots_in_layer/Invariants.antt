@@ -1,7 +1,7 @@
 use Rattle.std.proofs.Common.{◌≡◌, ◌≤◌, ◌++◌, length, drop}
 use Rattle.rp_register.specs.There.{lots_here}
 use Rattle.rp_questions.proofs.LayerLots.{layer_live}
-use Rattle.rp_questions.proofs.routes.lots_in_layer.Given as goal
+use Rattle.rp_questions.proofs.layer.lots_in_layer.Given as goal
 
 -- the lots from the place on are left
 abbrev pub invariant-loop-place : goal.invariant-loop-place
