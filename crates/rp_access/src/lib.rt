@@ -1,8 +1,11 @@
+#![tactic(auto)]
 //! Shortest chains over links between numbers, and the levels that show that they are shortest.
 //!
-//! [`Links`] are made link by link. [`levels`] finds how many steps the shortest chain to one number
-//! has, from each number, [`chain`] a shortest chain, and [`check_levels`] tests a list of levels.
-#![tactic(auto)]
+//! [`Links`] are made link by link and go both ways; where one fails for want of memory all are as they were.
+//! [`levels`] finds, by a search breadth first, how many steps the shortest chain from each number to one number has,
+//! and none exactly where there is no chain; they pass four tests. [`chain`] finds a shortest chain, which takes the
+//! first number that serves each time, and none exactly where there is none. [`check_levels`] says yes exactly where
+//! the four tests pass, whatever entries it is given; no command calls it, it is there for readers.
 
 mod check;
 mod laws;

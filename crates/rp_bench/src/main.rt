@@ -1,6 +1,6 @@
+#![tactic(auto)]
 //! Asks one search of one cell over and over, and prints what it found, so that `bench/run` can time a call. The words are a
 //! search and how often it is asked, as `inside 1000`. Other words and other lines end the program with status 1.
-#![tactic(auto)]
 
 mod cell;
 mod rounds;

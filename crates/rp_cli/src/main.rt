@@ -1,8 +1,8 @@
+#![tactic(auto)]
 //! The program: reads standard input, writes standard output, and ends with the status of the tool.
 //!
 //! The words behind the program's name say what it does. On a status from 2 to 7 one line on standard error says what
 //! happened.
-#![tactic(auto)]
 
 use rp_io::{StdSink, StdSource};
 use rp_tool::status::{OUT_OF_MEMORY, PUT_FAILED, READ_FAILED, TOO_LONG, UNLISTED};

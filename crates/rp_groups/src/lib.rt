@@ -1,5 +1,8 @@
-//! The groups into which links join numbers, by trees of numbers.
 #![tactic(auto)]
+//! The groups into which links join numbers, by trees of numbers (union-find).
+//!
+//! The groups are exactly those of the definition and in its order: lists of numbers, each rising and in the order of
+//! their first numbers.
 
 mod forest;
 mod groups;

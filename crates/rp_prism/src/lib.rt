@@ -1,6 +1,6 @@
+#![tactic(auto)]
 //! Prisms: how many edges of a polygon are above a point, and which points the trapezoids of its edges have.
 //! Each function is a law over the definitions of `rp_geometry`: its contract is the law, and its body is empty.
-#![tactic(auto)]
 
 ghost use Rattle.rp_geometry.specs.laws.PrismLaws.{CrossingsAreEven, TrapezoidIsBetween, TrapezoidIsKept};
 

@@ -1,6 +1,9 @@
+#![tactic(auto)]
 //! How two regions of space stand to each other: overlap, inclusion, equality, contact, and the eight relations of the
 //! region connection calculus (Randell, Cui and Cohn, 1992).
-#![tactic(auto)]
+//!
+//! Each is answered as the sets of points stand, by exactly the tests of its definition. [`rcc`] tells a region without
+//! a point, the first one first, before any test.
 
 mod cover;
 mod meeting;

@@ -1,5 +1,9 @@
-//! Answers, their text in the report, and the lines of a report, read back.
 #![tactic(auto)]
+//! Answers, their text in the report, and the lines of a report, read back.
+//!
+//! [`write_answer`] appends the text of an answer, byte for byte: its echo, its proof lines unless it is to be brief,
+//! and its verdict lines; where memory ran out, a front of it. A proof line, a line that shows a slice and an echo are
+//! read exactly where they are spelled so, and no memory is taken for it.
 
 mod answer;
 mod echo;

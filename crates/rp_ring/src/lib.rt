@@ -1,6 +1,6 @@
+#![tactic(auto)]
 //! Laws of horizontal sections: what a ring shows of the members of a cell at a height, and what a flat certificate shows.
 //! Each function is a law over the definitions of `rp_geometry`: its contract is the law, and its body is empty.
-#![tactic(auto)]
 
 ghost use Rattle.rp_geometry.specs.laws.SectionLaws.{ClosureIsOnTheLeft, EndsAreTheCorners, RingHoldsTheMembers, RingIsTheOnlyOne, RingShowsMember, TraceIsSmall};
 

@@ -1,5 +1,10 @@
-//! Horizontal sections: what a cell leaves at a height, as a ring of edges and ends, or as the first certificate that it leaves nothing.
 #![tactic(auto)]
+//! Horizontal sections: what a cell leaves at a height, as a ring of edges and ends, or as the first certificate that
+//! it leaves nothing.
+//!
+//! The slice of a cell of at most 32 half-spaces at a height of the cube is the one that is to be shown: its ring, or
+//! the first flat certificate, and this exactly where the cell has no point there. What a slice shows, as `check_slice`
+//! of `rp_cert` says, is said of it too. The slices of a region are those of its parts, in order.
 
 mod flat;
 mod ring;

@@ -1,6 +1,6 @@
+#![tactic(auto)]
 //! Laws of horizontal sections: at a height a cell has a ring or a flat certificate, and the searches find it.
 //! Each function is a law over the definitions of `rp_geometry`: its contract is the law, and its body is empty.
-#![tactic(auto)]
 
 ghost use Rattle.rp_geometry.specs.laws.SectionLaws.{FirstFlatIsFirst, FlatIsFound, MemberHasRing, MemberOrFlat, RingIsFound, RingIsKept, RingIsShort, SliceIsFound, SlicesShowTheMembers, TracesMeetWherePlanesDo};
 

@@ -1,5 +1,15 @@
-//! Half-spaces and points with exact whole numbers: the sign rule gives every point to exactly one of a half-space and its complement.
 #![tactic(auto)]
+//! Half-spaces and points with exact whole numbers: the sign rule gives every point to exactly one of a half-space and
+//! its complement.
+//!
+//! Four numbers make a half-space in lowest terms, or are refused for a bound that they pass as given, or else for four
+//! zeros; and a point, or are refused for a weight below 1, or else for a bound. `holds` is the sign rule, `side` its
+//! value, `not` the complement; no product leaves 128 bits. The half-spaces of a box and of the cube, which points a
+//! box holds, whether two boxes meet and the least box that holds both are those of the definitions; a box holds a
+//! point exactly where its six half-spaces do. Three planes meet in the point of Cramer's rule, or not in one point. A
+//! list takes an item at its end: where there was room for it this does not fail, and where it fails the items are as
+//! they were; room that is reserved is there, and reserving gives none back. Names are exactly the byte strings that
+//! the grammar calls names. Lists of at most four points or terms take no memory.
 
 mod bounds;
 mod corner;

@@ -54,14 +54,6 @@ impl Default for Meeting {
 }
 
 impl Meeting {
-    /// A point that is given in lowest terms.
-    pub fn of_point(p: &Point) -> Meeting
-        ensures { result ≡ p.now }
-    {
-        let (x, y, z, w) = p.numbers();
-        Meeting { x, y, z, w }
-    }
-
     /// The four numbers of the point, not yet in lowest terms.
     pub fn numbers(&self) -> (i128, i128, i128, i128)
         ensures numbers { point_of result.0 result.1 result.2 result.3 ≡ self.now }

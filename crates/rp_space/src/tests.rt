@@ -117,6 +117,20 @@ fn half_spaces_and_points_are_kept_in_lowest_terms(rt: HostRuntime) -> Result<()
 }
 
 #[test]
+fn the_greatest_side_value_keeps_within_128_bits(rt: HostRuntime) -> Result<(), Fail> {
+    let edge = 16777216;
+    let half = Half::new(edge, edge, edge, 844424930131967)
+        .ok()
+        .ok_or("no half-space")?;
+    let x = 2535301200456458802993406410751;
+    let point = Point::new(x, x, x, 37778931862957161709567)
+        .ok()
+        .ok_or("no point")?;
+    assert_eq!(rt; half.side(&point), 159507359494189866969524139851499175937);
+    Ok(())
+}
+
+#[test]
 fn boxes_have_six_sides(rt: HostRuntime) {
     let bounds = IntBox {
         lo: [1, 2, 3],

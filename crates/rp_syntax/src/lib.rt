@@ -1,5 +1,8 @@
-//! The line grammar: a line of bytes is read as a command, or refused.
 #![tactic(auto)]
+//! The line grammar: a line of bytes is read as a command, or refused.
+//!
+//! In each version [`read_line`] reads a line as the command that the grammar says, or finds the first fault that it
+//! says, for every sequence of bytes. [`write_command`] appends the one spelling of a command in the version.
 
 ghost use Rattle.std.specs.Prelude.{◌≡◌, IfOk};
 ghost use Rattle.rp_language.specs.Grammar.{most_bytes, reading, is_blank};

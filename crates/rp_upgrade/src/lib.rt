@@ -1,5 +1,9 @@
-//! The lines of a script as lines of version 2.
 #![tactic(auto)]
+//! The lines of a script as lines of version 2.
+//!
+//! For each line of a script of either version [`upgrade_line`] appends the line that takes its place, with a line
+//! feed: a blank line as it is, a command in its spelling, an empty line for any other. It tells whether the line was
+//! blank or a command. Where memory ran out, a front of the line was appended.
 
 ghost use Rattle.std.specs.Prelude.{◌≡◌, ◌++◌, not, IfOk, OnErr, OnOk};
 ghost use Rattle.rp_language.specs.Grammar.{reading};
