@@ -1,0 +1,5 @@
+use Rattle.rp_drawing.proofs.Coordinates.{ceiling_is}
+use Rattle.rp_drawing.proofs.rounding.ceiling.Goals as goal
+
+pub returns : goal.returns
+returns c = ceiling_is c.floor.result c.args.v c.args.w c.ranges.v c.ranges.w c.requires.size c.floor.ensures.small c.floor.ensures.value

@@ -1,0 +1,180 @@
+use crate::rounding::nearest;
+use crate::{Plan, Ring, Section, write_picture};
+use rp_cert::{Edge, RingStep};
+use rp_space::{Name, Point};
+use rp_syntax::Version;
+use std::alloc::Global;
+use std::process::Abort;
+use std::test::Fail;
+
+/// The corners of a square of 10 units.
+const SQUARE: [(i128, i128, i128); 4] = [(0, 0, 1), (10, 0, 1), (10, 10, 1), (0, 10, 1)];
+
+/// The square to the east of it.
+const EAST: [(i128, i128, i128); 4] = [(10, 0, 1), (20, 0, 1), (20, 10, 1), (10, 10, 1)];
+
+/// A triangle with a corner at y = 2/3.
+const TIP: [(i128, i128, i128); 3] = [(0, 0, 1), (1, 0, 1), (0, 2, 3)];
+
+/// Whether a ring of these corners is in the domain.
+fn ring(alloc: Global, corners: &[(i128, i128, i128)]) -> Result<Option<Ring>, Fail> {
+    let mut steps = Vec::new(alloc);
+    for (x, y, w) in corners {
+        let end = Point::new(*x, *y, 0, *w)?;
+        steps.push(RingStep {
+            edge: Edge::default(),
+            end,
+        })?;
+    }
+    if steps.len() > 36 {
+        return Ok(None);
+    }
+    Ok(Ring::new(alloc, &steps)?)
+}
+
+/// A section with one ring, or without any where there is no corner.
+fn section(
+    alloc: Global,
+    line: u32,
+    z: i32,
+    name: &[u8],
+    corners: &[(i128, i128, i128)],
+) -> Result<Section, Fail> {
+    let mut section = Section::new(alloc, line, z, Name::new(name));
+    if corners.is_empty() {
+        return Ok(section);
+    }
+    if let Some(ring) = ring(alloc, corners)? {
+        section.push(ring)?;
+    }
+    Ok(section)
+}
+
+/// The picture of sections.
+fn picture(alloc: Global, version: Version, sections: Vec<Section>) -> Result<Vec<u8>, Fail> {
+    let mut plan = Plan::new(alloc, version);
+    for section in sections {
+        if plan.is_full() {
+            break;
+        }
+        plan.push(section)?;
+    }
+    let mut text = Vec::new(alloc);
+    write_picture(alloc, &mut plan, &mut text)?;
+    Ok(text)
+}
+
+/// Whether a piece stands in a text.
+fn has(text: &[u8], piece: &[u8]) -> bool {
+    for start in 0..text.len() {
+        if text[start..].starts_with(piece) {
+            return true;
+        }
+    }
+    false
+}
+
+/// Each piece stands in the text.
+fn expect_pieces(rt: &impl Abort, text: &[u8], pieces: &[&[u8]]) {
+    for piece in pieces {
+        assert!(rt; has(text, piece), "{piece:?}");
+    }
+}
+
+#[test]
+fn quotients_are_rounded_to_the_nearest(rt: HostRuntime) -> Result<(), Fail> {
+    // Of two that are as near it is the greater one.
+    for (n, d, want) in [
+        (7, 2, 4),
+        (-7, 2, -3),
+        (7, 3, 2),
+        (8, 3, 3),
+        (-8, 3, -3),
+        (0, 5, 0),
+        (5, 10, 1),
+        (-5, 10, 0),
+    ] {
+        assert_eq!(rt; nearest(n, d), want, "{n} / {d}");
+    }
+    Ok(())
+}
+
+#[test]
+fn a_square_fills_its_drawing(rt: HostRuntime) -> Result<(), Fail> {
+    let sections = vec![in rt.alloc(); section(rt.alloc(), 7, 1500, b"lot-7", &SQUARE)?]?;
+    let text = picture(rt.alloc(), Version::One, sections)?;
+    expect_pieces(
+        &rt,
+        &text,
+        &[
+            b"<svg xmlns=\"http://www.w3.org/2000/svg\" width=\"400\" height=\"480\" viewBox=\"0 0 40000 48000\"",
+            b">height 1500</text>",
+            b" d=\"M 0 0 36000 0 36000 -36000 0 -36000 Z\"",
+            b"<text x=\"18000\" y=\"-18000\">lot-7</text>",
+            b"v 400 h 18000 v -400",
+            b">5 units</text>",
+            b">lot-7 (line 7)</text>",
+        ],
+    );
+    Ok(())
+}
+
+#[test]
+fn lengths_of_version_2_are_metres(rt: HostRuntime) -> Result<(), Fail> {
+    let sections = vec![in rt.alloc(); section(rt.alloc(), 7, -1050, b"", &SQUARE)?]?;
+    let text = picture(rt.alloc(), Version::Two, sections)?;
+    expect_pieces(
+        &rt,
+        &text,
+        &[
+            b">height -1.050 m</text>",
+            b">0.005 m</text>",
+            b">line 7</text>",
+        ],
+    );
+    Ok(())
+}
+
+#[test]
+fn heights_rise_and_neighbours_differ(rt: HostRuntime) -> Result<(), Fail> {
+    let alloc = rt.alloc();
+    let sections = vec![in alloc;
+        section(alloc, 1, 9, b"upper", &SQUARE)?,
+        section(alloc, 2, 5, b"west", &SQUARE)?,
+        section(alloc, 3, 5, b"east", &EAST)?,
+        section(alloc, 4, 5, b"none", &[])?,
+    ]?;
+    let text = picture(alloc, Version::One, sections)?;
+    expect_pieces(
+        &rt,
+        &text,
+        &[
+            b"<g transform=\"translate(0,0)\">\n<text x=\"2000\" y=\"2600\" font-size=\"1600\">height 5</text>",
+            b"<path fill=\"hsl(0,60%,80%)\" d=\"M 0 0 18000 0 18000 -18000 0 -18000 Z\"/>\n<path fill=\"hsl(137,60%,80%)\" d=\"M 18000 0 36000 0",
+            b">none (line 4): nothing here</text>",
+            b"<g transform=\"translate(40000,0)\">\n<text x=\"2000\" y=\"2600\" font-size=\"1600\">height 9</text>",
+        ],
+    );
+    Ok(())
+}
+
+#[test]
+fn corners_are_placed_exactly(rt: HostRuntime) -> Result<(), Fail> {
+    let sections = vec![in rt.alloc(); section(rt.alloc(), 1, 1, b"tip", &TIP)?]?;
+    let text = picture(rt.alloc(), Version::One, sections)?;
+    expect_pieces(
+        &rt,
+        &text,
+        &[b" d=\"M 0 0 36000 0 0 -24000 Z\"", b">1 unit</text>"],
+    );
+    Ok(())
+}
+
+#[test]
+fn rings_stay_in_the_domain(rt: HostRuntime) -> Result<(), Fail> {
+    let edge = [(16777216, 0, 1), (0, -16777216, 1), (33554431, 1, 2)];
+    assert!(rt; ring(rt.alloc(), &edge)?.is_some());
+    let outside = [(0, 0, 1), (33554433, 0, 2), (0, 1, 1)];
+    assert!(rt; ring(rt.alloc(), &outside)?.is_none());
+    Ok(())
+}
