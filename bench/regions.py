@@ -3,6 +3,7 @@
 A script of a kind is made of one number alone, which says how large its region is, so that two runs time the same work.
 None of them meets a limit of the language.
 """
+import math
 import random
 
 import cells
@@ -68,3 +69,26 @@ def box_less_tetrahedra(count):
 def tangent_planes(count):
     """One cell, between tangent planes of a round body. Each plane is a side of the cell."""
     return ["show " + joined("and", [half(plane) for plane in cells.round_body(count)])]
+
+
+def sliced_union(count):
+    """A union of boxes, and what it has at one height."""
+    return named_row(count) + ["section name row 300"]
+
+
+def slices(sides):
+    """One cell between such sides, and what it has at 1,000 heights."""
+    body = joined("and", [half(side) for side in sides])
+    return [f"let body = {body}"] + [f"section name body {height}" for height in range(-500_000, 500_000, 1000)]
+
+
+def sliced_body(count):
+    """Slices of a cell between tangent planes of a round body. Not each plane is an edge of each slice."""
+    return slices(cells.round_body(count))
+
+
+def sliced_tower(count):
+    """Slices of a cell between upright tangent planes of a round tower. Each plane is an edge of each slice."""
+    angles = [2 * math.pi * number / count for number in range(count)]
+    normals = [[round(cells.FAR * turn(angle)) for turn in (math.cos, math.sin)] for angle in angles]
+    return slices([cells.tangent((*normal, 0), cells.NEAR) for normal in normals])
