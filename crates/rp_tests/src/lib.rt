@@ -1,0 +1,14 @@
+#![tactic(auto)]
+//! What a row needs of whatever answers its tests, and in which words it says what it has come to.
+//!
+//! A row is the walk of a command: its tests, one after the other, each of which may lead to another next one. [`Tests`]
+//! counts and answers them and keeps forms, [`Named`] knows the forms of names and lots. A call that makes a walk comes to
+//! the result of the walk, or is [`Stopped`] where that is.
+
+mod named;
+mod stopped;
+mod tests;
+
+pub use named::Named;
+pub use stopped::Stopped;
+pub use tests::Tests;
