@@ -1,9 +1,10 @@
 pub mod Cut
+pub mod Due
 pub mod Followed
-pub mod Left
+pub mod Members
 pub mod Places
+pub mod Prisms
 pub mod Searched
+pub mod SliceLines
 pub mod Steps
 pub mod Tested
-pub mod Prisms
-pub mod SliceLines

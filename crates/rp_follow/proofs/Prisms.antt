@@ -17,9 +17,9 @@ use Rattle.rp_footprint.specs.Cells.{no_corner, edge_at, trapezoid_by, trapezoid
 use Rattle.rp_footprint.proofs.Cells.{edges_as_many}
 use Rattle.rp_forms.proofs.Prisms.{prism_is_right_spec}
 use Rattle.rp_verdicts.proofs.Lines.{line_tester_is_right_spec}
-use Rattle.rp_follow.specs.declared.lost.Lost.{Lost}
-use Rattle.rp_follow.specs.Follows.{StopsBy}
-use Rattle.rp_follow.proofs.Left.{IsLeft, all_left, left_as, next_left, stop_left, end_left}
+use Rattle.rp_tests.specs.declared.stopped.Stopped.{Stopped}
+use Rattle.rp_tests.specs.Comes.{StopsBy}
+use Rattle.rp_tests.proofs.Left.{IsLeft, all_left, left_as, next_left, stop_left, end_left}
 
 -- ---- one exchange
 
@@ -30,12 +30,12 @@ first_left current made outside {t = t} m =
     next_left (subtract line_tester current made) (λ outside. subtract line_tester made current >>= λ added. if_at_most most_parts (outside ++ added)) (all_left t (exchange_lists line_tester current made)) m
 
 -- a first difference that stops
-pub first_stops : (current made : List Part) (t u : Trail) (e : Lost) → StopsBy e u (subtract line_tester current made t) → StopsBy e u (exchange_lists line_tester current made t)
+pub first_stops : (current made : List Part) (t u : Trail) (e : Stopped) → StopsBy e u (subtract line_tester current made t) → StopsBy e u (exchange_lists line_tester current made t)
 first_stops current made t u e m =
     stop_left (subtract line_tester current made) (λ outside. subtract line_tester made current >>= λ added. if_at_most most_parts (outside ++ added)) (all_left t (exchange_lists line_tester current made)) e u m
 
 -- a second difference that stops
-pub second_stops : (current made outside : List Part) (t u v : Trail) → subtract line_tester current made t ≡ done outside u → (e : Lost) → StopsBy e v (subtract line_tester made current u) → StopsBy e v (exchange_lists line_tester current made t)
+pub second_stops : (current made outside : List Part) (t u v : Trail) → subtract line_tester current made t ≡ done outside u → (e : Stopped) → StopsBy e v (subtract line_tester made current u) → StopsBy e v (exchange_lists line_tester current made t)
 second_stops current made outside t u v m e n =
     stop_left (subtract line_tester made current) (λ added. if_at_most most_parts (outside ++ added)) (first_left current made outside m) e v n
 
@@ -48,7 +48,7 @@ cell_made current o cell made {t = t} i m =
     next_left (follow_part cell) (exchange line_tester current) (left_as (ap (exchange_cell line_tester current) i) (all_left t (exchange_cell line_tester current o))) m
 
 -- a part test that stops
-pub cell_stops : (current : List Part) (o : Option (List HalfSpace)) (cell : List HalfSpace) (t u : Trail) → o ≡ Some cell → (e : Lost) → StopsBy e u (follow_part cell t) → StopsBy e u (exchange_cell line_tester current o t)
+pub cell_stops : (current : List Part) (o : Option (List HalfSpace)) (cell : List HalfSpace) (t u : Trail) → o ≡ Some cell → (e : Stopped) → StopsBy e u (follow_part cell t) → StopsBy e u (exchange_cell line_tester current o t)
 cell_stops current o cell t u i e m =
     stop_left (follow_part cell) (exchange line_tester current) (left_as (ap (exchange_cell line_tester current) i) (all_left t (exchange_cell line_tester current o))) e u m
 
@@ -86,7 +86,7 @@ edge_drawn s current next k cell h c left m =
 
 -- its cell stops: so does the whole walk
 pub edge_stops : {start now : Trail} {whole : Walk Trail (List Part)} (s : Prism) (current : List Part) (k : ℕ) (cell : Option (List HalfSpace)) → k < length (edges_of s.corners) → cell ≡ trapezoid_at s k
-    → IsLeft start whole now (exchange_edges line_tester s current (drop k (edges_of s.corners))) → (e : Lost) (new : Trail) → StopsBy e new (exchange_cell line_tester current cell now) → StopsBy e new (whole start)
+    → IsLeft start whole now (exchange_edges line_tester s current (drop k (edges_of s.corners))) → (e : Stopped) (new : Trail) → StopsBy e new (exchange_cell line_tester current cell now) → StopsBy e new (whole start)
 edge_stops s current k cell h c left e new m =
     stop_left (exchange_cell line_tester current cell) (λ next. exchange_edges line_tester s next (drop (k + 1) (edges_of s.corners))) (left_as (edge_next s current k cell h c) left) e new m
 

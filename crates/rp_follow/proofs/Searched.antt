@@ -3,9 +3,9 @@ use Rattle.std.proofs.Common.{◌≡◌, ℕ, ◌+◌, ◌<◌, ◌≤◌, Bool,
 use Rattle.std.proofs.Math.ListN.{drop_of_length-le}
 use Rattle.rp_walks.specs.Walk.{done, Walk, pass, ◌>>=◌}
 use Rattle.rp_reports.specs.Check.{Trail}
-use Rattle.rp_follow.specs.declared.lost.Lost.{Lost}
-use Rattle.rp_follow.specs.Follows.{StopsBy}
-use Rattle.rp_follow.proofs.Left.{IsLeft, left_as, next_left, stop_left, end_left, drop_item}
+use Rattle.rp_tests.specs.declared.stopped.Stopped.{Stopped}
+use Rattle.rp_tests.specs.Comes.{StopsBy}
+use Rattle.rp_tests.proofs.Left.{IsLeft, left_as, next_left, stop_left, end_left, drop_item}
 
 -- what comes behind one item: the end, where it was found, and else the rest
 abbrev pub unless_found : Walk Trail Bool → Bool → Walk Trail Bool
@@ -23,7 +23,7 @@ module _ {X : Type 0} (step : X → Walk Trail Bool) (search : List X → Walk T
 
   -- the item stops the search
   pub item_stops : {start now : Trail} {whole : Walk Trail Bool} (xs : List X) (i : ℕ) (x : X) → i < length xs → x ≡ get_or xs i x → IsLeft start whole now (search (drop i xs))
-      → (e : Lost) (new : Trail) → StopsBy e new (step x now) → StopsBy e new (whole start)
+      → (e : Stopped) (new : Trail) → StopsBy e new (step x now) → StopsBy e new (whole start)
   item_stops xs i x h g l e new m = stop_left (step x) (unless_found (search (drop (i + 1) xs))) (item_left xs i x h g l) e new m
 
   -- the item is found

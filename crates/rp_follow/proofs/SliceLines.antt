@@ -17,10 +17,10 @@ use Rattle.rp_accepted.proofs.Shown.{slice_line, follow_each}
 use Rattle.rp_accepted.proofs.SlicesAgain.{is_passing, wanted_where_passing}
 use Rattle.rp_cert.specs.Section.{slice_shown}
 use Rattle.rp_cert.specs.declared.slice.Slice.{Slice as CodeSlice}
-use Rattle.rp_follow.specs.declared.lost.Lost.{Lost}
-use Rattle.rp_follow.specs.Follows.{StopsBy}
+use Rattle.rp_tests.specs.declared.stopped.Stopped.{Stopped}
+use Rattle.rp_tests.specs.Comes.{StopsBy}
 use Rattle.rp_follow.specs.Slices.{follow_slice_line, follow_slice_lines}
-use Rattle.rp_follow.proofs.Left.{IsLeft, left_as, next_left, stop_left, end_left, drop_item}
+use Rattle.rp_tests.proofs.Left.{IsLeft, left_as, next_left, stop_left, end_left, drop_item}
 
 -- ---- one line
 
@@ -88,7 +88,7 @@ module _ (z : ℤ) (ps : List Part) (i : ℕ) (p : Part) (h : i < length ps) (e 
   slice_taken l m = next_left (follow_slice_line z p) (λ _. follow_each z (drop (i + 1) ps)) (left_as next_part l) m
 
   -- it stops: so do all
-  pub slice_stops : {start now : Trail} {whole : Walk Trail (Unit {0})} → IsLeft start whole now (follow_each z (drop i ps)) → (x : Lost) (new : Trail) → StopsBy x new (follow_slice_line z p now) → StopsBy x new (whole start)
+  pub slice_stops : {start now : Trail} {whole : Walk Trail (Unit {0})} → IsLeft start whole now (follow_each z (drop i ps)) → (x : Stopped) (new : Trail) → StopsBy x new (follow_slice_line z p now) → StopsBy x new (whole start)
   slice_stops l x new m = stop_left (follow_slice_line z p) (λ _. follow_each z (drop (i + 1) ps)) (left_as next_part l) x new m
 
   -- one slice more is told

@@ -7,9 +7,9 @@ use Rattle.rp_geometry.specs.parts.Parts.{most_parts}
 use Rattle.rp_walks.specs.Walk.{done, limit_met, Walk, pass, stop, ◌>>=◌, ◌>>◌}
 use Rattle.rp_walks.specs.Form.{made_part, if_at_most, join_pair, carve_one, carve_or_keep, subtract_pair}
 use Rattle.rp_reports.specs.Check.{Trail, follow_count, follow_strict, follow_part, line_tester}
-use Rattle.rp_follow.specs.declared.lost.Lost.{Lost}
-use Rattle.rp_follow.specs.Follows.{StopsBy}
-use Rattle.rp_follow.proofs.Left.{IsLeft, all_left, left_as, next_left, stop_left}
+use Rattle.rp_tests.specs.declared.stopped.Stopped.{Stopped}
+use Rattle.rp_tests.specs.Comes.{StopsBy}
+use Rattle.rp_tests.proofs.Left.{IsLeft, all_left, left_as, next_left, stop_left}
 
 -- two parts were tested together: the length of the list is left
 pub pair_joined : (made : List Part) (p q : Part) (cell : List HalfSpace) {t u : Trail} {o : Option Part} → cell ≡ p.cell ++ q.cell → follow_part cell t ≡ done o u
@@ -19,7 +19,7 @@ pair_joined made p q cell {t = t} {u = u} {o = o} e m =
     (all_left t (join_pair line_tester made p q)) (subst (λ c. follow_part c t ≡ done o u) e m)
 
 -- a part test that stops
-pub pair_stops : (made : List Part) (p q : Part) (cell : List HalfSpace) (t u : Trail) (e : Lost) → cell ≡ p.cell ++ q.cell → StopsBy e u (follow_part cell t) → StopsBy e u (join_pair line_tester made p q t)
+pub pair_stops : (made : List Part) (p q : Part) (cell : List HalfSpace) (t u : Trail) (e : Stopped) → cell ≡ p.cell ++ q.cell → StopsBy e u (follow_part cell t) → StopsBy e u (join_pair line_tester made p q t)
 pair_stops made p q cell t u e s m =
     stop_left (follow_part (p.cell ++ q.cell)) (λ o. if_at_most most_parts (made ++ made_part o))
     (all_left t (join_pair line_tester made p q)) e u (subst (λ c. StopsBy e u (follow_part c t)) s m)
@@ -38,14 +38,14 @@ piece_made made cell before h piece {u = u} {v = v} {o = o} e n m =
     (subst (λ c. follow_part c u ≡ done o v) e m)
 
 -- a part test that stops
-pub piece_stops : (made : List Part) (cell before : List HalfSpace) (h : HalfSpace) (piece : List HalfSpace) (t u v : Trail) (e : Lost) → piece ≡ cell ++ before ++ complement h ∷ []
+pub piece_stops : (made : List Part) (cell before : List HalfSpace) (h : HalfSpace) (piece : List HalfSpace) (t u v : Trail) (e : Stopped) → piece ≡ cell ++ before ++ complement h ∷ []
     → follow_count 1 t ≡ done tt u → StopsBy e v (follow_part piece u) → StopsBy e v (carve_one line_tester made cell before h t)
 piece_stops made cell before h piece t u v e s n m =
     stop_left (follow_part (cell ++ before ++ complement h ∷ [])) (λ o. pass (made ++ made_part o)) (piece_counted made cell before h n)
     e v (subst (λ c. StopsBy e v (follow_part c u)) s m)
 
 -- a count that stops
-pub piece_uncounted : (made : List Part) (cell before : List HalfSpace) (h : HalfSpace) (t u : Trail) (e : Lost) → StopsBy e u (follow_count 1 t) → StopsBy e u (carve_one line_tester made cell before h t)
+pub piece_uncounted : (made : List Part) (cell before : List HalfSpace) (h : HalfSpace) (t u : Trail) (e : Stopped) → StopsBy e u (follow_count 1 t) → StopsBy e u (carve_one line_tester made cell before h t)
 piece_uncounted made cell before h t u e m =
     stop_left (follow_count 1) (λ _. follow_part (cell ++ before ++ complement h ∷ []) >>= λ o. pass (made ++ made_part o)) (all_left t (carve_one line_tester made cell before h)) e u m
 
@@ -65,7 +65,7 @@ pair_met : (made : List Part) (c q : Part) (t : Trail) → boxes_meet c.bounds q
 pair_met made c q t e = left_as (ap (pair_by made c q) e) (all_left t (subtract_pair line_tester made c q))
 
 -- a count that stops, where the boxes meet
-pub pair_uncounted : (made : List Part) (c q : Part) (t u : Trail) → boxes_meet c.bounds q.bounds ≡ true → (e : Lost) → StopsBy e u (follow_count 1 t) → StopsBy e u (subtract_pair line_tester made c q t)
+pub pair_uncounted : (made : List Part) (c q : Part) (t u : Trail) → boxes_meet c.bounds q.bounds ≡ true → (e : Stopped) → StopsBy e u (follow_count 1 t) → StopsBy e u (subtract_pair line_tester made c q t)
 pair_uncounted made c q t u b e m =
     stop_left (follow_count 1) (λ _. follow_strict (c.cell ++ q.cell) >>= λ found. carve_or_keep line_tester found made c q) (pair_met made c q t b) e u m
 
@@ -83,7 +83,7 @@ pair_tested made c q cell {u = u} {v = v} {found = found} s e n m =
     (subst (λ c. follow_strict c u ≡ done found v) s m)
 
 -- a strict test that stops
-pub pair_untested : (made : List Part) (c q : Part) (cell : List HalfSpace) (t u v : Trail) (e : Lost) → cell ≡ c.cell ++ q.cell → boxes_meet c.bounds q.bounds ≡ true → follow_count 1 t ≡ done tt u
+pub pair_untested : (made : List Part) (c q : Part) (cell : List HalfSpace) (t u v : Trail) (e : Stopped) → cell ≡ c.cell ++ q.cell → boxes_meet c.bounds q.bounds ≡ true → follow_count 1 t ≡ done tt u
     → StopsBy e v (follow_strict cell u) → StopsBy e v (subtract_pair line_tester made c q t)
 pair_untested made c q cell t u v e s b n m =
     stop_left (follow_strict (c.cell ++ q.cell)) (λ found. carve_or_keep line_tester found made c q) (pair_counted made c q b n)

@@ -15,15 +15,17 @@ use Rattle.rp_walks.specs.Walk.{Outcome, done, limit_met, Walk, pass, stop, afte
 use Rattle.rp_walks.specs.FormLaws.{IfDone, IsMadeOf}
 use Rattle.rp_reports.specs.Check.{Trail, taken, taken_if, next_proof, strict_by_line, follow_strict, weak_by_line, follow_weak, without, dropped_by, follow_drops, if_few, box_by_line, follow_sides, follow_made, part_if, follow_part}
 use Rattle.rp_verdicts.proofs.Lines.{line_tester_is_right_spec}
-use Rattle.rp_follow.specs.declared.lost.Lost.{Lost}
-use Rattle.rp_follow.specs.declared.lost.Lost.TheVariants.{Limit}
-use Rattle.rp_follow.specs.Follows.{StopsBy, ComesTo, Follows, IsNotDue, IsShown}
-use Rattle.rp_follow.proofs.Left.{IsLeft, all_left, next_left, stop_left, stops_on, end_left, not_due}
+use Rattle.rp_tests.specs.declared.stopped.Stopped.{Stopped}
+use Rattle.rp_tests.specs.declared.stopped.Stopped.TheVariants.{Limit}
+use Rattle.rp_tests.specs.Comes.{StopsBy, Comes}
+use Rattle.rp_follow.specs.Stops.{IsNotDue, IsShown}
+use Rattle.rp_tests.proofs.Left.{IsLeft, all_left, next_left, stop_left, stops_on, end_left}
+use Rattle.rp_follow.proofs.Due.{not_due}
 
 -- ---- what a walk comes to
 
 -- what is known of the end of a walk is known of the result
-pub right_where : {A B : Type 0} (view : A → B) (P : B → Type 0) (r : Result A Lost) (new : Trail) (o : Outcome Trail B) → ComesTo view r new o → IfDone o P → IfOk r (λ x. P (view x))
+pub right_where : {A B : Type 0} (view : A → B) (P : B → Type 0) (r : Result A Stopped) (new : Trail) (o : Outcome Trail B) → Comes view r new o → IfDone o P → IfOk r (λ x. P (view x))
 right_where view P (Ok x) new o m h = subst (λ out. IfDone out P) m h
 right_where view P (Err e) new o m h = tt
 
@@ -40,34 +42,34 @@ line_is_left [] l e = absurd (none_not_some l e)
 line_is_left (line ∷ lines) l e = omega arith
 
 -- a strict test in words of the next proof line
-pub strict_shown : (cell : List HalfSpace) (o : Option ProofLine) (r : Result Bool Lost) (old new : Trail) → o ≡ next_proof old.lines → ComesTo (λ b. b) r new (strict_by_line cell o old) → Follows (λ b. b) r old new (follow_strict cell)
+pub strict_shown : (cell : List HalfSpace) (o : Option ProofLine) (r : Result Bool Stopped) (old new : Trail) → o ≡ next_proof old.lines → Comes (λ b. b) r new (strict_by_line cell o old) → Comes (λ b. b) r new (follow_strict cell old)
 unfolding follow_strict
-strict_shown cell o r old new e h = subst (λ o. ComesTo (λ b. b) r new (strict_by_line cell o old)) e h
+strict_shown cell o r old new e h = subst (λ o. Comes (λ b. b) r new (strict_by_line cell o old)) e h
 
 -- a weak test in words of the next proof line
-pub weak_shown : (cell : List HalfSpace) (o : Option ProofLine) (r : Result Bool Lost) (old new : Trail) → o ≡ next_proof old.lines → ComesTo (λ b. b) r new (weak_by_line cell o old) → Follows (λ b. b) r old new (follow_weak cell)
+pub weak_shown : (cell : List HalfSpace) (o : Option ProofLine) (r : Result Bool Stopped) (old new : Trail) → o ≡ next_proof old.lines → Comes (λ b. b) r new (weak_by_line cell o old) → Comes (λ b. b) r new (follow_weak cell old)
 unfolding follow_weak
-weak_shown cell o r old new e h = subst (λ o. ComesTo (λ b. b) r new (weak_by_line cell o old)) e h
+weak_shown cell o r old new e h = subst (λ o. Comes (λ b. b) r new (weak_by_line cell o old)) e h
 
 -- a proof line that is of no strict test
-pub not_strict : (cell : List HalfSpace) (p : Proof) (old new : Trail) (e : Lost) → ((points : List RationalPoint) → p ≡ In points → ⊥) → ((terms : List Multiple) → p ≡ Out terms → ⊥) → Some (line_of p) ≡ next_proof old.lines → IsNotDue e old new
-    → StopsBy e new (follow_strict cell old)
-not_strict cell (In points) old new e f g s h = absurd (f points refl)
-not_strict cell (Out terms) old new e f g s h = absurd (g terms refl)
-not_strict cell (At p) old new e f g s h = strict_shown cell (Some (at_line p)) (Err e) old new s (not_due Bool e old new h)
-not_strict cell (Apart terms) old new e f g s h = strict_shown cell (Some (apart_line terms)) (Err e) old new s (not_due Bool e old new h)
-not_strict cell (Dropped k terms) old new e f g s h = strict_shown cell (Some (drop_line k terms)) (Err e) old new s (not_due Bool e old new h)
-not_strict cell (Bounds b) old new e f g s h = strict_shown cell (Some (box_line (integer_box b))) (Err e) old new s (not_due Bool e old new h)
+pub not_strict : (cell : List HalfSpace) (p : Proof) (t : Trail) (e : Stopped) → ((points : List RationalPoint) → p ≡ In points → ⊥) → ((terms : List Multiple) → p ≡ Out terms → ⊥) → Some (line_of p) ≡ next_proof t.lines → IsNotDue e t
+    → StopsBy e t (follow_strict cell t)
+not_strict cell (In points) t e f g s h = absurd (f points refl)
+not_strict cell (Out terms) t e f g s h = absurd (g terms refl)
+not_strict cell (At p) t e f g s h = strict_shown cell (Some (at_line p)) (Err e) t t s (not_due Bool e t h)
+not_strict cell (Apart terms) t e f g s h = strict_shown cell (Some (apart_line terms)) (Err e) t t s (not_due Bool e t h)
+not_strict cell (Dropped k terms) t e f g s h = strict_shown cell (Some (drop_line k terms)) (Err e) t t s (not_due Bool e t h)
+not_strict cell (Bounds b) t e f g s h = strict_shown cell (Some (box_line (integer_box b))) (Err e) t t s (not_due Bool e t h)
 
 -- a proof line that is of no weak test
-pub not_weak : (cell : List HalfSpace) (p : Proof) (old new : Trail) (e : Lost) → ((x : RationalPoint) → p ≡ At x → ⊥) → ((terms : List Multiple) → p ≡ Apart terms → ⊥) → Some (line_of p) ≡ next_proof old.lines → IsNotDue e old new
-    → StopsBy e new (follow_weak cell old)
-not_weak cell (At x) old new e f g s h = absurd (f x refl)
-not_weak cell (Apart terms) old new e f g s h = absurd (g terms refl)
-not_weak cell (In points) old new e f g s h = weak_shown cell (Some (in_line points)) (Err e) old new s (not_due Bool e old new h)
-not_weak cell (Out terms) old new e f g s h = weak_shown cell (Some (out_line terms)) (Err e) old new s (not_due Bool e old new h)
-not_weak cell (Dropped k terms) old new e f g s h = weak_shown cell (Some (drop_line k terms)) (Err e) old new s (not_due Bool e old new h)
-not_weak cell (Bounds b) old new e f g s h = weak_shown cell (Some (box_line (integer_box b))) (Err e) old new s (not_due Bool e old new h)
+pub not_weak : (cell : List HalfSpace) (p : Proof) (t : Trail) (e : Stopped) → ((x : RationalPoint) → p ≡ At x → ⊥) → ((terms : List Multiple) → p ≡ Apart terms → ⊥) → Some (line_of p) ≡ next_proof t.lines → IsNotDue e t
+    → StopsBy e t (follow_weak cell t)
+not_weak cell (At x) t e f g s h = absurd (f x refl)
+not_weak cell (Apart terms) t e f g s h = absurd (g terms refl)
+not_weak cell (In points) t e f g s h = weak_shown cell (Some (in_line points)) (Err e) t t s (not_due Bool e t h)
+not_weak cell (Out terms) t e f g s h = weak_shown cell (Some (out_line terms)) (Err e) t t s (not_due Bool e t h)
+not_weak cell (Dropped k terms) t e f g s h = weak_shown cell (Some (drop_line k terms)) (Err e) t t s (not_due Bool e t h)
+not_weak cell (Bounds b) t e f g s h = weak_shown cell (Some (box_line (integer_box b))) (Err e) t t s (not_due Bool e t h)
 
 -- ---- lines that drop half-spaces
 
@@ -98,7 +100,7 @@ drop_stop (line ∷ lines) kept t e = ap (drop_or_stay lines kept t) e
 -- ---- a part test
 
 -- the strict test stops it
-pub part_stops : (cell : List HalfSpace) (t u : Trail) (e : Lost) → StopsBy e u (follow_strict cell t) → StopsBy e u (follow_part cell t)
+pub part_stops : (cell : List HalfSpace) (t u : Trail) (e : Stopped) → StopsBy e u (follow_strict cell t) → StopsBy e u (follow_part cell t)
 unfolding follow_part
 part_stops cell t u e m = stops_on (λ inside. part_if inside cell) e u (follow_strict cell t) m
 
@@ -113,7 +115,7 @@ unfolding follow_part
 part_some cell t u e = ap (after_first (λ inside. part_if inside cell)) e
 
 -- what follows the strict test stops it
-pub part_made_stops : (cell : List HalfSpace) (t u v : Trail) (e : Lost) → follow_strict cell t ≡ done true u → StopsBy e v (follow_made cell u) → StopsBy e v (follow_part cell t)
+pub part_made_stops : (cell : List HalfSpace) (t u v : Trail) (e : Stopped) → follow_strict cell t ≡ done true u → StopsBy e v (follow_made cell u) → StopsBy e v (follow_part cell t)
 part_made_stops cell t u v e m h = subst (λ o. StopsBy e v o) (sym (part_some cell t u m)) h
 
 -- the part with the box
@@ -151,7 +153,7 @@ few_kept cell kept t u e h = next_left (if_few kept) (λ _. after_few kept) (dro
     below n h = grind arith
 
 -- the box stops it
-pub box_stops : (cell kept : List HalfSpace) (t u v : Trail) (e : Lost) → IsLeft t (follow_made cell) u (after_few kept) → StopsBy e v (box_by_line (next_proof u.lines) u) → StopsBy e v (follow_made cell t)
+pub box_stops : (cell kept : List HalfSpace) (t u v : Trail) (e : Stopped) → IsLeft t (follow_made cell) u (after_few kept) → StopsBy e v (box_by_line (next_proof u.lines) u) → StopsBy e v (follow_made cell t)
 box_stops cell kept t u v e l m = stop_left (λ t. box_by_line (next_proof t.lines) t) (after_box kept) l e v m
 
 -- the sides are left
@@ -159,7 +161,7 @@ pub box_followed : (cell kept : List HalfSpace) (b : IntegerBox) (t u v : Trail)
 box_followed cell kept b t u v l m = next_left (λ t. box_by_line (next_proof t.lines) t) (after_box kept) l m
 
 -- the sides stop it
-pub sides_stop : (cell kept : List HalfSpace) (b : IntegerBox) (t u v : Trail) (e : Lost) → IsLeft t (follow_made cell) u (after_box kept b) → StopsBy e v (follow_sides kept (box_half_spaces b) u) → StopsBy e v (follow_made cell t)
+pub sides_stop : (cell kept : List HalfSpace) (b : IntegerBox) (t u v : Trail) (e : Stopped) → IsLeft t (follow_made cell) u (after_box kept b) → StopsBy e v (follow_sides kept (box_half_spaces b) u) → StopsBy e v (follow_made cell t)
 sides_stop cell kept b t u v e l m = stop_left (follow_sides kept (box_half_spaces b)) (λ _. pass (Some (boxed kept b))) l e v m
 
 -- the part is made

@@ -1,4 +1,4 @@
-pub mod Follows
 pub mod Lines
 pub mod Pairs
 pub mod Slices
+pub mod Stops

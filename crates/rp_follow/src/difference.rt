@@ -3,15 +3,15 @@ ghost use Rattle.std.specs.Prelude.{◌+◌, ◌≤◌, ◌<◌, [], length};
 ghost use Rattle.rp_geometry.specs.parts.Parts.{most_half_spaces};
 ghost use Rattle.rp_reports.specs.Check.{follow_count, line_tester};
 ghost use Rattle.rp_walks.specs.Form.{carve_one, carve, subtract_pair, subtract_part, subtract};
-ghost use Rattle.rp_follow.specs.Follows.{Follows};
+ghost use Rattle.rp_tests.specs.Comes.{Comes};
 
 use crate::form::{Form, MAX_PARTS};
 use crate::kept::Kept;
-use crate::lost::Lost;
 use crate::meeting::Meeting;
 use crate::part::made;
 use crate::trail::Trail;
 use rp_space::{Half, joined};
+use rp_tests::Stopped;
 use std::alloc::Global;
 
 /// The parts of a list without those of a second list, one after the other.
@@ -20,14 +20,14 @@ pub(crate) fn subtract(
     parts: Form,
     others: &[Kept],
     trail: &mut Trail<'_>,
-) -> Result<Form, Lost>
-    ensures { Follows (λ form. form.items) result trail.old trail.new (subtract line_tester parts.items others.now) }
+) -> Result<Form, Stopped>
+    ensures { Comes (λ form. form.items) result trail.new (subtract line_tester parts.items others.now trail.old) }
 {
     let mut current = parts;
     for other in others {
         current = subtract_part(alloc, current, other, trail)?;
         if current.items().len() > MAX_PARTS {
-            return Err(Lost::Limit);
+            return Err(Stopped::Limit);
         }
     }
     Ok(current)
@@ -39,8 +39,8 @@ fn subtract_part(
     parts: Form,
     other: &Kept,
     trail: &mut Trail<'_>,
-) -> Result<Form, Lost>
-    ensures { Follows (λ form. form.items) result trail.old trail.new (subtract_part line_tester [] parts.items other.now) }
+) -> Result<Form, Stopped>
+    ensures { Comes (λ form. form.items) result trail.new (subtract_part line_tester [] parts.items other.now trail.old) }
 {
     let mut left = Form::new(alloc);
     for part in parts.into_items() {
@@ -57,8 +57,8 @@ fn subtract_pair(
     part: Kept,
     other: &Kept,
     trail: &mut Trail<'_>,
-) -> Result<(), Lost>
-    ensures { Follows (λ _. left.new.items) result trail.old trail.new (subtract_pair line_tester left.old.items part other.now) }
+) -> Result<(), Stopped>
+    ensures { Comes (λ _. left.new.items) result trail.new (subtract_pair line_tester left.old.items part other.now trail.old) }
 {
     if !Meeting::Common.may_be(&part, other) {
         left.push(part)?;
@@ -82,10 +82,10 @@ fn carve(
     cell: &[Half],
     halves: &[Half],
     trail: &mut Trail<'_>,
-) -> Result<(), Lost>
+) -> Result<(), Stopped>
     requires cell { length cell.now ≤ most_half_spaces }
     requires halves { length halves.now ≤ most_half_spaces }
-    ensures { Follows (λ _. left.new.items) result trail.old trail.new (carve line_tester left.old.items cell.now [] halves.now) }
+    ensures { Comes (λ _. left.new.items) result trail.new (carve line_tester left.old.items cell.now [] halves.now trail.old) }
 {
     for (i, half) in halves.iter().enumerate() {
         carve_one(alloc, left, cell, &halves[..i], half, trail)?;
@@ -101,9 +101,9 @@ fn carve_one(
     before: &[Half],
     half: &Half,
     trail: &mut Trail<'_>,
-) -> Result<(), Lost>
+) -> Result<(), Stopped>
     requires { length cell.now + length before.now < 64 }
-    ensures { Follows (λ _. left.new.items) result trail.old trail.new (carve_one line_tester left.old.items cell.now before.now half.now) }
+    ensures { Comes (λ _. left.new.items) result trail.new (carve_one line_tester left.old.items cell.now before.now half.now trail.old) }
 {
     count_test(trail)?;
     let mut piece = joined(cell, before);
@@ -115,11 +115,11 @@ fn carve_one(
 }
 
 /// Counts one test.
-fn count_test(trail: &mut Trail<'_>) -> Result<(), Lost>
-    ensures { Follows (λ x. x) result trail.old trail.new (follow_count 1) }
+fn count_test(trail: &mut Trail<'_>) -> Result<(), Stopped>
+    ensures { Comes (λ x. x) result trail.new (follow_count 1 trail.old) }
 {
     if !trail.count(1) {
-        return Err(Lost::Limit);
+        return Err(Stopped::Limit);
     }
     Ok(())
 }

@@ -6,17 +6,18 @@ ghost use Rattle.rp_geometry.specs.sets.Contact.{IsInContact};
 ghost use Rattle.rp_geometry.specs.parts.Parts.{AreOf, IsCheckedPart, most_parts};
 ghost use Rattle.rp_reports.specs.Check.{follow_count, line_tester};
 ghost use Rattle.rp_walks.specs.Form.{join, subtract};
-ghost use Rattle.rp_follow.specs.Follows.{Follows, IsNotMemory};
+ghost use Rattle.rp_tests.specs.Comes.{Comes};
+ghost use Rattle.rp_follow.specs.Stops.{IsNotMemory};
 ghost use Rattle.rp_follow.specs.Pairs.{common_by, touch_by, meet_by};
 
 use crate::difference::subtract;
 use crate::join::join_each;
 use crate::kept::{Kept, keep_parts};
-use crate::lost::Lost;
 use crate::meeting::Meeting;
 use crate::pairs::first_pair;
 use crate::trail::Trail;
 use rp_space::Listed;
+use rp_tests::Stopped;
 use std::alloc::{AllocError, Global};
 
 /// The most parts of a form that is made.
@@ -27,10 +28,10 @@ pub type Form = Listed<Kept>;
 
 /// The join of two lists of parts, on the next lines: a part test of each part of the first with each part of the second.
 /// As many tests are counted as there are pairs. `Limit` exactly where too many tests are counted, where a part would have
-/// more than 32 half-spaces or where more than 1,024 parts are made. `Refused` and `Wrong` come where a line that is due
+/// more than 32 half-spaces or where more than 1,024 parts are made. `Told` and `Wrong` come where a line that is due
 /// doesn't stand there.
-pub fn joined(alloc: Global, a: &Form, b: &Form, trail: &mut Trail<'_>) -> Result<Form, Lost>
-    ensures follows { Follows (λ form. form.items) result trail.old trail.new (join line_tester a.now.items b.now.items) }
+pub fn joined(alloc: Global, a: &Form, b: &Form, trail: &mut Trail<'_>) -> Result<Form, Stopped>
+    ensures comes { Comes (λ form. form.items) result trail.new (join line_tester a.now.items b.now.items trail.old) }
     ensures members { length a.now.items ≤ most_parts → length b.now.items ≤ most_parts →
         IfOk result (λ form. AreOf IsCheckedPart (Shape.intersection (shape_of_parts a.now.items) (shape_of_parts b.now.items)) form.items) }
 {
@@ -44,10 +45,10 @@ pub fn joined(alloc: Global, a: &Form, b: &Form, trail: &mut Trail<'_>) -> Resul
 
 /// The difference of two lists of parts, on the next lines: each part of the second is taken away from the first in turn.
 /// `Limit` exactly where too many tests are counted, where a part would have more than 32 half-spaces, or where more than
-/// 1,024 parts are left behind a part of the second. `Refused` and `Wrong` come where a line that is due doesn't stand
+/// 1,024 parts are left behind a part of the second. `Told` and `Wrong` come where a line that is due doesn't stand
 /// there.
-pub fn differed(alloc: Global, a: &Form, b: &Form, trail: &mut Trail<'_>) -> Result<Form, Lost>
-    ensures follows { Follows (λ form. form.items) result trail.old trail.new (subtract line_tester a.now.items b.now.items) }
+pub fn differed(alloc: Global, a: &Form, b: &Form, trail: &mut Trail<'_>) -> Result<Form, Stopped>
+    ensures comes { Comes (λ form. form.items) result trail.new (subtract line_tester a.now.items b.now.items trail.old) }
     ensures members { length a.now.items ≤ most_parts → length b.now.items ≤ most_parts →
         IfOk result (λ form. AreOf IsCheckedPart (Shape.difference (shape_of_parts a.now.items) (shape_of_parts b.now.items)) form.items) }
 {
@@ -60,9 +61,9 @@ pub fn differed(alloc: Global, a: &Form, b: &Form, trail: &mut Trail<'_>) -> Res
 /// Whether two lists of parts share a member, on the next lines: a strict test of each part of the first with each part of
 /// the second, up to the first pair that is found. With `near` only the pairs are tested whose boxes share more than
 /// boundary, and nothing is counted; else as many tests are counted as there are pairs, and `Limit` comes exactly where
-/// these are too many. `Refused` and `Wrong` come where a line that is due doesn't stand there; `Memory` never comes.
-pub fn common(a: &Form, b: &Form, near: bool, trail: &mut Trail<'_>) -> Result<bool, Lost>
-    ensures follows { Follows (λ found. found) result trail.old trail.new (common_by near a.now.items b.now.items) }
+/// these are too many. `Told` and `Wrong` come where a line that is due doesn't stand there; `Memory` never comes.
+pub fn common(a: &Form, b: &Form, near: bool, trail: &mut Trail<'_>) -> Result<bool, Stopped>
+    ensures comes { Comes (λ found. found) result trail.new (common_by near a.now.items b.now.items trail.old) }
     ensures right { length a.now.items ≤ most_parts → length b.now.items ≤ most_parts →
         IfOk result (λ found. IsTrue found ↔ Overlaps (shape_of_parts a.now.items) (shape_of_parts b.now.items)) }
     ensures memory { IfErr result IsNotMemory }
@@ -75,9 +76,9 @@ pub fn common(a: &Form, b: &Form, near: bool, trail: &mut Trail<'_>) -> Result<b
 /// Whether two lists of parts are in contact, on the next lines: a weak test of each part of the first with each part of
 /// the second, up to the first pair that is found. With `near` only the pairs are tested whose boxes share a point, the
 /// boundary included, and nothing is counted; else as many tests are counted as there are pairs, and `Limit` comes exactly
-/// where these are too many. `Refused` and `Wrong` come where a line that is due doesn't stand there; `Memory` never comes.
-pub fn touching(a: &Form, b: &Form, near: bool, trail: &mut Trail<'_>) -> Result<bool, Lost>
-    ensures follows { Follows (λ found. found) result trail.old trail.new (touch_by near a.now.items b.now.items) }
+/// where these are too many. `Told` and `Wrong` come where a line that is due doesn't stand there; `Memory` never comes.
+pub fn touching(a: &Form, b: &Form, near: bool, trail: &mut Trail<'_>) -> Result<bool, Stopped>
+    ensures comes { Comes (λ found. found) result trail.new (touch_by near a.now.items b.now.items trail.old) }
     ensures right { length a.now.items ≤ most_parts → length b.now.items ≤ most_parts →
         IfOk result (λ found. IsTrue found ↔ IsInContact (shape_of_parts a.now.items) (shape_of_parts b.now.items)) }
     ensures memory { IfErr result IsNotMemory }
@@ -94,8 +95,8 @@ fn meet(
     b: &Form,
     near: bool,
     trail: &mut Trail<'_>,
-) -> Result<bool, Lost>
-    ensures follows { Follows (λ found. found) result trail.old trail.new (meet_by meeting near a.now.items b.now.items) }
+) -> Result<bool, Stopped>
+    ensures comes { Comes (λ found. found) result trail.new (meet_by meeting near a.now.items b.now.items trail.old) }
     ensures memory { IfErr result IsNotMemory }
 {
     if !near {
@@ -105,13 +106,13 @@ fn meet(
 }
 
 /// Counts as many tests as there are pairs of parts.
-fn count_pairs(a: &Form, b: &Form, trail: &mut Trail<'_>) -> Result<(), Lost>
-    ensures follows { Follows (λ x. x) result trail.old trail.new (follow_count (length a.now.items * length b.now.items)) }
+fn count_pairs(a: &Form, b: &Form, trail: &mut Trail<'_>) -> Result<(), Stopped>
+    ensures comes { Comes (λ x. x) result trail.new (follow_count (length a.now.items * length b.now.items) trail.old) }
     ensures memory { IfErr result IsNotMemory }
 {
     let pairs = (a.items().len() as u64).saturating_mul(b.items().len() as u64);
     if !trail.count(pairs) {
-        return Err(Lost::Limit);
+        return Err(Stopped::Limit);
     }
     Ok(())
 }

@@ -1,14 +1,14 @@
 //! What two lists of parts have in common, test by test.
 ghost use Rattle.rp_reports.specs.Check.{line_tester};
 ghost use Rattle.rp_walks.specs.Form.{join_pair, join_with_part, join_each};
-ghost use Rattle.rp_follow.specs.Follows.{Follows};
+ghost use Rattle.rp_tests.specs.Comes.{Comes};
 
 use crate::form::{Form, MAX_PARTS};
 use crate::kept::Kept;
-use crate::lost::Lost;
 use crate::part::made;
 use crate::trail::Trail;
 use rp_space::joined;
+use rp_tests::Stopped;
 use std::alloc::Global;
 
 /// Each part of a list with each part of a second list: what they have in common comes behind the parts made already.
@@ -18,8 +18,8 @@ pub(crate) fn join_each(
     parts: &[Kept],
     others: &[Kept],
     trail: &mut Trail<'_>,
-) -> Result<(), Lost>
-    ensures { Follows (λ _. form.new.items) result trail.old trail.new (join_each line_tester form.old.items parts.now others.now) }
+) -> Result<(), Stopped>
+    ensures { Comes (λ _. form.new.items) result trail.new (join_each line_tester form.old.items parts.now others.now trail.old) }
 {
     for part in parts {
         join_with_part(alloc, form, part, others, trail)?;
@@ -34,8 +34,8 @@ fn join_with_part(
     part: &Kept,
     others: &[Kept],
     trail: &mut Trail<'_>,
-) -> Result<(), Lost>
-    ensures { Follows (λ _. form.new.items) result trail.old trail.new (join_with_part line_tester form.old.items part.now others.now) }
+) -> Result<(), Stopped>
+    ensures { Comes (λ _. form.new.items) result trail.new (join_with_part line_tester form.old.items part.now others.now trail.old) }
 {
     for other in others {
         join_pair(alloc, form, part, other, trail)?;
@@ -50,15 +50,15 @@ fn join_pair(
     part: &Kept,
     other: &Kept,
     trail: &mut Trail<'_>,
-) -> Result<(), Lost>
-    ensures { Follows (λ _. form.new.items) result trail.old trail.new (join_pair line_tester form.old.items part.now other.now) }
+) -> Result<(), Stopped>
+    ensures { Comes (λ _. form.new.items) result trail.new (join_pair line_tester form.old.items part.now other.now trail.old) }
 {
     let cell = joined(part.cell(), other.cell());
     if let Some(common) = made(alloc, cell.as_slice(), trail)? {
         form.push(common)?;
     }
     if form.items().len() > MAX_PARTS {
-        return Err(Lost::Limit);
+        return Err(Stopped::Limit);
     }
     Ok(())
 }

@@ -8,6 +8,7 @@
 //! parts whose boxes hold their members, as lines show them; such a box need not be the least. Lines that show slices
 //! are taken, one for each part, as long as each passes for its part.
 
+mod answers;
 mod difference;
 mod drops;
 mod few;
@@ -15,8 +16,8 @@ mod form;
 mod join;
 mod kept;
 mod lines;
-mod lost;
 mod meeting;
+mod member;
 mod pairs;
 mod part;
 mod prism;
@@ -26,7 +27,7 @@ mod trail;
 
 pub use form::{Form, common, copy, differed, joined, touching};
 pub use kept::Kept;
-pub use lost::Lost;
+pub use member::holds;
 pub use part::made;
 pub use prism::prismed;
 pub use shown::{Slices, slices};

@@ -1,11 +1,12 @@
 //! How two parts meet, and how that is tested.
 ghost use Rattle.std.specs.Prelude.{◌≡◌, ◌++◌, IfErr};
-ghost use Rattle.rp_follow.specs.Follows.{Follows, IsOfLine};
+ghost use Rattle.rp_tests.specs.Comes.{Comes};
+ghost use Rattle.rp_follow.specs.Stops.{IsOfLine};
 ghost use Rattle.rp_follow.specs.Pairs.{may_meet_by, test_by};
 
 use crate::kept::Kept;
-use crate::lost::Lost;
 use crate::trail::Trail;
+use rp_tests::Stopped;
 
 /// How two parts meet.
 #[derive(Clone, Copy, Debug, PartialEq, Eq)]
@@ -33,8 +34,8 @@ impl Meeting {
         first: &Kept,
         second: &Kept,
         trail: &mut Trail<'_>,
-    ) -> Result<bool, Lost>
-        ensures follows { Follows (λ found. found) result trail.old trail.new (test_by self (first.now.cell ++ second.now.cell)) }
+    ) -> Result<bool, Stopped>
+        ensures comes { Comes (λ found. found) result trail.new (test_by self (first.now.cell ++ second.now.cell) trail.old) }
         ensures line { IfErr result IsOfLine }
     {
         match self {

@@ -6,30 +6,30 @@ ghost use Rattle.rp_geometry.specs.parts.Parts.{AreOf, IsCheckedPart};
 ghost use Rattle.rp_space.specs.Corners.{prism_of};
 ghost use Rattle.rp_reports.specs.Check.{line_tester};
 ghost use Rattle.rp_walks.specs.Form.{prism_form, exchange_cell, exchange_lists};
-ghost use Rattle.rp_follow.specs.Follows.{Follows};
+ghost use Rattle.rp_tests.specs.Comes.{Comes};
 
 use crate::form::{Form, MAX_PARTS, differed};
-use crate::lost::Lost;
 use crate::part::made;
 use crate::trail::Trail;
 use rp_footprint::trapezoid;
 use rp_space::{Corner, Half};
+use rp_tests::Stopped;
 use std::alloc::Global;
 
 /// The form of a polygon raised from z1 to below z2, on the next lines: a part test of the trapezoid of each edge whose ends have
 /// two x, and the two differences that exchange its part with the parts so far. The part tests aren't counted, those of the
 /// differences are. There are from 1 to 256 corners, and all numbers are within their bounds. `Limit` exactly where too many tests
 /// are counted, where a part would have more than 32 half-spaces, or where more than 1,024 parts are left behind an edge or in the
-/// course of a difference. `Refused` and `Wrong` come where a line that is due doesn't stand there.
+/// course of a difference. `Told` and `Wrong` come where a line that is due doesn't stand there.
 pub fn prismed(
     alloc: Global,
     z1: i32,
     z2: i32,
     corners: &[Corner],
     trail: &mut Trail<'_>,
-) -> Result<Form, Lost>
+) -> Result<Form, Stopped>
     requires { IsPrism (prism_of z1 z2 corners.now) }
-    ensures follows { Follows (λ form. form.items) result trail.old trail.new (prism_form line_tester (prism_of z1 z2 corners.now)) }
+    ensures comes { Comes (λ form. form.items) result trail.new (prism_form line_tester (prism_of z1 z2 corners.now) trail.old) }
     ensures members { IfOk result (λ form. AreOf IsCheckedPart (Shape.prism (prism_of z1 z2 corners.now)) form.items) }
 {
     let mut current = Form::new(alloc);
@@ -46,8 +46,8 @@ fn exchange_cell(
     current: Form,
     cell: Option<[Half; 6]>,
     trail: &mut Trail<'_>,
-) -> Result<Form, Lost>
-    ensures { Follows (λ form. form.items) result trail.old trail.new (exchange_cell line_tester current.items cell) }
+) -> Result<Form, Stopped>
+    ensures { Comes (λ form. form.items) result trail.new (exchange_cell line_tester current.items cell trail.old) }
 {
     let Some(halves) = cell else {
         return Ok(current);
@@ -62,13 +62,13 @@ fn exchange_cell(
 
 /// What is in one of two lists of parts and not in the other: what is left of the first outside the second, and then what is left
 /// of the second outside the first.
-fn exchange(alloc: Global, current: Form, new: Form, trail: &mut Trail<'_>) -> Result<Form, Lost>
-    ensures { Follows (λ form. form.items) result trail.old trail.new (exchange_lists line_tester current.items new.items) }
+fn exchange(alloc: Global, current: Form, new: Form, trail: &mut Trail<'_>) -> Result<Form, Stopped>
+    ensures { Comes (λ form. form.items) result trail.new (exchange_lists line_tester current.items new.items trail.old) }
 {
     let mut form = differed(alloc, &current, &new, trail)?;
     let added = differed(alloc, &new, &current, trail)?;
     if form.items().len() + added.items().len() > MAX_PARTS {
-        return Err(Lost::Limit);
+        return Err(Stopped::Limit);
     }
     form.append(added)?;
     Ok(form)

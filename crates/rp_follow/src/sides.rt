@@ -5,18 +5,18 @@ ghost use Rattle.rp_geometry.specs.Geometry.{box_half_spaces, is_box_in_bounds};
 ghost use Rattle.rp_reports.specs.Check.{next_proof, is_proper_box, box_by_line, follow_side, follow_sides};
 ghost use Rattle.rp_space.specs.Boxes.{integer_box};
 ghost use Rattle.rp_cert.specs.Lines.{line_of};
-ghost use Rattle.rp_follow.specs.Follows.{Follows};
+ghost use Rattle.rp_tests.specs.Comes.{Comes};
 
 use crate::drops::is_listed;
-use crate::lost::Lost;
 use crate::trail::Trail;
 use rp_cert::{Proof, check_outside};
 use rp_space::{Half, IntBox, box_halves, cube, joined};
+use rp_tests::Stopped;
 
 /// The box that the next line gives, of which is known what it says.
-pub(crate) fn follow_box(next: Option<Proof>, trail: &mut Trail<'_>) -> Result<IntBox, Lost>
+pub(crate) fn follow_box(next: Option<Proof>, trail: &mut Trail<'_>) -> Result<IntBox, Stopped>
     requires { option_map line_of next ≡ next_proof trail.old.lines }
-    ensures follows { Follows integer_box result trail.old trail.new (λ t. box_by_line (next_proof t.lines) t) }
+    ensures comes { Comes integer_box result trail.new (box_by_line (next_proof trail.old.lines) trail.old) }
     ensures bounds { IfOk result (λ bounds. is_box_in_bounds (integer_box bounds) ≡ true) }
 {
     match next {
@@ -39,10 +39,10 @@ pub(crate) fn follow_sides(
     kept: &[Half],
     bounds: &IntBox,
     trail: &mut Trail<'_>,
-) -> Result<(), Lost>
+) -> Result<(), Stopped>
     requires few { length kept.now ≤ 64 }
     requires bounds { is_box_in_bounds (integer_box bounds.now) ≡ true }
-    ensures { Follows (λ _. tt) result trail.old trail.new (follow_sides kept.now (box_half_spaces (integer_box bounds.now))) }
+    ensures { Comes (λ _. tt) result trail.new (follow_sides kept.now (box_half_spaces (integer_box bounds.now)) trail.old) }
 {
     let sides = box_halves(bounds);
     for side in &sides {
@@ -52,9 +52,9 @@ pub(crate) fn follow_sides(
 }
 
 /// Takes the line that shows a side, unless it is one of the cell or of the cube.
-fn follow_side(kept: &[Half], side: &Half, trail: &mut Trail<'_>) -> Result<(), Lost>
+fn follow_side(kept: &[Half], side: &Half, trail: &mut Trail<'_>) -> Result<(), Stopped>
     requires { length kept.now ≤ 64 }
-    ensures { Follows (λ _. tt) result trail.old trail.new (follow_side kept.now side.now) }
+    ensures { Comes (λ _. tt) result trail.new (follow_side kept.now side.now trail.old) }
 {
     if is_listed(side, kept) || is_listed(side, &cube()) {
         return Ok(());

@@ -4,10 +4,9 @@ ghost use Rattle.rp_geometry.specs.sections.Trace.{IsHeight};
 ghost use Rattle.rp_space.specs.Boxes.{integer_box};
 ghost use Rattle.rp_reports.specs.Output.{most_report_bytes};
 
-use crate::{
-    Form, Kept, Lost, Trail, common, copy, differed, joined, made, prismed, slices, touching,
-};
+use crate::{Form, Kept, Trail, common, copy, differed, joined, made, prismed, slices, touching};
 use rp_space::{Corner, Half, Halves, IntBox, box_halves};
+use rp_tests::Stopped;
 use std::alloc::Global;
 use std::process::Abort;
 use std::test::Fail;
@@ -38,7 +37,6 @@ fn types_cross_threads() {
     needs_send_sync::<Kept>();
     needs_send_sync::<Form>();
     needs_send_sync::<Trail<'static>>();
-    needs_send_sync::<Lost>();
 }
 
 #[test]
@@ -86,41 +84,55 @@ fn tests_are_counted_up_to_the_limit(rt: HostRuntime) {
     }
 }
 
-/// Follows a strict test of two boxes on a report.
-fn expect_strict(rt: &impl Abort, report: &[u8], second: &IntBox, wanted: Result<bool, Lost>)
+/// Follows a strict test of two boxes on a report: what it comes to, and the number of the next line then.
+fn expect_strict(
+    rt: &impl Abort,
+    report: &[u8],
+    second: &IntBox,
+    wanted: (Result<bool, Stopped>, u32),
+)
     requires short { length report.now ≤ most_report_bytes }
     requires bounds { is_box_in_bounds (integer_box second.now) ≡ true }
 {
     let mut trail = Trail::new(report);
-    assert_eq!(rt;
-        trail.strict(&box_halves(&WEST), &box_halves(second)),
-        wanted
-    );
+    let found = trail.strict(&box_halves(&WEST), &box_halves(second));
+    assert_eq!(rt; (found, trail.number()), wanted);
 }
 
 #[test]
 fn a_strict_test_takes_a_line_that_passes(rt: HostRuntime) {
-    expect_strict(&rt, b"  in (6 6 6 1)", &MIDDLE, Ok(true));
-    expect_strict(&rt, b"  in (4 6 6 1)", &MIDDLE, Err(Lost::Wrong(1)));
-    expect_strict(&rt, b"  at (6 6 6 1)", &MIDDLE, Err(Lost::Wrong(1)));
-    expect_strict(&rt, b"  out 1*(-1 0 0 10) 1*(1 0 0 -10)", &EAST, Ok(false));
+    expect_strict(&rt, b"  in (6 6 6 1)", &MIDDLE, (Ok(true), 2));
+    expect_strict(&rt, b"  in (4 6 6 1)", &MIDDLE, (Err(Stopped::Wrong), 1));
+    expect_strict(&rt, b"  at (6 6 6 1)", &MIDDLE, (Err(Stopped::Wrong), 1));
+    expect_strict(
+        &rt,
+        b"  out 1*(-1 0 0 10) 1*(1 0 0 -10)",
+        &EAST,
+        (Ok(false), 2),
+    );
     expect_strict(
         &rt,
         b"  apart 1*(-1 0 0 10) 1*(1 0 0 -10)",
         &EAST,
-        Err(Lost::Wrong(1)),
+        (Err(Stopped::Wrong), 1),
     );
-    expect_strict(&rt, b"= refused limit\n", &EAST, Err(Lost::Refused));
-    expect_strict(&rt, b"", &EAST, Err(Lost::Wrong(1)));
+    expect_strict(&rt, b"= refused limit\n", &EAST, (Err(Stopped::Told), 1));
+    expect_strict(&rt, b"", &EAST, (Err(Stopped::Wrong), 1));
 }
 
-/// Follows a weak test of two boxes on a report.
-fn expect_weak(rt: &impl Abort, report: &[u8], second: &IntBox, wanted: Result<bool, Lost>)
+/// Follows a weak test of two boxes on a report: what it comes to, and the number of the next line then.
+fn expect_weak(
+    rt: &impl Abort,
+    report: &[u8],
+    second: &IntBox,
+    wanted: (Result<bool, Stopped>, u32),
+)
     requires short { length report.now ≤ most_report_bytes }
     requires bounds { is_box_in_bounds (integer_box second.now) ≡ true }
 {
     let mut trail = Trail::new(report);
-    assert_eq!(rt; trail.weak(&box_halves(&WEST), &box_halves(second)), wanted);
+    let found = trail.weak(&box_halves(&WEST), &box_halves(second));
+    assert_eq!(rt; (found, trail.number()), wanted);
 }
 
 /// A box apart from the first one.
@@ -131,16 +143,21 @@ const FAR: IntBox = IntBox {
 
 #[test]
 fn a_weak_test_takes_a_line_that_passes(rt: HostRuntime) {
-    expect_weak(&rt, b"  at (10 3 3 1)", &EAST, Ok(true));
-    expect_weak(&rt, b"  at (9 3 3 1)", &EAST, Err(Lost::Wrong(1)));
-    expect_weak(&rt, b"  apart 1*(-1 0 0 10) 1*(1 0 0 -11)", &FAR, Ok(false));
+    expect_weak(&rt, b"  at (10 3 3 1)", &EAST, (Ok(true), 2));
+    expect_weak(&rt, b"  at (9 3 3 1)", &EAST, (Err(Stopped::Wrong), 1));
+    expect_weak(
+        &rt,
+        b"  apart 1*(-1 0 0 10) 1*(1 0 0 -11)",
+        &FAR,
+        (Ok(false), 2),
+    );
     expect_weak(
         &rt,
         b"  apart 1*(-1 0 0 10) 1*(1 0 0 -10)",
         &EAST,
-        Err(Lost::Wrong(1)),
+        (Err(Stopped::Wrong), 1),
     );
-    expect_weak(&rt, b"= refused limit", &FAR, Err(Lost::Refused));
+    expect_weak(&rt, b"= refused limit", &FAR, (Err(Stopped::Told), 1));
 }
 
 /// The half-spaces of the first box and one that adds nothing.
@@ -185,35 +202,47 @@ fn a_box_that_is_not_the_least_is_shown(rt: HostRuntime) -> Result<(), Fail> {
     Ok(())
 }
 
-/// Follows a part test of a box with one half-space that adds nothing, on a report that doesn't fit.
-fn expect_lost(rt: &impl Abort, alloc: Global, report: &[u8], wanted: Lost) -> Result<(), Fail>
+/// Follows a part test of a box with one half-space that adds nothing, on a report that doesn't fit: why it stops, and the
+/// number of the next line then.
+fn expect_stopped(
+    rt: &impl Abort,
+    alloc: Global,
+    report: &[u8],
+    wanted: (Stopped, u32),
+) -> Result<(), Fail>
     requires { length report.now ≤ most_report_bytes }
 {
     let mut trail = Trail::new(report);
     let halves = loose_box(alloc)?;
-    let lost = made(alloc, halves.items(), &mut trail).err();
-    assert_eq!(rt; lost, Some(wanted));
+    let stopped = made(alloc, halves.items(), &mut trail).err();
+    assert_eq!(rt; (stopped, trail.number()), (Some(wanted.0), wanted.1));
     Ok(())
 }
 
 #[test]
 fn a_part_test_finds_the_wrong_line(rt: HostRuntime) -> Result<(), Fail> {
-    let table: [(&[u8], Lost); 6] = [
-        (b"  in (0 1 1 1)\n", Lost::Wrong(1)),
+    let table: [(&[u8], (Stopped, u32)); 6] = [
+        (b"  in (0 1 1 1)\n", (Stopped::Wrong, 1)),
         (
             b"  in (1 1 1 1)\n  drop (1 0 0 0) 1*(1 0 0 1) 1*(-1 0 0 0)\n",
-            Lost::Wrong(2),
+            (Stopped::Wrong, 2),
         ),
-        (b"  in (1 1 1 1)\n  box 0 0 0 0 10 10\n", Lost::Wrong(2)),
+        (
+            b"  in (1 1 1 1)\n  box 0 0 0 0 10 10\n",
+            (Stopped::Wrong, 2),
+        ),
         (
             b"  in (1 1 1 1)\n  box 1 0 0 10 10 10\n  out 1*(1 0 0 0) 1*(-1 0 0 1)\n",
-            Lost::Wrong(3),
+            (Stopped::Wrong, 3),
         ),
-        (b"  in (1 1 1 1)\n  box -2 0 0 10 10 10", Lost::Wrong(3)),
-        (b"  in (1 1 1 1)\n= refused limit\n", Lost::Refused),
+        (
+            b"  in (1 1 1 1)\n  box -2 0 0 10 10 10",
+            (Stopped::Wrong, 3),
+        ),
+        (b"  in (1 1 1 1)\n= refused limit\n", (Stopped::Told, 2)),
     ];
     for (report, wanted) in table {
-        expect_lost(&rt, rt.alloc(), report, wanted)?;
+        expect_stopped(&rt, rt.alloc(), report, wanted)?;
     }
     Ok(())
 }
@@ -230,29 +259,29 @@ fn many_halves(alloc: Global) -> Result<Halves, Fail>
 }
 
 /// Follows a part test of these half-spaces, and tells the number of the next line.
-fn crowded(alloc: Global, report: &[u8]) -> Result<(Option<Lost>, u32), Fail>
+fn crowded(alloc: Global, report: &[u8]) -> Result<(Option<Stopped>, u32), Fail>
     requires { length report.now ≤ most_report_bytes }
 {
     let mut trail = Trail::new(report);
     let halves = many_halves(alloc)?;
-    let lost = made(alloc, halves.items(), &mut trail).err();
-    Ok((lost, trail.number()))
+    let stopped = made(alloc, halves.items(), &mut trail).err();
+    Ok((stopped, trail.number()))
 }
 
 #[test]
 fn more_than_32_half_spaces_are_a_limit(rt: HostRuntime) -> Result<(), Fail> {
     let limit = crowded(rt.alloc(), b"  in (0 0 0 1)\n= refused limit\n")?;
-    assert_eq!(rt; limit, (Some(Lost::Limit), 2));
+    assert_eq!(rt; limit, (Some(Stopped::Limit), 2));
     let dropped = crowded(
         rt.alloc(),
         b"  in (0 0 0 1)\n  drop (1 0 0 33) 1*(1 0 0 1) 1*(-1 0 0 -33)\n",
     )?;
-    assert_eq!(rt; dropped, (Some(Lost::Wrong(3)), 3));
+    assert_eq!(rt; dropped, (Some(Stopped::Wrong), 3));
     Ok(())
 }
 
 /// The form of a box, by a part test.
-fn box_form(alloc: Global, bounds: &IntBox, trail: &mut Trail<'_>) -> Result<Form, Lost>
+fn box_form(alloc: Global, bounds: &IntBox, trail: &mut Trail<'_>) -> Result<Form, Stopped>
     requires { is_box_in_bounds (integer_box bounds.now) ≡ true }
 {
     let mut form = Form::new(alloc);
@@ -263,7 +292,7 @@ fn box_form(alloc: Global, bounds: &IntBox, trail: &mut Trail<'_>) -> Result<For
 }
 
 /// The forms of the first box and of another one.
-fn two_boxes(alloc: Global, second: &IntBox, trail: &mut Trail<'_>) -> Result<(Form, Form), Lost>
+fn two_boxes(alloc: Global, second: &IntBox, trail: &mut Trail<'_>) -> Result<(Form, Form), Stopped>
     requires { is_box_in_bounds (integer_box second.now) ≡ true }
 {
     let west = box_form(alloc, &WEST, trail)?;
@@ -322,7 +351,10 @@ fn boxes_that_share_a_face_touch_and_have_no_common_point(rt: HostRuntime) -> Re
     assert_eq!(rt; trail.number(), 8);
     // Two tests were counted: one more than 65,534 further ones is a limit.
     assert!(rt; trail.count(65534));
-    assert_eq!(rt; common(&west, &east, false, &mut trail), Err(Lost::Limit));
+    assert_eq!(rt;
+        common(&west, &east, false, &mut trail),
+        Err(Stopped::Limit)
+    );
     Ok(())
 }
 
@@ -353,13 +385,14 @@ fn boxes_apart_are_not_in_contact(rt: HostRuntime) -> Result<(), Fail> {
     Ok(())
 }
 
-/// Follows the join and the difference of two boxes on a report that doesn't fit, with so many tests counted before.
-fn expect_forms_lost(
+/// Follows the join and the difference of two boxes on a report that doesn't fit, with so many tests counted before: why
+/// they stop, and the number of the next line then.
+fn expect_forms_stopped(
     rt: &impl Abort,
     alloc: Global,
     report: &[u8],
     count: u64,
-    wanted: Lost,
+    wanted: (Stopped, u32),
 ) -> Result<(), Fail>
     requires { length report.now ≤ most_report_bytes }
 {
@@ -367,42 +400,42 @@ fn expect_forms_lost(
         let mut trail = Trail::new(report);
         let (west, middle) = two_boxes(alloc, &MIDDLE, &mut trail)?;
         assert!(rt; trail.count(count));
-        let lost = if is_join {
+        let stopped = if is_join {
             joined(alloc, &west, &middle, &mut trail).err()
         } else {
             differed(alloc, &west, &middle, &mut trail).err()
         };
-        assert_eq!(rt; lost, Some(wanted));
+        assert_eq!(rt; (stopped, trail.number()), (Some(wanted.0), wanted.1));
     }
     Ok(())
 }
 
 #[test]
-fn forms_are_lost_at_a_line_or_a_limit(rt: HostRuntime) -> Result<(), Fail> {
-    let table: [(&[u8], u64, Lost); 4] = [
+fn forms_stop_at_a_line_or_a_limit(rt: HostRuntime) -> Result<(), Fail> {
+    let table: [(&[u8], u64, (Stopped, u32)); 4] = [
         (
             b"  in (1 1 1 1)\n  box 0 0 0 10 10 10\n  in (6 6 6 1)\n  box 4 2 2 12 8 8\n  in (11 6 6 1)\n",
             0,
-            Lost::Wrong(5),
+            (Stopped::Wrong, 5),
         ),
         (
             b"  in (1 1 1 1)\n  box 0 0 0 10 10 10\n  in (6 6 6 1)\n  box 4 2 2 12 8 8",
             65535,
-            Lost::Wrong(5),
+            (Stopped::Wrong, 5),
         ),
         (
             b"  in (1 1 1 1)\n  box 0 0 0 10 10 10\n  in (6 6 6 1)\n  box 4 2 2 12 8 8\n= refused limit",
             0,
-            Lost::Refused,
+            (Stopped::Told, 5),
         ),
         (
             b"  in (1 1 1 1)\n  box 0 0 0 10 10 10\n  in (6 6 6 1)\n  box 4 2 2 12 8 8\n  in (6 6 6 1)\n",
             65536,
-            Lost::Limit,
+            (Stopped::Limit, 5),
         ),
     ];
     for (report, count, wanted) in table {
-        expect_forms_lost(&rt, rt.alloc(), report, count, wanted)?;
+        expect_forms_stopped(&rt, rt.alloc(), report, count, wanted)?;
     }
     Ok(())
 }
@@ -415,13 +448,13 @@ const SQUARE: [Corner; 4] = [
     Corner { x: 0, y: 10 },
 ];
 
-/// The form of the square, raised from 0 to 10, and the number of the next line.
-fn raised_square(alloc: Global, report: &[u8]) -> Result<(Form, u32), Lost>
+/// The form of the square, raised from 0 to 10, and the number of the next line then.
+fn raised_square(alloc: Global, report: &[u8]) -> (Result<Form, Stopped>, u32)
     requires { length report.now ≤ most_report_bytes }
 {
     let mut trail = Trail::new(report);
-    let form = prismed(alloc, 0, 10, &SQUARE, &mut trail)?;
-    Ok((form, trail.number()))
+    let form = prismed(alloc, 0, 10, &SQUARE, &mut trail);
+    (form, trail.number())
 }
 
 #[test]
@@ -429,20 +462,25 @@ fn a_raised_square_is_one_part(rt: HostRuntime) -> Result<(), Fail> {
     let (form, number) = raised_square(
         rt.alloc(),
         b"  out 1*(0 1 0 0) 1*(0 -1 0 0)\n  in (1 1 1 1)\n  box 0 0 0 10 10 10\n",
-    )?;
+    );
     assert_eq!(rt; number, 4);
+    let form = form?;
     let [part] = form.items() else {
         return Err("not one part".into());
     };
     assert_eq!(rt; part.halves.items(), box_halves(&WEST).as_slice());
-    let lost = raised_square(rt.alloc(), b"  in (1 1 1 1)\n").err();
-    assert_eq!(rt; lost, Some(Lost::Wrong(1)));
+    let (form, number) = raised_square(rt.alloc(), b"  in (1 1 1 1)\n");
+    assert_eq!(rt; (form.err(), number), (Some(Stopped::Wrong), 1));
     Ok(())
 }
 
 /// Follows the slices of the first box and of the one in its middle at a height, on the lines behind those of their part
-/// tests, and tells how many there are and the number of the next line.
-fn slices_of_two(alloc: Global, z: i32, report: &[u8]) -> Result<(usize, u32), Lost>
+/// tests: how many there are, and the number of the next line then.
+fn slices_of_two(
+    alloc: Global,
+    z: i32,
+    report: &[u8],
+) -> Result<(Result<usize, Stopped>, u32), Stopped>
     requires height { IsHeight z }
     requires short { length report.now ≤ most_report_bytes }
 {
@@ -450,20 +488,26 @@ fn slices_of_two(alloc: Global, z: i32, report: &[u8]) -> Result<(usize, u32), L
     let (mut form, middle) = two_boxes(alloc, &MIDDLE, &mut trail)?;
     form.append(middle)?;
     let mut ahead = trail.ahead();
-    let found = slices(alloc, &form, z, &mut ahead)?;
-    Ok((found.items().len(), ahead.number()))
+    let found = slices(alloc, &form, z, &mut ahead).map(|slices| slices.items().len());
+    Ok((found, ahead.number()))
 }
 
 #[test]
 fn slices_are_taken_where_they_pass(rt: HostRuntime) -> Result<(), Fail> {
     let rings =
         b"  in (1 1 1 1)\n  box 0 0 0 10 10 10\n  in (6 6 6 1)\n  box 4 2 2 12 8 8\n= ring (1 0 0) (0 0 5 1) (0 1 0) (10 0 5 1) (-1 0 10) (10 10 5 1) (0 -1 10) (0 10 5 1)\n= ring (1 0 -4) (4 2 5 1) (0 1 -2) (12 2 5 1) (-1 0 12) (12 8 5 1) (0 -1 8) (4 8 5 1)\n";
-    assert_eq!(rt; slices_of_two(rt.alloc(), 5, rings), Ok((2, 7)));
-    assert_eq!(rt; slices_of_two(rt.alloc(), 6, rings), Err(Lost::Wrong(5)));
+    assert_eq!(rt; slices_of_two(rt.alloc(), 5, rings), Ok((Ok(2), 7)));
+    assert_eq!(rt;
+        slices_of_two(rt.alloc(), 6, rings),
+        Ok((Err(Stopped::Wrong), 5))
+    );
     let flat =
         b"  in (1 1 1 1)\n  box 0 0 0 10 10 10\n  in (6 6 6 1)\n  box 4 2 2 12 8 8\n= flat 1*(0 0 -1 10)\n= flat 2*(0 0 -1 8)\n";
-    assert_eq!(rt; slices_of_two(rt.alloc(), 10, flat), Ok((2, 7)));
-    assert_eq!(rt; slices_of_two(rt.alloc(), 9, flat), Err(Lost::Wrong(5)));
+    assert_eq!(rt; slices_of_two(rt.alloc(), 10, flat), Ok((Ok(2), 7)));
+    assert_eq!(rt;
+        slices_of_two(rt.alloc(), 9, flat),
+        Ok((Err(Stopped::Wrong), 5))
+    );
     Ok(())
 }
 
@@ -490,7 +534,7 @@ fn the_first_slice_that_does_not_pass_is_wrong(rt: HostRuntime) {
     for (report, number) in table {
         assert_eq!(rt;
             slices_of_two(rt.alloc(), 5, report),
-            Err(Lost::Wrong(number))
+            Ok((Err(Stopped::Wrong), number))
         );
     }
 }

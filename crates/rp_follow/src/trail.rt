@@ -10,16 +10,17 @@ ghost use Rattle.rp_reports.specs.Output.{most_report_bytes, report_lines};
 ghost use Rattle.rp_reports.specs.Check.{tells_limit, next_proof, next_slice, taken, taken_if, with_no_tests, follow_count, follow_strict, follow_weak};
 ghost use Rattle.rp_cert.specs.Lines.{line_of};
 ghost use Rattle.rp_cert.specs.Section.{slice_shown};
-ghost use Rattle.rp_follow.specs.Follows.{counted, Follows, IsOfLine, IsNotDue};
+ghost use Rattle.rp_tests.specs.Comes.{counted, Comes};
+ghost use Rattle.rp_follow.specs.Stops.{IsOfLine, IsNotDue};
 ghost use Rattle.rp_follow.specs.Lines.{next_line};
 
 use crate::few::{Few, MOST_FEW, put};
 use crate::kept::keep_halves;
 use crate::lines::split_line;
-use crate::lost::Lost;
 use rp_cert::{Proof, Slice, check_inside, check_outside, check_weak};
 use rp_report::{read_proof, read_slice};
 use rp_space::{Half, joined};
+use rp_tests::Stopped;
 use std::marker::Model;
 
 /// The most tests that a command may count.
@@ -129,11 +130,11 @@ impl<'a> Trail<'a> {
 
     /// A strict test of the cell of `first` followed by `second`, at most 64 half-spaces together: whether the cell has a
     /// point. The next line must show it: it has points that pass as an inside certificate of the cell, or multiples that
-    /// pass as a strict outside one. `Refused` where it tells of a limit, `Wrong` where it is any other line; never `Limit`
-    /// or `Memory`. The test isn't counted.
-    pub fn strict(&mut self, first: &[Half], second: &[Half]) -> Result<bool, Lost>
+    /// pass as a strict outside one. `Told` where it tells of a limit, `Wrong` where it is any other line; never `Limit` or
+    /// `Memory`. Then no line is taken. The test isn't counted.
+    pub fn strict(&mut self, first: &[Half], second: &[Half]) -> Result<bool, Stopped>
         requires { length first.now + length second.now ≤ 64 }
-        ensures follows { Follows (λ found. found) result self.old self.new (follow_strict (first.now ++ second.now)) }
+        ensures comes { Comes (λ found. found) result self.new (follow_strict (first.now ++ second.now) self.old) }
         ensures right { IfOk result (λ found. IsTrue found ↔ IsNonempty (shape_of_cell (first.now ++ second.now))) }
         ensures line { IfErr result IsOfLine }
     {
@@ -148,11 +149,11 @@ impl<'a> Trail<'a> {
 
     /// A weak test of the cell of `first` followed by `second`, at most 64 half-spaces together: whether its weak system
     /// has a point. The next line must show it: it has a point of the weak system, or multiples that pass as a weak outside
-    /// certificate. `Refused` where it tells of a limit, `Wrong` where it is any other line; never `Limit` or `Memory`. The
-    /// test isn't counted.
-    pub fn weak(&mut self, first: &[Half], second: &[Half]) -> Result<bool, Lost>
+    /// certificate. `Told` where it tells of a limit, `Wrong` where it is any other line; never `Limit` or `Memory`. Then no line
+    /// is taken. The test isn't counted.
+    pub fn weak(&mut self, first: &[Half], second: &[Half]) -> Result<bool, Stopped>
         requires { length first.now + length second.now ≤ 64 }
-        ensures follows { Follows (λ found. found) result self.old self.new (follow_weak (first.now ++ second.now)) }
+        ensures comes { Comes (λ found. found) result self.new (follow_weak (first.now ++ second.now) self.old) }
         ensures right { IfOk result (λ found. IsTrue found ↔ ((p : RationalPoint) × IsSolution false (first.now ++ second.now) p)) }
         ensures line { IfErr result IsOfLine }
     {
@@ -166,8 +167,8 @@ impl<'a> Trail<'a> {
     }
 
     /// A strict test of a cell.
-    pub(crate) fn strict_test(&mut self, cell: &[Half]) -> Result<bool, Lost>
-        ensures follows { Follows (λ found. found) result self.old self.new (follow_strict cell.now) }
+    pub(crate) fn strict_test(&mut self, cell: &[Half]) -> Result<bool, Stopped>
+        ensures comes { Comes (λ found. found) result self.new (follow_strict cell.now self.old) }
         ensures right { IfOk result (λ found. IsTrue found ↔ IsNonempty (shape_of_cell cell.now)) }
         ensures line { IfErr result IsOfLine }
     {
@@ -183,8 +184,8 @@ impl<'a> Trail<'a> {
     }
 
     /// A weak test of a cell.
-    pub(crate) fn weak_test(&mut self, cell: &[Half]) -> Result<bool, Lost>
-        ensures follows { Follows (λ found. found) result self.old self.new (follow_weak cell.now) }
+    pub(crate) fn weak_test(&mut self, cell: &[Half]) -> Result<bool, Stopped>
+        ensures comes { Comes (λ found. found) result self.new (follow_weak cell.now self.old) }
         ensures right { IfOk result (λ found. IsTrue found ↔ ((p : RationalPoint) × IsSolution false cell.now p)) }
         ensures line { IfErr result IsOfLine }
     {
@@ -214,28 +215,28 @@ impl<'a> Trail<'a> {
     }
 
     /// Takes the next line, of which there is one, if its certificate passes; else it is wrong.
-    pub(crate) fn take_if<T: Drop>(&mut self, passes: bool, shown: T) -> Result<T, Lost>
+    pub(crate) fn take_if<T: Drop>(&mut self, passes: bool, shown: T) -> Result<T, Stopped>
         requires { 0 < length self.old.lines }
-        ensures follows { Follows (λ x. x) result self.old self.new (taken_if passes shown) }
+        ensures comes { Comes (λ x. x) result self.new (taken_if passes shown self.old) }
         ensures line { IfErr result IsOfLine }
     {
         if !passes {
-            return Err(Lost::Wrong(self.number));
+            return Err(Stopped::Wrong);
         }
         self.take();
         Ok(shown)
     }
 
-    /// Why the test can't be answered, where the next line doesn't fit: it tells of a limit, and is taken, or it is wrong.
-    pub(crate) fn nothing_due(&mut self) -> Lost
-        ensures due { IsNotDue result self.old self.new }
+    /// Why a test can't be answered, where the next line doesn't fit: it tells of a limit, or it is wrong.
+    pub(crate) fn nothing_due(&self) -> Stopped
+        ensures due { IsNotDue result self.now }
         ensures line { IsOfLine result }
     {
-        if !self.tells_limit() {
-            return Lost::Wrong(self.number);
+        if self.tells_limit() {
+            Stopped::Told
+        } else {
+            Stopped::Wrong
         }
-        self.take();
-        Lost::Refused
     }
 
     /// Whether the next line tells of a limit: it is `= refused limit`.

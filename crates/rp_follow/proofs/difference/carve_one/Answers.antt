@@ -13,4 +13,4 @@ returns-in_err-part c =
     let p = err_from_is_err_and c.from_residual-in_err-part.result c.from_residual-in_err-part.ensures.1 in
     rw (p.1, p.2)
     (piece_stops c.args.left.now.items c.args.cell.now c.args.before.now c.args.half.now c.as_slice.result.now c.args.trail.now c.count_test.new.trail c.made.new.trail c.in_err-part.field-0.0
-    (c.as_slice.ensures.value ∙ c.push.ensures.items ∙ (λ i. c.joined-piece.ensures i ++ c.not.ensures i ∷ [])) c.in_ok-count_test.ensures c.in_err-part.ensures.follows)
+    (c.as_slice.ensures.value ∙ c.push.ensures.items ∙ (λ i. c.joined-piece.ensures i ++ c.not.ensures i ∷ [])) c.in_ok-count_test.ensures c.in_err-part.ensures.comes)

@@ -5,7 +5,7 @@ use Rattle.rp_geometry.specs.parts.Parts.{most_parts}
 use Rattle.rp_reports.specs.Check.{line_tester}
 use Rattle.rp_walks.specs.Walk.{◌>>=◌}
 use Rattle.rp_walks.specs.Form.{if_at_most, subtract_part, subtract}
-use Rattle.rp_follow.proofs.Left.{left_as, next_left, stop_left, drop_item}
+use Rattle.rp_tests.proofs.Left.{left_as, next_left, stop_left, drop_item}
 use Rattle.rp_follow.proofs.Steps.{few_pass}
 use Rattle.rp_follow.proofs.difference.subtract.Goals as goal
 

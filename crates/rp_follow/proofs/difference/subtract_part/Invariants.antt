@@ -2,7 +2,7 @@ use Rattle.std.proofs.Common.{[]}
 use Rattle.std.specs.Vec.Iter.{into_iter_items}
 use Rattle.rp_reports.specs.Check.{line_tester}
 use Rattle.rp_walks.specs.Form.{subtract_part}
-use Rattle.rp_follow.proofs.Left.{IsLeft}
+use Rattle.rp_tests.proofs.Left.{IsLeft}
 use Rattle.rp_follow.proofs.difference.subtract_part.Given as goal
 
 -- the parts still to come are left

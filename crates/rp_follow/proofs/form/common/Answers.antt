@@ -5,4 +5,4 @@ use Rattle.rp_follow.proofs.form.common.Goals as goal
 pub returns-clause-right : goal.returns-clause-right
 returns-clause-right c =
     common_right c.args.near c.meet.result c.args.a.now.items c.args.b.now.items c.args.trail.now c.meet.new.trail
-    (subst (λ ps. AreChecked ps) c.items.ensures c.keep_parts.ensures) (subst (λ ps. AreChecked ps) c.items-2.ensures c.keep_parts-2.ensures) c.meet.ensures.follows
+    (subst (λ ps. AreChecked ps) c.items.ensures c.keep_parts.ensures) (subst (λ ps. AreChecked ps) c.items-2.ensures c.keep_parts-2.ensures) c.meet.ensures.comes

@@ -8,4 +8,4 @@ returns-in_err-common c =
     let p = err_from_is_err_and c.from_residual.result c.from_residual.ensures.1 in
     rw (p.1, p.2)
     (pair_stops c.args.form.now.items c.args.part.now c.args.other.now c.as_slice.result.now c.args.trail.now c.made.new.trail c.in_err-common.field-0.0
-    (c.as_slice.ensures.value ∙ c.joined-cell.ensures ∙ (λ i. c.cell.ensures.value i ++ c.cell-2.ensures.value i)) c.in_err-common.ensures.follows)
+    (c.as_slice.ensures.value ∙ c.joined-cell.ensures ∙ (λ i. c.cell.ensures.value i ++ c.cell-2.ensures.value i)) c.in_err-common.ensures.comes)

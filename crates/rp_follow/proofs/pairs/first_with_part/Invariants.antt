@@ -1,7 +1,7 @@
 use Rattle.std.proofs.Common.{drop}
 use Rattle.rp_walks.specs.Form.{first_with_part}
 use Rattle.rp_follow.specs.Pairs.{may_meet_by, test_by, chosen_pair}
-use Rattle.rp_follow.proofs.Left.{IsLeft}
+use Rattle.rp_tests.proofs.Left.{IsLeft}
 use Rattle.rp_follow.proofs.pairs.first_with_part.Given as goal
 
 -- the other parts still to come are left

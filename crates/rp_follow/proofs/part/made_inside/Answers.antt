@@ -7,7 +7,7 @@ use Rattle.rp_geometry.specs.parts.Parts.{most_half_spaces, IsCheckedPart}
 use Rattle.rp_walks.specs.Walk.{done}
 use Rattle.rp_reports.specs.Check.{follow_drops, follow_sides}
 use Rattle.rp_space.specs.Boxes.{integer_box}
-use Rattle.rp_follow.specs.Follows.{StopsBy}
+use Rattle.rp_tests.specs.Comes.{StopsBy}
 use Rattle.rp_follow.proofs.Tested.{boxed, too_many, few_kept, box_followed, sides_stop, sides_followed, made_checked}
 use Rattle.rp_follow.proofs.part.made_inside.Goals as goal
 
@@ -34,7 +34,7 @@ returns-in_err-follow_sides c =
     let drops = ap (λ hs. follow_drops t.lines hs t) (sym (c.joined-kept.ensures ∙ append-nil cell)) ∙ c.follow_drops-next.ensures.value in
     let few = few_kept cell kept t u drops (subst (λ n. n ≤ most_half_spaces) c.len.ensures.value c.if-len-gt-MAX_HALVES.false) in
     rw (p.1, p.2)
-    (sides_stop cell kept b t v x e (box_followed cell kept b t u v few c.in_ok-bounds.ensures.follows)
+    (sides_stop cell kept b t v x e (box_followed cell kept b t u v few c.in_ok-bounds.ensures.comes)
     (subst (λ (hs : List HalfSpace). StopsBy e x (follow_sides hs (box_half_spaces b) v)) c.as_slice-slim.ensures.value c.in_err-follow_sides.ensures))
 
 pub invariant_of-result : goal.invariant_of-result
@@ -48,7 +48,7 @@ invariant_of-result c =
     let b = integer_box c.in_ok-bounds.bounds in
     let drops = ap (λ hs. follow_drops t.lines hs t) (sym (c.joined-kept.ensures ∙ append-nil cell)) ∙ c.follow_drops-next.ensures.value in
     let few = few_kept cell kept t u drops (subst (λ n. n ≤ most_half_spaces) c.len.ensures.value c.if-len-gt-MAX_HALVES.false) in
-    let made = sides_followed cell kept b t v x (box_followed cell kept b t u v few c.in_ok-bounds.ensures.follows) (ap (λ (hs : List HalfSpace). follow_sides hs (box_half_spaces b) v) (sym c.as_slice-slim.ensures.value) ∙ c.in_ok-follow_sides.ensures) in
+    let made = sides_followed cell kept b t v x (box_followed cell kept b t u v few c.in_ok-bounds.ensures.comes) (ap (λ (hs : List HalfSpace). follow_sides hs (box_half_spaces b) v) (sym c.as_slice-slim.ensures.value) ∙ c.in_ok-follow_sides.ensures) in
     subst (λ (hs : List HalfSpace). IsCheckedPart (boxed hs b)) (sym (c.in_ok-halves.ensures ∙ c.as_slice-slim.ensures.value))
     (made_checked cell (boxed kept b) t x c.keep_halves.ensures c.requires.shown made)
 
@@ -63,5 +63,5 @@ returns c =
     let b = integer_box c.in_ok-bounds.bounds in
     let drops = ap (λ hs. follow_drops t.lines hs t) (sym (c.joined-kept.ensures ∙ append-nil cell)) ∙ c.follow_drops-next.ensures.value in
     let few = few_kept cell kept t u drops (subst (λ n. n ≤ most_half_spaces) c.len.ensures.value c.if-len-gt-MAX_HALVES.false) in
-    let made = sides_followed cell kept b t v x (box_followed cell kept b t u v few c.in_ok-bounds.ensures.follows) (ap (λ (hs : List HalfSpace). follow_sides hs (box_half_spaces b) v) (sym c.as_slice-slim.ensures.value) ∙ c.in_ok-follow_sides.ensures) in
+    let made = sides_followed cell kept b t v x (box_followed cell kept b t u v few c.in_ok-bounds.ensures.comes) (ap (λ (hs : List HalfSpace). follow_sides hs (box_half_spaces b) v) (sym c.as_slice-slim.ensures.value) ∙ c.in_ok-follow_sides.ensures) in
     made ∙ ap (λ (hs : List HalfSpace). done (Some (boxed hs b)) x) (sym (c.in_ok-halves.ensures ∙ c.as_slice-slim.ensures.value))

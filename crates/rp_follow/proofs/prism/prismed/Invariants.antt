@@ -3,7 +3,7 @@ use Rattle.rp_geometry.specs.sets.Prism.{edges_of}
 use Rattle.rp_walks.specs.Form.{exchange_edges, prism_form}
 use Rattle.rp_reports.specs.Check.{line_tester}
 use Rattle.rp_space.specs.Corners.{polygon_corners, prism_of}
-use Rattle.rp_follow.proofs.Left.{IsLeft}
+use Rattle.rp_tests.proofs.Left.{IsLeft}
 use Rattle.rp_follow.proofs.prism.prismed.Given as goal
 
 -- the edges still to come are left

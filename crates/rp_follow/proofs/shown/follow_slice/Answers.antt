@@ -8,17 +8,17 @@ use Rattle.rp_cert.specs.Section.{slice_shown}
 use Rattle.rp_follow.proofs.SliceLines.{none_shown, not_passing, line_taken, slice_is_told}
 use Rattle.rp_follow.proofs.shown.follow_slice.Goals as goal
 
-pub returns-in_default-clause-follows : goal.returns-in_default-clause-follows
-returns-in_default-clause-follows c = (none_shown c.args.z c.requires c.args.part.now c.keep_part.ensures c.args.trail.now c.in_default.ensures, c.number.ensures)
+pub returns-in_default-clause-comes : goal.returns-in_default-clause-comes
+returns-in_default-clause-comes c = none_shown c.args.z c.requires c.args.part.now c.keep_part.ensures c.args.trail.now c.in_default.ensures
 
-pub returns-then-not-check_slice-clause-follows : goal.returns-then-not-check_slice-clause-follows
-returns-then-not-check_slice-clause-follows c =
+pub returns-then-not-check_slice-clause-comes : goal.returns-then-not-check_slice-clause-comes
+returns-then-not-check_slice-clause-comes c =
     let s = slice_shown c.in-Some.slice in
     let fails : is_slice c.args.z c.args.part.now.cell s ≡ false = ap (λ (cell : List HalfSpace). is_slice c.args.z cell s) (sym c.cell.ensures.value) ∙ ap (λ z. is_slice z c.cell.result.now s) (sym (to_z-of_z w32 c.args.z c.ranges.z)) ∙ sym c.if-not-check_slice.ensures.value in
-    (not_passing c.args.z c.requires c.args.part.now c.keep_part.ensures c.args.trail.now s c.in-Some.ensures fails, c.number-then-not-check_slice.ensures)
+    not_passing c.args.z c.requires c.args.part.now c.keep_part.ensures c.args.trail.now s c.in-Some.ensures fails
 
-pub returns-clause-follows : goal.returns-clause-follows
-returns-clause-follows c =
+pub returns-clause-comes : goal.returns-clause-comes
+returns-clause-comes c =
     let s = slice_shown c.in-Some.slice in
     let passes : is_slice c.args.z c.args.part.now.cell s ≡ true = ap (λ (cell : List HalfSpace). is_slice c.args.z cell s) (sym c.cell.ensures.value) ∙ ap (λ z. is_slice z c.cell.result.now s) (sym (to_z-of_z w32 c.args.z c.ranges.z)) ∙ sym c.if-not-check_slice.ensures.value in
     line_taken c.args.z c.requires c.args.part.now c.keep_part.ensures c.args.trail.now s c.in-Some.ensures passes ∙ ap (λ t. done tt t) (sym c.take.ensures)

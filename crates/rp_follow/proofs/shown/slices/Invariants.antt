@@ -3,7 +3,7 @@ use Rattle.rp_reports.specs.Check.{slices_told}
 use Rattle.rp_cert.specs.Section.{slice_shown}
 use Rattle.rp_accepted.proofs.Shown.{follow_each}
 use Rattle.rp_follow.specs.Slices.{follow_slice_lines}
-use Rattle.rp_follow.proofs.Left.{IsLeft}
+use Rattle.rp_tests.proofs.Left.{IsLeft}
 use Rattle.rp_follow.proofs.shown.slices.Given as goal
 
 -- the lines of the parts still to come are left, and so are their slices

@@ -14,5 +14,5 @@ returns-in-Some-Bounds-clause-bounds c =
     let bounds = c.in-Some-Bounds.bounds in
     let says : next_proof c.args.trail.now.lines ≡ Some (box_line (integer_box bounds)) = search rules in
     let fits = written_box (integer_box bounds) (next_is_written c.args.trail.now.lines (box_line (integer_box bounds)) says) in
-    right_where (λ b. b) (λ (b : IntBox). is_box_in_bounds (integer_box b) ≡ true) c.take_if.result c.take_if.new.self (taken_if c.is_proper.result bounds c.args.trail.now) c.take_if.ensures.follows
+    right_where (λ b. b) (λ (b : IntBox). is_box_in_bounds (integer_box b) ≡ true) c.take_if.result c.take_if.new.self (taken_if c.is_proper.result bounds c.args.trail.now) c.take_if.ensures.comes
     (taken_right (λ (b : IntBox). is_box_in_bounds (integer_box b) ≡ true) c.is_proper.result bounds c.args.trail.now fits)

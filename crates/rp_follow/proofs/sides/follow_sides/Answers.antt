@@ -5,8 +5,8 @@ use Rattle.std.proofs.Math.ListN.{drop_of_length-le}
 use Rattle.rp_geometry.specs.Geometry.{HalfSpace}
 use Rattle.rp_walks.specs.Walk.{done}
 use Rattle.rp_reports.specs.Check.{follow_side, follow_sides}
-use Rattle.rp_follow.specs.Follows.{StopsBy}
-use Rattle.rp_follow.proofs.Left.{left_as, next_left, stop_left, end_left}
+use Rattle.rp_tests.specs.Comes.{StopsBy}
+use Rattle.rp_tests.proofs.Left.{left_as, next_left, stop_left, end_left}
 use Rattle.rp_follow.proofs.sides.follow_sides.Goals as goal
 
 pub returns-in_err-follow_side : goal.returns-in_err-follow_side

@@ -1,6 +1,6 @@
 use Rattle.std.proofs.Common.{drop}
 use Rattle.rp_reports.specs.Check.{follow_sides}
-use Rattle.rp_follow.proofs.Left.{IsLeft}
+use Rattle.rp_tests.proofs.Left.{IsLeft}
 use Rattle.rp_follow.proofs.sides.follow_sides.Given as goal
 
 -- the sides still to come are left
