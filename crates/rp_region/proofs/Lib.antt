@@ -1,4 +1,5 @@
 pub mod Apart
+pub mod Behind
 pub mod Grows
 pub mod Left
 pub mod PartMade

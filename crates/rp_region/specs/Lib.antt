@@ -1,3 +1,4 @@
 pub mod Makes
 pub mod Pairs
+pub mod Stops
 pub mod Tells

@@ -8,6 +8,7 @@
 //! all pairs or over those alone whose boxes meet; there is none exactly where the regions share no point, or are not
 //! in contact.
 
+mod answers;
 mod count;
 mod difference;
 mod fault;

@@ -13,6 +13,7 @@ ghost use Rattle.rp_cert.specs.Lines.{line_of};
 ghost use Rattle.rp_cell.specs.Lines.{drop_line_of, side_line_of};
 ghost use Rattle.rp_region.specs.Makes.{counted, op_result, telling, Makes};
 ghost use Rattle.rp_region.specs.Pairs.{IsLast};
+ghost use Rattle.rp_region.specs.Stops.{TakesOver};
 
 use crate::fault::OpFault;
 use crate::part::Part;
@@ -22,6 +23,7 @@ use rp_cell::{
 };
 use rp_cert::{Proof, Proofs};
 use rp_space::{Half, Inside, Point, joined};
+use rp_tests::Stopped;
 use std::alloc::{AllocError, Global};
 use std::marker::Model;
 
@@ -114,6 +116,36 @@ impl Work {
         self.proofs.append(other.proofs)?;
         self.tests += other.tests;
         Ok(())
+    }
+
+    /// A work with as many tests counted, and no proof line yet. Takes no memory.
+    pub fn fresh(&self, alloc: Global) -> Work
+        ensures { result ≡ record { tests = self.now.tests; proofs = [] } }
+    {
+        Work {
+            tests: self.tests,
+            proofs: Proofs::new(alloc),
+        }
+    }
+
+    /// What a row has come to on a work that was begun fresh: its count takes the place of the one here, and its proof lines
+    /// are moved behind those here. For want of memory, in the row or here, all is as before.
+    pub fn take_over<A: Drop>(
+        &mut self,
+        walked: Work,
+        came: Result<A, Stopped>,
+    ) -> Result<A, OpFault>
+        ensures { TakesOver came walked result self.old self.new }
+    {
+        if let Err(Stopped::Memory(fault)) = came {
+            return Err(OpFault::Memory(fault));
+        }
+        self.proofs.append(walked.proofs)?;
+        self.tests = walked.tests;
+        match came {
+            Ok(result) => Ok(result),
+            Err(_) => Err(OpFault::Limit),
+        }
     }
 
     /// A strict test of the cell of `first` followed by `second`, at most 64 half-spaces together: the first inside
