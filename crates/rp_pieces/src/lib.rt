@@ -4,7 +4,6 @@
 //! [`pieces`] answers lists of part numbers, each rising and in the order of their first numbers, that are each in one
 //! piece, no two in contact, and together all parts. It makes exactly the tests of the definition.
 
-mod contacts;
 mod region;
 
 pub use region::pieces;

@@ -131,6 +131,22 @@ fn pieces_come_in_the_order_of_their_first_parts(rt: HostRuntime) -> Result<(), 
 }
 
 #[test]
+fn the_lines_of_pieces_stand_behind_those_before(rt: HostRuntime) -> Result<(), Fail> {
+    let mut work = Work::new(rt.alloc());
+    let corner = IntBox {
+        lo: [10, 10, 10],
+        hi: [20, 20, 20],
+    };
+    let first = with_box(rt.alloc(), Region::none(rt.alloc()), &FIRST, &mut work)?;
+    let both = with_box(rt.alloc(), first, &corner, &mut work)?;
+    let made = work.proofs().len();
+    expect_pieces(&rt, &pieces(rt.alloc(), &both, &mut work)?, &[&[1, 2]]);
+    assert_eq!(rt; work.proofs().len(), made + 1);
+    assert!(rt; matches!(work.proofs().last(), Some(Proof::At(_))));
+    Ok(())
+}
+
+#[test]
 fn a_region_without_parts_has_no_piece(rt: HostRuntime) -> Result<(), Fail> {
     let mut work = Work::new(rt.alloc());
     let none = Region::none(rt.alloc());

@@ -1,31 +1,24 @@
--- What is left of a region outside another one tells whether it is within it; when a region has no point; and how two regions stand.
-use Rattle.std.proofs.Common.{◌≡◌, true, false, Bool, List, [], ◌∷◌, length, sym, ap, ◌∙◌, subst, arith}
+-- When a region has no point, and what rows of comparisons come to means.
+use Rattle.std.proofs.Common.{◌≡◌, true, false, Bool, List, [], ◌∷◌, length, refl, sym, ap, ◌∙◌, subst, arith}
 use Rattle.std.specs.Prelude.{suc, ◌↔◌, ◌==◌, IsTrue, Result, Ok, Err, IfOk}
 use Rattle.std.proofs.lemmas.Bool.{eqb-true}
 use Rattle.rp_geometry.specs.sets.Shape.{Shape, Part, shape_of_parts}
-use Rattle.rp_geometry.specs.sets.Sets.{IsEmpty, IsWithin, SameMembers}
-use Rattle.rp_geometry.specs.sets.Sets.{IsNonempty}
+use Rattle.rp_geometry.specs.sets.Sets.{IsNonempty, IsEmpty, IsWithin, SameMembers}
 use Rattle.rp_geometry.specs.parts.Parts.{IsPart, IsRegion}
-use Rattle.rp_geometry.proofs.SameMembers.{same_itself, within_of_rest, rest_of_within}
-use Rattle.rp_forms.proofs.Cover.{empty_of_none, nonempty_of_some}
+use Rattle.rp_geometry.proofs.SameMembers.{same_itself}
+use Rattle.rp_forms.proofs.Cover.{empty_of_none, nonempty_of_some, show_told, cover_is_right_spec}
 use Rattle.rp_forms.proofs.Whole.{part_is_checked}
 use Rattle.rp_region.specs.declared.fault.OpFault.{OpFault}
 use Rattle.rp_region.specs.declared.fault.OpFault.TheVariants.{Limit, Memory}
 use Rattle.rp_geometry.specs.sets.Relation.{Relation, StandIn}
-use Rattle.rp_walks.specs.Walk.{Outcome, done, Work, first_tester}
-use Rattle.rp_walks.specs.Compare.{relation_of_parts}
+use Rattle.rp_walks.specs.Walk.{Outcome, done, Walk, Work, pass, first_tester}
+use Rattle.rp_walks.specs.Compare.{show_then_no, is_covered, relation_of_parts}
 use Rattle.rp_walks.specs.FormLaws.{IfDone}
 use Rattle.rp_forms.proofs.First.{first_tester_is_right_spec}
 use Rattle.rp_forms.proofs.Relations.{relation_is_right_spec}
-use Rattle.rp_relate.specs.Relations.{fault_of_relation, TellsEmpty}
-
--- the left part is empty exactly where the first shape is within the second
-pub within_where : (s t left : Shape) → SameMembers left (Shape.difference s t) → (r : Result Bool OpFault) → IfOk r (λ is_so. IsTrue is_so ↔ IsEmpty left) → IfOk r (λ is_so. IsTrue is_so ↔ IsWithin s t)
-within_where s t left m (Ok b) h = (
-  λ e. within_of_rest s t (λ p k. h.0 e p (m.1 p k)),
-  λ i. h.1 (λ p k. rest_of_within s t i p (m.0 p k)),
-)
-within_where s t left m (Err e) h = tt
+use Rattle.rp_forms.proofs.Walks.{if_done_map, then_done}
+use Rattle.rp_region.specs.Makes.{Makes}
+use Rattle.rp_relate.specs.Relations.{fault_of_relation, cover_each_other, TellsEmpty}
 
 -- a region without parts has no point
 pub no_point : IsEmpty (shape_of_parts [])
@@ -61,3 +54,37 @@ pub found_right : (ps qs : List Part) (r : Relation) (w v : Work) → IsRegion p
     → StandIn r (shape_of_parts ps) (shape_of_parts qs)
 found_right ps qs r w v hp hq np nq e =
     subst (λ (o : Outcome Work Relation). IfDone o (λ r. StandIn r (shape_of_parts ps) (shape_of_parts qs))) e (relation_is_right_spec IsPart first_tester first_tester_is_right_spec ps qs hp hq np nq w)
+
+-- ---- what is true of what a walk comes to
+
+-- it is true of the result of the call that made the walk
+pub made_right : {A : Type 0} (P : A → Type 0) (walk : Walk Work A) (r : Result A OpFault) (w v : Work) → Makes (λ x. x) r w v walk → IfDone (walk w) P → IfOk r P
+made_right P walk (Ok x) w v m h = subst (λ o. IfDone o P) m h
+made_right P walk (Err e) w v m h = tt
+
+-- whether a list is empty
+pub empty_right : (ps : List Part) (w : Work) → IsRegion ps → IfDone (show_then_no first_tester ps w) (λ is_so. IsTrue is_so ↔ IsEmpty (shape_of_parts ps))
+empty_right ps w k = show_told IsPart first_tester first_tester_is_right_spec (shape_of_parts ps) ps (record { all = k; members = same_itself (shape_of_parts ps) }) w
+
+-- whether a list is within another
+pub within_right : (ps qs : List Part) (w : Work) → IsRegion ps → IsRegion qs → IfDone (is_covered first_tester ps qs w) (λ is_so. IsTrue is_so ↔ IsWithin (shape_of_parts ps) (shape_of_parts qs))
+within_right ps qs w hp hq = cover_is_right_spec IsPart first_tester first_tester_is_right_spec ps qs hp hq w
+
+-- whether two lists have the same members
+pub equal_right : (ps qs : List Part) (w : Work) → IsRegion ps → IsRegion qs → IfDone (cover_each_other ps qs w) (λ is_so. IsTrue is_so ↔ SameMembers (shape_of_parts ps) (shape_of_parts qs))
+equal_right ps qs w hp hq =
+    then_done (λ is_so. IsTrue is_so ↔ IsWithin s t) (λ is_so. IsTrue is_so ↔ SameMembers s t) second by_there (is_covered first_tester ps qs w) (within_right ps qs w hp hq)
+  where
+    s : Shape
+    s = shape_of_parts ps
+
+    t : Shape
+    t = shape_of_parts qs
+
+    second : Bool → Walk Work Bool
+    second there = elim there as (λ _. Walk Work Bool) [ false ↦ pass false | true ↦ is_covered first_tester qs ps ]
+
+    by_there : (there : Bool) → (IsTrue there ↔ IsWithin s t) → (v : Work) → IfDone (second there v) (λ is_so. IsTrue is_so ↔ SameMembers s t)
+    by_there false h v = (λ e. absurd (cc), λ same. h.1 same.0)
+    by_there true h v =
+        if_done_map (λ is_so. IsTrue is_so ↔ IsWithin t s) (λ is_so. IsTrue is_so ↔ SameMembers s t) (λ is_so g. (λ e. (h.0 refl, g.0 e), λ same. g.1 same.1)) (is_covered first_tester qs ps v) (within_right qs ps v hq hp)

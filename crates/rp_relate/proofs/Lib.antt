@@ -1,2 +1,2 @@
-pub mod Steps
-mod Covered
+pub mod Covered
+pub mod Taken

@@ -3,26 +3,14 @@ use Rattle.std.specs.Prelude.{◌≡◌, ℕ, ◌==◌, true, false, Bool, List,
 use Rattle.rp_geometry.specs.sets.Shape.{Shape, Part}
 use Rattle.rp_geometry.specs.sets.Sets.{IsNonempty, IsEmpty}
 use Rattle.rp_geometry.specs.sets.Relation.{Relation}
-use Rattle.rp_walks.specs.Walk.{done, stopped, limit_met, Walk, Work, pass, ◌>>=◌, first_tester}
-use Rattle.rp_walks.specs.Compare.{is_covered}
+use Rattle.rp_walks.specs.Walk.{done, stopped, limit_met, Walk, Work, first_tester}
 use Rattle.rp_region.specs.declared.fault.OpFault.{OpFault}
 use Rattle.rp_region.specs.declared.fault.OpFault.TheVariants.{Limit as OpLimit, Memory as OpMemory}
 use Rattle.rp_region.specs.Makes.{IsCutShort}
-use Rattle.rp_relate.specs.declared.relation.Rcc8.{Rcc8}
-use Rattle.rp_relate.specs.declared.relation.Rcc8.TheVariants.{DC, EC, PO, EQ, TPP, NTPP, TPPi, NTPPi}
+use Rattle.rp_once.specs.declared.compare.Rcc8.{Rcc8}
+use Rattle.rp_once.specs.Relations.{relation_of, cover_each_other as each_other}
 use Rattle.rp_relate.specs.declared.relation.RccFault.{RccFault}
 use Rattle.rp_relate.specs.declared.relation.RccFault.TheVariants.{EmptyRegion, Limit, Memory}
-
--- the relation of the model
-abbrev pub relation_of : Rcc8 → Relation
-relation_of DC = Relation.DC
-relation_of EC = Relation.EC
-relation_of PO = Relation.PO
-relation_of EQ = Relation.EQ
-relation_of TPP = Relation.TPP
-relation_of NTPP = Relation.NTPP
-relation_of TPPi = Relation.TPPi
-relation_of NTPPi = Relation.NTPPi
 
 -- a fault of an operation, as one of a relation
 abbrev pub fault_of_relation : OpFault → RccFault
@@ -31,9 +19,7 @@ fault_of_relation (OpMemory e) = Memory e
 
 -- whether each list is within the other; where the first is not, the second is not asked
 abbrev pub cover_each_other : List Part → List Part → Walk Work Bool
-cover_each_other ps qs = do
-  there ← is_covered first_tester ps qs
-  elim there [ false ↦ pass false | true ↦ is_covered first_tester qs ps ]
+cover_each_other ps qs = each_other first_tester ps qs
 
 -- which of two lists is the first without a part
 abbrev pub first_empty : List Part → List Part → Option ℕ

@@ -16,13 +16,11 @@ pub fn is_empty(alloc: Global, region: &Region, work: &mut Work) -> Result<bool,
     ensures makes { Makes (λ is_so. is_so) result work.old work.new (show_then_no first_tester region.now) }
     ensures right { IfOk result (λ is_so. IsTrue is_so ↔ IsEmpty (shape_of_parts region.now)) }
 {
-    match region.parts() {
-        [] => Ok(true),
-        [first, ..] => {
-            work.strict(alloc, first.halves(), &[])?;
-            Ok(false)
-        }
-    }
+    // Only for what `parts` ensures, that the parts are those of a region.
+    let _ = region.parts();
+    let mut walked = work.fresh(alloc);
+    let is_so = rp_once::is_empty(alloc, region, &mut walked);
+    work.take_over(walked, is_so)
 }
 
 /// Whether every point of the first region is one of the second: nothing is left of the first outside the second. `Limit`
@@ -31,8 +29,12 @@ pub fn within(alloc: Global, a: &Region, b: &Region, work: &mut Work) -> Result<
     ensures makes { Makes (λ is_so. is_so) result work.old work.new (is_covered first_tester a.now b.now) }
     ensures right { IfOk result (λ is_so. IsTrue is_so ↔ IsWithin (shape_of_parts a.now) (shape_of_parts b.now)) }
 {
-    let left = a.minus(alloc, b, work)?;
-    is_empty(alloc, &left, work)
+    // Only for what `parts` ensures, that the parts are those of a region.
+    let _ = a.parts();
+    let _ = b.parts();
+    let mut walked = work.fresh(alloc);
+    let is_so = rp_once::within(alloc, a, b, &mut walked);
+    work.take_over(walked, is_so)
 }
 
 /// Whether two regions have the same points: each is within the other. `Limit` comes exactly where it comes for the first
@@ -41,8 +43,10 @@ pub fn equal(alloc: Global, a: &Region, b: &Region, work: &mut Work) -> Result<b
     ensures makes { Makes (λ is_so. is_so) result work.old work.new (cover_each_other a.now b.now) }
     ensures right { IfOk result (λ is_so. IsTrue is_so ↔ SameMembers (shape_of_parts a.now) (shape_of_parts b.now)) }
 {
-    if !within(alloc, a, b, work)? {
-        return Ok(false);
-    }
-    within(alloc, b, a, work)
+    // Only for what `parts` ensures, that the parts are those of a region.
+    let _ = a.parts();
+    let _ = b.parts();
+    let mut walked = work.fresh(alloc);
+    let is_so = rp_once::equal(alloc, a, b, &mut walked);
+    work.take_over(walked, is_so)
 }

@@ -11,7 +11,8 @@ mod relation;
 
 pub use cover::{equal, is_empty, within};
 pub use meeting::{contact, overlap};
-pub use relation::{Rcc8, RccFault, rcc};
+pub use relation::{RccFault, rcc};
+pub use rp_once::Rcc8;
 
 #[cfg(test)]
 mod tests;

@@ -1,37 +1,17 @@
 //! The eight relations of the region connection calculus (Randell, Cui and Cohn).
-ghost use Rattle.std.specs.Prelude.{◌≡◌, true, false, Err, IsNone, IfSome, IfOk};
+ghost use Rattle.std.specs.Prelude.{◌≡◌, Err, IsNone, IfSome, IfOk};
 ghost use Rattle.rp_geometry.specs.sets.Shape.{shape_of_parts};
 ghost use Rattle.rp_geometry.specs.sets.Relation.{StandIn};
 ghost use Rattle.rp_walks.specs.Walk.{first_tester};
-ghost use Rattle.rp_walks.specs.Compare.{touches_outside, relation_by_rests, relation_by_overlap, relation_of_parts};
+ghost use Rattle.rp_walks.specs.Compare.{relation_of_parts};
 ghost use Rattle.rp_region.specs.Makes.{Makes};
-ghost use Rattle.rp_relate.specs.Relations.{relation_of, first_empty, MakesRelation, TellsEmpty};
+ghost use Rattle.rp_once.specs.Relations.{relation_of};
+ghost use Rattle.rp_relate.specs.Relations.{first_empty, MakesRelation, TellsEmpty};
 
-use crate::meeting::{contact, overlap};
+use rp_once::Rcc8;
 use rp_region::{OpFault, Region, Work};
 use std::alloc::{AllocError, Global};
 use thiserror::Error;
-
-/// In which of the eight relations a first region stands to a second one.
-#[derive(Clone, Copy, Debug, PartialEq, Eq)]
-pub enum Rcc8 {
-    /// They are not in contact.
-    DC,
-    /// They are in contact and share no point.
-    EC,
-    /// They share a point, and neither is within the other.
-    PO,
-    /// They have the same points.
-    EQ,
-    /// The first is a proper part of the second, and some region is in contact with both and shares a point with neither.
-    TPP,
-    /// The first is a proper part of the second, and no region is in contact with both and shares a point with neither.
-    NTPP,
-    /// `TPP` with the sides exchanged.
-    TPPi,
-    /// `NTPP` with the sides exchanged.
-    NTPPi,
-}
 
 /// Why two regions stand in no relation that is told.
 #[derive(Clone, Copy, Debug, PartialEq, Eq, Drop, Error)]
@@ -87,72 +67,7 @@ pub fn rcc(alloc: Global, a: &Region, b: &Region, work: &mut Work) -> Result<Rcc
 fn found_relation(alloc: Global, a: &Region, b: &Region, work: &mut Work) -> Result<Rcc8, OpFault>
     ensures { Makes relation_of result work.old work.new (relation_of_parts first_tester a.now b.now) }
 {
-    if overlap(alloc, a, b, work)? {
-        relation_together(alloc, a, b, work)
-    } else {
-        relation_apart(alloc, a, b, work)
-    }
-}
-
-/// The relation of two regions without a common point.
-fn relation_apart(alloc: Global, a: &Region, b: &Region, work: &mut Work) -> Result<Rcc8, OpFault>
-    ensures { Makes relation_of result work.old work.new (relation_by_overlap first_tester a.now b.now false) }
-{
-    let touches = contact(alloc, a, b, work)?;
-    Ok(if touches { Rcc8::EC } else { Rcc8::DC })
-}
-
-/// The relation of two regions with a common point, by what is left of each outside the other.
-fn relation_together(
-    alloc: Global,
-    a: &Region,
-    b: &Region,
-    work: &mut Work,
-) -> Result<Rcc8, OpFault>
-    ensures { Makes relation_of result work.old work.new (relation_by_overlap first_tester a.now b.now true) }
-{
-    let first_alone = a.minus(alloc, b, work)?;
-    let second_alone = b.minus(alloc, a, work)?;
-    relation_by_rests(alloc, a, b, &first_alone, &second_alone, work)
-}
-
-/// The relation of two regions with a common point, of each of which this is left outside the other.
-fn relation_by_rests(
-    alloc: Global,
-    a: &Region,
-    b: &Region,
-    first_alone: &Region,
-    second_alone: &Region,
-    work: &mut Work,
-) -> Result<Rcc8, OpFault>
-    ensures { Makes relation_of result work.old work.new (relation_by_rests first_tester a.now b.now first_alone.now second_alone.now) }
-{
-    match (
-        first_alone.parts().is_empty(),
-        second_alone.parts().is_empty(),
-    ) {
-        (true, true) => Ok(Rcc8::EQ),
-        (true, false) => {
-            let touches = touches_outside(alloc, a, b, work)?;
-            Ok(if touches { Rcc8::TPP } else { Rcc8::NTPP })
-        }
-        (false, true) => {
-            let touches = touches_outside(alloc, b, a, work)?;
-            Ok(if touches { Rcc8::TPPi } else { Rcc8::NTPPi })
-        }
-        (false, false) => Ok(Rcc8::PO),
-    }
-}
-
-/// Whether a part is in contact with the outside of its whole.
-fn touches_outside(
-    alloc: Global,
-    part: &Region,
-    whole: &Region,
-    work: &mut Work,
-) -> Result<bool, OpFault>
-    ensures { Makes (λ is_so. is_so) result work.old work.new (touches_outside first_tester part.now whole.now) }
-{
-    let outside = whole.outside(alloc, work)?;
-    contact(alloc, part, &outside, work)
+    let mut walked = work.fresh(alloc);
+    let relation = rp_once::found_relation(alloc, a, b, &mut walked);
+    work.take_over(walked, relation)
 }
