@@ -10,9 +10,9 @@ use Rattle.rp_model.specs.commands.Verdict.{unknown}
 use Rattle.rp_model.specs.commands.Row.{Reply as ModelReply, refusal, check, FormedChild, form_children, row_subdivide, row}
 use Rattle.rp_states.proofs.Plain.{images_twice}
 use Rattle.rp_reports.specs.Check.{Trail, line_tester}
-use Rattle.rp_follow.specs.declared.lost.Lost.{Lost}
-use Rattle.rp_follow.specs.Follows.{StopsBy}
-use Rattle.rp_follow.proofs.Left.{stops_on}
+use Rattle.rp_tests.specs.declared.stopped.Stopped.{Stopped}
+use Rattle.rp_tests.specs.Comes.{StopsBy}
+use Rattle.rp_tests.proofs.Left.{stops_on}
 use Rattle.rp_syntax.specs.declared.command.Expr.{Expr}
 use Rattle.rp_syntax.specs.Views.{child_of}
 use Rattle.rp_register.specs.declared.reply.Reply.{Reply}
@@ -45,7 +45,7 @@ pub shape_missing : (s : PlainState) (x y : Label) (entries : List (Label × Exp
 shape_missing s x y entries t e = row_is s x entries (Some y) t e
 
 -- where the forms stop, so does the row
-pub children_stop : (s : PlainState) (x : Label) (entries : List (Label × Expr)) (old new : Trail) (e : Lost) → None ≡ first_unknown_among (parts_in s) (shapes_of entries)
+pub children_stop : (s : PlainState) (x : Label) (entries : List (Label × Expr)) (old new : Trail) (e : Stopped) → None ≡ first_unknown_among (parts_in s) (shapes_of entries)
     → StopsBy e new (form_children line_tester (parts_in s) [] (map child_of entries) old) → StopsBy e new (row line_tester s (subdivide x (map child_of entries)) old)
 children_stop s x entries old new e none h =
     subst (StopsBy e new) (sym (row_is s x entries None old none))

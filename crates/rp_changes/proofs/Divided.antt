@@ -11,7 +11,7 @@ use Rattle.rp_model.specs.commands.Verdict.{Refusal, empty_side, gap}
 use Rattle.rp_model.specs.commands.Checks.{refuse_if, and_then, check_cut, check_subdivide}
 use Rattle.rp_model.specs.commands.Row.{Reply, FormedChild, accepted, check, check_size, new_lot, parts_with_id, joined_parts, child_parts, count_among, first_empty_child, first_outside_child, first_overlapping_children, row_cut, row_subdivide}
 use Rattle.rp_reports.specs.Check.{Trail, follow_count, line_tester}
-use Rattle.rp_follow.proofs.Left.{IsLeft, all_left, left_as, next_left}
+use Rattle.rp_tests.proofs.Left.{IsLeft, all_left, left_as, next_left}
 
 -- the parts of the live lot at a place are those with its id
 pub parts_here : (x : Label) (s : PlainState) (k : ℕ) (ps : List Part) → slice_get s.lots k ≡ live_lot x s.lots → option_map (λ l. l.parts) (slice_get s.lots k) ≡ Some ps → ps ≡ parts_with_id s x

@@ -13,7 +13,7 @@ use Rattle.rp_nearby.specs.declared.near.Reach.TheVariants.{Overlap}
 use Rattle.rp_nearby.specs.Near.{others_in, is_near, pairs_with}
 use Rattle.rp_nearby.proofs.Skipped.{search_near, others_all}
 use Rattle.rp_reports.specs.Check.{Trail, follow_count, line_tester}
-use Rattle.rp_follow.proofs.Left.{IsLeft, all_left, left_as, next_left}
+use Rattle.rp_tests.proofs.Left.{IsLeft, all_left, left_as, next_left}
 
 -- how many pairs are counted
 abbrev pub present_pairs : PlainState → List Part → Walk Trail (Unit {0})

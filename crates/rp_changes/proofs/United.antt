@@ -1,20 +1,19 @@
 -- The parts of several lots one after the other, and the row of a consolidation.
-use Rattle.std.proofs.Common.{◌≡◌, ◌+◌, ◌<◌, ◌≤◌, Bool, true, false, List, [], ◌∷◌, ◌++◌, map, length, Some, None, refl, sym, ap, ◌∙◌, subst, append_assoc, append-nil, arith}
+use Rattle.std.proofs.Common.{◌≡◌, ◌+◌, ◌<◌, ◌≤◌, Bool, true, false, List, [], ◌∷◌, ◌++◌, map, length, Option, Some, None, IfSome, refl, sym, ap, ◌∙◌, subst, append_assoc, append-nil, arith}
 use Rattle.std.specs.Prelude.{nat_le}
 use Rattle.std.proofs.lemmas.List.{length-append}
 use Rattle.rp_geometry.specs.sets.Shape.{Part}
 use Rattle.rp_geometry.specs.parts.Parts.{most_parts}
 use Rattle.rp_language.specs.Name.{Label}
-use Rattle.rp_walks.specs.Walk.{Outcome, done, stopped, limit_met, limit_told, line_wrong, Walk, pass, stop, ◌>>◌}
+use Rattle.rp_walks.specs.Walk.{Stop, Outcome, done, stopped, limit_met, Walk, pass, stop, ◌>>◌}
 use Rattle.rp_walks.specs.Form.{if_at_most, parts_or_none}
 use Rattle.rp_model.specs.states.State.{PlainState, parts_of_lot, live_lot, parts_under_lots, layer_of_first, lots_replaced, most_kept_parts}
 use Rattle.rp_model.specs.commands.Checks.{check_consolidate}
 use Rattle.rp_model.specs.commands.Row.{Reply, accepted, check, check_size, new_lot, parts_with_id, joined_parts, row_consolidate}
 use Rattle.rp_reports.specs.Check.{Trail}
-use Rattle.rp_follow.specs.declared.lost.Lost.{Lost}
-use Rattle.rp_follow.specs.declared.lost.Lost.TheVariants.{Wrong, Refused, Limit, Memory}
-use Rattle.rp_follow.specs.Follows.{StopsBy}
-use Rattle.rp_follow.proofs.Left.{IsLeft, all_left, left_as, next_left, stop_left}
+use Rattle.rp_tests.specs.declared.stopped.Stopped.{Stopped}
+use Rattle.rp_tests.specs.Comes.{stop_of, StopsBy}
+use Rattle.rp_tests.proofs.Left.{IsLeft, all_left, left_as, next_left, stops_on, stop_left}
 
 -- a trail of no lines
 abbrev pub no_trail : Trail
@@ -55,21 +54,19 @@ at_most_made xs ys t e = by (nat_le (length xs) most_parts) refl e
     by false f g = absurd (cc)
 
 -- nothing stops where a list passes
-passes_on : {A : Type 0} (e : Lost) (xs : List Part) (t : Trail) (o : Outcome Trail A) → StopsBy e t (at_most_by xs true t) → StopsBy e t o
-passes_on (Wrong n) xs t o h = let f : at_most_by xs true t ≡ stopped line_wrong t = h.0 in absurd (cc)
-passes_on Refused xs t o h = let f : at_most_by xs true t ≡ stopped limit_told h.at = h.stops in absurd (cc)
-passes_on Limit xs t o h = let f : at_most_by xs true t ≡ stopped limit_met t = h in absurd (cc)
-passes_on (Memory e) xs t o h = tt
+passes_on : {A : Type 0} (e : Stopped) (xs : List Part) (t : Trail) (o : Outcome Trail A) → StopsBy e t (at_most_by xs true t) → StopsBy e t o
+passes_on e xs t o h = by (stop_of e) h
+  where
+    by : (s : Option Stop) → IfSome s (λ (why : Stop). at_most_by xs true t ≡ stopped why t) → IfSome s (λ (why : Stop). o ≡ stopped why t)
+    by None k = tt
+    by (Some why) k = absurd (cc)
 
 -- a list that does not pass stops at a limit, as its size does
-size_of_stopped : (e : Lost) (xs : List Part) (t : Trail) → StopsBy e t (at_most_by xs false t) → StopsBy e t (size_by false t)
-size_of_stopped (Wrong n) xs t h = let f : at_most_by xs false t ≡ stopped line_wrong t = h.0 in absurd (cc)
-size_of_stopped Refused xs t h = let f : at_most_by xs false t ≡ stopped limit_told h.at = h.stops in absurd (cc)
-size_of_stopped Limit xs t h = refl
-size_of_stopped (Memory e) xs t h = tt
+size_of_stopped : (e : Stopped) (xs : List Part) (t : Trail) → StopsBy e t (at_most_by xs false t) → StopsBy e t (size_by false t)
+size_of_stopped e xs t h = stops_on (λ _. pass tt) e t (at_most_by xs false t) h
 
 -- where a list is too long, so is a longer one
-pub longer_stops : (e : Lost) (xs ys : List Part) (t : Trail) → StopsBy e t (if_at_most most_parts xs t) → StopsBy e t (if_at_most most_parts (xs ++ ys) t)
+pub longer_stops : (e : Stopped) (xs ys : List Part) (t : Trail) → StopsBy e t (if_at_most most_parts xs t) → StopsBy e t (if_at_most most_parts (xs ++ ys) t)
 longer_stops e xs ys t h = by (nat_le (length xs) most_parts) (nat_le (length (xs ++ ys)) most_parts) refl refl h
   where
     by : (b c : Bool) → nat_le (length xs) most_parts ≡ b → nat_le (length (xs ++ ys)) most_parts ≡ c → StopsBy e t (at_most_by xs b t) → StopsBy e t (at_most_by (xs ++ ys) c t)
@@ -78,7 +75,7 @@ longer_stops e xs ys t h = by (nat_le (length xs) most_parts) (nat_le (length (x
     by false false f g k = k
 
 -- and so is its size
-pub size_stops : (e : Lost) (xs : List Part) (t : Trail) → StopsBy e t (if_at_most most_parts xs t) → StopsBy e t (check_size (length xs) most_parts t)
+pub size_stops : (e : Stopped) (xs : List Part) (t : Trail) → StopsBy e t (if_at_most most_parts xs t) → StopsBy e t (check_size (length xs) most_parts t)
 size_stops e xs t h = by (nat_le (length xs) most_parts) h
   where
     by : (b : Bool) → StopsBy e t (at_most_by xs b t) → StopsBy e t (size_by b t)
@@ -129,7 +126,7 @@ unites_none s made x rest xs whole h e f = record {
 }
 
 -- the parts of one more id are too many
-pub unites_stops : (s : PlainState) (made ps : List Part) (x : Label) (rest xs whole : List Label) → IsUniting s made rest whole → rest ≡ x ∷ xs → parts_with_id s x ≡ ps → (e : Lost) (t : Trail) → StopsBy e t (if_at_most most_parts (made ++ ps) t) → StopsBy e t (if_at_most most_parts (joined_of s whole) t)
+pub unites_stops : (s : PlainState) (made ps : List Part) (x : Label) (rest xs whole : List Label) → IsUniting s made rest whole → rest ≡ x ∷ xs → parts_with_id s x ≡ ps → (e : Stopped) (t : Trail) → StopsBy e t (if_at_most most_parts (made ++ ps) t) → StopsBy e t (if_at_most most_parts (joined_of s whole) t)
 unites_stops s made ps x rest xs whole h e f l t g =
     subst (λ (qs : List Part). StopsBy l t (if_at_most most_parts qs t))
     (append_assoc made ps (joined_of s xs) ∙ ap (λ (qs : List Part). made ++ (qs ++ joined_of s xs)) (sym f) ∙ ap (λ (ids : List Label). made ++ joined_of s ids) (sym e) ∙ h.all)
@@ -162,5 +159,5 @@ parts_are_few s x ids ps t e f =
     (next_left (check_size (length (joined_of s ids)) most_parts) (λ _. check_size (parts_under_lots s.lots + length (joined_of s ids)) most_kept_parts >> pass (united_lot s x ids (joined_of s ids))) (checks_passed s x ids t e) (size_passes (joined_of s ids) ps t f))
 
 -- there are too many
-pub parts_are_many : (s : PlainState) (x : Label) (ids : List Label) (t : Trail) (l : Lost) → check_consolidate s x ids ≡ None → StopsBy l t (if_at_most most_parts (joined_of s ids) t) → StopsBy l t (row_consolidate s x ids t)
+pub parts_are_many : (s : PlainState) (x : Label) (ids : List Label) (t : Trail) (l : Stopped) → check_consolidate s x ids ≡ None → StopsBy l t (if_at_most most_parts (joined_of s ids) t) → StopsBy l t (row_consolidate s x ids t)
 parts_are_many s x ids t l e f = stop_left (check_size (length (joined_of s ids)) most_parts) (λ _. check_size (parts_under_lots s.lots + length (joined_of s ids)) most_kept_parts >> pass (united_lot s x ids (joined_of s ids))) (checks_passed s x ids t e) l t (size_stops l (joined_of s ids) t f)

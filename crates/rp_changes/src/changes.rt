@@ -4,15 +4,16 @@ ghost use Rattle.rp_geometry.specs.parts.Parts.{most_parts};
 ghost use Rattle.rp_walks.specs.Form.{if_at_most};
 ghost use Rattle.rp_model.specs.commands.Row.{row_define, row_consolidate, row_retire, parts_with_id, joined_parts};
 ghost use Rattle.rp_reports.specs.Check.{Trail};
-ghost use Rattle.rp_follow.specs.Follows.{Follows};
+ghost use Rattle.rp_tests.specs.Comes.{Comes};
 ghost use Rattle.rp_register.specs.Replies.{Replies};
 
 use crate::checks::{check_consolidate, check_room, live_place};
-use rp_follow::{Form, Lost};
+use rp_follow::Form;
 use rp_history::Birth;
 use rp_register::{Born, Change, Register, Reply, RowEnd};
 use rp_report::Refusal;
 use rp_space::{Listed, Name, Names};
+use rp_tests::Stopped;
 use std::alloc::{AllocError, Global};
 
 /// The most parts of a form.
@@ -26,7 +27,7 @@ pub(crate) fn define(register: &Register, name: Name, form: Form) -> Result<Repl
         return Err(RowEnd::Refused(Refusal::Known(name)));
     }
     if !register.has_room_for_name(&form) {
-        return Err(RowEnd::Lost(Lost::Limit));
+        return Err(RowEnd::Stopped(Stopped::Limit));
     }
     Ok(Reply::Changed(Change::Named(name, form)))
 }
@@ -66,8 +67,8 @@ pub fn consolidate(
 }
 
 /// The parts of some live lots, in the order given. `Limit` exactly where these are more than 1,024.
-fn united(alloc: Global, register: &Register, ids: &[Name]) -> Result<Form, Lost>
-    ensures { (t : Trail) → Follows (λ form. form.items) result t t (if_at_most most_parts (joined_parts (map (λ x. parts_with_id register.now x) ids.now))) }
+fn united(alloc: Global, register: &Register, ids: &[Name]) -> Result<Form, Stopped>
+    ensures { (t : Trail) → Comes (λ form. form.items) result t (if_at_most most_parts (joined_parts (map (λ x. parts_with_id register.now x) ids.now)) t) }
 {
     let mut form = Form::new(alloc);
     for id in ids {
@@ -79,12 +80,12 @@ fn united(alloc: Global, register: &Register, ids: &[Name]) -> Result<Form, Lost
 }
 
 /// Puts the parts of a form behind those of another. `Limit` exactly where these are more than 1,024 then.
-fn append_copy(alloc: Global, form: &mut Form, more: &Form) -> Result<(), Lost>
+fn append_copy(alloc: Global, form: &mut Form, more: &Form) -> Result<(), Stopped>
     requires { length form.old.items ≤ most_parts }
-    ensures { (t : Trail) → Follows (λ _. form.new.items) result t t (if_at_most most_parts (form.old.items ++ more.now.items)) }
+    ensures { (t : Trail) → Comes (λ _. form.new.items) result t (if_at_most most_parts (form.old.items ++ more.now.items) t) }
 {
     if more.items().len() > MAX_PARTS - form.items().len() {
-        return Err(Lost::Limit);
+        return Err(Stopped::Limit);
     }
     append_parts(alloc, form, more)?;
     Ok(())

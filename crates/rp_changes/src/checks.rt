@@ -6,14 +6,15 @@ ghost use Rattle.rp_model.specs.commands.Verdict.{known, unknown, repeated, empt
 ghost use Rattle.rp_model.specs.commands.Checks.{refuse_if, and_then, check_new, check_live, check_each, check_repeated, check_cut, check_subdivide, check_layer, check_consolidate};
 ghost use Rattle.rp_model.specs.commands.Row.{check_size};
 ghost use Rattle.rp_reports.specs.Check.{Trail};
-ghost use Rattle.rp_follow.specs.Follows.{Follows};
+ghost use Rattle.rp_tests.specs.Comes.{Comes};
 ghost use Rattle.rp_changes.specs.Checks.{Checks};
 
 use indexmap::IndexSet;
-use rp_follow::{Form, Lost};
+use rp_follow::Form;
 use rp_register::{Register, RowEnd};
 use rp_report::Refusal;
 use rp_space::Name;
+use rp_tests::Stopped;
 use std::alloc::{AllocError, Global};
 
 /// `Known(id)` exactly where the id was ever registered.
@@ -193,11 +194,11 @@ fn check_layers(register: &Register, ids: &[Name], layer: &Name) -> Result<(), R
 }
 
 /// `Limit` exactly where all lots together would keep more than 65,536 parts with so many more.
-pub(crate) fn check_room(register: &Register, parts: usize) -> Result<(), Lost>
-    ensures { (t : Trail) → Follows (λ x. x) result t t (check_size (parts_under_lots register.now.lots + parts) most_kept_parts) }
+pub(crate) fn check_room(register: &Register, parts: usize) -> Result<(), Stopped>
+    ensures { (t : Trail) → Comes (λ x. x) result t (check_size (parts_under_lots register.now.lots + parts) most_kept_parts t) }
 {
     if !register.has_room_for_parts(parts) {
-        return Err(Lost::Limit);
+        return Err(Stopped::Limit);
     }
     Ok(())
 }

@@ -5,14 +5,16 @@ ghost use Rattle.rp_walks.specs.Form.{near_pair, subtract};
 ghost use Rattle.rp_model.specs.commands.Verdict.{empty_child, outside_lot, children_overlap};
 ghost use Rattle.rp_model.specs.commands.Row.{child_parts, joined_parts, count_with_each, count_among, first_empty_child, first_outside_child, first_overlapping_child, first_overlapping_children};
 ghost use Rattle.rp_reports.specs.Check.{line_tester};
-ghost use Rattle.rp_follow.specs.Follows.{Follows};
+ghost use Rattle.rp_tests.specs.Comes.{Comes};
 ghost use Rattle.rp_changes.specs.Children.{formed_child};
 
 use crate::child::Child;
-use rp_follow::{Form, Lost, Trail, common, copy, differed};
+use rp_follow::{Form, Trail, common, copy, differed};
 use rp_nearby::Reach;
-use rp_register::{count_pairs, is_empty, within};
+use rp_once::{is_empty, within};
+use rp_register::count_pairs;
 use rp_space::Names;
+use rp_tests::Stopped;
 use std::alloc::{AllocError, Global};
 
 /// The ids of children, in order. Answers `AllocError` only for want of memory.
@@ -59,9 +61,9 @@ pub(crate) fn first_outside(
     whole: &Form,
     children: &[Child],
     trail: &mut Trail<'_>,
-) -> Result<Option<u32>, Lost>
+) -> Result<Option<u32>, Stopped>
     requires { length children.now ≤ 1024 }
-    ensures { Follows (option_map outside_lot) result trail.old trail.new (first_outside_child line_tester whole.now.items 1 (map formed_child children.now)) }
+    ensures { Comes (option_map outside_lot) result trail.new (first_outside_child line_tester whole.now.items 1 (map formed_child children.now) trail.old) }
 {
     let mut number = 1;
     for child in children {
@@ -103,9 +105,9 @@ fn count_near_with(child: &Child, others: &[Child]) -> u64
 pub(crate) fn first_overlapping(
     children: &[Child],
     trail: &mut Trail<'_>,
-) -> Result<Option<(u32, u32)>, Lost>
+) -> Result<Option<(u32, u32)>, Stopped>
     requires { length children.now ≤ 1024 }
-    ensures { Follows (option_map (λ p. children_overlap p.0 p.1)) result trail.old trail.new (first_overlapping_children line_tester 1 (map formed_child children.now)) }
+    ensures { Comes (option_map (λ p. children_overlap p.0 p.1)) result trail.new (first_overlapping_children line_tester 1 (map formed_child children.now) trail.old) }
 {
     for place in 0..children.len() {
         let first = place as u32 + 1;
@@ -123,9 +125,9 @@ fn first_overlapping_with(
     child: &Child,
     behind: &[Child],
     trail: &mut Trail<'_>,
-) -> Result<Option<u32>, Lost>
+) -> Result<Option<u32>, Stopped>
     requires { first + length behind.now ≤ 1024 }
-    ensures { Follows (option_map (λ n. children_overlap first n)) result trail.old trail.new (first_overlapping_child line_tester first child.now.form.items (first + 1) (map formed_child behind.now)) }
+    ensures { Comes (option_map (λ n. children_overlap first n)) result trail.new (first_overlapping_child line_tester first child.now.form.items (first + 1) (map formed_child behind.now) trail.old) }
 {
     let mut number = first + 1;
     for other in behind {
@@ -143,11 +145,11 @@ pub(crate) fn has_gap(
     whole: &Form,
     children: &[Child],
     trail: &mut Trail<'_>,
-) -> Result<bool, Lost>
-    ensures { Follows not result trail.old trail.new (is_covered line_tester whole.now.items (joined_parts (child_parts (map formed_child children.now)))) }
+) -> Result<bool, Stopped>
+    ensures { Comes not result trail.new (is_covered line_tester whole.now.items (joined_parts (child_parts (map formed_child children.now))) trail.old) }
 {
     let left = left_of(alloc, whole, children, trail)?;
-    Ok(!is_empty(&left, trail)?)
+    Ok(!is_empty(alloc, &left, trail)?)
 }
 
 /// What is left of a form outside all children, on the next lines.
@@ -156,8 +158,8 @@ fn left_of(
     whole: &Form,
     children: &[Child],
     trail: &mut Trail<'_>,
-) -> Result<Form, Lost>
-    ensures { Follows (λ left. left.items) result trail.old trail.new (subtract line_tester whole.now.items (joined_parts (child_parts (map formed_child children.now)))) }
+) -> Result<Form, Stopped>
+    ensures { Comes (λ left. left.items) result trail.new (subtract line_tester whole.now.items (joined_parts (child_parts (map formed_child children.now))) trail.old) }
 {
     let mut left = copy(alloc, whole)?;
     for child in children {

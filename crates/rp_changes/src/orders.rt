@@ -5,7 +5,7 @@ ghost use Rattle.rp_language.specs.Expression.{IsKeptExpression, first_unknown_a
 ghost use Rattle.rp_model.specs.states.State.{parts_in};
 ghost use Rattle.rp_model.specs.commands.Row.{row, form_children};
 ghost use Rattle.rp_reports.specs.Check.{Trail, line_tester};
-ghost use Rattle.rp_follow.specs.Follows.{Follows};
+ghost use Rattle.rp_tests.specs.Comes.{Comes};
 ghost use Rattle.rp_syntax.specs.Views.{expression_of, child_of};
 ghost use Rattle.rp_changes.specs.Children.{shapes_of, formed_children};
 ghost use Rattle.rp_register.specs.Replies.{Replies};
@@ -14,11 +14,12 @@ use crate::changes::define;
 use crate::child::Child;
 use crate::divide::{cut, subdivide};
 use crate::overlaps::make_lot;
-use rp_follow::{Lost, Trail};
+use rp_follow::Trail;
 use rp_register::{Register, Reply, RowEnd};
 use rp_report::Refusal;
 use rp_space::{Listed, Name};
 use rp_syntax::Expr;
+use rp_tests::Stopped;
 use std::alloc::Global;
 
 /// `let`: the form of the expression under a new name.
@@ -106,9 +107,9 @@ fn children(
     register: &Register,
     entries: &[(Name, Expr)],
     trail: &mut Trail<'_>,
-) -> Result<Listed<Child>, Lost>
+) -> Result<Listed<Child>, Stopped>
     requires { AllByRecursion IsKeptExpression (shapes_of entries.now) }
-    ensures follows { Follows formed_children result trail.old trail.new (form_children line_tester (parts_in register.now) [] (map child_of entries.now)) }
+    ensures comes { Comes formed_children result trail.new (form_children line_tester (parts_in register.now) [] (map child_of entries.now) trail.old) }
     ensures each { IfOk result (λ children. length children.items ≡ length entries.now) }
 {
     let mut children = Listed::new(alloc);

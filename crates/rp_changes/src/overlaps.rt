@@ -3,18 +3,19 @@ ghost use Rattle.std.specs.Prelude.{◌≤◌, length};
 ghost use Rattle.rp_geometry.specs.parts.Parts.{most_parts};
 ghost use Rattle.rp_model.specs.commands.Row.{row_register, first_overlapped};
 ghost use Rattle.rp_reports.specs.Check.{line_tester};
-ghost use Rattle.rp_follow.specs.Follows.{Follows};
+ghost use Rattle.rp_tests.specs.Comes.{Comes};
 ghost use Rattle.rp_register.specs.Replies.{Replies};
 ghost use Rattle.rp_register.specs.There.{lots_here};
 
 use crate::changes::one_born;
 use crate::checks::{check_registration, check_room};
-use rp_follow::{Form, Lost, Trail, common};
+use rp_follow::{Form, Trail, common};
 use rp_history::Birth;
 use rp_nearby::Reach;
 use rp_register::{Change, Parcel, Register, Reply, RowEnd, count_tests};
 use rp_report::Refusal;
 use rp_space::{Name, Names};
+use rp_tests::Stopped;
 use std::alloc::Global;
 
 /// A form is to become a lot of the present layer. As many tests are counted as there are pairs of its parts and parts
@@ -53,8 +54,8 @@ fn first_overlapped(
     form: &Form,
     lots: &[Parcel<'_>],
     trail: &mut Trail<'_>,
-) -> Result<Option<Name>, Lost>
-    ensures { Follows (λ id. id) result trail.old trail.new (first_overlapped line_tester form.now.items (lots_here lots.now)) }
+) -> Result<Option<Name>, Stopped>
+    ensures { Comes (λ id. id) result trail.new (first_overlapped line_tester form.now.items (lots_here lots.now) trail.old) }
 {
     for lot in lots {
         if common(form, lot.form, true, trail)? {

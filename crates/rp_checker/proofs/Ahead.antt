@@ -2,7 +2,7 @@
 use Rattle.std.proofs.Common.{ap, subst}
 use Rattle.rp_walks.specs.Walk.{Outcome, Walk, after_first, ◌>>=◌}
 use Rattle.rp_reports.specs.Check.{Trail}
-use Rattle.rp_follow.proofs.Left.{IsLeft}
+use Rattle.rp_tests.proofs.Left.{IsLeft}
 use Rattle.rp_checker.specs.declared.halt.Halt.{Halt}
 use Rattle.rp_checker.specs.declared.halt.Halt.TheVariants.{Wrong, Memory}
 use Rattle.rp_checker.specs.Answers.{HaltsBy}

@@ -11,7 +11,7 @@ ghost use Rattle.rp_reports.specs.Check.{Trail as ModelTrail, limit_allowed, fol
 ghost use Rattle.rp_walks.specs.Walk.{Outcome};
 ghost use Rattle.rp_syntax.specs.Versions.{version_of};
 ghost use Rattle.rp_syntax.specs.Views.{child_of, command_of, expression_of, fault_of};
-ghost use Rattle.rp_follow.specs.Follows.{StopsBy};
+ghost use Rattle.rp_tests.specs.Comes.{StopsBy};
 ghost use Rattle.rp_checker.specs.Answers.{Answers, echo_with};
 ghost use Rattle.rp_checker.specs.Children.{HasFewChildren};
 ghost use Rattle.rp_register.specs.Kept.{IsSoundOnLines, ComesFromKnown};
@@ -20,33 +20,30 @@ ghost use Rattle.rp_register.specs.Replies.{reply_of, IsUnshown, Replies};
 use crate::halt::Halt;
 use crate::lines::{follow_limit, follow_verdict, follow_verdicts};
 use crate::rows::carry_out;
-use rp_follow::{Lost, Trail};
-use rp_register::{Register, Reply, RowEnd, one_line};
+use rp_asked::one_line;
+use rp_follow::Trail;
+use rp_register::{Register, Reply, RowEnd};
 use rp_report::{Refusal, Verdict, read_echo};
 use rp_space::Name;
 use rp_syntax::{Command, Expr, Line, Version, Why, read_line};
+use rp_tests::Stopped;
 use std::alloc::Global;
 
-/// What becomes of an answer whose row is followed no further: the report may tell of a limit where one is met, and
-/// instead of a test where the command can meet one.
-fn follow_lost(allowed: bool, lost: Lost, trail: &mut Trail<'_>) -> Result<(), Halt>
-    ensures { (n : ℕ) (s : PlainState) (o : Outcome ModelTrail ModelReply) → StopsBy lost trail.old o → Answers (λ _. s) result trail.new (follow_walk n s allowed o) }
+/// What becomes of an answer whose row is stopped: the report may tell of a limit where one is met, and instead of a test,
+/// where the command can meet one.
+fn follow_stopped(allowed: bool, stopped: Stopped, trail: &mut Trail<'_>) -> Result<(), Halt>
+    ensures { (n : ℕ) (s : PlainState) (o : Outcome ModelTrail ModelReply) → StopsBy stopped trail.old o → Answers (λ _. s) result trail.new (follow_walk n s allowed o) }
 {
-    match lost {
-        Lost::Wrong(number) => Err(Halt::Wrong(number)),
-        Lost::Refused => {
-            if allowed {
-                return Ok(());
-            }
-            Err(Halt::Wrong(trail.number().saturating_sub(1)))
-        }
-        Lost::Limit => {
+    match stopped {
+        Stopped::Wrong => Err(Halt::Wrong(trail.number())),
+        Stopped::TakenWrong => Err(Halt::Wrong(trail.number().saturating_sub(1))),
+        Stopped::Told | Stopped::Limit => {
             if allowed {
                 return follow_limit(trail);
             }
             Err(Halt::Wrong(trail.number()))
         }
-        Lost::Memory(fault) => Err(Halt::Memory(fault)),
+        Stopped::Memory(fault) => Err(Halt::Memory(fault)),
     }
 }
 
@@ -201,9 +198,8 @@ fn follow_row(
             let lines = one_line(alloc, Verdict::Refused(refusal))?;
             follow_reply(alloc, register, n, allowed, Reply::Told(lines), trail)
         }
-        Err(RowEnd::Shared) => Err(Halt::Wrong(trail.number().saturating_sub(1))),
         Err(RowEnd::Unshown(number)) => follow_unshown(allowed, number, trail),
-        Err(RowEnd::Lost(lost)) => follow_lost(allowed, lost, trail),
+        Err(RowEnd::Stopped(stopped)) => follow_stopped(allowed, stopped, trail),
     }
 }
 

@@ -1,6 +1,6 @@
 -- Access: its row in each state of the lots, and how long its chain is.
-use Rattle.std.proofs.Common.{◌≡◌, ℕ, ◌+◌, ◌*◌, ◌≤◌, Bool, true, false, not, List, [], ◌∷◌, ◌++◌, zero, suc, map, length, Option, Some, None, refl, ap, ◌∙◌, subst, arith}
-use Rattle.std.specs.Prelude.{IfSome, filter, filter_map}
+use Rattle.std.proofs.Common.{◌≡◌, ℕ, ◌+◌, ◌*◌, ◌≤◌, Bool, true, false, not, List, [], ◌∷◌, ◌++◌, suc, map, length, Option, Some, None, refl, subst, arith}
+use Rattle.std.specs.Prelude.{IfSome, filter_map}
 use Rattle.std.specs.List.{slice_get, cons_option}
 use Rattle.std.proofs.lemmas.List.{length-append, length-map}
 use Rattle.rp_geometry.specs.parts.Levels.{levels_along, chain_along}

@@ -9,18 +9,17 @@ use Rattle.rp_model.specs.states.State.{PlainState, parts_in}
 use Rattle.rp_model.specs.commands.Verdict.{unknown}
 use Rattle.rp_model.specs.commands.Row.{Reply, refusal, check, FormedChild, form_children, row_subdivide, row}
 use Rattle.rp_states.proofs.Plain.{images_twice}
-use Rattle.rp_region.specs.declared.fault.OpFault.{OpFault}
-use Rattle.rp_region.specs.declared.fault.OpFault.TheVariants.{Limit, Memory}
-use Rattle.rp_space.specs.Listed.{Listed}
-use Rattle.rp_parcels.specs.declared.child.Child.{Child as CodeChild}
+use Rattle.rp_tests.specs.declared.stopped.Stopped.{Stopped}
+use Rattle.rp_tests.specs.Comes.{StopsBy}
+use Rattle.rp_tests.proofs.Left.{stops_on}
 use Rattle.rp_syntax.specs.declared.command.Expr.{Expr}
 use Rattle.rp_syntax.specs.Views.{child_of}
 use Rattle.rp_machine.specs.declared.fault.RowFault.{RowFault}
 use Rattle.rp_machine.specs.declared.reply.Reply.{Reply as CodeReply}
-use Rattle.rp_machine.specs.Children.{shapes_of, formed_children}
-use Rattle.rp_machine.specs.Faults.{fault_of_op, cause_of_row}
-use Rattle.rp_machine.specs.Forms.{LeadsTo}
+use Rattle.rp_machine.specs.Children.{shapes_of}
+use Rattle.rp_machine.specs.Faults.{fault_of_stop, cause_of_row}
 use Rattle.rp_machine.specs.Replies.{FailsAt, Runs}
+use Rattle.rp_machine.proofs.Changes.{stop_fails}
 
 -- the expressions of entries are those of their children
 same_shapes : (entries : List (Label × Expr)) → map (λ (c : Child). c.shape) (map child_of entries) ≡ shapes_of entries
@@ -43,14 +42,14 @@ pub shape_missing : (s : PlainState) (x y : Label) (entries : List (Label × Exp
 shape_missing s x y entries w e = row_is s x entries (Some y) w e
 
 -- where the forms are not made, the row has the fault
-pub children_fail : (s : PlainState) (x : Label) (entries : List (Label × Expr)) (n : ℕ) (old new : Work) (e : OpFault) (r : Result CodeReply RowFault) → None ≡ first_unknown_among (parts_in s) (shapes_of entries)
-    → LeadsTo {A = Listed CodeChild} formed_children (Err e) new (form_children first_tester (parts_in s) [] (map child_of entries) old) → r ≡ Err (fault_of_op e) → Runs r n new s s (row first_tester s (subdivide x (map child_of entries)) old)
-children_fail s x entries n old new e r none leads is =
-    subst (λ (r : Result CodeReply RowFault). Runs r n new s s (row first_tester s (subdivide x (map child_of entries)) old)) (sym is) (subst (FailsAt (cause_of_row (fault_of_op e)) new) (sym (row_is s x entries None old none)) (by e leads), refl)
-  where
-    by : (e : OpFault) → LeadsTo {A = Listed CodeChild} formed_children (Err e) new (form_children first_tester (parts_in s) [] (map child_of entries) old) → FailsAt (cause_of_row (fault_of_op e)) new (row_by s x entries None old)
-    by Limit h = ap (after_first (λ formed. row_subdivide first_tester s x formed)) h
-    by (Memory m) h = tt
+pub children_fail : (s : PlainState) (x : Label) (entries : List (Label × Expr)) (n : ℕ) (old new : Work) (e : Stopped) (r : Result CodeReply RowFault) → None ≡ first_unknown_among (parts_in s) (shapes_of entries)
+    → StopsBy e new (form_children first_tester (parts_in s) [] (map child_of entries) old) → r ≡ Err (fault_of_stop e) → Runs r n new s s (row first_tester s (subdivide x (map child_of entries)) old)
+children_fail s x entries n old new e r none stops is =
+    subst (λ (r : Result CodeReply RowFault). Runs r n new s s (row first_tester s (subdivide x (map child_of entries)) old)) (sym is) (
+      subst (FailsAt (cause_of_row (fault_of_stop e)) new) (sym (row_is s x entries None old none))
+          (stop_fails e new (row_by s x entries None old) (stops_on (λ formed. row_subdivide first_tester s x formed) e new (form_children first_tester (parts_in s) [] (map child_of entries) old) stops)),
+      refl,
+    )
 
 -- where they are made, the row goes on from them
 pub children_made : (s after : PlainState) (x : Label) (entries : List (Label × Expr)) (n : ℕ) (old mid new : Work) (formed : List FormedChild) (r : Result CodeReply RowFault) → None ≡ first_unknown_among (parts_in s) (shapes_of entries)

@@ -1,7 +1,6 @@
 mod AccessLemmas
 mod Changes
 mod ChildLemmas
-mod Compared
 mod Formed
 mod LaterLemmas
 mod LotLemmas

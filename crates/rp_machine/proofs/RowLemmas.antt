@@ -1,21 +1,15 @@
 -- What the rows of commands come to.
-use Rattle.std.proofs.Common.{◌≡◌, ℕ, ◌+◌, ◌≤◌, Bool, true, false, ◌&&◌, ℤ, List, [], ◌∷◌, suc, length, map, refl, sym, ap, ◌∙◌, arith}
+use Rattle.std.proofs.Common.{◌≡◌, ℕ, ◌+◌, ◌≤◌, Bool, true, false, ◌&&◌, ℤ, List, length, refl, ap, ◌∙◌, arith}
 use Rattle.std.specs.Prelude.{nat_le}
-use Rattle.std.proofs.lemmas.List.{length-map}
 use Rattle.rp_algebra.proofs.Tests.{and_first, and_second}
 use Rattle.rp_geometry.specs.sets.Shape.{Part}
 use Rattle.rp_language.specs.Name.{Label, is_among}
 use Rattle.rp_walks.specs.Walk.{Walk, Work, done, stopped, limit_met, pass, stop, ◌>>◌, slices_found, first_tester}
 use Rattle.rp_model.specs.states.State.{PlainState, name_added, names_of, parts_under_names, most_names, most_kept_parts}
-use Rattle.rp_model.specs.commands.Verdict.{Verdict, known, piece_lines, section_lines}
+use Rattle.rp_model.specs.commands.Verdict.{known, section_lines}
 use Rattle.rp_model.specs.commands.Checks.{refuse_if}
 use Rattle.rp_model.specs.commands.Row.{Reply, reply_lines, refusal, accepted, check, row_define, row_section}
-use Rattle.rp_states.proofs.Plain.{images_twice}
-use Rattle.rp_space.specs.Listed.{Listed}
-use Rattle.rp_cert.specs.declared.slice.Slice.{Slice}
-use Rattle.rp_cert.specs.Section.{slice_shown}
 use Rattle.rp_section.specs.Shown.{slices_of}
-use Rattle.rp_groups.specs.Lists.{lists_of}
 use Rattle.rp_machine.specs.Named.{kept_under, IsNewName}
 
 -- ---- `let`
@@ -70,21 +64,3 @@ fits_new s x ps e room = record { fresh = e; few_names = few (length s.names + 1
 pub section_told : (z : ℤ) (ps : List Part) (w : Work) → row_section first_tester z ps w ≡ done (reply_lines (section_lines (slices_of z ps))) w
 unfolding slices_found
 section_told z ps w = refl
-
--- the verdict lines of slices, which are kept as those of the code
-pub lines_of_slices : (slices : List Slice) → (Verdict.sections (length slices) ∷ map (λ (s : Slice). Verdict.slice (slice_shown s)) slices) ≡ section_lines (map slice_shown slices)
-lines_of_slices slices = λ i. Verdict.sections (sym (length-map slices slice_shown) i) ∷ sym (images_twice slice_shown Verdict.slice slices) i
-
--- ---- pieces
-
--- the verdict lines of pieces, whose numbers are kept as lists of the code
-pub lines_of_pieces : (lists : List (Listed ℕ)) → (Verdict.pieces (length lists) ∷ map (λ (ns : Listed ℕ). Verdict.piece ns.items) lists) ≡ piece_lines (lists_of lists)
-lines_of_pieces lists = λ i. Verdict.pieces (same_length lists i) ∷ same_lines lists i
-  where
-    same_length : (lists : List (Listed ℕ)) → length lists ≡ length (lists_of lists)
-    same_length [] = refl
-    same_length (ns ∷ lists) = ap suc (same_length lists)
-
-    same_lines : (lists : List (Listed ℕ)) → map (λ (ns : Listed ℕ). Verdict.piece ns.items) lists ≡ map Verdict.piece (lists_of lists)
-    same_lines [] = refl
-    same_lines (ns ∷ lists) = ap (λ vs. Verdict.piece ns.items ∷ vs) (same_lines lists)

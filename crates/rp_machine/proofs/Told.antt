@@ -1,9 +1,9 @@
 -- What was walked of a command, as the answer and the state that are computed.
-use Rattle.std.proofs.Common.{◌≡◌, ℕ, List, Result, Ok, Err, sym, ap, ◌∙◌}
+use Rattle.std.proofs.Common.{◌≡◌, ℕ, List, Result, Ok, Err, refl, sym, ap, ◌∙◌}
 use Rattle.std.specs.Prelude.{IfOk, OnOk}
 use Rattle.rp_language.specs.Expression.{Command}
 use Rattle.rp_language.specs.Grammar.{Version, Reading, command, reading}
-use Rattle.rp_walks.specs.Walk.{Outcome, Work, no_work, first_tester}
+use Rattle.rp_walks.specs.Walk.{Outcome, done, stopped, Work, no_work, first_tester}
 use Rattle.rp_model.specs.states.State.{PlainState, changed}
 use Rattle.rp_model.specs.commands.Row.{Reply, row}
 use Rattle.rp_model.specs.commands.Rule.{walked, proofs_walked}
@@ -37,7 +37,8 @@ told_of_run : (n : ℕ) (line : List ℕ) (before after : PlainState) (r : Resul
     → record { number = n; echo = line; proofs = proofs_of_row r w.proofs; verdicts = verdicts_of_row r } ≡ told n line o
 told_of_run n line before after (Ok r) w o there h = ap (told n line) (sym h.says)
 told_of_run n line before after (Err (Refused r)) w o there h = ap (told n line) (sym h.0)
-told_of_run n line before after (Err Limit) w o there h = ap (told n line) (sym h.0)
+told_of_run n line before after (Err Limit) w (done r v) there h = absurd h.0
+told_of_run n line before after (Err Limit) w (stopped why v) there h = refl
 told_of_run n line before after (Err (Memory e)) w o there h = absurd (there tt)
 
 -- the answer of a row that was run is the one that is computed
@@ -50,7 +51,8 @@ row_answered s after n line c r w there h = told_of_run n line s after r w (row 
 state_of_run : (n : ℕ) (before after : PlainState) (r : Result CodeReply RowFault) (w : Work) (o : Outcome Work Reply) → (IsWant r → ⊥) → Runs r n w before after o → after ≡ changed n before (change_walked o)
 state_of_run n before after (Ok r) w o there h = h.state ∙ ap (λ (o : Outcome Work Reply). changed n before (change_walked o)) (sym h.says)
 state_of_run n before after (Err (Refused r)) w o there h = h.1 ∙ ap (λ (o : Outcome Work Reply). changed n before (change_walked o)) (sym h.0)
-state_of_run n before after (Err Limit) w o there h = h.1 ∙ ap (λ (o : Outcome Work Reply). changed n before (change_walked o)) (sym h.0)
+state_of_run n before after (Err Limit) w (done r v) there h = absurd h.0
+state_of_run n before after (Err Limit) w (stopped why v) there h = h.1
 state_of_run n before after (Err (Memory e)) w o there h = absurd (there tt)
 
 -- the state after a row that was run is the one that is computed

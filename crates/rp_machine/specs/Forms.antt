@@ -1,6 +1,6 @@
 -- What a call that makes the form of an expression has made of it.
 use Rattle.std.specs.Prelude.{◌≡◌, Result, Ok, Err}
-use Rattle.rp_walks.specs.Walk.{Outcome, done, stopped, limit_met, Walk, Work}
+use Rattle.rp_walks.specs.Walk.{done, stopped, limit_met, Walk, Work}
 use Rattle.rp_region.specs.declared.fault.OpFault.{OpFault}
 use Rattle.rp_region.specs.declared.fault.OpFault.TheVariants.{Limit as OpLimit, Memory as OpMemory}
 use Rattle.rp_region.specs.Makes.{IsCutShort}
@@ -18,9 +18,3 @@ MakesForm view (Ok x) old new walk = walk old ≡ done (view x) new
 MakesForm view (Err (Unknown x)) old new walk = ⊥
 MakesForm view (Err Limit) old new walk = walk old ≡ stopped limit_met new
 MakesForm view (Err (Memory e)) old new walk = IsCutShort old new (walk old)
-
--- an operation was made, and the work is this: its walk comes to the result, as the model sees it, or meets a limit; nothing is said where memory ran out
-abbrev pub LeadsTo : {A B : Type 0} → (A → B) → Result A OpFault → Work → Outcome Work B → Type 0
-LeadsTo view (Ok x) w o = o ≡ done (view x) w
-LeadsTo view (Err OpLimit) w o = o ≡ stopped limit_met w
-LeadsTo view (Err (OpMemory e)) w o = Unit {0}

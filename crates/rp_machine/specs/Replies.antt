@@ -1,13 +1,10 @@
 -- What a command has come to, said by what its row comes to.
-use Rattle.std.specs.Prelude.{◌≡◌, ℕ, List, [], ◌∷◌, map, Result, Ok, Err, IsErrAnd, option_map}
-use Rattle.rp_geometry.specs.sets.Shape.{Part}
+use Rattle.std.specs.Prelude.{◌≡◌, ℕ, List, [], ◌∷◌, map, Result, Ok, Err, IsErrAnd}
 use Rattle.rp_geometry.specs.searches.ProofLine.{ProofLine}
-use Rattle.rp_language.specs.Expression.{Expression, first_unknown_among}
-use Rattle.rp_walks.specs.Walk.{Outcome, done, stopped, limit_met, Walk, Work, first_tester, ◌>>=◌}
-use Rattle.rp_walks.specs.Form.{form}
-use Rattle.rp_model.specs.states.State.{PlainState, Change, changed, parts_in}
-use Rattle.rp_model.specs.commands.Verdict.{Verdict, says_ok, refused, limit, unknown}
-use Rattle.rp_model.specs.commands.Row.{Reply, refusal, reply_lines, check, with_forms}
+use Rattle.rp_walks.specs.Walk.{Outcome, done, stopped, Walk, Work}
+use Rattle.rp_model.specs.states.State.{PlainState, Change, changed}
+use Rattle.rp_model.specs.commands.Verdict.{Verdict, says_ok, refused, limit}
+use Rattle.rp_model.specs.commands.Row.{Reply, refusal, reply_lines}
 use Rattle.rp_space.specs.Listed.{Listed}
 use Rattle.rp_parcels.specs.declared.fault.ParcelFault.{ParcelFault}
 use Rattle.rp_parcels.specs.Rows.{Cause, refuses, limited, wanting, cause_of}
@@ -17,14 +14,20 @@ use Rattle.rp_machine.specs.declared.fault.RowFault.{RowFault}
 use Rattle.rp_machine.specs.declared.fault.RowFault.TheVariants.{Refused, Limit, Memory}
 use Rattle.rp_machine.specs.declared.reply.Reply.{Reply as CodeReply}
 use Rattle.rp_machine.specs.declared.reply.Reply.TheVariants.{Told, Done}
-use Rattle.rp_machine.specs.Faults.{cause_of_row}
+use Rattle.rp_asked.specs.declared.reply.RowEnd.{RowEnd}
+use Rattle.rp_machine.specs.Faults.{fault_of_end, cause_of_row}
 
 -- ---- what the row of a command comes to
+
+-- a walk is stopped, for whatever reason, and the work is this
+abbrev pub IsStoppedAt : {A : Type 0} → Work → Outcome Work A → Type 0
+IsStoppedAt w (done x v) = ⊥
+IsStoppedAt w (stopped why v) = v ≡ w
 
 -- what a row comes to where it has a fault of this cause, at this work; nothing is said where memory ran out
 abbrev pub FailsAt : Cause → Work → Outcome Work Reply → Type 0
 FailsAt (refuses r) w o = o ≡ done (refusal r) w
-FailsAt limited w o = o ≡ stopped limit_met w
+FailsAt limited w o = IsStoppedAt w o
 FailsAt wanting w o = Unit {0}
 
 -- a question was answered, and the work is this: the row comes to the lines, or has the fault
@@ -53,6 +56,11 @@ abbrev pub reply_told : Result (Listed CodeVerdict) RowFault → Result CodeRepl
 reply_told (Ok lines) = Ok (Told lines)
 reply_told (Err e) = Err e
 
+-- the reply to a question about forms
+abbrev pub reply_of_forms : Result (Listed CodeVerdict) RowEnd → Result CodeReply RowFault
+reply_of_forms (Ok lines) = Ok (Told lines)
+reply_of_forms (Err e) = Err (fault_of_end e)
+
 -- the reply to a change of the register: it is done, or the row has the fault of the same cause
 abbrev pub IsAnswered : {A : Type 0} → Result A ParcelFault → Result CodeReply RowFault → Type 0
 IsAnswered (Ok x) r = r ≡ Ok Done
@@ -64,14 +72,6 @@ IsAnswered (Err e) r = IsErrAnd r (λ f. cause_of_row f ≡ cause_of e)
 abbrev pub GoesOn : {A B : Type 0} → (A → B) → Result A RowFault → Work → (B → Walk Work Reply) → Outcome Work Reply → Type 0
 GoesOn view (Ok x) w next o = o ≡ next (view x) w
 GoesOn view (Err e) w next o = FailsAt (cause_of_row e) w o
-
--- the row of one expression, by what comes behind its form
-abbrev pub row_of_form : PlainState → Expression → (List Part → Walk Work Reply) → Walk Work Reply
-row_of_form s e next = check (option_map unknown (first_unknown_among (parts_in s) (e ∷ []))) (form first_tester (parts_in s) e >>= next)
-
--- the row of two expressions, by what comes behind their forms
-abbrev pub row_of_forms : PlainState → Expression → Expression → (List Part → List Part → Walk Work Reply) → Walk Work Reply
-row_of_forms s e f next = check (option_map unknown (first_unknown_among (parts_in s) (e ∷ f ∷ []))) (with_forms first_tester (parts_in s) e f next)
 
 -- ---- answers
 

@@ -1,10 +1,11 @@
 //! Why an expression has no form, and why a command has no reply.
 
+use rp_asked::RowEnd;
 use rp_parcels::ParcelFault;
 use rp_region::OpFault;
-use rp_relate::RccFault;
 use rp_report::Refusal;
 use rp_space::Name;
+use rp_tests::Stopped;
 use std::alloc::AllocError;
 use thiserror::Error;
 
@@ -69,46 +70,32 @@ impl From<AllocError> for RowFault {
     }
 }
 
-impl From<OpFault> for RowFault {
+impl From<Stopped> for RowFault {
     ghost use Rattle.std.specs.Prelude.{◌≡◌};
-    ghost use Rattle.rp_machine.specs.Faults.{fault_of_op};
+    ghost use Rattle.rp_machine.specs.Faults.{fault_of_stop};
 
-    ghost from_gives = { λ x e. e ≡ fault_of_op x };
+    ghost from_gives = { λ x e. e ≡ fault_of_stop x };
 
-    fn from(fault: OpFault) -> RowFault {
-        match fault {
-            OpFault::Limit => RowFault::Limit,
-            OpFault::Memory(fault) => RowFault::Memory(fault),
+    fn from(stop: Stopped) -> RowFault {
+        match stop {
+            Stopped::Wrong | Stopped::TakenWrong | Stopped::Told | Stopped::Limit => {
+                RowFault::Limit
+            }
+            Stopped::Memory(fault) => RowFault::Memory(fault),
         }
     }
 }
 
-impl From<FormFault> for RowFault {
+impl From<RowEnd> for RowFault {
     ghost use Rattle.std.specs.Prelude.{◌≡◌};
-    ghost use Rattle.rp_machine.specs.Faults.{fault_of_row};
+    ghost use Rattle.rp_machine.specs.Faults.{fault_of_end};
 
-    ghost from_gives = { λ x e. e ≡ fault_of_row x };
+    ghost from_gives = { λ x e. e ≡ fault_of_end x };
 
-    fn from(fault: FormFault) -> RowFault {
-        match fault {
-            FormFault::Unknown(name) => RowFault::Refused(Refusal::Unknown(name)),
-            FormFault::Limit => RowFault::Limit,
-            FormFault::Memory(fault) => RowFault::Memory(fault),
-        }
-    }
-}
-
-impl From<RccFault> for RowFault {
-    ghost use Rattle.std.specs.Prelude.{◌≡◌};
-    ghost use Rattle.rp_machine.specs.Faults.{fault_of_relation};
-
-    ghost from_gives = { λ x e. e ≡ fault_of_relation x };
-
-    fn from(fault: RccFault) -> RowFault {
-        match fault {
-            RccFault::EmptyRegion(k) => RowFault::Refused(Refusal::EmptyRegion(k)),
-            RccFault::Limit => RowFault::Limit,
-            RccFault::Memory(fault) => RowFault::Memory(fault),
+    fn from(end: RowEnd) -> RowFault {
+        match end {
+            RowEnd::Refused(refusal) => RowFault::Refused(refusal),
+            RowEnd::Stopped(stop) => RowFault::from(stop),
         }
     }
 }

@@ -8,12 +8,10 @@
 //! and every end. [`Machine::form`] makes the form of an expression test by test, or tells the first name that is not
 //! there, or meets a limit exactly where the definition says.
 
-mod compare;
 mod fault;
 mod form;
 mod lots;
 mod machine;
-mod member;
 mod named;
 mod orders;
 mod reply;

@@ -1,24 +1,20 @@
 //! Commands that ask something about lots.
-ghost use Rattle.std.specs.Prelude.{◌≡◌, ◌≤◌, ◌*◌, ◌∷◌, ◌++◌, [], IfOk, IfSome, OnOk, length, map, option_map, option_copied};
+ghost use Rattle.std.specs.Prelude.{◌≡◌, ◌≤◌, ◌*◌, ◌∷◌, ◌++◌, IfOk, IfSome, OnOk, length, map, option_copied};
 ghost use Rattle.rp_language.specs.Expression.{ask_neighbours, ask_history, ask_at, ask_as_of, ask_audit, ask_list, ask_access};
 ghost use Rattle.rp_walks.specs.Walk.{Work, first_tester};
-ghost use Rattle.rp_model.specs.states.State.{live_lots, lot_with_id, most_kept_parts};
-ghost use Rattle.rp_model.specs.commands.Verdict.{Verdict as ModelVerdict, neighbour_lines, lot_lines};
+ghost use Rattle.rp_model.specs.states.State.{live_lots, most_kept_parts};
+ghost use Rattle.rp_model.specs.commands.Verdict.{Verdict as ModelVerdict};
 ghost use Rattle.rp_model.specs.commands.Row.{row};
-ghost use Rattle.rp_history.specs.Lots.{lot_of};
 ghost use Rattle.rp_parcels.specs.Access.{told_chain, told_levels};
-ghost use Rattle.rp_nearby.specs.Owner.{owner_verdict};
 ghost use Rattle.rp_report.specs.Views.{verdict_of};
 ghost use Rattle.rp_machine.specs.Replies.{Walks};
-ghost use Rattle.rp_machine.specs.Lots.{lots_under};
 
 use crate::fault::RowFault;
-use crate::reply::one_line;
 use crate::state::State;
+use rp_asked::{lineage, list, neighbour_lines, one_line, owner_verdict};
 use rp_boxindex::Quiet;
-use rp_history::{History, LotLine};
 use rp_region::Work;
-use rp_report::{Refusal, Verdict, Verdicts};
+use rp_report::{Verdict, Verdicts};
 use rp_space::{Name, Names, Point};
 use std::alloc::{AllocError, Global};
 use std::thread::Threads;
@@ -35,14 +31,6 @@ fn parcel_lines(alloc: Global, first: Verdict, ids: &[Name]) -> Result<Verdicts,
         lines.push(Verdict::Parcel(*id))?;
     }
     Ok(lines)
-}
-
-/// The verdict lines of neighbours. Answers `AllocError` only for want of memory.
-fn neighbour_lines(alloc: Global, ids: &[Name]) -> Result<Verdicts, AllocError>
-    requires { length ids.now ≤ most_kept_parts }
-    ensures { IfOk result (λ lines. map verdict_of lines.items ≡ neighbour_lines ids.now) }
-{
-    parcel_lines(alloc, Verdict::Neighbours(ids.len() as u32), ids)
 }
 
 /// The verdict lines of a chain, if there is one. Answers `AllocError` only for want of memory.
@@ -67,80 +55,6 @@ fn add_levels(levels: &[(u32, Name)], lines: &mut Verdicts) -> Result<(), AllocE
         lines.push(Verdict::Level(*steps, *id))?;
     }
     Ok(())
-}
-
-/// The verdict line of a lot. Answers `AllocError` only for want of memory.
-fn lot_line(alloc: Global, lot: &LotLine) -> Result<Verdict, AllocError>
-    ensures { IfOk result (λ line. verdict_of line ∷ [] ≡ lot_lines (lot_of lot.now ∷ [])) }
-{
-    Ok(Verdict::Lot(LotLine {
-        id: lot.id,
-        layer: lot.layer,
-        born: lot.born,
-        ended: lot.ended,
-        origins: Names::copy_of(alloc, lot.origins.items())?,
-    }))
-}
-
-/// How many of the lots are live.
-fn live_count(lots: &[LotLine]) -> usize
-    ensures value { result ≡ length (live_lots (map lot_of lots.now)) }
-    ensures few { result ≤ length lots.now }
-{
-    let mut count = 0;
-    for lot in lots {
-        if lot.ended.is_none() {
-            count += 1;
-        }
-    }
-    count
-}
-
-/// Appends the lines of those lots that are live. Answers `AllocError` only for want of memory.
-fn add_live(alloc: Global, lots: &[LotLine], lines: &mut Verdicts) -> Result<(), AllocError>
-    ensures { OnOk result (map verdict_of lines.new.items ≡ map verdict_of lines.old.items ++ lot_lines (live_lots (map lot_of lots.now))) }
-{
-    for lot in lots {
-        if lot.ended.is_none() {
-            lines.push(lot_line(alloc, lot)?)?;
-        }
-    }
-    Ok(())
-}
-
-/// The lot of an id.
-fn lot_under<'a>(history: &'a History, id: &Name) -> Option<&'a LotLine>
-    ensures { option_map lot_of (option_copied result) ≡ lot_with_id id.now history.now }
-{
-    let place = history.place_of(id)?;
-    Some(&history.lots()[place])
-}
-
-/// Appends the lines of the lots of some ids, in the order of the ids. Answers `AllocError` only for want of memory.
-fn add_each(
-    alloc: Global,
-    history: &History,
-    ids: &[Name],
-    lines: &mut Verdicts,
-) -> Result<(), AllocError>
-    ensures { OnOk result (map verdict_of lines.new.items ≡ map verdict_of lines.old.items ++ lot_lines (lots_under ids.now history.now)) }
-{
-    for id in ids {
-        if let Some(lot) = lot_under(history, id) {
-            lines.push(lot_line(alloc, lot)?)?;
-        }
-    }
-    Ok(())
-}
-
-/// The verdict that tells an owner.
-fn owner_verdict(owner: Option<Name>) -> Verdict
-    ensures { verdict_of result ≡ owner_verdict owner }
-{
-    match owner {
-        Some(id) => Verdict::Parcel(id),
-        None => Verdict::Nobody,
-    }
 }
 
 impl State {
@@ -173,14 +87,7 @@ impl State {
     pub(crate) fn lineage(&self, alloc: Global, id: Name) -> Result<Verdicts, RowFault>
         ensures { (w : Work) → Walks result w (row first_tester self.now (ask_history id) w) }
     {
-        let history = self.parcels().history();
-        if history.place_of(&id).is_none() {
-            return Err(RowFault::Refused(Refusal::Unknown(id)));
-        }
-        let ids = history.lineage(alloc, id)?;
-        let mut lines = one_line(alloc, Verdict::Lots(ids.items().len() as u32))?;
-        add_each(alloc, history, ids.items(), &mut lines)?;
-        Ok(lines)
+        Ok(lineage(alloc, self.parcels().history(), id)?)
     }
 
     /// `at`: the live lot of the present layer that has the point. It makes no test.
@@ -221,10 +128,7 @@ impl State {
     pub(crate) fn list(&self, alloc: Global) -> Result<Verdicts, RowFault>
         ensures { (w : Work) → Walks result w (row first_tester self.now ask_list w) }
     {
-        let lots = self.parcels().history().lots();
-        let mut lines = one_line(alloc, Verdict::Parcels(live_count(lots) as u32))?;
-        add_live(alloc, lots, &mut lines)?;
-        Ok(lines)
+        Ok(list(alloc, self.parcels().history())?)
     }
     /// `access`: a shortest chain of live lots of one layer from one to another, each in contact with the next, and the
     /// level of each lot of the layer that has one.

@@ -8,17 +8,19 @@ ghost use Rattle.rp_model.specs.states.Sound.{IsLaterThan};
 ghost use Rattle.rp_model.specs.commands.Row.{row, form_children};
 ghost use Rattle.rp_syntax.specs.Views.{expression_of, child_of};
 ghost use Rattle.rp_machine.specs.Children.{shapes_of, formed_children};
-ghost use Rattle.rp_machine.specs.Forms.{LeadsTo};
+ghost use Rattle.rp_tests.specs.Comes.{Comes};
 ghost use Rattle.rp_machine.specs.Replies.{Runs};
 
 use crate::fault::RowFault;
 use crate::reply::Reply;
 use crate::state::State;
+use rp_once::formed;
 use rp_parcels::Child;
-use rp_region::{OpFault, Work};
+use rp_region::Work;
 use rp_report::Refusal;
 use rp_space::{Listed, Name};
 use rp_syntax::Expr;
+use rp_tests::Stopped;
 use std::alloc::Global;
 
 impl State {
@@ -113,14 +115,14 @@ impl State {
         alloc: Global,
         entries: &[(Name, Expr)],
         work: &mut Work,
-    ) -> Result<Listed<Child>, OpFault>
+    ) -> Result<Listed<Child>, Stopped>
         requires { AllByRecursion IsKeptExpression (shapes_of entries.now) }
-        ensures makes { LeadsTo formed_children result work.new (form_children first_tester (parts_in self.now) [] (map child_of entries.now) work.old) }
+        ensures comes { Comes formed_children result work.new (form_children first_tester (parts_in self.now) [] (map child_of entries.now) work.old) }
         ensures each { IfOk result (λ children. length children.items ≡ length entries.now) }
     {
         let mut children = Listed::new(alloc);
         for entry in entries {
-            let region = self.formed(alloc, &entry.1, work)?;
+            let region = formed(alloc, self, &entry.1, work)?;
             children.push(Child {
                 id: entry.0,
                 region,

@@ -10,12 +10,12 @@ use Rattle.rp_model.specs.commands.Checks.{refuse_if, and_then, check_live, chec
 use Rattle.rp_model.specs.commands.Row.{Reply, reply_lines, refusal, check, lot_parts, numbered_lists, count_among, links_among_lists, access_by_links, row_access}
 use Rattle.rp_reports.specs.Check.{Trail, follow_count, line_tester}
 use Rattle.rp_verdicts.proofs.Access.{places_below}
-use Rattle.rp_follow.specs.declared.lost.Lost.{Lost}
-use Rattle.rp_follow.specs.Follows.{StopsBy}
-use Rattle.rp_follow.proofs.Left.{IsLeft, next_left, stop_left, end_left}
+use Rattle.rp_tests.specs.declared.stopped.Stopped.{Stopped}
+use Rattle.rp_tests.specs.Comes.{StopsBy}
+use Rattle.rp_tests.proofs.Left.{IsLeft, next_left, stop_left, end_left}
 use Rattle.rp_register.specs.declared.parcel.Parcel.{Parcel}
 use Rattle.rp_register.specs.There.{lot_here, lots_here}
-use Rattle.rp_questions.proofs.Ancestors.{among_found}
+use Rattle.rp_asked.proofs.Ancestors.{among_found}
 
 -- ---- the checks
 
@@ -82,7 +82,7 @@ module _ (s : PlainState) (x z : Label) where
     counting = record { same = ap (λ (ls : List (Lot (Unit {0}))). counted_told ls t) lots_there ∙ sym (ap (λ (o : Option Refusal). check o (counted_told (layer_lots s x)) t) checked) }
 
     -- too many pairs
-    pub count_stops : (e : Lost) (u : Trail) → StopsBy e u (follow_count (count_among touching_pair (lot_parts (lots_here lots))) t) → StopsBy e u (row_access line_tester s x z t)
+    pub count_stops : (e : Stopped) (u : Trail) → StopsBy e u (follow_count (count_among touching_pair (lot_parts (lots_here lots))) t) → StopsBy e u (row_access line_tester s x z t)
     count_stops e u m = stop_left (follow_count (count_among touching_pair (lot_parts (lots_here lots)))) (λ _. links_told (lots_here lots)) counting e u m
 
     module _ (u : Trail) (counted : follow_count (count_among touching_pair (lot_parts (lots_here lots))) t ≡ done tt u) where
@@ -91,7 +91,7 @@ module _ (s : PlainState) (x z : Label) where
       linking = next_left (follow_count (count_among touching_pair (lot_parts (lots_here lots)))) (λ _. links_told (lots_here lots)) counting counted
 
       -- a test stops
-      pub links_stop : (e : Lost) (v : Trail) → StopsBy e v (links_among_lists line_tester [] (numbered_lists 0 (lot_parts (lots_here lots))) u) → StopsBy e v (row_access line_tester s x z t)
+      pub links_stop : (e : Stopped) (v : Trail) → StopsBy e v (links_among_lists line_tester [] (numbered_lists 0 (lot_parts (lots_here lots))) u) → StopsBy e v (row_access line_tester s x z t)
       links_stop e v m = stop_left (links_among_lists line_tester [] (numbered_lists 0 (lot_parts (lots_here lots)))) (told (lots_here lots)) linking e v m
 
       -- all are told

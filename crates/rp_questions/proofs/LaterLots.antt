@@ -14,7 +14,7 @@ use Rattle.rp_states.proofs.Labels.{label_is}
 use Rattle.rp_nearby.specs.declared.near.Reach.TheVariants.{Touch}
 use Rattle.rp_nearby.specs.Near.{is_near}
 use Rattle.rp_nearby.proofs.Skipped.{none_of_pairs}
-use Rattle.rp_follow.proofs.Left.{IsLeft, left_as, next_left, drop_item}
+use Rattle.rp_tests.proofs.Left.{IsLeft, left_as, next_left, drop_item}
 use Rattle.rp_register.specs.declared.parcel.Parcel.{Parcel}
 use Rattle.rp_register.specs.There.{lot_here, lots_here}
 use Rattle.rp_questions.specs.Access.{count_near, later_counts}

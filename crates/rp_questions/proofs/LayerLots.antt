@@ -4,7 +4,7 @@ use Rattle.std.proofs.lemmas.List.{map-append}
 use Rattle.rp_language.specs.Name.{Label, label_eq}
 use Rattle.rp_model.specs.states.State.{Lot, is_live, live_lots, lots_of_layer, ids_of, place_among}
 use Rattle.rp_nearby.proofs.Behind.{left_at}
-use Rattle.rp_follow.proofs.Left.{drop_item}
+use Rattle.rp_tests.proofs.Left.{drop_item}
 use Rattle.rp_register.specs.declared.parcel.Parcel.{Parcel}
 use Rattle.rp_register.specs.There.{lot_here, lots_here}
 

@@ -1,8 +1,5 @@
-pub mod Ancestors
-pub mod Counted
-pub mod Linked
+pub mod EndsAsked
 pub mod PairsLeft
-pub mod PieceLemmas
 pub mod ShownApart
 pub mod Touching
 pub mod Sliced

@@ -9,7 +9,7 @@ use Rattle.rp_reports.specs.Check.{Trail, line_tester}
 use Rattle.rp_access.specs.Chain.{AreJoined}
 use Rattle.rp_access.specs.Laws.{AreLinksOf}
 use Rattle.rp_access.proofs.Computed.{links_go_on}
-use Rattle.rp_follow.proofs.Left.{IsLeft, left_as, drop_item}
+use Rattle.rp_tests.proofs.Left.{IsLeft, left_as, drop_item}
 use Rattle.rp_register.specs.declared.parcel.Parcel.{Parcel}
 use Rattle.rp_register.specs.There.{lot_here, lots_here}
 use Rattle.rp_questions.specs.Access.{IsBelow}

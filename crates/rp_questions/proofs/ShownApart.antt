@@ -1,25 +1,14 @@
 -- An audit, one lot after the other.
-use Rattle.std.proofs.Common.{◌≡◌, ℕ, ◌+◌, ◌<◌, Bool, true, false, List, length, drop, Some, slice_get, ap}
-use Rattle.std.specs.Prelude.{Ok}
-use Rattle.rp_walks.specs.Walk.{Walk, Outcome, done, stopped, taken_wrong, after_first, ◌>>=◌}
+use Rattle.std.proofs.Common.{◌≡◌, ℕ, ◌+◌, ◌<◌, true, false, List, length, drop, Some, slice_get, ap}
+use Rattle.rp_walks.specs.Walk.{Walk, done, ◌>>=◌}
 use Rattle.rp_model.specs.states.State.{Lot, is_live, live_lots}
 use Rattle.rp_model.specs.commands.Row.{lot_parts, all_apart, all_apart_from}
 use Rattle.rp_reports.specs.Check.{Trail, line_tester}
-use Rattle.rp_follow.specs.declared.lost.Lost.{Lost}
-use Rattle.rp_follow.specs.Follows.{StopsBy}
-use Rattle.rp_follow.proofs.Left.{IsLeft, left_as, next_left, stop_left, end_left}
+use Rattle.rp_tests.specs.declared.stopped.Stopped.{Stopped}
+use Rattle.rp_tests.specs.Comes.{StopsBy}
+use Rattle.rp_tests.proofs.Left.{IsLeft, left_as, next_left, stop_left}
 use Rattle.rp_nearby.proofs.Behind.{live_first, live_next}
-use Rattle.rp_questions.specs.Asked.{lots_behind, ShowsApart}
-
--- a lot that is not apart shares a point
-pub shown_no : (b : Bool) (u : Trail) (o : Outcome Trail (Unit {0})) → b ≡ false → ShowsApart (Ok b) u o → o ≡ stopped taken_wrong u
-shown_no true u o e h = absurd (cc)
-shown_no false u o e h = h
-
--- and one that is shares none
-pub shown_yes : (b : Bool) (u : Trail) (o : Outcome Trail (Unit {0})) → b ≡ true → ShowsApart (Ok b) u o → o ≡ done tt u
-shown_yes true u o e h = h
-shown_yes false u o e h = absurd (cc)
+use Rattle.rp_questions.specs.Asked.{lots_behind}
 
 module _ (start now : Trail) (lots : List (Lot (Unit {0}))) (k : ℕ) (l : Lot (Unit {0})) (within : k < length lots) (at : slice_get lots k ≡ Some l) (left : IsLeft start (all_apart line_tester (live_lots lots)) now (all_apart line_tester (live_lots (drop k lots)))) where
   -- the tests of the lot
@@ -42,10 +31,6 @@ module _ (start now : Trail) (lots : List (Lot (Unit {0}))) (k : ℕ) (l : Lot (
   pub ended_next : is_live l ≡ false → IsLeft start (all_apart line_tester (live_lots lots)) now behind
   ended_next ended = left_as (ap (λ (ls : List (Lot (Unit {0}))). all_apart line_tester ls) (live_next lots k l within at ended)) left
 
-  -- a common point is shown
-  pub shared_shown : is_live l ≡ true → (u : Trail) → tests now ≡ stopped taken_wrong u → all_apart line_tester (live_lots lots) start ≡ stopped taken_wrong u
-  shared_shown live u h = end_left (stopped taken_wrong u) (first live) (ap (after_first (λ _. behind)) h)
-
   -- a test stops
-  pub test_stops : is_live l ≡ true → (e : Lost) (u : Trail) → StopsBy e u (tests now) → StopsBy e u (all_apart line_tester (live_lots lots) start)
+  pub test_stops : is_live l ≡ true → (e : Stopped) (u : Trail) → StopsBy e u (tests now) → StopsBy e u (all_apart line_tester (live_lots lots) start)
   test_stops live e u h = stop_left tests (λ _. behind) (first live) e u h

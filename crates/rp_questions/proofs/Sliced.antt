@@ -10,11 +10,12 @@ use Rattle.rp_reports.specs.Text.{verdict_text}
 use Rattle.rp_reports.specs.Check.{Trail, taken, follow_line, follow_lines, slices_told, follow_slices, line_tester}
 use Rattle.rp_cert.specs.Section.{slice_shown}
 use Rattle.rp_cert.specs.declared.slice.Slice.{Slice as CodeSlice}
-use Rattle.rp_follow.specs.declared.lost.Lost.{Lost}
-use Rattle.rp_follow.specs.declared.lost.Lost.TheVariants.{Wrong, Refused, Limit, Memory}
-use Rattle.rp_follow.specs.Follows.{StopsBy, ComesTo, Follows, IsWrongOrMemory}
+use Rattle.rp_tests.specs.declared.stopped.Stopped.{Stopped}
+use Rattle.rp_tests.specs.declared.stopped.Stopped.TheVariants.{Wrong, TakenWrong, Told, Limit, Memory}
+use Rattle.rp_tests.specs.Comes.{StopsBy, Comes}
+use Rattle.rp_follow.specs.Stops.{IsWrongOrMemory}
 use Rattle.rp_follow.specs.Slices.{follow_slice_lines}
-use Rattle.rp_follow.proofs.Left.{stops_on}
+use Rattle.rp_tests.proofs.Left.{stops_on}
 use Rattle.rp_register.specs.Replies.{IsUnshown}
 use Rattle.rp_questions.specs.Slices.{follow_section_lines}
 
@@ -46,27 +47,26 @@ module _ (z : ℤ) (ps : List Part) (t : Trail) where
   by_parts = ap lines_by (told_length z ps (taken t).lines)
 
   -- where it stops, so do all
-  pub count_stops : (e : Lost) (u : Trail) → StopsBy e u (follow_line (verdict_text (Verdict.sections (length ps))) t.lines t) → StopsBy e u (follow_section_lines z ps t)
+  pub count_stops : (e : Stopped) (u : Trail) → StopsBy e u (follow_line (verdict_text (Verdict.sections (length ps))) t.lines t) → StopsBy e u (follow_section_lines z ps t)
   count_stops e u h = subst (λ o. StopsBy e u o) (sym by_parts) (stops_on (λ _. follow_lines texts) e u (follow_line (verdict_text (Verdict.sections (length ps))) t.lines t) h)
 
   -- it was taken: the lines of the slices are left
-  pub count_taken : {A : Type 0} (r : Result A Lost) (u v : Trail) → u ≡ taken t → follow_line (verdict_text (Verdict.sections (length ps))) t.lines t ≡ done tt u → Follows (λ _. tt) r u v (follow_slice_lines z ps) → Follows (λ _. tt) r t v (follow_section_lines z ps)
+  pub count_taken : {A : Type 0} (r : Result A Stopped) (u v : Trail) → u ≡ taken t → follow_line (verdict_text (Verdict.sections (length ps))) t.lines t ≡ done tt u → Comes (λ _. tt) r v (follow_slice_lines z ps u) → Comes (λ _. tt) r v (follow_section_lines z ps t)
   count_taken r u v e m h =
-      subst (λ o. ComesTo (λ _. tt) r v o) (sym (by_parts ∙ ap (after_first (λ _. follow_lines texts)) m ∙ ap (λ (w : Trail). follow_lines (map verdict_text (map Verdict.slice (slices_told z ps w.lines))) u) (sym e))) h
+      subst (λ o. Comes (λ _. tt) r v o) (sym (by_parts ∙ ap (after_first (λ _. follow_lines texts)) m ∙ ap (λ (w : Trail). follow_lines (map verdict_text (map Verdict.slice (slices_told z ps w.lines))) u) (sym e))) h
 
   -- a line is wrong
-  pub line_is_wrong : (e : Lost) (n : ℕ) (u : Trail) → e ≡ Wrong n → StopsBy e u (follow_section_lines z ps t) → IsUnshown n t (row_section line_tester z ps t)
-  line_is_wrong e n u is stops =
-      let h : StopsBy (Wrong n) u (follow_section_lines z ps t) = subst (λ (x : Lost). StopsBy x u (follow_section_lines z ps t)) is stops in
-      record { reply = reply_lines (section_lines (slices_told z ps (taken t).lines)); comes = told_reply z ps t; at = u; stops = h.0; number = h.1 }
+  pub line_is_wrong : (n : ℕ) (u : Trail) → n ≡ u.number → StopsBy Wrong u (follow_section_lines z ps t) → IsUnshown n t (row_section line_tester z ps t)
+  line_is_wrong n u number stops = record { reply = reply_lines (section_lines (slices_told z ps (taken t).lines)); comes = told_reply z ps t; at = u; stops = stops; number = number }
 
   -- all slices are told
   pub slices_told_all : (found : List CodeSlice) (lines : List Verdict) → map slice_shown found ≡ slices_told z ps (taken t).lines → lines ≡ section_lines (map slice_shown found) → row_section line_tester z ps t ≡ done (reply_lines lines) t
   slices_told_all found lines e f = told_reply z ps t ∙ ap (λ (vs : List Verdict). done (reply_lines vs) t) (sym (f ∙ ap section_lines e))
 
 -- where no line is wrong, memory was wanting
-pub memory_alone : {A : Type 0} (e : Lost) (t : Trail) (o : Outcome Trail A) → IsWrongOrMemory e → ((n : ℕ) → e ≡ Wrong n → ⊥) → StopsBy e t o
-memory_alone (Wrong n) t o w h = absurd (h n refl)
-memory_alone Refused t o w h = absurd w
+pub memory_alone : {A : Type 0} (e : Stopped) (t : Trail) (o : Outcome Trail A) → IsWrongOrMemory e → (e ≡ Wrong → ⊥) → StopsBy e t o
+memory_alone Wrong t o w h = absurd (h refl)
+memory_alone TakenWrong t o w h = absurd w
+memory_alone Told t o w h = absurd w
 memory_alone Limit t o w h = absurd w
 memory_alone (Memory e) t o w h = tt

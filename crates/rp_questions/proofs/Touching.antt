@@ -9,15 +9,15 @@ use Rattle.rp_model.specs.commands.Verdict.{Refusal, unknown, neighbour_lines}
 use Rattle.rp_model.specs.commands.Checks.{check_live, refuse_if}
 use Rattle.rp_model.specs.commands.Row.{Reply, reply_lines, refusal, check, lot_parts, count_with_each, touched_lots, row_neighbours}
 use Rattle.rp_reports.specs.Check.{Trail, follow_count, line_tester}
-use Rattle.rp_follow.specs.declared.lost.Lost.{Lost}
-use Rattle.rp_follow.specs.Follows.{StopsBy}
-use Rattle.rp_follow.proofs.Left.{IsLeft, next_left, stop_left, end_left}
+use Rattle.rp_tests.specs.declared.stopped.Stopped.{Stopped}
+use Rattle.rp_tests.specs.Comes.{StopsBy}
+use Rattle.rp_tests.proofs.Left.{IsLeft, next_left, stop_left, end_left}
 use Rattle.rp_nearby.specs.declared.near.Reach.TheVariants.{Touch}
 use Rattle.rp_nearby.specs.Near.{others_in, is_near, pairs_with}
 use Rattle.rp_nearby.proofs.Skipped.{touch_near}
 use Rattle.rp_register.specs.declared.parcel.Parcel.{Parcel}
 use Rattle.rp_register.specs.There.{lot_here, lots_here}
-use Rattle.rp_questions.proofs.Ancestors.{among_found}
+use Rattle.rp_asked.proofs.Ancestors.{among_found}
 
 -- the reply that tells neighbours
 abbrev pub told_neighbours : List Label → Walk Trail Reply
@@ -61,7 +61,7 @@ module _ (s : PlainState) (x : Label) (p : Parcel) (t : Trail) (live : live_lot 
   counting = count_left s x (lot_here p) (others s x p) t live refl
 
   -- the pairs are too many
-  pub count_stops : (e : Lost) (u : Trail) → StopsBy e u (follow_count (pairs_with Touch p.form.now.items (others s x p)) t) → StopsBy e u (row_neighbours line_tester s x t)
+  pub count_stops : (e : Stopped) (u : Trail) → StopsBy e u (follow_count (pairs_with Touch p.form.now.items (others s x p)) t) → StopsBy e u (row_neighbours line_tester s x t)
   count_stops e u m = stop_left (follow_count (pairs_with Touch p.form.now.items (others s x p))) (λ _. touch_and_tell p.form.now.items (others s x p)) counting e u m
 
   module _ (near : List Parcel) (all : lots_here near ≡ filter (is_near Touch (lot_here p).parts) (others s x p)) (pairs : ℕ) (counted : pairs ≡ pairs_with Touch p.form.now.items (others s x p)) where
@@ -76,7 +76,7 @@ module _ (s : PlainState) (x : Label) (p : Parcel) (t : Trail) (live : live_lot 
         (subst (λ (n : ℕ). follow_count n t ≡ done tt u) counted m)
 
     -- a test stops
-    pub touch_stops : (tested : List Parcel) (e : Lost) (u v : Trail) → tested ≡ near → follow_count pairs t ≡ done tt u → StopsBy e v (touched_lots line_tester [] p.form.now.items (lots_here tested) u) → StopsBy e v (row_neighbours line_tester s x t)
+    pub touch_stops : (tested : List Parcel) (e : Stopped) (u v : Trail) → tested ≡ near → follow_count pairs t ≡ done tt u → StopsBy e v (touched_lots line_tester [] p.form.now.items (lots_here tested) u) → StopsBy e v (row_neighbours line_tester s x t)
     touch_stops tested e u v same m h =
         stop_left (touched_lots line_tester [] p.form.now.items (others s x p)) told_neighbours (touching m) e v
         (subst (λ (o : Outcome Trail (List Label)). StopsBy e v o) (all_touched tested u same) h)

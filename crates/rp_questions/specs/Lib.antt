@@ -1,5 +1,3 @@
 pub mod Asked
-pub mod Compare
-pub mod Questions
 pub mod Access
 pub mod Slices

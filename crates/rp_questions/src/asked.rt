@@ -4,15 +4,14 @@ ghost use Rattle.rp_model.specs.commands.Row.{row, row_neighbours, row_audit};
 ghost use Rattle.rp_reports.specs.Check.{Trail, line_tester};
 ghost use Rattle.rp_register.specs.Replies.{Tells};
 
-use crate::apart::are_apart;
+use crate::apart::show_apart;
 use crate::behind::pairs_in_layers;
-use crate::live::{add_live, count_live};
-use crate::lot_lines::{add_each, neighbour_lines};
-use crate::points::owner_verdict;
+use crate::live::count_live;
 use crate::touched::touched;
+use rp_asked::{neighbour_lines, one_line, owner_verdict};
 use rp_follow::Trail;
 use rp_nearby::{Moment, Reach};
-use rp_register::{Register, RowEnd, count_tests, one_line};
+use rp_register::{Register, RowEnd, count_tests};
 use rp_report::{Refusal, Verdict, Verdicts};
 use rp_space::{Name, Point};
 use std::alloc::Global;
@@ -35,16 +34,14 @@ pub fn neighbours(
     Ok(neighbour_lines(alloc, ids.items())?)
 }
 
-/// `audit`: how many live lots there are, of which no two of one layer share a point. `Shared` where a line shows that
+/// `audit`: how many live lots there are, of which no two of one layer share a point. `TakenWrong` where a line shows that
 /// two do.
 pub fn audit(alloc: Global, register: &Register, trail: &mut Trail<'_>) -> Result<Verdicts, RowEnd>
     ensures { Tells result trail.new (row_audit line_tester register.now trail.old) }
 {
     let pairs = pairs_in_layers(alloc, register)?;
     count_tests(trail, pairs)?;
-    if !are_apart(alloc, register, trail)? {
-        return Err(RowEnd::Shared);
-    }
+    show_apart(alloc, register, trail)?;
     Ok(one_line(alloc, Verdict::Clear(count_live(register)))?)
 }
 
@@ -52,7 +49,8 @@ pub fn audit(alloc: Global, register: &Register, trail: &mut Trail<'_>) -> Resul
 pub fn owner(alloc: Global, register: &Register, point: &Point) -> Result<Verdicts, RowEnd>
     ensures { (t : Trail) → Tells result t (row line_tester register.now (ask_at point.now) t) }
 {
-    Ok(one_line(alloc, owner_verdict(register, Moment::Now, point))?)
+    let owner = register.owner(Moment::Now, point);
+    Ok(one_line(alloc, owner_verdict(owner))?)
 }
 
 /// `asof`: the lot of the present layer that had the point after a line. It makes no test.
@@ -64,28 +62,20 @@ pub fn owner_then(
 ) -> Result<Verdicts, RowEnd>
     ensures { (t : Trail) → Tells result t (row line_tester register.now (ask_as_of line point.now) t) }
 {
-    Ok(one_line(alloc, owner_verdict(register, Moment::After(line), point))?)
+    let owner = register.owner(Moment::After(line), point);
+    Ok(one_line(alloc, owner_verdict(owner))?)
 }
 
 /// `list`: the live lots. It makes no test.
 pub fn list(alloc: Global, register: &Register) -> Result<Verdicts, RowEnd>
     ensures { (t : Trail) → Tells result t (row line_tester register.now ask_list t) }
 {
-    let mut lines = one_line(alloc, Verdict::Parcels(count_live(register)))?;
-    add_live(alloc, register, &mut lines)?;
-    Ok(lines)
+    Ok(rp_asked::list(alloc, register.history())?)
 }
 
 /// `history`: the lot and all lots that it was made from. It makes no test.
 pub fn lineage(alloc: Global, register: &Register, id: Name) -> Result<Verdicts, RowEnd>
     ensures { (t : Trail) → Tells result t (row line_tester register.now (ask_history id) t) }
 {
-    let history = register.history();
-    if history.place_of(&id).is_none() {
-        return Err(RowEnd::Refused(Refusal::Unknown(id)));
-    }
-    let ids = history.lineage(alloc, id)?;
-    let mut lines = one_line(alloc, Verdict::Lots(ids.items().len() as u32))?;
-    add_each(alloc, history, ids.items(), &mut lines)?;
-    Ok(lines)
+    Ok(rp_asked::lineage(alloc, register.history(), id)?)
 }

@@ -8,9 +8,9 @@ ghost use Rattle.rp_nearby.specs.Near.{is_near, may_meet};
 ghost use Rattle.rp_register.specs.There.{lot_here, lots_here, CountsUpTo};
 ghost use Rattle.rp_questions.specs.Asked.{lots_behind};
 
-use rp_follow::Lost;
 use rp_nearby::{Moment, Reach, is_there};
 use rp_register::{Near, Parcel, Register};
+use rp_tests::Stopped;
 use std::alloc::Global;
 
 /// The most tests that are counted in a command.
@@ -24,7 +24,7 @@ pub(crate) fn near_behind<'a>(
     place: usize,
     lot: &Parcel<'_>,
     reach: Reach,
-) -> Result<Near<'a>, Lost>
+) -> Result<Near<'a>, Stopped>
     requires within { place < length register.now.lots }
     requires at { slice_get register.now.lots place ≡ Some (lot_here lot.now) }
     ensures parcels { IfOk result (λ near. lots_here near.parcels.items ≡ filter (is_near reach (lot_here lot.now).parts) (lots_behind (lot_here lot.now) place register.now.lots)) }
@@ -37,7 +37,7 @@ pub(crate) fn near_behind<'a>(
 
 /// How many pairs of parts of two live lots of one layer may meet. `Limit` exactly where these are more than a command may
 /// test.
-pub(crate) fn pairs_in_layers(alloc: Global, register: &Register) -> Result<u64, Lost>
+pub(crate) fn pairs_in_layers(alloc: Global, register: &Register) -> Result<u64, Stopped>
     ensures { CountsUpTo (λ n. n) result (count_in_layers near_pair (live_lots register.now.lots)) }
 {
     let mut pairs = 0;
@@ -54,13 +54,13 @@ pub(crate) fn pairs_in_layers(alloc: Global, register: &Register) -> Result<u64,
 }
 
 /// Two counts together. `Limit` exactly where these are more than a command may test.
-pub(crate) fn counted(pairs: u64, more: u64) -> Result<u64, Lost>
+pub(crate) fn counted(pairs: u64, more: u64) -> Result<u64, Stopped>
     requires pairs { pairs ≤ most_tests }
     requires more { more ≤ most_tests }
     ensures { CountsUpTo (λ n. n) result (pairs + more) }
 {
     if pairs + more > MAX_TESTS {
-        return Err(Lost::Limit);
+        return Err(Stopped::Limit);
     }
     Ok(pairs + more)
 }

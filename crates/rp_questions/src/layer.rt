@@ -10,10 +10,10 @@ ghost use Rattle.rp_questions.specs.Access.{count_near, later_counts};
 ghost use Rattle.rp_questions.specs.Asked.{lots_behind};
 
 use crate::behind::{counted, near_behind};
-use rp_follow::Lost;
 use rp_nearby::{Moment, Reach, is_there};
 use rp_register::{Parcel, Register};
 use rp_space::{Listed, Name};
+use rp_tests::Stopped;
 use std::alloc::{AllocError, Global};
 
 /// For each lot of a list how many later ones have a part that may touch one of its own, and how many pairs of parts these
@@ -49,7 +49,7 @@ pub(crate) fn later_in_layer(
     alloc: Global,
     register: &Register,
     layer: &Name,
-) -> Result<Later, Lost>
+) -> Result<Later, Stopped>
     ensures counts { IfOk result (λ later. later.counts.items ≡ later_counts (lots_of_layer layer.now (live_lots register.now.lots))) }
     ensures pairs { CountsUpTo (λ later. later.pairs) result (count_among touching_pair (lot_parts (lots_of_layer layer.now (live_lots register.now.lots)))) }
 {
@@ -73,7 +73,7 @@ fn add_later(
     place: usize,
     lot: &Parcel<'_>,
     later: &mut Later,
-) -> Result<(), Lost>
+) -> Result<(), Stopped>
     requires within { place < length register.now.lots }
     requires at { slice_get register.now.lots place ≡ Some (lot_here lot.now) }
     requires few { later.old.pairs ≤ most_tests }

@@ -5,17 +5,18 @@ ghost use Rattle.rp_model.specs.states.State.{most_kept_parts};
 ghost use Rattle.rp_model.specs.commands.Row.{numbered_lists, link_lists, links_with_list, links_among_lists, lot_parts};
 ghost use Rattle.rp_reports.specs.Check.{line_tester};
 ghost use Rattle.rp_access.specs.Laws.{AreLinksOf};
-ghost use Rattle.rp_follow.specs.Follows.{Follows};
+ghost use Rattle.rp_tests.specs.Comes.{Comes};
 ghost use Rattle.rp_nearby.specs.declared.near.Reach.TheVariants.{Touch};
 ghost use Rattle.rp_nearby.specs.Near.{is_near};
 ghost use Rattle.rp_register.specs.There.{lot_here, lots_here};
 ghost use Rattle.rp_questions.specs.Access.{IsBelow, count_near, later_counts};
 
 use rp_access::Links;
-use rp_follow::{Lost, Trail, touching};
+use rp_follow::{Trail, touching};
 use rp_nearby::Reach;
 use rp_register::{Parcel, count_pairs};
 use rp_space::Listed;
+use rp_tests::Stopped;
 use std::alloc::{AllocError, Global};
 
 /// Pairs of numbers of lots that are in contact.
@@ -29,11 +30,11 @@ pub(crate) fn links_among(
     lots: &[Parcel<'_>],
     later: &[usize],
     trail: &mut Trail<'_>,
-) -> Result<(), Lost>
+) -> Result<(), Stopped>
     requires few { length lots.now ≤ most_kept_parts }
     requires later { later.now ≡ later_counts (lots_here lots.now) }
     requires below { AllByRecursion (IsBelow (length lots.now)) pairs.old.items }
-    ensures follows { Follows (λ _. pairs.new.items) result trail.old trail.new (links_among_lists line_tester pairs.old.items (numbered_lists 0 (lot_parts (lots_here lots.now)))) }
+    ensures comes { Comes (λ _. pairs.new.items) result trail.new (links_among_lists line_tester pairs.old.items (numbered_lists 0 (lot_parts (lots_here lots.now))) trail.old) }
     ensures below { OnOk result (AllByRecursion (IsBelow (length lots.now)) pairs.new.items) }
 {
     for place in 0..lots.len() {
@@ -58,11 +59,11 @@ fn links_with_lot(
     others: &[Parcel<'_>],
     near: usize,
     trail: &mut Trail<'_>,
-) -> Result<(), Lost>
+) -> Result<(), Stopped>
     requires few { number + 1 + length others.now ≤ most_kept_parts }
     requires near { near ≡ count_near (lot_here lot.now).parts (lots_here others.now) }
     requires below { AllByRecursion (IsBelow (number + 1 + length others.now)) pairs.old.items }
-    ensures follows { Follows (λ _. pairs.new.items) result trail.old trail.new (links_with_list line_tester pairs.old.items (number, (lot_here lot.now).parts) (numbered_lists (number + 1) (lot_parts (lots_here others.now)))) }
+    ensures comes { Comes (λ _. pairs.new.items) result trail.new (links_with_list line_tester pairs.old.items (number, (lot_here lot.now).parts) (numbered_lists (number + 1) (lot_parts (lots_here others.now))) trail.old) }
     ensures below { OnOk result (AllByRecursion (IsBelow (number + 1 + length others.now)) pairs.new.items) }
 {
     let mut left = near;
@@ -94,8 +95,8 @@ fn link_lots(
     other_number: u32,
     other: &Parcel<'_>,
     trail: &mut Trail<'_>,
-) -> Result<(), Lost>
-    ensures follows { Follows (λ _. pairs.new.items) result trail.old trail.new (link_lists line_tester pairs.old.items (number, (lot_here lot.now).parts) (other_number, (lot_here other.now).parts)) }
+) -> Result<(), Stopped>
+    ensures comes { Comes (λ _. pairs.new.items) result trail.new (link_lists line_tester pairs.old.items (number, (lot_here lot.now).parts) (other_number, (lot_here other.now).parts) trail.old) }
     ensures below { (n : ℕ) → IsBelow n (number, other_number) → AllByRecursion (IsBelow n) pairs.old.items → OnOk result (AllByRecursion (IsBelow n) pairs.new.items) }
 {
     if touching(lot.form, other.form, true, trail)? {

@@ -10,7 +10,8 @@ ghost use Rattle.rp_report.specs.Views.{verdict_of};
 ghost use Rattle.rp_register.specs.There.{lots_here};
 
 use rp_access::{Links, Route, chain, levels};
-use rp_register::{Parcel, one_line};
+use rp_asked::one_line;
+use rp_register::Parcel;
 use rp_report::{Verdict, Verdicts};
 use rp_space::Name;
 use std::alloc::{AllocError, Global};

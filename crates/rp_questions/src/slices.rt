@@ -3,22 +3,24 @@ ghost use Rattle.std.specs.Prelude.{◌≡◌, ◌≤◌, IfOk, IfErr, OnOk, len
 ghost use Rattle.rp_geometry.specs.parts.Parts.{most_parts};
 ghost use Rattle.rp_geometry.specs.sections.Trace.{IsHeight};
 ghost use Rattle.rp_language.specs.Expression.{IsKeptExpression, ask_section};
-ghost use Rattle.rp_model.specs.commands.Verdict.{section_lines};
 ghost use Rattle.rp_model.specs.commands.Row.{row, row_section};
 ghost use Rattle.rp_reports.specs.Text.{verdict_text};
 ghost use Rattle.rp_reports.specs.Check.{taken, slices_told, follow_line, line_tester};
 ghost use Rattle.rp_cert.specs.Section.{slice_shown};
-ghost use Rattle.rp_follow.specs.Follows.{Follows, IsWrongOrMemory};
+ghost use Rattle.rp_tests.specs.Comes.{Comes};
+ghost use Rattle.rp_follow.specs.Stops.{IsWrongOrMemory};
 ghost use Rattle.rp_report.specs.Views.{verdict_of};
 ghost use Rattle.rp_syntax.specs.Views.{expression_of};
 ghost use Rattle.rp_questions.specs.Slices.{follow_section_lines};
 ghost use Rattle.rp_register.specs.Replies.{Tells};
 
-use rp_follow::{Form, Lost, Slices, Trail, slices};
-use rp_register::{Register, RowEnd, one_line};
+use rp_asked::slice_lines;
+use rp_follow::{Form, Slices, Trail, slices};
+use rp_register::{Register, RowEnd};
 use rp_report::{Verdict, Verdicts, write_verdict};
 use rp_syntax::Expr;
-use std::alloc::{AllocError, Global};
+use rp_tests::Stopped;
+use std::alloc::Global;
 
 /// `section`: the slices of the parts of the form at a height. Which these are the next lines say, behind the one that tells
 /// how many there are; none of them is taken. `Unshown` where one of them is missing, or shows no slice that passes.
@@ -46,16 +48,21 @@ fn shown_slices(alloc: Global, form: &Form, z: i32, trail: &Trail<'_>) -> Result
     let mut ahead = trail.ahead();
     match follow_slices(alloc, form, z, &mut ahead) {
         Ok(slices) => Ok(slice_lines(alloc, slices)?),
-        Err(Lost::Wrong(number)) => Err(RowEnd::Unshown(number)),
-        Err(lost) => Err(RowEnd::Lost(lost)),
+        Err(Stopped::Wrong) => Err(RowEnd::Unshown(ahead.number())),
+        Err(stopped) => Err(RowEnd::Stopped(stopped)),
     }
 }
 
 /// The slices of the parts of a form, on the lines behind the next one, which tells how many there are.
-fn follow_slices(alloc: Global, form: &Form, z: i32, trail: &mut Trail<'_>) -> Result<Slices, Lost>
+fn follow_slices(
+    alloc: Global,
+    form: &Form,
+    z: i32,
+    trail: &mut Trail<'_>,
+) -> Result<Slices, Stopped>
     requires few { length form.now.items ≤ most_parts }
     requires height { IsHeight z }
-    ensures follows { Follows (λ _. tt) result trail.old trail.new (follow_section_lines z form.now.items) }
+    ensures comes { Comes (λ _. tt) result trail.new (follow_section_lines z form.now.items trail.old) }
     ensures told { IfOk result (λ list. map slice_shown list.items ≡ slices_told z form.now.items (taken trail.old).lines) }
     ensures ends { IfErr result IsWrongOrMemory }
 {
@@ -65,31 +72,19 @@ fn follow_slices(alloc: Global, form: &Form, z: i32, trail: &mut Trail<'_>) -> R
 }
 
 /// Takes the next line, which must be that of the verdict.
-fn follow_verdict(alloc: Global, verdict: &Verdict, trail: &mut Trail<'_>) -> Result<(), Lost>
-    ensures follows { Follows (λ x. x) result trail.old trail.new (λ t. follow_line (verdict_text (verdict_of verdict.now)) t.lines t) }
+fn follow_verdict(alloc: Global, verdict: &Verdict, trail: &mut Trail<'_>) -> Result<(), Stopped>
+    ensures comes { Comes (λ x. x) result trail.new (follow_line (verdict_text (verdict_of verdict.now)) trail.old.lines trail.old) }
     ensures takes { OnOk result (trail.new ≡ taken trail.old) }
     ensures ends { IfErr result IsWrongOrMemory }
 {
     let mut text = Vec::new(alloc);
     write_verdict(verdict, &mut text)?;
     let Some(line) = trail.peek() else {
-        return Err(Lost::Wrong(trail.number()));
+        return Err(Stopped::Wrong);
     };
     if text.as_slice() != line {
-        return Err(Lost::Wrong(trail.number()));
+        return Err(Stopped::Wrong);
     }
     trail.take();
     Ok(())
-}
-
-/// The verdict lines of slices; they are moved. Answers `AllocError` only for want of memory.
-fn slice_lines(alloc: Global, slices: Slices) -> Result<Verdicts, AllocError>
-    requires { length slices.items ≤ most_parts }
-    ensures { IfOk result (λ lines. map verdict_of lines.items ≡ section_lines (map slice_shown slices.items)) }
-{
-    let mut lines = one_line(alloc, Verdict::Sections(slices.items().len() as u32))?;
-    for slice in slices.into_items() {
-        lines.push(Verdict::Slice(slice))?;
-    }
-    Ok(lines)
 }

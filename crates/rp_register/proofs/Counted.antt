@@ -4,15 +4,16 @@ use Rattle.std.specs.Prelude.{nat_le}
 use Rattle.std.proofs.lemmas.Bool.Decides.{nat_tests}
 use Rattle.rp_walks.specs.Walk.{Outcome, done, stopped, limit_met, most_tests}
 use Rattle.rp_reports.specs.Check.{Trail, follow_count}
-use Rattle.rp_follow.specs.declared.lost.Lost.{Lost}
-use Rattle.rp_follow.specs.declared.lost.Lost.TheVariants.{Wrong, Refused, Limit, Memory}
-use Rattle.rp_follow.specs.Follows.{StopsBy}
+use Rattle.rp_tests.specs.declared.stopped.Stopped.{Stopped}
+use Rattle.rp_tests.specs.declared.stopped.Stopped.TheVariants.{Wrong, TakenWrong, Told, Limit, Memory}
+use Rattle.rp_tests.specs.Comes.{StopsBy}
 use Rattle.rp_register.specs.There.{CountsUpTo}
 
 -- where pairs were not counted, so many tests are not
-pub count_lost : {A : Type 0} (count : A → ℕ) (e : Lost) (n : ℕ) (t : Trail) → CountsUpTo count (Err e) n → StopsBy e t (follow_count n t)
-count_lost count (Wrong k) n t h = absurd h
-count_lost count Refused n t h = absurd h
+pub count_lost : {A : Type 0} (count : A → ℕ) (e : Stopped) (n : ℕ) (t : Trail) → CountsUpTo count (Err e) n → StopsBy e t (follow_count n t)
+count_lost count Wrong n t h = absurd h
+count_lost count TakenWrong n t h = absurd h
+count_lost count Told n t h = absurd h
 count_lost count Limit n t h = by (nat_le (t.tests + n) most_tests) refl
   where
     by : (b : Bool) → nat_le (t.tests + n) most_tests ≡ b → (elim b as (λ _. Outcome Trail (Unit {0})) [ true ↦ done tt (record { lines = t.lines; number = t.number; tests = t.tests + n }) | false ↦ stopped limit_met t ]) ≡ stopped limit_met t
@@ -21,15 +22,17 @@ count_lost count Limit n t h = by (nat_le (t.tests + n) most_tests) refl
 count_lost count (Memory k) n t h = tt
 
 -- nor are more
-pub more_lost : {A B : Type 0} (count : A → ℕ) (other : B → ℕ) (e : Lost) (n m : ℕ) → CountsUpTo count (Err e) n → n ≤ m → CountsUpTo other (Err e) m
-more_lost count other (Wrong k) n m h f = absurd h
-more_lost count other Refused n m h f = absurd h
+pub more_lost : {A B : Type 0} (count : A → ℕ) (other : B → ℕ) (e : Stopped) (n m : ℕ) → CountsUpTo count (Err e) n → n ≤ m → CountsUpTo other (Err e) m
+more_lost count other Wrong n m h f = absurd h
+more_lost count other TakenWrong n m h f = absurd h
+more_lost count other Told n m h f = absurd h
 more_lost count other Limit n m h f = omega (arith, h, f)
 more_lost count other (Memory k) n m h f = tt
 
 -- where there are few, memory alone was wanting
-pub memory_lost : {A B : Type 0} (count : A → ℕ) (e : Lost) (n : ℕ) (t : Trail) (o : Outcome Trail B) → CountsUpTo count (Err e) n → n ≤ most_tests → StopsBy e t o
-memory_lost count (Wrong k) n t o h f = absurd h
-memory_lost count Refused n t o h f = absurd h
+pub memory_lost : {A B : Type 0} (count : A → ℕ) (e : Stopped) (n : ℕ) (t : Trail) (o : Outcome Trail B) → CountsUpTo count (Err e) n → n ≤ most_tests → StopsBy e t o
+memory_lost count Wrong n t o h f = absurd h
+memory_lost count TakenWrong n t o h f = absurd h
+memory_lost count Told n t o h f = absurd h
 memory_lost count Limit n t o h f = absurd (omega (arith, h, f))
 memory_lost count (Memory k) n t o h f = tt

@@ -4,6 +4,5 @@ pub mod Counted
 pub mod KeptLots
 pub mod KeptNames
 pub mod Known
-pub mod Members
 pub mod Placed
 pub mod Present

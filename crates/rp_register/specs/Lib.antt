@@ -1,4 +1,3 @@
 pub mod Kept
-pub mod Operands
 pub mod Replies
 pub mod There

@@ -2,24 +2,26 @@
 use Rattle.std.specs.Prelude.{◌≡◌, ℕ, List, [], ◌∷◌, map, Result, Ok, Err, option_map}
 use Rattle.rp_geometry.specs.sets.Shape.{Part}
 use Rattle.rp_language.specs.Expression.{Expression, first_unknown_among}
-use Rattle.rp_walks.specs.Walk.{Outcome, done, stopped, line_wrong, taken_wrong, Walk, ◌>>=◌}
+use Rattle.rp_walks.specs.Walk.{Outcome, done, stopped, line_wrong, Walk, ◌>>=◌}
 use Rattle.rp_walks.specs.Form.{form}
 use Rattle.rp_model.specs.states.State.{PlainState, NewLot, Change as ModelChange, name_added, lots_replaced, layer_changed, parts_in}
 use Rattle.rp_model.specs.commands.Verdict.{unknown}
-use Rattle.rp_model.specs.commands.Row.{Reply as ModelReply, reply_lines, accepted, refusal, check, with_forms}
+use Rattle.rp_model.specs.commands.Row.{Reply as ModelReply, reply_lines, accepted, refusal, check}
 use Rattle.rp_reports.specs.Check.{Trail, follow_lines, line_tester}
 use Rattle.rp_reports.specs.Text.{verdict_text}
 use Rattle.rp_space.specs.Listed.{Listed}
 use Rattle.rp_report.specs.declared.answer.Verdict.{Verdict as CodeVerdict}
 use Rattle.rp_report.specs.Views.{refusal_of, verdict_of}
-use Rattle.rp_follow.specs.Follows.{StopsBy}
+use Rattle.rp_tests.specs.Comes.{StopsBy}
 use Rattle.rp_register.specs.declared.reply.Reply.{Reply}
 use Rattle.rp_register.specs.declared.reply.Reply.TheVariants.{Told, Changed}
 use Rattle.rp_register.specs.declared.reply.Born.{Born}
 use Rattle.rp_register.specs.declared.reply.Change.{Change}
 use Rattle.rp_register.specs.declared.reply.Change.TheVariants.{Named, Replaced, Layer}
+use Rattle.rp_asked.specs.declared.reply.RowEnd.{RowEnd as AskedEnd}
+use Rattle.rp_asked.specs.declared.reply.RowEnd.TheVariants.{Refused as AskedRefused, Stopped as AskedStopped}
 use Rattle.rp_register.specs.declared.reply.RowEnd.{RowEnd}
-use Rattle.rp_register.specs.declared.reply.RowEnd.TheVariants.{Refused, Shared, Unshown, Lost as LostEnd}
+use Rattle.rp_register.specs.declared.reply.RowEnd.TheVariants.{Refused, Unshown, Stopped as StoppedEnd}
 
 -- ---- changes and replies of the code as those of the model
 
@@ -51,9 +53,8 @@ pub record IsUnshown (n : ℕ) (t : Trail) (o : Outcome Trail ModelReply) : Type
 -- the row ends so, and the trail is this
 abbrev pub EndsBy : RowEnd → Trail → Outcome Trail ModelReply → Type 0
 EndsBy (Refused r) t o = o ≡ done (refusal (refusal_of r)) t
-EndsBy Shared t o = o ≡ stopped taken_wrong t
 EndsBy (Unshown n) t o = IsUnshown n t o
-EndsBy (LostEnd e) t o = StopsBy e t o
+EndsBy (StoppedEnd e) t o = StopsBy e t o
 
 -- the row was followed, and the trail is this: it comes to the reply, or ends so
 abbrev pub Replies : Result Reply RowEnd → Trail → Outcome Trail ModelReply → Type 0
@@ -74,11 +75,19 @@ GoesOn view (Err e) t next o = EndsBy e t o
 abbrev pub row_of_form : PlainState → Expression → (List Part → Walk Trail ModelReply) → Walk Trail ModelReply
 row_of_form s e next = check (option_map unknown (first_unknown_among (parts_in s) (e ∷ []))) (form line_tester (parts_in s) e >>= next)
 
--- the row of two expressions, by what comes behind their forms
-abbrev pub row_of_forms : PlainState → Expression → Expression → (List Part → List Part → Walk Trail ModelReply) → Walk Trail ModelReply
-row_of_forms s e f next = check (option_map unknown (first_unknown_among (parts_in s) (e ∷ f ∷ []))) (with_forms line_tester (parts_in s) e f next)
-
 -- the reply to a question
 abbrev pub reply_told : Result (Listed CodeVerdict) RowEnd → Result Reply RowEnd
 reply_told (Ok lines) = Ok (Told lines)
 reply_told (Err e) = Err e
+
+-- ---- questions about forms
+
+-- why a row of the one text has no reply
+abbrev pub end_of : AskedEnd → RowEnd
+end_of (AskedRefused r) = Refused r
+end_of (AskedStopped e) = StoppedEnd e
+
+-- the reply to a question about forms
+abbrev pub reply_asked : Result (Listed CodeVerdict) AskedEnd → Result Reply RowEnd
+reply_asked (Ok lines) = Ok (Told lines)
+reply_asked (Err e) = Err (end_of e)

@@ -1,15 +1,16 @@
 //! Tests are counted.
 ghost use Rattle.rp_reports.specs.Check.{follow_count};
-ghost use Rattle.rp_follow.specs.Follows.{Follows};
+ghost use Rattle.rp_tests.specs.Comes.{Comes};
 
-use rp_follow::{Lost, Trail};
+use rp_follow::Trail;
+use rp_tests::Stopped;
 
 /// Counts so many tests. `Limit` exactly where these are too many.
-pub fn count_tests(trail: &mut Trail<'_>, tests: u64) -> Result<(), Lost>
-    ensures { Follows (λ x. x) result trail.old trail.new (follow_count tests) }
+pub fn count_tests(trail: &mut Trail<'_>, tests: u64) -> Result<(), Stopped>
+    ensures { Comes (λ x. x) result trail.new (follow_count tests trail.old) }
 {
     if !trail.count(tests) {
-        return Err(Lost::Limit);
+        return Err(Stopped::Limit);
     }
     Ok(())
 }

@@ -9,25 +9,18 @@
 
 mod boxes;
 mod count;
-mod cover;
 mod form;
 mod lots;
-mod member;
 mod names;
 mod near;
-mod operand;
 mod parcel;
 mod register;
 mod reply;
 mod there;
 
 pub use count::count_tests;
-pub use cover::{is_empty, within};
-pub use form::outside;
-pub use member::holds;
 pub use near::count_pairs;
-pub use operand::Operand;
 pub use parcel::Parcel;
 pub use register::Register;
-pub use reply::{Born, Change, Reply, RowEnd, one_line, yes_or_no};
+pub use reply::{Born, Change, Reply, RowEnd};
 pub use there::Near;

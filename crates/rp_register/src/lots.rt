@@ -10,10 +10,9 @@ ghost use Rattle.rp_register.specs.Kept.{AreFew, has_point};
 ghost use Rattle.rp_register.specs.Replies.{new_lot_of};
 
 use crate::boxes::{hull_of, hulls_of};
-use crate::member::holds;
 use crate::reply::Born;
 use rp_boxindex::Quiet;
-use rp_follow::Form;
+use rp_follow::{Form, holds};
 use rp_history::{Birth, History};
 use rp_nearby::{Holder, LotBoxes, Moment, Reach};
 use rp_space::{Listed, Name, Point};

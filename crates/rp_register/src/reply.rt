@@ -1,13 +1,12 @@
 //! What a row that is followed on the lines of a report comes to: verdict lines or a change, or why it ends.
-ghost use Rattle.std.specs.Prelude.{◌≡◌, ◌∷◌, [], map, IfOk};
-ghost use Rattle.rp_model.specs.commands.Row.{reply_lines, yes_or_no};
-ghost use Rattle.rp_report.specs.Views.{verdict_of};
 
-use rp_follow::{Form, Lost};
+use rp_asked::RowEnd as AskedEnd;
+use rp_follow::Form;
 use rp_history::Birth;
-use rp_report::{Refusal, Verdict, Verdicts};
+use rp_report::{Refusal, Verdicts};
 use rp_space::{Listed, Name, Names};
-use std::alloc::{AllocError, Global};
+use rp_tests::Stopped;
+use std::alloc::AllocError;
 use thiserror::Error;
 
 /// What a command comes to.
@@ -43,57 +42,48 @@ pub enum RowEnd {
     /// The row refuses the command.
     #[error("the command is refused")]
     Refused(Refusal),
-    /// The line that was taken last shows that two live lots of one layer share a point, where an audit shows none.
-    #[error("the line taken last shows a common point")]
-    Shared,
     /// The verdict lines of the reply don't stand next: the line of this number is the first that is another one, or no line
     /// is left there. None of them is taken.
     #[error("line {0} is not that of the reply")]
     Unshown(u32),
-    /// The lines are followed no further.
-    #[error("the lines are followed no further")]
-    Lost(Lost),
+    /// It is stopped.
+    #[error("the row is stopped")]
+    Stopped(Stopped),
 }
 
-impl From<Lost> for RowEnd {
+impl From<Stopped> for RowEnd {
     ghost use Rattle.std.specs.Prelude.{◌≡◌};
-    ghost use Rattle.rp_register.specs.declared.reply.RowEnd.TheVariants.{Lost as LostEnd};
+    ghost use Rattle.rp_register.specs.declared.reply.RowEnd.TheVariants.{Stopped as StoppedEnd};
 
-    ghost from_gives = { λ x e. e ≡ LostEnd x };
+    ghost from_gives = { λ x e. e ≡ StoppedEnd x };
 
-    fn from(lost: Lost) -> RowEnd {
-        RowEnd::Lost(lost)
+    fn from(stopped: Stopped) -> RowEnd {
+        RowEnd::Stopped(stopped)
     }
 }
 
 impl From<AllocError> for RowEnd {
     ghost use Rattle.std.specs.Prelude.{◌≡◌};
-    ghost use Rattle.rp_register.specs.declared.reply.RowEnd.TheVariants.{Lost as LostEnd};
-    ghost use Rattle.rp_follow.specs.declared.lost.Lost.TheVariants.{Memory};
+    ghost use Rattle.rp_register.specs.declared.reply.RowEnd.TheVariants.{Stopped as StoppedEnd};
+    ghost use Rattle.rp_tests.specs.declared.stopped.Stopped.TheVariants.{Memory};
 
-    ghost from_gives = { λ x e. e ≡ LostEnd (Memory x) };
+    ghost from_gives = { λ x e. e ≡ StoppedEnd (Memory x) };
 
     fn from(fault: AllocError) -> RowEnd {
-        RowEnd::Lost(Lost::Memory(fault))
+        RowEnd::Stopped(Stopped::Memory(fault))
     }
 }
 
-/// One verdict line. Answers `AllocError` only for want of memory.
-pub fn one_line(alloc: Global, verdict: Verdict) -> Result<Verdicts, AllocError>
-    ensures { IfOk result (λ lines. map verdict_of lines.items ≡ verdict_of verdict ∷ []) }
-{
-    let mut lines = Verdicts::new(alloc);
-    lines.push(verdict)?;
-    Ok(lines)
-}
+impl From<AskedEnd> for RowEnd {
+    ghost use Rattle.std.specs.Prelude.{◌≡◌};
+    ghost use Rattle.rp_register.specs.Replies.{end_of};
 
-/// Yes or no. Answers `AllocError` only for want of memory.
-pub fn yes_or_no(alloc: Global, is_so: bool) -> Result<Verdicts, AllocError>
-    ensures { IfOk result (λ lines. reply_lines (map verdict_of lines.items) ≡ yes_or_no is_so) }
-{
-    if is_so {
-        one_line(alloc, Verdict::Yes)
-    } else {
-        one_line(alloc, Verdict::No)
+    ghost from_gives = { λ x e. e ≡ end_of x };
+
+    fn from(end: AskedEnd) -> RowEnd {
+        match end {
+            AskedEnd::Refused(refusal) => RowEnd::Refused(refusal),
+            AskedEnd::Stopped(stopped) => RowEnd::Stopped(stopped),
+        }
     }
 }

@@ -10,9 +10,10 @@ ghost use Rattle.rp_register.specs.There.{lot_here, lots_here, CountsUpTo};
 use crate::near::count_pairs;
 use crate::parcel::Parcel;
 use crate::register::Register;
-use rp_follow::{Form, Lost};
+use rp_follow::Form;
 use rp_nearby::{Moment, Reach};
 use rp_space::{Listed, Name, Point};
+use rp_tests::Stopped;
 use std::alloc::Global;
 
 /// The most tests that are counted in a command.
@@ -62,7 +63,7 @@ impl Register {
         id: &Name,
         from: usize,
         reach: Reach,
-    ) -> Result<Near<'_>, Lost>
+    ) -> Result<Near<'_>, Stopped>
         requires from { from ≤ length self.now.lots }
         requires few { length form.now.items ≤ most_parts }
         ensures parcels { IfOk result (λ near. lots_here near.parcels.items ≡ filter (is_near reach form.now.items) (others_in layer.now id.now (drop from self.now.lots))) }
@@ -81,7 +82,7 @@ impl Register {
         form: &Form,
         places: &[usize],
         reach: Reach,
-    ) -> Result<Near<'_>, Lost>
+    ) -> Result<Near<'_>, Stopped>
         requires within { AreWithin self.now.lots places.now }
         requires few { length form.now.items ≤ most_parts }
         ensures parcels { IfOk result (λ near. lots_here near.parcels.items ≡ filter (is_near reach form.now.items) (lots_at self.now.lots places.now)) }
@@ -96,7 +97,7 @@ impl Register {
             let parcel = self.parcel_at(*place);
             let pairs = count_pairs(form, parcel.form, reach);
             if pairs > MAX_TESTS - near.pairs {
-                return Err(Lost::Limit);
+                return Err(Stopped::Limit);
             }
             if pairs > 0 {
                 near.pairs += pairs;

@@ -3,7 +3,7 @@ use Rattle.std.proofs.lemmas.List.{drop_all}
 use Rattle.rp_language.specs.Name.{Label, label_eq}
 use Rattle.rp_model.specs.commands.Verdict.{layers}
 use Rattle.rp_model.specs.commands.Checks.{refuse_if, check_live, check_layer, check_each}
-use Rattle.rp_follow.proofs.Left.{drop_item}
+use Rattle.rp_tests.proofs.Left.{drop_item}
 use Rattle.rp_changes.proofs.Checked.{each_refuses, each_passes, first_passes}
 use Rattle.rp_changes.proofs.checks.check_layers.Goals as goal
 

@@ -1,7 +1,7 @@
 use Rattle.std.proofs.Common.{drop}
 use Rattle.rp_walks.specs.Form.{subtract}
 use Rattle.rp_reports.specs.Check.{line_tester}
-use Rattle.rp_follow.proofs.Left.{IsLeft}
+use Rattle.rp_tests.proofs.Left.{IsLeft}
 use Rattle.rp_changes.proofs.TakenAway.{parts_of_all}
 use Rattle.rp_changes.proofs.children.left_of.Given as goal
 

@@ -4,8 +4,8 @@ use Rattle.rp_geometry.specs.sets.Shape.{Part}
 use Rattle.rp_walks.specs.Walk.{done, pass}
 use Rattle.rp_model.specs.states.State.{NewLot, parts_under_lots, lots_replaced, most_kept_parts}
 use Rattle.rp_model.specs.commands.Row.{Reply, accepted, check_size, new_lot}
-use Rattle.rp_follow.specs.Follows.{StopsBy}
-use Rattle.rp_follow.proofs.Left.{next_left, stop_left, end_left}
+use Rattle.rp_tests.specs.Comes.{StopsBy}
+use Rattle.rp_tests.proofs.Left.{next_left, stop_left, end_left}
 use Rattle.rp_language.specs.Name.{Label}
 use Rattle.rp_register.specs.declared.reply.Born.{Born}
 use Rattle.rp_register.specs.Replies.{new_lot_of}
@@ -28,7 +28,7 @@ returns-in_err-check_room c =
     let size = ap₂ (λ (qs rs : List Part). length qs + length rs) c.items-3.ensures c.items-4.ensures in
     rw (p.1, p.2)
     (stop_left (check_size (parts_under_lots s.lots + (length inner + length outer)) most_kept_parts) (λ _. pass (cut_reply s x c.args.first c.args.second inner outer))
-    (cut_left s x c.args.first c.args.second whole c.args.form.now.items inner outer c.args.trail.now u v c.in_ok-place.ensures.checks (parts_here x s c.in_ok-place.place whole c.in_ok-place.ensures.lot c.form_at-whole.ensures) c.in_ok-inner.ensures.follows some c.in_ok-outer.ensures.follows more)
+    (cut_left s x c.args.first c.args.second whole c.args.form.now.items inner outer c.args.trail.now u v c.in_ok-place.ensures.checks (parts_here x s c.in_ok-place.place whole c.in_ok-place.ensures.lot c.form_at-whole.ensures) c.in_ok-inner.ensures.comes some c.in_ok-outer.ensures.comes more)
     e v (subst (λ (n : ℕ). StopsBy e v (check_size (parts_under_lots s.lots + n) most_kept_parts v)) size (c.in_err-check_room.ensures v)))
 
 pub returns : goal.returns
@@ -52,6 +52,6 @@ returns c =
     ∙ ap (λ (z : Label). new_lot z c.args.first inner (x ∷ []) ∷ new_lot z c.args.second outer (x ∷ []) ∷ []) c.layer_of-layer.ensures in
     end_left (done (cut_reply s x c.args.first c.args.second inner outer) v)
     (next_left (check_size (parts_under_lots s.lots + (length inner + length outer)) most_kept_parts) (λ _. pass (cut_reply s x c.args.first c.args.second inner outer))
-    (cut_left s x c.args.first c.args.second whole c.args.form.now.items inner outer c.args.trail.now u v c.in_ok-place.ensures.checks (parts_here x s c.in_ok-place.place whole c.in_ok-place.ensures.lot c.form_at-whole.ensures) c.in_ok-inner.ensures.follows some c.in_ok-outer.ensures.follows more)
+    (cut_left s x c.args.first c.args.second whole c.args.form.now.items inner outer c.args.trail.now u v c.in_ok-place.ensures.checks (parts_here x s c.in_ok-place.place whole c.in_ok-place.ensures.lot c.form_at-whole.ensures) c.in_ok-inner.ensures.comes some c.in_ok-outer.ensures.comes more)
     room) refl
     ∙ ap (λ (r : Reply). done r v) (sym (c.in_ok-replaced.ensures ∙ ap (λ (ls : List (NewLot (Unit {0}))). accepted (lots_replaced (x ∷ []) ls)) new))

@@ -11,8 +11,8 @@ use Rattle.rp_model.specs.commands.Verdict.{outside_lot, children_overlap}
 use Rattle.rp_model.specs.commands.Checks.{check_subdivide}
 use Rattle.rp_model.specs.commands.Row.{Reply, FormedChild, accepted, check_size, new_lot, joined_parts, child_parts, count_among, first_empty_child, first_outside_child, first_overlapping_children}
 use Rattle.rp_reports.specs.Check.{follow_count, line_tester}
-use Rattle.rp_follow.specs.Follows.{StopsBy}
-use Rattle.rp_follow.proofs.Left.{next_left, stop_left, end_left}
+use Rattle.rp_tests.specs.Comes.{StopsBy}
+use Rattle.rp_tests.proofs.Left.{next_left, stop_left, end_left}
 use Rattle.rp_changes.specs.declared.child.Child.{Child}
 use Rattle.rp_changes.specs.Children.{formed_child}
 use Rattle.rp_changes.proofs.Divided.{parts_here, subdivide_reply, covered_rest, cover_left}

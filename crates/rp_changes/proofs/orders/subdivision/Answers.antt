@@ -11,8 +11,8 @@ pub returns-in_err-children : goal.returns-in_err-children
 returns-in_err-children c =
     let p = err_from_is_err_and c.from_residual.result c.from_residual.ensures.1 in
     rw (p.1, p.2)
-    (children_stop c.args.register.now c.args.id c.args.entries.now c.args.trail.now c.children.new.trail c.in_err-children.field-0.0 (sym c.in_default.is ∙ c.first_unknown_shape.ensures) c.in_err-children.ensures.follows)
+    (children_stop c.args.register.now c.args.id c.args.entries.now c.args.trail.now c.children.new.trail c.in_err-children.field-0.0 (sym c.in_default.is ∙ c.first_unknown_shape.ensures) c.in_err-children.ensures.comes)
 
 pub returns : goal.returns
 returns c =
-    children_made c.args.register.now c.args.id c.args.entries.now c.args.trail.now c.children.new.trail c.subdivide.new.trail (formed_children c.in_ok-children.children) c.subdivide.result (sym c.in_default.is ∙ c.first_unknown_shape.ensures) c.in_ok-children.ensures.follows c.subdivide.ensures
+    children_made c.args.register.now c.args.id c.args.entries.now c.args.trail.now c.children.new.trail c.subdivide.new.trail (formed_children c.in_ok-children.children) c.subdivide.result (sym c.in_default.is ∙ c.first_unknown_shape.ensures) c.in_ok-children.ensures.comes c.subdivide.ensures

@@ -9,8 +9,8 @@ use Rattle.rp_model.specs.commands.Row.{refusal, accepted, check_size, new_lot, 
 use Rattle.rp_reports.specs.Check.{Trail, follow_count, line_tester}
 use Rattle.rp_nearby.specs.declared.near.Reach.TheVariants.{Overlap}
 use Rattle.rp_nearby.specs.Near.{others_in, is_near, pairs_with}
-use Rattle.rp_follow.specs.Follows.{StopsBy}
-use Rattle.rp_follow.proofs.Left.{next_left, stop_left, end_left}
+use Rattle.rp_tests.specs.Comes.{StopsBy}
+use Rattle.rp_tests.proofs.Left.{next_left, stop_left, end_left}
 use Rattle.rp_register.specs.declared.parcel.Parcel.{Parcel}
 use Rattle.rp_register.specs.declared.there.Near.{Near}
 use Rattle.rp_register.specs.There.{lots_here}

@@ -1,7 +1,7 @@
 use Rattle.std.proofs.Common.{ℕ}
 use Rattle.std.proofs.lemmas.Result.{err_from_is_err_and}
 use Rattle.rp_reports.specs.Check.{follow_count, line_tester}
-use Rattle.rp_follow.proofs.Left.{all_left, stop_left}
+use Rattle.rp_tests.proofs.Left.{all_left, stop_left}
 use Rattle.rp_walks.specs.Form.{near_pair}
 use Rattle.rp_model.specs.states.State.{live_lots}
 use Rattle.rp_model.specs.commands.Row.{count_in_layers, row_audit}
@@ -17,5 +17,5 @@ returns-in_err-pairs c =
     rw (p.1, p.2)
     (stop_left (follow_count (count_in_layers near_pair (live_lots s.lots))) _ (all_left t (row_audit line_tester s)) e t (count_lost (λ (n : ℕ). n) e _ t c.in_err-pairs.ensures))
 
-pub are_apart-requires : goal.are_apart-requires
-are_apart-requires c = c.in_ok-pairs.ensures.1
+pub show_apart-requires : goal.show_apart-requires
+show_apart-requires c = c.in_ok-pairs.ensures.1

@@ -1,35 +1,27 @@
-use Rattle.std.proofs.Common.{◌≤◌, List, [], ◌∷◌, ◌++◌, length, map, true, false, ap, ◌∙◌, arith}
+use Rattle.std.specs.Prelude.{Ok, Err}
+use Rattle.std.proofs.Common.{length, ap, arith}
 use Rattle.std.proofs.lemmas.List.{length-map}
-use Rattle.rp_language.specs.Name.{Label}
-use Rattle.rp_walks.specs.Walk.{done}
+use Rattle.std.proofs.lemmas.Result.{err_from_is_err_and}
 use Rattle.rp_model.specs.states.State.{bare_lot}
-use Rattle.rp_model.specs.commands.Verdict.{Verdict, lot_lines}
-use Rattle.rp_model.specs.commands.Row.{reply_lines}
-use Rattle.rp_report.specs.Views.{verdict_of}
-use Rattle.rp_questions.specs.Asked.{lots_under}
-use Rattle.rp_questions.proofs.Ancestors.{registered, no_history, its_history, history_lines, history_few}
+use Rattle.rp_model.specs.commands.Row.{row_history}
+use Rattle.rp_asked.proofs.BareLots.{bare_told}
+use Rattle.rp_questions.proofs.EndsAsked.{ends_asked}
 use Rattle.rp_questions.proofs.asked.lineage.Goals as goal
 
-pub returns-then-is_none : goal.returns-then-is_none
-returns-then-is_none c t =
-    let s = c.args.register.now in
-    no_history s c.args.id t (registered c.args.id s.lots c.history-history.result.now c.place_of.result false c.history-history.ensures.value c.place_of.ensures.lot c.place_of.ensures.within c.if-is_none.ensures)
+pub lineage-requires : goal.lineage-requires
+lineage-requires c =
+    let kept = ap length c.history.ensures.value in
+    let bare = length-map c.args.register.now.lots bare_lot in
+    let few = c.history.ensures.few in
+    omega (arith, kept, bare, few)
 
-pub overflow_cast-items : goal.overflow_cast-items
-overflow_cast-items c =
-    let few : length c.in_ok-ids.ids.items ≤ length c.history-history.result.now = history_few c.args.id c.history-history.result.now c.in_ok-ids.ids.items c.in_ok-ids.ensures in
-    let bare = ap length c.history-history.ensures.value in
-    let plain = length-map c.args.register.now.lots bare_lot in
-    let same = ap length c.items.ensures in
-    omega (arith, c.history-history.ensures.few)
+pub returns-in_err-lineage : goal.returns-in_err-lineage
+returns-in_err-lineage c t =
+    let p = err_from_is_err_and c.from_residual.result c.from_residual.ensures.1 in
+    let s = c.args.register.now in
+    let e = c.in_err-lineage.field-0.0 in
+    rw (p.1, p.2)
+    (ends_asked e t (row_history s c.args.id t) (bare_told (Err e) s c.args.id c.history.result.now t c.history.ensures.value c.in_err-lineage.ensures))
 
 pub returns : goal.returns
-returns c t =
-    let s = c.args.register.now in
-    let kept = c.history-history.result.now in
-    let bare = c.history-history.ensures.value in
-    its_history s c.args.id t (registered c.args.id s.lots kept c.place_of.result true bare c.place_of.ensures.lot c.place_of.ensures.within c.if-is_none.ensures)
-    ∙ ap (λ (vs : List Verdict). done (reply_lines vs) t)
-    (history_lines c.args.id s.lots kept c.in_ok-ids.ids.items (map verdict_of c.in_ok-lines.lines.items) (map verdict_of c.add_each.new.lines.items) bare c.place_of.ensures.distinct c.in_ok-ids.ensures
-    (c.in_ok-lines.ensures ∙ ap (λ (ids : List Label). Verdict.lots (length ids) ∷ []) c.items.ensures)
-    (c.in_ok-add_each.ensures ∙ ap (λ (ids : List Label). map verdict_of c.in_ok-lines.lines.items ++ lot_lines (lots_under ids kept)) c.items-2.ensures))
+returns c t = bare_told (Ok c.in_ok-lineage.field-0) c.args.register.now c.args.id c.history.result.now t c.history.ensures.value c.in_ok-lineage.ensures

@@ -4,7 +4,7 @@ use Rattle.rp_walks.specs.Walk.{done}
 use Rattle.rp_model.specs.commands.Verdict.{Verdict, neighbour_lines}
 use Rattle.rp_model.specs.commands.Row.{reply_lines}
 use Rattle.rp_reports.specs.Check.{follow_count}
-use Rattle.rp_follow.specs.Follows.{StopsBy}
+use Rattle.rp_tests.specs.Comes.{StopsBy}
 use Rattle.rp_register.specs.declared.there.Near.{Near}
 use Rattle.rp_register.proofs.Counted.{count_lost}
 use Rattle.rp_questions.proofs.Touching.{unknown_id, count_stops, touch_stops, touch_told}
@@ -36,7 +36,7 @@ returns-in_err-ids c =
     let lot = c.in-Some.lot in
     rw (p.1, p.2)
     (touch_stops c.args.register.now c.args.id lot c.args.trail.now (sym c.in-Some.ensures) c.in_ok-near.near.parcels.items c.in_ok-near.ensures.parcels c.in_ok-near.near.pairs c.in_ok-near.ensures.pairs.0 c.items.result.now c.in_err-ids.field-0.0 c.count_tests.new.trail c.touched.new.trail
-    c.items.ensures c.in_ok-count_tests.ensures c.in_err-ids.ensures.follows)
+    c.items.ensures c.in_ok-count_tests.ensures c.in_err-ids.ensures.comes)
 
 pub neighbour_lines-requires : goal.neighbour_lines-requires
 neighbour_lines-requires c =
@@ -52,5 +52,5 @@ pub returns : goal.returns
 returns c =
     let lot = c.in-Some.lot in
     touch_told c.args.register.now c.args.id lot c.args.trail.now (sym c.in-Some.ensures) c.in_ok-near.near.parcels.items c.in_ok-near.ensures.parcels c.in_ok-near.near.pairs c.in_ok-near.ensures.pairs.0 c.items.result.now c.in_ok-ids.ids.items c.count_tests.new.trail c.touched.new.trail
-    c.items.ensures c.in_ok-count_tests.ensures c.in_ok-ids.ensures.follows
+    c.items.ensures c.in_ok-count_tests.ensures c.in_ok-ids.ensures.comes
     ∙ ap (λ (vs : List Verdict). done (reply_lines vs) c.touched.new.trail) (sym (c.in_ok-neighbour_lines.ensures ∙ ap neighbour_lines c.items-2.ensures))

@@ -4,7 +4,7 @@ use Rattle.std.proofs.lemmas.Result.{err_from_is_err_and}
 use Rattle.std.specs.List.{AllByRecursion}
 use Rattle.rp_model.specs.commands.Row.{numbered_lists, links_with_list, links_among_lists}
 use Rattle.rp_reports.specs.Check.{line_tester}
-use Rattle.rp_follow.proofs.Left.{next_left, stop_left}
+use Rattle.rp_tests.proofs.Left.{next_left, stop_left}
 use Rattle.rp_register.specs.declared.parcel.Parcel.{Parcel}
 use Rattle.rp_register.specs.There.{lot_here, lots_here}
 use Rattle.rp_questions.specs.Access.{IsBelow, count_near, later_counts}
@@ -30,8 +30,8 @@ links_with_lot-requires-clause-near c =
     count_at lots i c.index-lots-place.result n h c.index-lots-place.is there
     ∙ ap (λ (ls : List Parcel). count_near (lot_here c.index-lots-place.result).parts (lots_here ls)) (sym (take_rest lots (i + 1)))
 
-pub returns-in_err-links_with_lot-clause-follows : goal.returns-in_err-links_with_lot-clause-follows
-returns-in_err-links_with_lot-clause-follows c =
+pub returns-in_err-links_with_lot-clause-comes : goal.returns-in_err-links_with_lot-clause-comes
+returns-in_err-links_with_lot-clause-comes c =
     let p = err_from_is_err_and c.from_residual.result c.from_residual.ensures.1 in
     let i = c.loop-place.place in
     let found = c.loop-place.pairs.items in
@@ -41,7 +41,7 @@ returns-in_err-links_with_lot-clause-follows c =
     rw (p.1, p.2)
     (stop_left (links_with_list line_tester found (i, (lot_here c.index-lots-place.result).parts) (numbered_lists (i + 1) (parts_here later))) (λ more. links_among_lists line_tester more rest)
     (lot_left found lots i c.index-lots-place.result later (take_rest lots (i + 1)) c.loop-place-test.true c.index-lots-place.is c.loop-place.invariant.0)
-    c.in_err-links_with_lot.field-0.0 c.links_with_lot.new.trail c.in_err-links_with_lot.ensures.follows)
+    c.in_err-links_with_lot.field-0.0 c.links_with_lot.new.trail c.in_err-links_with_lot.ensures.comes)
 
 pub loop-place-preserved : goal.loop-place-preserved
 loop-place-preserved c =
@@ -54,6 +54,6 @@ loop-place-preserved c =
     let size = ap length (take_rest lots (i + 1)) ∙ length-drop (i + 1) lots in
     let all : i + 1 + length later ≡ length lots = omega (arith, size, h) in (
       next_left (links_with_list line_tester found (i, (lot_here c.index-lots-place.result).parts) (numbered_lists (i + 1) (parts_here later))) (λ more. links_among_lists line_tester more rest)
-          (lot_left found lots i c.index-lots-place.result later (take_rest lots (i + 1)) h c.index-lots-place.is c.loop-place.invariant.0) c.in_ok-links_with_lot.ensures.follows,
+          (lot_left found lots i c.index-lots-place.result later (take_rest lots (i + 1)) h c.index-lots-place.is c.loop-place.invariant.0) c.in_ok-links_with_lot.ensures.comes,
       subst (λ n. AllByRecursion (IsBelow n) c.links_with_lot.new.pairs.items) all c.in_ok-links_with_lot.ensures.below,
     )

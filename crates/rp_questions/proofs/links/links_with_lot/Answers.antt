@@ -2,15 +2,15 @@ use Rattle.std.proofs.Common.{ℕ, ◌+◌, length, drop, arith, List, sym, ap, 
 use Rattle.std.specs.List.{AllByRecursion}
 use Rattle.rp_geometry.specs.sets.Shape.{Part}
 use Rattle.rp_walks.specs.Walk.{done}
-use Rattle.rp_follow.proofs.Left.{end_left}
+use Rattle.rp_tests.proofs.Left.{end_left}
 use Rattle.rp_register.specs.There.{lot_here}
 use Rattle.rp_questions.specs.Access.{IsBelow}
 use Rattle.rp_questions.proofs.LaterLots.{near_first, none_left, link_taken, link_passed}
 use Rattle.rp_questions.proofs.links.links_with_lot.Goals as goal
 use Rattle.rp_questions.proofs.links.links_with_lot.Goals.{then-may_touch+in_ok-link_lots, else-may_touch}
 
-pub returns-then-left-eq0-clause-follows : goal.returns-then-left-eq0-clause-follows
-returns-then-left-eq0-clause-follows c =
+pub returns-then-left-eq0-clause-comes : goal.returns-then-left-eq0-clause-comes
+returns-then-left-eq0-clause-comes c =
     let lot : ℕ × List Part = (c.args.number, (lot_here c.args.lot.now).parts) in
     let found = c.loop-place.pairs.items in
     let i = c.loop-place.place in
@@ -34,7 +34,7 @@ loop-place-preserved c =
           let first = near_first lot.1 others i other true h c.index-others-place.is (sym w.if-may_touch.ensures) in
           let fewer = w.left-is in
           record {
-            walk = link_taken found c.if-may_touch.pairs.items lot others next i other h c.index-others-place.is walk w.link_lots.new.pairs.items w.link_lots.new.trail c.if-may_touch.trail w.in_ok-link_lots.ensures.follows same w.trail-is;
+            walk = link_taken found c.if-may_touch.pairs.items lot others next i other h c.index-others-place.is walk w.link_lots.new.pairs.items w.link_lots.new.trail c.if-may_touch.trail w.in_ok-link_lots.ensures.comes same w.trail-is;
             below =
                 subst (AllByRecursion (IsBelow (c.args.number + 1 + length others))) (sym same)
                 (w.in_ok-link_lots.ensures.below (c.args.number + 1 + length others) (omega arith, omega (arith, h)) c.loop-place.invariant.below);

@@ -5,7 +5,7 @@ use Rattle.rp_walks.specs.Form.{touching_pair}
 use Rattle.rp_model.specs.states.State.{Lot, ids_of, place_among}
 use Rattle.rp_model.specs.commands.Row.{lot_parts, numbered_lists, count_among, links_among_lists, access_by_links}
 use Rattle.rp_reports.specs.Check.{line_tester, follow_count}
-use Rattle.rp_follow.specs.Follows.{StopsBy}
+use Rattle.rp_tests.specs.Comes.{StopsBy}
 use Rattle.rp_report.specs.Views.{verdict_of}
 use Rattle.rp_register.specs.declared.parcel.Parcel.{Parcel}
 use Rattle.rp_register.specs.There.{lots_here}
@@ -26,7 +26,7 @@ returns-in_err-links_among c =
     rw (p.1, p.2)
     (links_stop s c.args.from c.args.to c.in-Ok.layer lots t c.in-Ok.ensures.passes c.in-Ok.ensures.layer c.in_ok-lots.ensures.value u counted e v
     (subst (λ (found : List (ℕ × ℕ)). StopsBy e v (links_among_lists line_tester found (numbered_lists 0 (lot_parts (lots_here lots))) u)) c.new-pairs.ensures
-    (subst (λ (ls : List Parcel). StopsBy e v (links_among_lists line_tester c.new-pairs.result.items (numbered_lists 0 (lot_parts (lots_here ls))) u)) c.items.ensures c.in_err-links_among.ensures.follows)))
+    (subst (λ (ls : List Parcel). StopsBy e v (links_among_lists line_tester c.new-pairs.result.items (numbered_lists 0 (lot_parts (lots_here ls))) u)) c.items.ensures c.in_err-links_among.ensures.comes)))
 
 pub access_lines-requires-clause-linked : goal.access_lines-requires-clause-linked
 access_lines-requires-clause-linked c i j l = ((c.in_ok-links.ensures.links i j).0 l).1
@@ -53,7 +53,7 @@ returns c =
     let counted = ap (λ (n : ℕ). follow_count n t) many ∙ c.in_ok-count_tests.ensures in
     let linked =
     subst (λ (found : List (ℕ × ℕ)). links_among_lists line_tester found (numbered_lists 0 (lot_parts (lots_here lots))) u ≡ done pairs v) c.new-pairs.ensures
-    (subst (λ (ls : List Parcel). links_among_lists line_tester c.new-pairs.result.items (numbered_lists 0 (lot_parts (lots_here ls))) u ≡ done pairs v) c.items.ensures c.in_ok-links_among.ensures.follows) in
+    (subst (λ (ls : List Parcel). links_among_lists line_tester c.new-pairs.result.items (numbered_lists 0 (lot_parts (lots_here ls))) u ≡ done pairs v) c.items.ensures c.in_ok-links_among.ensures.comes) in
     access_told s c.args.from c.args.to c.in-Ok.layer lots t c.in-Ok.ensures.passes c.in-Ok.ensures.layer c.in_ok-lots.ensures.value u counted pairs v (map verdict_of c.in_ok-access_lines.field-0.items) linked
     (c.in_ok-access_lines.ensures c.items-4.result.now c.in_ok-links.ensures.links
     ∙ ap (λ (ls : List Parcel). access_by_links (ids_of (lots_here ls)) c.items-4.result.now c.args.from c.args.to) c.items-5.ensures

@@ -7,25 +7,25 @@ use Rattle.rp_walks.specs.Walk.{done}
 use Rattle.rp_model.specs.commands.Verdict.{Verdict}
 use Rattle.rp_reports.specs.Text.{verdict_text}
 use Rattle.rp_reports.specs.Check.{follow_line}
-use Rattle.rp_follow.specs.Follows.{StopsBy, Follows}
+use Rattle.rp_tests.specs.Comes.{StopsBy, Comes}
 use Rattle.rp_follow.specs.Slices.{follow_slice_lines}
 use Rattle.rp_questions.proofs.Sliced.{count_stops, count_taken}
 use Rattle.rp_questions.proofs.slices.follow_slices.Goals as goal
 
-pub returns-in_err-follow_verdict-clause-follows : goal.returns-in_err-follow_verdict-clause-follows
-returns-in_err-follow_verdict-clause-follows c =
+pub returns-in_err-follow_verdict-clause-comes : goal.returns-in_err-follow_verdict-clause-comes
+returns-in_err-follow_verdict-clause-comes c =
     let p = err_from_is_err_and c.from_residual.result c.from_residual.ensures.1 in
     let t = c.args.trail.now in
     let e = c.in_err-follow_verdict.field-0.0 in
     let u = c.follow_verdict.new.trail in
     rw (p.1, p.2)
     (count_stops c.args.z c.args.form.now.items t e u
-    (subst (λ (ps : List Part). StopsBy e u (follow_line (verdict_text (Verdict.sections (length ps))) t.lines t)) c.items.ensures c.in_err-follow_verdict.ensures.follows))
+    (subst (λ (ps : List Part). StopsBy e u (follow_line (verdict_text (Verdict.sections (length ps))) t.lines t)) c.items.ensures c.in_err-follow_verdict.ensures.comes))
 
-pub returns-clause-follows : goal.returns-clause-follows
-returns-clause-follows c =
+pub returns-clause-comes : goal.returns-clause-comes
+returns-clause-comes c =
     let t = c.args.trail.now in
     let u = c.follow_verdict.new.trail in
     count_taken c.args.z c.args.form.now.items t c.slices.result u c.slices.new.trail c.in_ok-follow_verdict.ensures.takes
-    (subst (λ (ps : List Part). follow_line (verdict_text (Verdict.sections (length ps))) t.lines t ≡ done tt u) c.items.ensures c.in_ok-follow_verdict.ensures.follows)
-    (subst (λ z. Follows (λ _. tt) c.slices.result u c.slices.new.trail (follow_slice_lines z c.args.form.now.items)) (to_z-of_z w32 c.args.z c.ranges.z) c.slices.ensures.follows)
+    (subst (λ (ps : List Part). follow_line (verdict_text (Verdict.sections (length ps))) t.lines t ≡ done tt u) c.items.ensures c.in_ok-follow_verdict.ensures.comes)
+    (subst (λ z. Comes (λ _. tt) c.slices.result c.slices.new.trail (follow_slice_lines z c.args.form.now.items u)) (to_z-of_z w32 c.args.z c.ranges.z) c.slices.ensures.comes)

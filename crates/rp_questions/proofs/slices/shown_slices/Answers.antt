@@ -1,12 +1,12 @@
-use Rattle.std.proofs.Common.{◌≡◌, map, ap, sym, ◌∙◌, subst, arith, to_z, of_z}
+use Rattle.std.proofs.Common.{◌≡◌, map, ap, ◌∙◌, subst, arith, to_z, of_z}
 use Rattle.std.proofs.lemmas.Int.{to_z-of_z}
 use mir.Syntax.{w32}
-use Rattle.rp_model.specs.commands.Row.{row_section}
-use Rattle.rp_reports.specs.Check.{Trail, taken, slices_told, line_tester}
+use Rattle.rp_reports.specs.Check.{Trail, taken, slices_told}
 use Rattle.rp_report.specs.Views.{verdict_of}
 use Rattle.rp_cert.specs.Section.{slice_shown}
-use Rattle.rp_follow.specs.Follows.{StopsBy}
-use Rattle.rp_register.specs.Replies.{IsUnshown}
+use Rattle.rp_tests.specs.declared.stopped.Stopped.{Stopped}
+use Rattle.rp_tests.specs.declared.stopped.Stopped.TheVariants.{Wrong}
+use Rattle.rp_tests.specs.Comes.{StopsBy}
 use Rattle.rp_questions.specs.Slices.{follow_section_lines}
 use Rattle.rp_questions.proofs.Sliced.{slices_counted, slices_told_all, line_is_wrong}
 use Rattle.rp_questions.proofs.slices.shown_slices.Goals as goal
@@ -28,6 +28,6 @@ returns-in-Err-Wrong c =
     let ps = c.args.form.now.items in
     let e = c.in-Err-Wrong.field-0 in
     let u = c.follow_slices.new.trail in
-    let stops = subst (λ z. StopsBy e u (follow_section_lines z ps c.ahead-ahead.result)) (to_z-of_z w32 c.args.z c.ranges.z) c.in-Err-Wrong.ensures.follows in
-    subst (λ n. IsUnshown n c.args.trail.now (row_section line_tester c.args.z ps c.args.trail.now)) (sym c.in-Err-Wrong.number-is)
-    (line_is_wrong c.args.z ps c.args.trail.now e c.in-Err-Wrong.number u c.in-Err-Wrong.field-0-is (subst (λ (t : Trail). StopsBy e u (follow_section_lines c.args.z ps t)) c.ahead-ahead.ensures stops))
+    let stops = subst (λ z. StopsBy e u (follow_section_lines z ps c.ahead-ahead.result)) (to_z-of_z w32 c.args.z c.ranges.z) c.in-Err-Wrong.ensures.comes in
+    let wrong = subst (λ (x : Stopped). StopsBy x u (follow_section_lines c.args.z ps c.ahead-ahead.result)) c.in-Err-Wrong.field-0-is stops in
+    line_is_wrong c.args.z ps c.args.trail.now c.number.result u c.number.ensures (subst (λ (t : Trail). StopsBy Wrong u (follow_section_lines c.args.z ps t)) c.ahead-ahead.ensures wrong)

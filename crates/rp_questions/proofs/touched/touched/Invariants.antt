@@ -1,7 +1,7 @@
 use Rattle.std.proofs.Common.{◌≤◌, [], length, drop}
 use Rattle.rp_model.specs.commands.Row.{touched_lots}
 use Rattle.rp_reports.specs.Check.{line_tester}
-use Rattle.rp_follow.proofs.Left.{IsLeft}
+use Rattle.rp_tests.proofs.Left.{IsLeft}
 use Rattle.rp_register.specs.There.{lots_here}
 use Rattle.rp_questions.proofs.touched.touched.Given as goal
 

@@ -1,4 +1,4 @@
-use Rattle.std.proofs.Common.{◌≡◌, ◌≤◌, ◌*◌, ◌++◌, List, [], length, map, Option, sym, ap, ◌∙◌, subst, arith}
+use Rattle.std.proofs.Common.{◌≡◌, ◌≤◌, ◌*◌, ◌++◌, List, [], length, Option, sym, ap, ◌∙◌, subst, arith}
 use Rattle.std.specs.Prelude.{IfSome}
 use Rattle.std.proofs.lemmas.Result.{err_from_is_err_and}
 use Rattle.rp_walks.specs.Walk.{done, first_tester}
@@ -9,7 +9,6 @@ use Rattle.rp_model.specs.commands.Verdict.{Verdict}
 use Rattle.rp_model.specs.commands.Row.{reply_lines, row_access}
 use Rattle.rp_history.specs.Lots.{lots_in}
 use Rattle.rp_parcels.specs.Access.{told_chain, told_levels}
-use Rattle.rp_report.specs.Views.{verdict_of}
 use Rattle.rp_machine.proofs.AccessLemmas.{same_access, chain_told_few}
 use Rattle.rp_machine.proofs.LotLemmas.{question_fails}
 use Rattle.rp_machine.proofs.state.State.access.Goals as goal

@@ -1,11 +1,11 @@
 use Rattle.std.proofs.Common.{rules, FitsSigned, w32, ap, sym, ◌∙◌, subst, List}
 use Rattle.std.proofs.lemmas.Int.{to_z-of_z}
 use Rattle.std.specs.List.{AllByRecursion}
-use Rattle.rp_language.specs.Expression.{Command, IsKeptExpression, expressions_of, ask_at, ask_as_of, ask_list, ask_section}
+use Rattle.rp_language.specs.Expression.{Command, IsKeptExpression, expressions_of, ask_equal, ask_within, ask_overlap, ask_at, ask_as_of, ask_list, ask_section}
 use Rattle.rp_syntax.specs.Views.{command_of, expression_of}
 use Rattle.rp_machine.specs.Children.{shapes_of}
 use Rattle.rp_machine.proofs.ChildLemmas.{kept_shapes}
-use Rattle.rp_machine.proofs.LotLemmas.{question_run}
+use Rattle.rp_machine.proofs.LotLemmas.{question_run, forms_question_run}
 use Rattle.rp_machine.proofs.state.State.carry_out.Goals as goal
 
 pub subdivide-requires-clause-kept : goal.subdivide-requires-clause-kept
@@ -28,3 +28,18 @@ returns-in-Section g c =
     let fits : FitsSigned w32 c.in-Section.z = search rules in
     question_run c.told-in-Section.result c.section.result c.args.n c.args.work.now c.section.new.work c.args.self.now (command_of c.args.command.now) (ask_section e _) (ap command_of c.in-Section.is ∙ sym (ap (ask_section e) (to_z-of_z w32 c.in-Section.z fits)))
     c.told-in-Section.ensures c.section.ensures
+
+pub returns-in-Equal : goal.returns-in-Equal
+returns-in-Equal g c =
+    forms_question_run c.told_of_forms-in-Equal.result c.comparison.result c.args.n c.args.work.now c.comparison.new.tests c.args.self.now (command_of c.args.command.now) (ask_equal (expression_of c.in-Equal.a) (expression_of c.in-Equal.b)) (ap command_of c.in-Equal.is)
+    c.told_of_forms-in-Equal.ensures c.comparison.ensures
+
+pub returns-in-Within : goal.returns-in-Within
+returns-in-Within g c =
+    forms_question_run c.told_of_forms-in-Within.result c.comparison-in-Within.result c.args.n c.args.work.now c.comparison-in-Within.new.tests c.args.self.now (command_of c.args.command.now) (ask_within (expression_of c.in-Within.a) (expression_of c.in-Within.b)) (ap command_of c.in-Within.is)
+    c.told_of_forms-in-Within.ensures c.comparison-in-Within.ensures
+
+pub returns-in-Overlap : goal.returns-in-Overlap
+returns-in-Overlap g c =
+    forms_question_run c.told_of_forms-in-Overlap.result c.comparison-in-Overlap.result c.args.n c.args.work.now c.comparison-in-Overlap.new.tests c.args.self.now (command_of c.args.command.now) (ask_overlap (expression_of c.in-Overlap.a) (expression_of c.in-Overlap.b)) (ap command_of c.in-Overlap.is)
+    c.told_of_forms-in-Overlap.ensures c.comparison-in-Overlap.ensures

@@ -1,15 +1,18 @@
-use Rattle.std.proofs.Common.{List, map, ap, ◌∙◌}
+use Rattle.std.proofs.Common.{List, length, map, sym, ap, ◌∙◌, arith}
+use Rattle.std.proofs.lemmas.List.{length-map}
 use Rattle.rp_walks.specs.Walk.{done}
 use Rattle.rp_model.specs.states.State.{bare_lot}
 use Rattle.rp_model.specs.commands.Verdict.{Verdict}
 use Rattle.rp_model.specs.commands.Row.{reply_lines}
-use Rattle.rp_history.specs.Lots.{lot_of}
-use Rattle.rp_report.specs.Views.{verdict_of}
-use Rattle.rp_machine.proofs.LotLemmas.{list_lines}
+use Rattle.rp_asked.proofs.BareLots.{bare_list}
 use Rattle.rp_machine.proofs.state.State.list.Goals as goal
 
+pub list-requires : goal.list-requires
+list-requires c =
+    let kept = ap length c.history.ensures.value in
+    let bare = length-map c.parcels.result.now bare_lot in
+    let few = c.history.ensures.few in
+    omega (arith, kept, bare, few)
+
 pub returns : goal.returns
-returns c w =
-    ap (λ (vs : List Verdict). done (reply_lines vs) w)
-    (list_lines c.args.self.now.lots (map lot_of c.lots-lots.result.now) c.live_count.result (map verdict_of c.in_ok-lines.lines.items) (map verdict_of c.add_live.new.lines.items)
-    (c.lots-lots.ensures.value ∙ c.history.ensures.value ∙ ap (map bare_lot) c.parcels.ensures) c.live_count.ensures.value c.in_ok-lines.ensures c.in_ok-add_live.ensures)
+returns c w = ap (λ (vs : List Verdict). done (reply_lines vs) w) (sym (c.in_ok-list.ensures ∙ bare_list c.args.self.now.lots c.history.result.now (c.history.ensures.value ∙ ap (map bare_lot) c.parcels.ensures)))

@@ -1,0 +1,4 @@
+pub mod Ancestors
+pub mod BareLots
+pub mod ShortForms
+pub mod ToldLines

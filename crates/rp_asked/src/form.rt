@@ -1,0 +1,52 @@
+//! The form of the one expression of a command.
+ghost use Rattle.std.specs.Prelude.{◌≡◌, ◌≤◌, List, IfOk, length};
+ghost use Rattle.rp_geometry.specs.sets.Shape.{Part};
+ghost use Rattle.rp_geometry.specs.parts.Parts.{most_parts};
+ghost use Rattle.rp_language.specs.Expression.{IsKeptExpression};
+ghost use Rattle.rp_walks.specs.Walk.{Walk};
+ghost use Rattle.rp_walks.specs.Form.{form};
+ghost use Rattle.rp_model.specs.commands.Row.{Reply};
+ghost use Rattle.rp_syntax.specs.Views.{expression_of};
+ghost use Rattle.rp_tests.specs.Comes.{Comes};
+ghost use Rattle.rp_asked.specs.Replies.{GoesOn, row_of_form};
+
+use crate::reply::RowEnd;
+use rp_once::{first_unknown, formed};
+use rp_report::Refusal;
+use rp_syntax::Expr;
+use rp_tests::{Named, Stopped, Tests};
+use std::alloc::Global;
+
+/// The form of an expression: its parts, at most 1,024, made test by test in reading order, with the parts kept for names. A
+/// name or lot that isn't there stands for no part. `Limit` exactly where the operations on forms say so.
+pub fn short_form<T: Tests, N: Named<T>>(
+    alloc: Global,
+    named: &N,
+    region: &Expr,
+    tests: &mut T,
+) -> Result<T::Form, Stopped>
+    requires { IsKeptExpression (expression_of region.now) }
+    ensures comes { Comes T.parts_of result tests.new (form T.tester (N.meaning named.now) (expression_of region.now) tests.old) }
+    ensures few { IfOk result (λ form. length (T.parts_of form) ≤ most_parts) }
+{
+    named.keep_short();
+    formed(alloc, named, region, tests)
+}
+
+/// The form of the one expression of a command, behind which its row goes on. `Refused` exactly for the first name or
+/// lot, in reading order, that isn't there; it comes before any test.
+pub fn row_form<T: Tests, N: Named<T>>(
+    alloc: Global,
+    named: &N,
+    region: &Expr,
+    tests: &mut T,
+) -> Result<T::Form, RowEnd>
+    requires { IsKeptExpression (expression_of region.now) }
+    ensures goes_on { (next : List Part → Walk T Reply) → GoesOn T.parts_of result tests.new next (row_of_form T.tester (N.meaning named.now) (expression_of region.now) next tests.old) }
+    ensures few { IfOk result (λ form. length (T.parts_of form) ≤ most_parts) }
+{
+    if let Some(name) = first_unknown::<T, N>(named, region) {
+        return Err(RowEnd::Refused(Refusal::Unknown(name)));
+    }
+    Ok(short_form(alloc, named, region, tests)?)
+}

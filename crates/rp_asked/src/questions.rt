@@ -1,0 +1,112 @@
+//! The rows of questions about points and forms.
+ghost use Rattle.rp_language.specs.Expression.{IsKeptExpression};
+ghost use Rattle.rp_model.specs.commands.Row.{row_empty, row_pieces, row_relation};
+ghost use Rattle.rp_syntax.specs.Views.{expression_of};
+ghost use Rattle.rp_asked.specs.Asked.{row_asking, row_of_member, row_show};
+ghost use Rattle.rp_asked.specs.Replies.{Tells, row_of_form, row_of_forms};
+
+use crate::form::row_form;
+use crate::lines::{part_lines, piece_lines};
+use crate::operand::row_operands;
+use crate::relation::relation;
+use crate::reply::{RowEnd, yes_or_no};
+use rp_once::{Question, first_unknown, is_empty, is_member, pieces};
+use rp_report::{Refusal, Verdicts};
+use rp_space::Point;
+use rp_syntax::Expr;
+use rp_tests::{Named, Tests};
+use std::alloc::Global;
+
+/// `member`: whether the point is a member, by signs. It rests on no test and has no limit.
+pub fn membership<T: Tests, N: Named<T>>(
+    alloc: Global,
+    named: &N,
+    region: &Expr,
+    point: &Point,
+) -> Result<Verdicts, RowEnd>
+    requires { IsKeptExpression (expression_of region.now) }
+    ensures { (w : T) → Tells result w (row_of_member (N.meaning named.now) (expression_of region.now) point.now w) }
+{
+    if let Some(name) = first_unknown::<T, N>(named, region) {
+        return Err(RowEnd::Refused(Refusal::Unknown(name)));
+    }
+    Ok(yes_or_no(alloc, is_member::<T, N>(named, region, point))?)
+}
+
+/// `empty`: whether the form of the expression has no part.
+pub fn emptiness<T: Tests, N: Named<T>>(
+    alloc: Global,
+    named: &N,
+    region: &Expr,
+    tests: &mut T,
+) -> Result<Verdicts, RowEnd>
+    requires { IsKeptExpression (expression_of region.now) }
+    ensures { Tells result tests.new (row_of_form T.tester (N.meaning named.now) (expression_of region.now) (row_empty T.tester) tests.old) }
+{
+    let form = row_form(alloc, named, region, tests)?;
+    let is_so = is_empty(alloc, &form, tests)?;
+    Ok(yes_or_no(alloc, is_so)?)
+}
+
+/// `pieces`: what of the region hangs together, by the numbers of the parts of its form.
+pub fn piece_numbers<T: Tests, N: Named<T>>(
+    alloc: Global,
+    named: &N,
+    region: &Expr,
+    tests: &mut T,
+) -> Result<Verdicts, RowEnd>
+    requires { IsKeptExpression (expression_of region.now) }
+    ensures { Tells result tests.new (row_of_form T.tester (N.meaning named.now) (expression_of region.now) (row_pieces T.tester) tests.old) }
+{
+    let form = row_form(alloc, named, region, tests)?;
+    let pieces = pieces(alloc, &form, tests)?;
+    Ok(piece_lines(alloc, pieces)?)
+}
+
+/// `show`: the parts of the form of the expression.
+pub fn shown_parts<T: Tests, N: Named<T>>(
+    alloc: Global,
+    named: &N,
+    region: &Expr,
+    tests: &mut T,
+) -> Result<Verdicts, RowEnd>
+    requires { IsKeptExpression (expression_of region.now) }
+    ensures { Tells result tests.new (row_of_form T.tester (N.meaning named.now) (expression_of region.now) row_show tests.old) }
+{
+    let form = row_form(alloc, named, region, tests)?;
+    Ok(part_lines::<T>(alloc, form)?)
+}
+
+/// `equal`, `within`, `overlap` and `contact`.
+pub fn comparison<T: Tests, N: Named<T>>(
+    alloc: Global,
+    named: &N,
+    question: Question,
+    first: &Expr,
+    second: &Expr,
+    tests: &mut T,
+) -> Result<Verdicts, RowEnd>
+    requires first { IsKeptExpression (expression_of first.now) }
+    requires second { IsKeptExpression (expression_of second.now) }
+    ensures { Tells result tests.new (row_of_forms T.tester (N.meaning named.now) (expression_of first.now) (expression_of second.now) (row_asking T.tester question) tests.old) }
+{
+    let (first, second) = row_operands(alloc, named, first, second, tests)?;
+    let is_so = question.answer(alloc, first.form(), second.form(), tests)?;
+    Ok(yes_or_no(alloc, is_so)?)
+}
+
+/// `rcc`: the relation of two regions, of which each must have a point.
+pub fn related<T: Tests, N: Named<T>>(
+    alloc: Global,
+    named: &N,
+    first: &Expr,
+    second: &Expr,
+    tests: &mut T,
+) -> Result<Verdicts, RowEnd>
+    requires first { IsKeptExpression (expression_of first.now) }
+    requires second { IsKeptExpression (expression_of second.now) }
+    ensures { Tells result tests.new (row_of_forms T.tester (N.meaning named.now) (expression_of first.now) (expression_of second.now) (row_relation T.tester) tests.old) }
+{
+    let (first, second) = row_operands(alloc, named, first, second, tests)?;
+    relation(alloc, first.form(), second.form(), tests)
+}

@@ -1,0 +1,63 @@
+//! What a question comes to: verdict lines, or why it ends.
+ghost use Rattle.std.specs.Prelude.{◌≡◌, ◌∷◌, [], map, IfOk};
+ghost use Rattle.rp_model.specs.commands.Row.{reply_lines, yes_or_no};
+ghost use Rattle.rp_report.specs.Views.{verdict_of};
+
+use rp_report::{Refusal, Verdict, Verdicts};
+use rp_tests::Stopped;
+use std::alloc::{AllocError, Global};
+use thiserror::Error;
+
+/// Why a row has no reply.
+#[derive(Clone, Copy, Debug, PartialEq, Eq, Drop, Error)]
+pub enum RowEnd {
+    /// The row refuses the command.
+    #[error("the command is refused")]
+    Refused(Refusal),
+    /// It is stopped.
+    #[error("the row is stopped")]
+    Stopped(Stopped),
+}
+
+impl From<Stopped> for RowEnd {
+    ghost use Rattle.std.specs.Prelude.{◌≡◌};
+    ghost use Rattle.rp_asked.specs.declared.reply.RowEnd.TheVariants.{Stopped as StoppedEnd};
+
+    ghost from_gives = { λ x e. e ≡ StoppedEnd x };
+
+    fn from(stopped: Stopped) -> RowEnd {
+        RowEnd::Stopped(stopped)
+    }
+}
+
+impl From<AllocError> for RowEnd {
+    ghost use Rattle.std.specs.Prelude.{◌≡◌};
+    ghost use Rattle.rp_asked.specs.declared.reply.RowEnd.TheVariants.{Stopped as StoppedEnd};
+    ghost use Rattle.rp_tests.specs.declared.stopped.Stopped.TheVariants.{Memory};
+
+    ghost from_gives = { λ x e. e ≡ StoppedEnd (Memory x) };
+
+    fn from(fault: AllocError) -> RowEnd {
+        RowEnd::Stopped(Stopped::Memory(fault))
+    }
+}
+
+/// One verdict line. Answers `AllocError` only for want of memory.
+pub fn one_line(alloc: Global, verdict: Verdict) -> Result<Verdicts, AllocError>
+    ensures { IfOk result (λ lines. map verdict_of lines.items ≡ verdict_of verdict ∷ []) }
+{
+    let mut lines = Verdicts::new(alloc);
+    lines.push(verdict)?;
+    Ok(lines)
+}
+
+/// Yes or no. Answers `AllocError` only for want of memory.
+pub fn yes_or_no(alloc: Global, is_so: bool) -> Result<Verdicts, AllocError>
+    ensures { IfOk result (λ lines. reply_lines (map verdict_of lines.items) ≡ yes_or_no is_so) }
+{
+    if is_so {
+        one_line(alloc, Verdict::Yes)
+    } else {
+        one_line(alloc, Verdict::No)
+    }
+}

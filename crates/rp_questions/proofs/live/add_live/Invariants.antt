@@ -1,9 +1,0 @@
-use Rattle.std.proofs.Common.{◌≡◌, ◌++◌, map, drop}
-use Rattle.rp_model.specs.states.State.{live_lots}
-use Rattle.rp_model.specs.commands.Verdict.{lot_lines}
-use Rattle.rp_report.specs.Views.{verdict_of}
-use Rattle.rp_questions.proofs.live.add_live.Given as goal
-
--- the lines so far and those of the live lots still to come are all lines
-abbrev pub invariant-loop-place : goal.invariant-loop-place
-invariant-loop-place l = map verdict_of l.lines.items ++ lot_lines (live_lots (drop l.place l.register.lots)) ≡ map verdict_of l.fn.lines.items ++ lot_lines (live_lots l.register.lots)
