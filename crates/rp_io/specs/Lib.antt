@@ -1,5 +1,6 @@
 pub mod Faults
 pub mod Bytes
+pub mod Intake
 pub mod Memory
 pub mod Standard
 pub mod Written

@@ -1,4 +1,6 @@
-use super::{Failed, MemorySink, MemorySource, QuietSink, QuietSource, Sink, Source};
+use super::{
+    Failed, IntakeFault, MemorySink, MemorySource, QuietSink, QuietSource, Sink, Source, read_whole,
+};
 use std::process::Abort;
 use std::test::Fail;
 
@@ -79,5 +81,19 @@ fn quiet_sink_keeps_what_fits_and_goes_on(rt: HostRuntime) -> Result<(), Fail> {
         expect_put(&rt, &mut sink, piece, Ok(()));
         assert_eq!(rt; sink.bytes(), bytes);
     }
+    Ok(())
+}
+
+#[test]
+fn a_source_is_read_whole_up_to_its_limit(rt: HostRuntime) -> Result<(), Fail> {
+    let mut source = MemorySource::new(b"abcdefghij", 4, &[]);
+    let whole = read_whole(rt.alloc(), &mut source, 10)?;
+    assert_eq!(rt; whole.as_slice(), b"abcdefghij".as_slice());
+    let mut longer = QuietSource::new(b"abcdefghij");
+    let past = read_whole(rt.alloc(), &mut longer, 9).err();
+    assert_eq!(rt; past, Some(IntakeFault::TooLong));
+    let mut failing = MemorySource::new(b"abcdefghij", 4, &[3]);
+    let failed = read_whole(rt.alloc(), &mut failing, 10).err();
+    assert_eq!(rt; failed, Some(IntakeFault::Failed));
     Ok(())
 }

@@ -1,7 +1,7 @@
 -- Why nothing was drawn.
 use Rattle.std.specs.Prelude.{◌≡◌, ℕ, List, Option}
 use Rattle.rp_io.specs.Faults.{HasRisen}
-use Rattle.rp_plan.specs.Intake.{IsPastLimit}
+use Rattle.rp_io.specs.Intake.{IsPastLimit}
 use Rattle.rp_plan.specs.declared.fault.Fault.{Fault}
 use Rattle.rp_plan.specs.declared.fault.Fault.TheVariants.{Read, TooLong, Refused, Put, Memory}
 

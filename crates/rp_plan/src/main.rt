@@ -5,7 +5,6 @@
 //! It takes no words. One line on standard error says which lines were drawn, or else what happened.
 
 mod fault;
-mod intake;
 mod lines;
 mod reader;
 mod stage;

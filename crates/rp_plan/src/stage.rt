@@ -1,4 +1,6 @@
 //! What is due on the next line of a report.
+ghost use Rattle.std.specs.Prelude.{◌≡◌, ◌≤◌, ◌∷◌, ◌++◌, [], IfOk, OnOk};
+
 use super::fault::{Cause, LineFault};
 use rp_cert::Slice;
 use rp_drawing::{Plan, Ring, Section};
@@ -48,7 +50,9 @@ fn asked_section(
 }
 
 /// How many slices a verdict says that there are.
-fn slice_count(word: &[u8]) -> Result<u32, LineFault> {
+fn slice_count(word: &[u8]) -> Result<u32, LineFault>
+    ensures { IfOk result (λ count. count ≤ 1024) }
+{
     match spelled(word) {
         Some(count) if 0 <= count && count <= MOST_PARTS => Ok(count as u32),
         _ => Err(LineFault::Refused(Cause::Line)),
@@ -64,7 +68,10 @@ fn is_other_verdict(line: &[u8]) -> bool {
 }
 
 /// Adds a section to a plan.
-fn add_section(plan: &mut Plan, section: Section) -> Result<(), LineFault> {
+fn add_section(plan: &mut Plan, section: Section) -> Result<(), LineFault>
+    ensures added { OnOk result (plan.new.sections.items ≡ plan.old.sections.items ++ section ∷ []) }
+    ensures version { plan.new.version ≡ plan.old.version }
+{
     if plan.is_full() {
         return Err(LineFault::Refused(Cause::Many));
     }

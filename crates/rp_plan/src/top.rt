@@ -1,20 +1,21 @@
 //! The top call: from the bytes of a source to the picture on a sink.
-ghost use Rattle.std.specs.Prelude.{◌≡◌, ◌≢◌, ◌≤◌, [], Some, IfErr, IfSome, OnOk};
+ghost use Rattle.std.specs.Prelude.{◌≡◌, ◌≢◌, ◌≤◌, [], map, Some, IfErr, IfOk, IfSome, OnOk};
 ghost use Rattle.rp_plan.specs.declared.fault.Fault.TheVariants.{Put};
 ghost use Rattle.rp_plan.specs.Faults.{HasCause};
 
 use super::fault::{Fault, ReportFault};
-use super::intake::{IntakeFault, read_whole};
 use super::reader::read_report;
 use rp_drawing::{Plan, write_picture};
-use rp_io::{Sink, Source};
+use rp_io::{IntakeFault, Sink, Source, read_whole};
 use std::alloc::{AllocError, Global};
 
 /// The most bytes of a report.
 const MOST_REPORT_BYTES: usize = 67_108_864;
 
 /// The numbers of the lines whose sections a plan has, in its order. Answers `AllocError` only for want of memory.
-fn lines_of(alloc: Global, plan: &Plan) -> Result<Vec<u32>, AllocError> {
+fn lines_of(alloc: Global, plan: &Plan) -> Result<Vec<u32>, AllocError>
+    ensures { IfOk result (λ lines. lines.items ≡ map (λ s. s.line) plan.now.sections.items) }
+{
     plan.sections
         .iter()
         .map(|section| section.line)

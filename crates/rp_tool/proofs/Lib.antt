@@ -1,6 +1,5 @@
 pub mod BodyLemmas
 pub mod CheckLemmas
-pub mod IntakeLemmas
 pub mod LineLemmas
 pub mod MadeLemmas
 pub mod MadeTextLemmas

@@ -10,7 +10,7 @@ use Rattle.rp_tool.specs.declared.task.MadeTask.TheVariants.{Write, Try}
 use Rattle.rp_tool.specs.declared.fault.OutputFault.{OutputFault}
 use Rattle.rp_tool.specs.declared.fault.OutputFault.TheVariants.{Put, Memory}
 use Rattle.rp_tool.specs.declared.status.TheConstants.{REFUSED, PUT_FAILED, OUT_OF_MEMORY}
-use Rattle.rp_tool.specs.Intake.{IsWhole}
+use Rattle.rp_io.specs.Intake.{IsWhole}
 use Rattle.rp_tool.specs.Status.{IsFrontOf, IsOutputOf, meaning_of_made, status_of_made, status_of_output}
 
 -- nothing is refused in a made script that is written

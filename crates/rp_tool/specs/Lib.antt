@@ -1,5 +1,4 @@
 pub mod Check
-pub mod Intake
 pub mod Lines
 pub mod Made
 pub mod Output

@@ -1,11 +1,11 @@
 -- What the tool is asked to do, and what a status says of its output.
 use Rattle.std.specs.Prelude.{◌≡◌, ◌↔◌, ℕ, Bool, true, false, List, ◌++◌, Option, Some, None, Result, Ok, Err}
 use Rattle.rp_io.specs.Bytes.{Appends, AppendsPrefix}
+use Rattle.rp_io.specs.declared.intake.IntakeFault.{IntakeFault}
+use Rattle.rp_io.specs.declared.intake.IntakeFault.TheVariants.{Failed, TooLong, Memory}
 use Rattle.rp_reports.specs.Text.{text_of_lines}
 use Rattle.rp_reports.specs.Output.{Task as ModelTask, run_script, run_brief, check_report, spell_script, upgrade_script, make_script, try_script, task_of, most_script_bytes, most_report_bytes, IsOutput, IsRefused}
 use Rattle.rp_tool.specs.declared.status.TheConstants.{DONE, REFUSED, READ_FAILED, PUT_FAILED, OUT_OF_MEMORY, TOO_LONG}
-use Rattle.rp_tool.specs.declared.intake.IntakeFault.{IntakeFault}
-use Rattle.rp_tool.specs.declared.intake.IntakeFault.TheVariants.{Failed, TooLong, Memory}
 use Rattle.rp_tool.specs.declared.fault.OutputFault.{OutputFault}
 use Rattle.rp_tool.specs.declared.fault.OutputFault.TheVariants.{Put, Memory as OutputMemory}
 use Rattle.rp_tool.specs.declared.task.Task.{Task}

@@ -10,7 +10,6 @@
 mod building;
 mod check;
 mod fault;
-mod intake;
 mod lines;
 mod made;
 mod make;

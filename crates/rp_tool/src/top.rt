@@ -1,10 +1,10 @@
 ghost use Rattle.std.specs.Prelude.{◌≡◌, ◌≢◌, ◌⊎◌, ◌↔◌, ◌<◌, ◌≤◌, [], false, length, map, string_bytes, IfErr, IfOk, IfSome, IsTrue, List, OnErr, OnOk, ℕ};
 ghost use Rattle.rp_io.specs.Bytes.{Appends};
 ghost use Rattle.rp_io.specs.Faults.{HasRisen};
+ghost use Rattle.rp_io.specs.Intake.{IsPastLimit};
 ghost use Rattle.rp_reports.specs.Output.{check_report, most_report_bytes, most_script_bytes, report_lines, task_of, try_script};
 ghost use Rattle.rp_reports.specs.TrueReport.{IsTrueReport};
 ghost use Rattle.rp_tool.specs.Check.{IsWrittenReport};
-ghost use Rattle.rp_tool.specs.Intake.{IsPastLimit};
 ghost use Rattle.rp_tool.specs.Output.{PutsFront, PutsOutput, HasOutputCause};
 ghost use Rattle.rp_tool.specs.TrialReport.{PutsTrial};
 ghost use Rattle.rp_tool.specs.Status.{IsFrontOf, IsOutputOf, meaning_of_given, meaning_of_made, most_input_bytes, reads_input, status_of_fault, status_of_intake, status_of_made, status_of_output};
@@ -12,7 +12,6 @@ ghost use Rattle.rp_tool.specs.Status.{IsFrontOf, IsOutputOf, meaning_of_given, 
 use super::building::Building;
 use super::check::check;
 use super::fault::OutputFault;
-use super::intake::{IntakeFault, read_whole};
 use super::make::make;
 use super::run::run;
 use super::spell::spell;
@@ -20,7 +19,7 @@ use super::status::{DONE, OUT_OF_MEMORY, PUT_FAILED, READ_FAILED, REFUSED, TOO_L
 use super::task::{GivenTask, MadeTask, Task, listed_task};
 use super::trial::trial;
 use super::upgrade::upgrade;
-use rp_io::{Sink, Source};
+use rp_io::{IntakeFault, Sink, Source, read_whole};
 use std::alloc::Global;
 use std::thread::Threads;
 

@@ -1,8 +1,8 @@
 -- What it means that a source was read whole, and why it may not have been.
 use Rattle.std.specs.Prelude.{◌≡◌, ℕ, ◌<◌, List, [], length, Option, Some, IfSome}
 use Rattle.rp_io.specs.Faults.{HasRisen}
-use Rattle.rp_tool.specs.declared.intake.IntakeFault.{IntakeFault}
-use Rattle.rp_tool.specs.declared.intake.IntakeFault.TheVariants.{Failed, TooLong, Memory}
+use Rattle.rp_io.specs.declared.intake.IntakeFault.{IntakeFault}
+use Rattle.rp_io.specs.declared.intake.IntakeFault.TheVariants.{Failed, TooLong, Memory}
 
 -- these are all the bytes that the source had, and it has no other
 abbrev pub IsWhole : Option (List ℕ) → Option (List ℕ) → List ℕ → Type 0

@@ -2,7 +2,7 @@
 use Rattle.std.proofs.Common.{◌≡◌, ℕ, ◌+◌, ◌<◌, ◌≤◌, List, [], ◌++◌, length, take, drop, Option, Some, None, IfSome, refl, sym, ap, ◌∙◌, subst, arith, append_assoc, length-append}
 use Rattle.std.proofs.lemmas.List.{take-append-drop, append-nil, take-take, take-append-le, length-take-le}
 use Rattle.rp_io.specs.Bytes.{Takes, IsAtEnd}
-use Rattle.rp_plan.specs.Intake.{IsWhole, IsPastLimit}
+use Rattle.rp_io.specs.Intake.{IsWhole, IsPastLimit}
 
 -- what was left at the start is what was read so far, and what is left now
 abbrev pub ReadsOn : Option (List ℕ) → Option (List ℕ) → List ℕ → Type 0

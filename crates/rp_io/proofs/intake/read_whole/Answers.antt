@@ -1,6 +1,6 @@
 use Rattle.std.proofs.Common.{◌<◌, ◌+◌, length, refl, sym, ◌∙◌, subst, arith}
-use Rattle.rp_tool.proofs.IntakeLemmas.{ReadsOn, ReadsOn-start, IsWhole-at_end, IsPastLimit-from_read, IsAppended, length-piece, ReadsOn-appended}
-use Rattle.rp_tool.proofs.intake.read_whole.Goals as goal
+use Rattle.rp_io.proofs.IntakeLemmas.{ReadsOn, ReadsOn-start, IsWhole-at_end, IsPastLimit-from_read, IsAppended, length-piece, ReadsOn-appended}
+use Rattle.rp_io.proofs.intake.read_whole.Goals as goal
 
 pub loop-piece-init : goal.loop-piece-init
 loop-piece-init g c =

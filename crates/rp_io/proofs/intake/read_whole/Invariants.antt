@@ -1,6 +1,6 @@
 use Rattle.std.proofs.Common.{◌≡◌, ◌<◌, ◌≤◌, ◌+◌, ◌-◌, vec_len}
-use Rattle.rp_plan.proofs.IntakeLemmas.{ReadsOn}
-use Rattle.rp_plan.proofs.intake.read_whole.Given as goal
+use Rattle.rp_io.proofs.IntakeLemmas.{ReadsOn}
+use Rattle.rp_io.proofs.intake.read_whole.Given as goal
 
 abbrev pub invariant-loop-piece : goal.invariant-loop-piece
 invariant-loop-piece g l =

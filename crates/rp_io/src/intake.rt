@@ -1,8 +1,10 @@
+//! A source read whole.
 ghost use Rattle.std.specs.Prelude.{◌≡◌, ◌≤◌, length, vec_len, IfErr, IfOk};
-ghost use Rattle.rp_tool.specs.declared.intake.IntakeFault.TheVariants.{Failed, Memory};
-ghost use Rattle.rp_tool.specs.Intake.{IsWhole, HasCause};
+ghost use Rattle.rp_io.specs.declared.intake.IntakeFault.TheVariants.{Failed, Memory};
+ghost use Rattle.rp_io.specs.Intake.{IsWhole, HasCause};
 
-use rp_io::Source;
+use super::failed::Failed;
+use super::source::Source;
 use std::alloc::{AllocError, Global};
 
 /// The most bytes that one read is asked for.
@@ -19,10 +21,10 @@ pub enum IntakeFault {
     Memory(AllocError),
 }
 
-impl From<rp_io::Failed> for IntakeFault {
+impl From<Failed> for IntakeFault {
     ghost from_gives = { λ _ e. e ≡ Failed };
 
-    fn from(_failed: rp_io::Failed) -> Self {
+    fn from(_failed: Failed) -> Self {
         IntakeFault::Failed
     }
 }
