@@ -1,5 +1,5 @@
 -- Coordinates of the closed cube, rounded down, up and to the nearest, in machine numbers.
-use Rattle.std.proofs.Common.{◌≡◌, ◌≤◌, ◌<◌, ◌^◌, ℤ, pos, neg_ℤ, ◌-ℤ◌, ◌*ℤ◌, ◌≤ℤ◌, ◌<ℤ◌, unsigned_abs, FitsSigned, to_z, of_z, true, ◌&&◌, [], ◌∷◌, sym, ap, ◌∙◌, subst, le_of_lt, arith}
+use Rattle.std.proofs.Common.{◌≡◌, ◌≤◌, ◌<◌, ◌^◌, ℤ, pos, neg_ℤ, ◌-ℤ◌, ◌*ℤ◌, ◌≤ℤ◌, ◌<ℤ◌, unsigned_abs, FitsSigned, to_z, of_z, true, [], ◌∷◌, ap, ◌∙◌, subst, le_of_lt, arith}
 use Rattle.std.specs.Prelude.{int_le}
 use Rattle.std.specs.Int.{int_div_euclid}
 use Rattle.std.proofs.lemmas.Int.{ints, to_z-of_z}
@@ -53,7 +53,7 @@ floor_within v w hw e =
     at_most f m w hw h = le_of_mul_le_left_ℤ w f m hw (subst (λ (t : ℤ). t ≤ℤ (w *ℤ m)) (mul_comm_ℤ f w) (subst (λ (t : ℤ). (f *ℤ w) ≤ℤ t) (mul_comm_ℤ m w) h))
 
 -- 0 less a number is its opposite
-sub_is : (v : ℤ) → pos 0 -ℤ v ≡ neg_ℤ v
+pub sub_is : (v : ℤ) → pos 0 -ℤ v ≡ neg_ℤ v
 sub_is v = omega (arith, ints)
 
 -- the quotient that the code has is the floor

@@ -1,9 +1,8 @@
 -- Quotients rounded to the nearest whole number, and how large they are.
-use Rattle.std.proofs.Common.{◌≡◌, ℕ, ◌+◌, ◌*◌, ◌^◌, ◌≤◌, ◌<◌, ◌&&◌, ℤ, pos, neg_ℤ, ◌+ℤ◌, ◌-ℤ◌, ◌*ℤ◌, ◌≤ℤ◌, ◌<ℤ◌, unsigned_abs, T, true, [], ◌∷◌, subst, sym, ◌∙◌, arith, FitsSigned, to_z, of_z}
+use Rattle.std.proofs.Common.{◌≡◌, ℕ, ◌+◌, ◌*◌, ◌^◌, ◌≤◌, ◌<◌, ℤ, pos, neg_ℤ, ◌+ℤ◌, ◌-ℤ◌, ◌*ℤ◌, ◌≤ℤ◌, ◌<ℤ◌, unsigned_abs, T, true, [], ◌∷◌, subst, sym, ◌∙◌, arith, FitsSigned, to_z, of_z}
 use Rattle.std.specs.Int.{int_div_euclid}
 use Rattle.std.proofs.lemmas.Int.{ints, to_z-of_z}
 use mir.Syntax.{w32, w64, w128}
-use Rattle.rp_algebra.specs.Integer.{floor_of}
 use Rattle.rp_algebra.specs.Within.{IsWithin}
 use Rattle.rp_algebra.proofs.IntLaws.{linear, mul_comm_ℤ, lt_of_mul_lt_left_ℤ, nonneg_of_pos_ℤ, nat_nonneg_ℤ, abs_mul_le, abs_add_le, neg_mul_ℤ, mul_one_ℤ, mul_le_mul_left_ℤ, mul_pos_ℤ}
 use Rattle.rp_algebra.proofs.Machine.{Code, value, fits, is_by, code}
@@ -84,7 +83,7 @@ pub short_is : (v : ℤ) → FitsSigned w32 v → to_z w32 (of_z w32 v) ≡ v
 short_is v h = to_z-of_z w32 v h
 
 -- a number of 32 bits is at most 2 ^ 31 in size
-short_size : (v : ℤ) → FitsSigned w32 v → unsigned_abs v ≤ 2 ^ 31
+pub short_size : (v : ℤ) → FitsSigned w32 v → unsigned_abs v ≤ 2 ^ 31
 short_size v h = omega (arith, ints, h)
 
 -- and so it is as it is read

@@ -1,6 +1,9 @@
 //! Corners of rings, seen from above.
-ghost use Rattle.std.specs.Prelude.{◌≡◌, ◌↔◌, ◌<◌, ◌^◌, ◌&&◌, true, pos, ◌<ℤ◌, unsigned_abs, IsSome};
+ghost use Rattle.std.specs.Prelude.{◌≡◌, ◌↔◌, ◌<◌, ◌^◌, true, pos, ◌<ℤ◌, unsigned_abs, IsSome, IfSome};
 ghost use Rattle.rp_geometry.specs.Geometry.{is_in_closed_range};
+ghost use Rattle.rp_space.specs.Boxes.{integer_box};
+ghost use Rattle.rp_drawing.specs.Corners.{StandsAt, box_of_place, is_in_square};
+ghost use Rattle.rp_drawing.specs.Rounding.{page_place};
 
 use super::frame::Frame;
 use super::outline::Place;
@@ -25,7 +28,8 @@ pub struct Corner {
 impl Corner {
     /// The corner that a point is. `None` exactly where the point lies outside the closed square of the domain.
     pub fn new(point: &Point) -> Option<Corner>
-        ensures { IsSome result ↔ ((is_in_closed_range point.now.x point.now.w && is_in_closed_range point.now.y point.now.w) ≡ true) }
+        ensures inside { IsSome result ↔ (is_in_square point.now ≡ true) }
+        ensures place { IfSome result (λ corner. StandsAt point.now corner.x corner.y corner.w) }
     {
         let (x, y, _, w) = point.numbers();
         if is_in_closed_range(x, w) && is_in_closed_range(y, w) {
@@ -36,7 +40,9 @@ impl Corner {
     }
 
     /// The least box with whole corners round the corner, at a height.
-    pub fn bounds(&self, z: i32) -> IntBox {
+    pub fn bounds(&self, z: i32) -> IntBox
+        ensures { integer_box result ≡ box_of_place self.now.x self.now.y self.now.w z }
+    {
         let Corner { x, y, w } = *self;
         IntBox {
             lo: [floor(x, w), floor(y, w), z],
@@ -45,7 +51,10 @@ impl Corner {
     }
 
     /// Where the corner stands in a drawing.
-    pub fn placed(&self, frame: &Frame) -> Place {
+    pub fn placed(&self, frame: &Frame) -> Place
+        ensures x { result.x ≡ page_place self.now.x self.now.w frame.now.x frame.now.span }
+        ensures y { result.y ≡ page_place self.now.y self.now.w frame.now.y frame.now.span }
+    {
         let Corner { x, y, w } = *self;
         Place {
             x: placed(x, w, frame.x, frame.span),

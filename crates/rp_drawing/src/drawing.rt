@@ -1,5 +1,8 @@
 //! The drawing of one height.
-ghost use Rattle.std.specs.Prelude.{◌≤◌, length};
+ghost use Rattle.std.specs.Prelude.{◌≡◌, ◌≤◌, ◌++◌, flat_map, length, option_map, OnOk};
+ghost use Rattle.rp_space.specs.Boxes.{integer_box};
+ghost use Rattle.rp_drawing.specs.Paths.{path_text, paths_text, ring_text};
+ghost use Rattle.rp_drawing.specs.Sections.{box_of_sections};
 
 use super::fill::{Painted, paint};
 use super::frame::Frame;
@@ -14,7 +17,9 @@ use rp_syntax::Version;
 use std::alloc::{AllocError, Global};
 
 /// The least box with whole corners round all rings of some sections; none where there is no ring.
-fn bounds_of(sections: &[Section]) -> Option<IntBox> {
+fn bounds_of(sections: &[Section]) -> Option<IntBox>
+    ensures { option_map integer_box result ≡ box_of_sections sections.now }
+{
     let mut bounds = None;
     for section in sections {
         bounds = joined(bounds, section.bounds);
@@ -23,7 +28,9 @@ fn bounds_of(sections: &[Section]) -> Option<IntBox> {
 }
 
 /// Appends the path of an outline. The page's numbers grow downwards, so those to the north turn their sign.
-fn append_path(outline: &Outline, painted: &Painted, text: &mut Vec<u8>) -> Result<(), AllocError> {
+fn append_path(outline: &Outline, painted: &Painted, text: &mut Vec<u8>) -> Result<(), AllocError>
+    ensures { OnOk result (text.new.items ≡ text.old.items ++ path_text painted.now.fill outline.now.items) }
+{
     append(b"<path", text)?;
     append_fill(painted, text)?;
     append(b" d=\"M", text)?;
@@ -40,7 +47,9 @@ fn append_rings(
     painted: &Painted,
     frame: &Frame,
     text: &mut Vec<u8>,
-) -> Result<(), AllocError> {
+) -> Result<(), AllocError>
+    ensures { OnOk result (text.new.items ≡ text.old.items ++ flat_map (ring_text frame.now painted.now.fill) section.now.rings.items) }
+{
     for ring in &section.rings {
         append_path(&ring.outline(frame), painted, text)?;
     }
@@ -53,7 +62,9 @@ fn append_paths(
     painted: &[Painted],
     frame: &Frame,
     text: &mut Vec<u8>,
-) -> Result<(), AllocError> {
+) -> Result<(), AllocError>
+    ensures { OnOk result (text.new.items ≡ text.old.items ++ paths_text frame.now sections.now painted.now) }
+{
     append(
         b"<g transform=\"translate(2000,40000)\" stroke=\"black\" stroke-width=\"60\" stroke-linejoin=\"round\">\n",
         text,

@@ -1,6 +1,6 @@
 //! Fills: sections that may touch have different ones.
-ghost use Rattle.std.specs.Prelude.{◌≡◌, ◌<◌, ◌*◌, ◌%◌, ℕ, true, false, IfNone, IfSome};
-ghost use Rattle.rp_drawing.specs.Fills.{has_fill, is_taken, touch};
+ghost use Rattle.std.specs.Prelude.{◌≡◌, ◌<◌, ℕ, [], map, true, false, AllPairs, IfNone, IfOk, IfSome};
+ghost use Rattle.rp_drawing.specs.Fills.{AreApart, ArePaintedBehind, has_fill, hue_of, is_taken, touch};
 
 use super::plan::Section;
 use rp_space::IntBox;
@@ -45,6 +45,7 @@ fn is_taken(painted: &[Painted], bounds: &Option<IntBox>, fill: u32) -> bool
 
 /// The first fill that no section which touches the box is painted with; none where all are taken.
 pub fn free_fill(painted: &[Painted], bounds: &Option<IntBox>) -> Option<u32>
+    ensures below { IfSome result (λ fill. fill < 360) }
     ensures free { IfSome result (λ fill. is_taken painted.now bounds.now fill ≡ false) }
     ensures first { IfSome result (λ fill. (lower : ℕ) → lower < fill → is_taken painted.now bounds.now lower ≡ true) }
     ensures none { IfNone result ((fill : ℕ) → fill < 360 → is_taken painted.now bounds.now fill ≡ true) }
@@ -57,8 +58,13 @@ pub fn free_fill(painted: &[Painted], bounds: &Option<IntBox>) -> Option<u32>
     None
 }
 
-/// What each of some sections is painted with, in order. Answers `AllocError` only for want of memory.
-pub fn paint(alloc: Global, sections: &[Section]) -> Result<Vec<Painted>, AllocError> {
+/// What each of some sections is painted with, in order: the first fill that none before it has which touches it. So no two
+/// that touch have one fill. Answers `AllocError` only for want of memory.
+pub fn paint(alloc: Global, sections: &[Section]) -> Result<Vec<Painted>, AllocError>
+    ensures bounds { IfOk result (λ painted. map (λ p. p.bounds) painted.items ≡ map (λ s. s.bounds) sections.now) }
+    ensures in_turn { IfOk result (λ painted. ArePaintedBehind [] painted.items) }
+    ensures apart { IfOk result (λ painted. AllPairs AreApart painted.items) }
+{
     let mut painted = Vec::new(alloc);
     for section in sections {
         let bounds = section.bounds;
@@ -71,7 +77,7 @@ pub fn paint(alloc: Global, sections: &[Section]) -> Result<Vec<Painted>, AllocE
 /// The hue of a fill, in degrees. Fills that follow one another are far apart, and no two have one hue, since 137 and 360 have
 /// no common divisor.
 pub fn hue(fill: u32) -> u32
-    ensures { result ≡ fill % 360 * 137 % 360 }
+    ensures { result ≡ hue_of fill }
 {
     fill % FILLS * 137 % FILLS
 }

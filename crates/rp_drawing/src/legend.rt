@@ -1,5 +1,6 @@
 //! Legends: a line for each section of a drawing.
-ghost use Rattle.std.specs.Prelude.{◌≤◌, length};
+ghost use Rattle.std.specs.Prelude.{◌≡◌, ◌≤◌, ◌++◌, length, OnOk};
+ghost use Rattle.rp_drawing.specs.Fills.{fill_text};
 
 use super::fill::{Painted, hue};
 use super::plan::Section;
@@ -7,7 +8,9 @@ use super::text::{append, append_label, append_number};
 use std::alloc::AllocError;
 
 /// Appends the attribute of a fill; without a fill it is white.
-pub fn append_fill(painted: &Painted, text: &mut Vec<u8>) -> Result<(), AllocError> {
+pub fn append_fill(painted: &Painted, text: &mut Vec<u8>) -> Result<(), AllocError>
+    ensures { OnOk result (text.new.items ≡ text.old.items ++ fill_text painted.now.fill) }
+{
     match painted.fill {
         Some(fill) => {
             append_number(b" fill=\"hsl(", hue(fill), text)?;

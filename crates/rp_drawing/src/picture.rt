@@ -1,4 +1,8 @@
 //! The whole picture.
+ghost use Rattle.std.specs.Prelude.{◌≡◌, IsPermutation, IsSortedByKey, OnOk};
+ghost use Rattle.std.specs.List.Sorted.{IsStableByKey};
+ghost use Rattle.std.specs.Ordering.{int_cmp};
+
 use super::drawing::append_drawing;
 use super::plan::{Plan, Section};
 use super::sheet::{Sheet, next_height};
@@ -40,7 +44,12 @@ fn append_drawings(
 /// order of their heights, and those of one height stay in theirs.
 ///
 /// Answers `AllocError` only for want of memory.
-pub fn write_picture(alloc: Global, plan: &mut Plan, text: &mut Vec<u8>) -> Result<(), AllocError> {
+pub fn write_picture(alloc: Global, plan: &mut Plan, text: &mut Vec<u8>) -> Result<(), AllocError>
+    ensures same { IsPermutation plan.old.sections.items plan.new.sections.items }
+    ensures rising { OnOk result (IsSortedByKey (λ s. s.z) int_cmp plan.new.sections.items) }
+    ensures stable { IsStableByKey (λ s. s.z) int_cmp plan.old.sections.items plan.new.sections.items }
+    ensures version { plan.new.version ≡ plan.old.version }
+{
     plan.sections.sort_by_key(|section: &Section| section.z)?;
     let sheet = Sheet::new(&plan.sections);
     append_head(&sheet, text)?;

@@ -1,5 +1,8 @@
 //! The sections that a picture shows.
-ghost use Rattle.std.specs.Prelude.{◌≡◌, ◌≤◌, ◌<◌, [], ◌∷◌, ◌++◌, true, false, vec_len, OnOk};
+ghost use Rattle.std.specs.Prelude.{◌≡◌, ◌≤◌, ◌<◌, [], ◌∷◌, ◌++◌, true, false, vec_len, None, OnErr, OnOk, option_map};
+ghost use Rattle.rp_space.specs.Boxes.{integer_box};
+ghost use Rattle.rp_drawing.specs.Corners.{joined_boxes};
+ghost use Rattle.rp_drawing.specs.Rings.{box_of_corners};
 
 use super::ring::{Ring, joined};
 use rp_space::{IntBox, Name};
@@ -25,7 +28,7 @@ impl Section {
     /// The section of a line that has no ring yet.
     pub fn new(alloc: Global, line: u32, z: i32, name: Option<Name>) -> Section
         ensures asked { (result.line ≡ line) × (result.z ≡ z) × (result.name ≡ name) }
-        ensures none { result.rings.items ≡ [] }
+        ensures none { (result.rings.items ≡ []) × (result.bounds ≡ None) }
     {
         Section {
             line,
@@ -39,6 +42,8 @@ impl Section {
     /// Adds a ring. Answers `AllocError` only for want of memory.
     pub fn push(&mut self, ring: Ring) -> Result<(), AllocError>
         ensures added { OnOk result (self.new.rings.items ≡ self.old.rings.items ++ ring ∷ []) }
+        ensures bounds { OnOk result (option_map integer_box self.new.bounds ≡ joined_boxes (option_map integer_box self.old.bounds) (box_of_corners self.old.z ring.corners.items)) }
+        ensures kept { OnErr result ((self.new.rings.items ≡ self.old.rings.items) × (self.new.bounds ≡ self.old.bounds)) }
         ensures same { (self.new.line ≡ self.old.line) × (self.new.z ≡ self.old.z) × (self.new.name ≡ self.old.name) }
     {
         let bounds = ring.bounds(self.z);

@@ -1,9 +1,9 @@
 //! Rational coordinates, rounded.
-ghost use Rattle.std.specs.Prelude.{◌≡◌, ◌<◌, ◌≤◌, ◌^◌, true, pos, ◌<ℤ◌, ◌≤ℤ◌, ◌-ℤ◌, ◌*ℤ◌, unsigned_abs};
+ghost use Rattle.std.specs.Prelude.{◌≡◌, ◌<◌, ◌≤◌, ◌^◌, true, pos, ◌<ℤ◌, ◌≤ℤ◌, unsigned_abs};
 ghost use Rattle.rp_algebra.specs.Integer.{floor_of, ceiling_of};
 ghost use Rattle.rp_algebra.specs.Within.{IsWithin};
 ghost use Rattle.rp_geometry.specs.Geometry.{half_edge, is_in_closed_range};
-ghost use Rattle.rp_drawing.specs.Rounding.{IsNearest, nearest_to, side};
+ghost use Rattle.rp_drawing.specs.Rounding.{IsNearest, nearest_to, page_place};
 
 /// The side of a drawing on the page, in hundredths of a pixel.
 pub const SIDE: i128 = 36000;
@@ -47,7 +47,7 @@ pub fn placed(v: i128, w: i128, low: i32, span: i64) -> i64
     requires range { is_in_closed_range v w ≡ true }
     requires wide { pos 1 ≤ℤ span }
     requires narrow { unsigned_abs span ≤ 2 ^ 25 }
-    ensures nearest { result ≡ nearest_to ((v -ℤ low *ℤ w) *ℤ pos side) (span *ℤ w) }
+    ensures nearest { result ≡ page_place v w low span }
     ensures small { unsigned_abs result ≤ 2 ^ 48 }
 {
     let distance = (v - low as i128 * w) * SIDE;

@@ -1,5 +1,6 @@
 //! Scale bars.
-ghost use Rattle.std.specs.Prelude.{◌≡◌, ◌⊎◌, ◌≤◌, ◌^◌, pos, ◌≤ℤ◌, ◌*ℤ◌, unsigned_abs};
+ghost use Rattle.std.specs.Prelude.{◌≡◌, ◌⊎◌, ◌≤◌, ◌^◌, pos, ◌≤ℤ◌, ◌<ℤ◌, ◌*ℤ◌, unsigned_abs};
+ghost use Rattle.rp_drawing.specs.Lengths.{IsRound};
 
 use super::frame::Frame;
 use super::rounding::{SIDE, nearest};
@@ -13,6 +14,8 @@ fn bar_units(span: i64) -> i64
     requires narrow { unsigned_abs span ≤ 2 ^ 25 }
     ensures positive { pos 1 ≤ℤ result }
     ensures half { ((pos 2 *ℤ result) ≤ℤ span) ⊎ (result ≡ pos 1) }
+    ensures long { span <ℤ (pos 5 *ℤ result) }
+    ensures round { IsRound result }
 {
     let mut unit = 1;
     while 20 * unit <= span {

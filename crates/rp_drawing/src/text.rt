@@ -1,6 +1,7 @@
 //! Pieces of the picture's text. Each answers `AllocError` only for want of memory.
 ghost use Rattle.std.specs.Prelude.{◌≡◌, ◌++◌, OnOk};
 ghost use Rattle.rp_drawing.specs.Labels.{label_text};
+ghost use Rattle.rp_drawing.specs.Lengths.{length_text};
 
 use super::plan::Section;
 use itoa::{Buffer, Integer};
@@ -46,7 +47,9 @@ pub fn append_label(section: &Section, text: &mut Vec<u8>) -> Result<(), AllocEr
 }
 
 /// Appends a length or a height: in version 1 a whole number of units, in version 2 metres with three digits.
-pub fn append_length(version: Version, units: i64, text: &mut Vec<u8>) -> Result<(), AllocError> {
+pub fn append_length(version: Version, units: i64, text: &mut Vec<u8>) -> Result<(), AllocError>
+    ensures { OnOk result (text.new.items ≡ text.old.items ++ length_text version units) }
+{
     if version == Version::One {
         return append_number(b"", units, text);
     }
