@@ -68,7 +68,7 @@ follow_shown z ps = do
   follow_each z ps
 
 -- a line and then two walks that come to the same
-line_then : (want : List ℕ) (first second : Walk Trail (Unit {0})) (t : Trail) → first (taken t) ≡ second (taken t) → (lines : List (List ℕ)) → after_first (λ _. first) (follow_line want lines t) ≡ after_first (λ _. second) (follow_line want lines t)
+pub line_then : (want : List ℕ) (first second : Walk Trail (Unit {0})) (t : Trail) → first (taken t) ≡ second (taken t) → (lines : List (List ℕ)) → after_first (λ _. first) (follow_line want lines t) ≡ after_first (λ _. second) (follow_line want lines t)
 line_then want first second t e [] = refl
 line_then want first second t e (line ∷ lines) = by_test (label_eq want line)
   where
@@ -82,7 +82,7 @@ each_is z [] t = refl
 each_is z (p ∷ ps) t = line_then (slice_line z p t.lines) (follow_lines (map verdict_text (map Verdict.slice (slices_told z ps (drop 1 t.lines))))) (follow_each z ps) t (each_is z ps (taken t)) t.lines
 
 -- as many slices are told as there are parts
-told_length : (z : ℤ) (ps : List Part) (lines : List (List ℕ)) → length (slices_told z ps lines) ≡ length ps
+pub told_length : (z : ℤ) (ps : List Part) (lines : List (List ℕ)) → length (slices_told z ps lines) ≡ length ps
 told_length z [] lines = refl
 told_length z (p ∷ ps) lines = ap (λ n. suc n) (told_length z ps (drop 1 lines))
 

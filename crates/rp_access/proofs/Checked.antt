@@ -5,10 +5,11 @@ use Rattle.std.proofs.lemmas.List.{take_more}
 use Rattle.std.proofs.lemmas.List.Elements.{Contains-push_cases, Contains-get_or}
 use Rattle.std.proofs.lemmas.Bool.{eqb-true, eq-eqb}
 use Rattle.std.proofs.Math.Dec.{eqb}
+use Rattle.rp_algebra.proofs.Lists.{take_all}
 use Rattle.rp_geometry.specs.sets.Chain.{level_of}
 use Rattle.rp_access.specs.Chain.{linked_to, PassesTests}
 use Rattle.rp_access.specs.Tests.{IsOfLevel, IsFirstAmong, AreClose, IsCloseToAll, IsRight}
-use Rattle.rp_access.proofs.Tested.{below_of_entry, take_all}
+use Rattle.rp_access.proofs.Tested.{below_of_entry}
 use Rattle.rp_access.proofs.Joined.{link_below}
 
 -- ---- close to all

@@ -1,16 +1,12 @@
 -- Two numbers are linked to each other by appending each to the list of the other.
-use Rattle.std.proofs.Common.{◌≡◌, ℕ, zero, suc, ◌<◌, ◌^◌, ◌⊎◌, inl, inr, ⊎_elim, ◌≢◌, List, [], ◌∷◌, ◌++◌, length, replicate, get_or-set_same, get_or-set_other, refl, sym, ap, ◌∙◌, subst, arith}
+use Rattle.std.proofs.Common.{◌≡◌, ℕ, zero, suc, ◌<◌, ◌^◌, ◌⊎◌, inl, inr, ⊎_elim, List, [], ◌∷◌, ◌++◌, length, replicate, get_or-set_same, get_or-set_other, refl, sym, ap, ◌∙◌, subst, arith}
 use Rattle.std.specs.Prelude.{slice_index_or, slice_set}
 use Rattle.std.specs.List.{Contains}
 use Rattle.std.proofs.Math.ListN.{length-set}
 use Rattle.std.proofs.lemmas.List.{get_or_default, set-get_or, get_or-replicate, length-replicate}
 use Rattle.std.proofs.lemmas.List.Elements.{Contains-push, Contains-push_cases, Contains-append_left}
-use Rattle.std.proofs.lemmas.Bool.Decides.{eqb_tells}
+use Rattle.rp_algebra.proofs.Numbers.{same_or_not}
 use Rattle.rp_access.specs.Chain.{linked_to, IsLinked, AreLinks, AreJoined}
-
--- two numbers are the same, or they are not
-pub same_or_not : (i j : ℕ) → (i ≡ j) ⊎ (i ≢ j)
-same_or_not i j = ⊎_elim (λ t. inl t.1) (λ t. inr t.1) (eqb_tells i j)
 
 -- what is not below the count has no link
 pub link_below : (g : List (List ℕ)) (i j : ℕ) → IsLinked g i j → i < length g

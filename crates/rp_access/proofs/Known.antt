@@ -1,6 +1,7 @@
 -- The list of levels passes the four tests, and is the only one; so is the chain that is chosen.
-use Rattle.std.proofs.Common.{◌≡◌, ℕ, suc, ◌+◌, ◌<◌, ◌≤◌, Bool, true, false, List, [], ◌∷◌, length, refl, sym, ap, ◌∙◌, subst, arith}
+use Rattle.std.proofs.Common.{◌≡◌, ℕ, suc, ◌+◌, ◌<◌, ◌≤◌, true, List, [], ◌∷◌, length, refl, sym, ap, ◌∙◌, subst, arith}
 use Rattle.std.specs.Prelude.{Option, Some, None, is_some}
+use Rattle.rp_algebra.proofs.Tests.{same_test}
 use Rattle.rp_geometry.specs.sets.Chain.{level_of}
 use Rattle.rp_access.specs.Chain.{AreLinks, IsLinked, IsChain, IsLevel, AreLevels, PassesTests}
 use Rattle.rp_chains.proofs.One.{levels_are_one_by_spec, one_route}
@@ -8,12 +9,6 @@ use Rattle.rp_access.specs.Laws.{LevelsPassTests, LevelsAreOne, RouteIsOne}
 use Rattle.rp_access.proofs.Tested.{some_of, below_of_entry, same_entry}
 
 -- ---- the four tests
-
--- two tests are the same where each implies the other
-pub same_bool : (a b : Bool) → (a ≡ true → b ≡ true) → (b ≡ true → a ≡ true) → a ≡ b
-same_bool true b f h = sym (f refl)
-same_bool false true f h = h refl
-same_bool false false f h = refl
 
 -- a list without numbers is empty
 empty_chain : (g : List (List ℕ)) (last i : ℕ) (js : List ℕ) → IsChain g last i js → length js ≡ 0 → i ≡ last
@@ -78,7 +73,7 @@ module _ (g : List (List ℕ)) (last : ℕ) (levels : List (Option ℕ)) (known 
   passing : PassesTests g last levels
   passing = record {
     zero_at_last = λ i h. (zero_only i, λ e. subst (λ v. level_of levels v ≡ Some 0) (sym e) (zero_here (level_of levels last) refl));
-    together = λ i j link. same_bool (is_some (level_of levels i)) (is_some (level_of levels j)) (some_before j i (links.both_ways i j link)) (some_before i j link);
+    together = λ i j link. same_test (is_some (level_of levels i)) (is_some (level_of levels j)) (some_before j i (links.both_ways i j link)) (some_before i j link);
     close = λ i j k l link e f. (at_most_one_more i j k l link e f, at_most_one_more j i l k (links.both_ways i j link) f e);
     nearer = λ i k e. let c = (entry i (has_list i (suc k) e) (Some (suc k)) e).some in nearer_by i k e c.0 c.1 c.2;
   }

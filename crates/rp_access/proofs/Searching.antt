@@ -6,12 +6,12 @@ use Rattle.std.proofs.Math.ListN.{length-set}
 use Rattle.std.proofs.Math.Seq.{drop-cons}
 use Rattle.std.proofs.lemmas.List.{get_or_default, length-replicate}
 use Rattle.std.proofs.lemmas.List.Elements.{Contains-get_or}
+use Rattle.rp_algebra.proofs.Tests.{same_test}
+use Rattle.rp_algebra.proofs.Numbers.{same_or_not}
 use Rattle.rp_geometry.specs.sets.Chain.{level_of}
 use Rattle.rp_access.specs.Chain.{linked_to, IsLinked, AreLinks, AreLevels, PassesTests}
 use Rattle.rp_access.specs.Searching.{Search, started, reach_one, reach, AreBelow}
 use Rattle.rp_access.proofs.Tested.{some_of, below_of_entry, same_entry, passing_levels_are_levels_spec}
-use Rattle.rp_access.proofs.Joined.{same_or_not}
-use Rattle.rp_access.proofs.Known.{same_bool}
 
 -- ---- lists
 
@@ -294,7 +294,7 @@ visit_next g links last next k s a there here = record {
 pub all_visited : (g : List (List ℕ)) → AreLinks g → (last next : ℕ) (s : Search) → GoesOn g last next s → length s.queue ≤ next → PassesTests g last s.levels
 all_visited g links last next s a end = record {
   zero_at_last = λ i _. (a.searching.zero_only i, λ e. subst (λ v. Has s v 0) (sym e) a.searching.at_last);
-  together = λ i j link. same_bool (is_some (level_of s.levels i)) (is_some (level_of s.levels j)) (some_after i j link) (some_after j i (links.both_ways i j link));
+  together = λ i j link. same_test (is_some (level_of s.levels i)) (is_some (level_of s.levels j)) (some_after i j link) (some_after j i (links.both_ways i j link));
   close = λ i j k l link e f. (at_most_one_more j i l k (links.both_ways i j link) f e, at_most_one_more i j k l link e f);
   nearer = a.searching.nearer;
 }

@@ -1,5 +1,5 @@
 -- A list of levels that passes the four tests is the list of levels.
-use Rattle.std.proofs.Common.{◌≡◌, ℕ, zero, suc, ◌+◌, ◌<◌, ◌≤◌, true, List, [], ◌∷◌, length, take, refl, sym, ap, ◌∙◌, subst, arith}
+use Rattle.std.proofs.Common.{◌≡◌, ℕ, zero, suc, ◌+◌, ◌<◌, ◌≤◌, true, List, [], ◌∷◌, length, refl, sym, ap, ◌∙◌, subst, arith}
 use Rattle.std.specs.Prelude.{Option, Some, None, is_some, slice_index_or}
 use Rattle.rp_geometry.specs.sets.Chain.{level_of}
 use Rattle.rp_access.specs.Chain.{IsLinked, IsChain, IsLevel, PassesTests}
@@ -19,13 +19,6 @@ below_of_entry (o ∷ levels) (suc i) k e = let h : i < length levels = below_of
 -- the same value has one entry
 pub same_entry : {A : Type 0} (o : Option A) (k l : A) → o ≡ Some k → o ≡ Some l → k ≡ l
 same_entry o k l e f = cc
-
--- the front of a list that is as long as the list
-pub take_all : {A : Type 0} (xs : List A) (i : ℕ) → length xs ≤ i → take i xs ≡ xs
-take_all [] zero h = refl
-take_all [] (suc i) h = refl
-take_all (x ∷ xs) zero h = absurd (omega arith)
-take_all (x ∷ xs) (suc i) h = ap (λ v. x ∷ v) (take_all xs i (omega arith))
 
 module _ (g : List (List ℕ)) (last : ℕ) (levels : List (Option ℕ)) (known : last < length g) (as_many : length levels ≡ length g) (passes : PassesTests g last levels) where
   -- a number that is linked to one of some level has a level, one more at most

@@ -5,6 +5,7 @@ use Rattle.std.specs.List.{AllByRecursion}
 use Rattle.std.specs.Option.{option_to_list, option_and_then}
 use Rattle.std.proofs.lemmas.List.{length-map}
 use Rattle.rp_algebra.proofs.Tests.{and_first, and_second}
+use Rattle.rp_algebra.proofs.Lists.{all_both}
 use Rattle.rp_language.specs.Name.{Label, label_eq, is_among}
 use Rattle.rp_walks.specs.Walk.{Walk, done, pass}
 use Rattle.rp_model.specs.states.State.{Lot, PlainState, Traced, trace, lineage, ids_of, lot_with_id}
@@ -55,17 +56,12 @@ not_this x (l ∷ ls) h = by (label_eq x l.id) refl h (λ k. not_this x ls k)
 found_behind : (l : Lot (Unit {0})) (ls : List (Lot (Unit {0}))) (k : Lot (Unit {0})) → label_eq l.id k.id ≡ false → lot_with_id k.id ls ≡ Some k → lot_with_id k.id (l ∷ ls) ≡ Some k
 found_behind l ls k other found = ap (λ (b : Bool). elim b as (λ _. Option (Lot (Unit {0}))) [ true ↦ Some l | false ↦ lot_with_id k.id ls ]) (label_turned l.id k.id other) ∙ found
 
--- all of two facts
-both_all : {A : Type 0} (P Q R : A → Type 0) → ((x : A) → P x → Q x → R x) → (xs : List A) → AllByRecursion P xs → AllByRecursion Q xs → AllByRecursion R xs
-both_all P Q R make [] h k = tt
-both_all P Q R make (x ∷ xs) h k = (make x h.0 k.0, both_all P Q R make xs h.1 k.1)
-
 -- where no id stands twice each lot is found by its own
 each_found : (lots : List (Lot (Unit {0}))) → are_distinct (ids_of lots) ≡ true → AllByRecursion (λ (l : Lot (Unit {0})). lot_with_id l.id lots ≡ Some l) lots
 each_found [] h = tt
 each_found (l ∷ ls) h = (
   ap (λ (b : Bool). elim b as (λ _. Option (Lot (Unit {0}))) [ true ↦ Some l | false ↦ lot_with_id l.id ls ]) (label_itself l.id),
-  both_all (λ (k : Lot (Unit {0})). label_eq l.id k.id ≡ false) (λ (k : Lot (Unit {0})). lot_with_id k.id ls ≡ Some k) (λ (k : Lot (Unit {0})). lot_with_id k.id (l ∷ ls) ≡ Some k) (λ k other found. found_behind l ls k other found) ls
+  all_both (λ (k : Lot (Unit {0})). label_eq l.id k.id ≡ false) (λ (k : Lot (Unit {0})). lot_with_id k.id ls ≡ Some k) (λ (k : Lot (Unit {0})). lot_with_id k.id (l ∷ ls) ≡ Some k) (λ k other found. found_behind l ls k other found) ls
       (not_this l.id ls (is_not (is_among l.id (ids_of ls)) (and_first (not (is_among l.id (ids_of ls))) (are_distinct (ids_of ls)) h))) (each_found ls (and_second (not (is_among l.id (ids_of ls))) (are_distinct (ids_of ls)) h)),
 )
   where

@@ -1,10 +1,8 @@
 -- The arithmetic of the bound on steps: k and l are numbers of boxes that meet, h and g heights.
 use Rattle.std.proofs.Common.{ℕ, ◌+◌, ◌*◌, ◌≤◌, arith}
 use Rattle.std.proofs.Math.Nat.{mul-le-mul}
+use Rattle.rp_algebra.proofs.Numbers.{at_most_itself}
 use Rattle.rp_boxindex.specs.tree.Cost.{most_steps, most_steps_low}
-
-le_refl : (n : ℕ) → n ≤ n
-le_refl n = omega arith
 
 -- a step, and then one side
 pub one_side : (d k l h g : ℕ) → d ≤ most_steps l g → l ≤ k → g + 1 ≤ h → d + 1 ≤ most_steps k h
@@ -16,29 +14,29 @@ one_side d k l h g le lk gh =
 pub one_side_low : (d k l h g : ℕ) → d ≤ most_steps_low l g → l ≤ k → 1 ≤ k → g + 1 ≤ h → d + 1 ≤ most_steps_low k h
 one_side_low d k l h g le lk some gh =
     let same : k ≤ k = omega arith in
-    let m : l * g ≤ k * g = mul-le-mul lk (le_refl g) in
+    let m : l * g ≤ k * g = mul-le-mul lk (at_most_itself g) in
     let n : k * (g + 1) ≤ k * h = mul-le-mul same gh in
     omega arith
 
 -- a step, and then both sides, of which the left one is low
 pub two_sides : (d e k l m h g f t : ℕ) → d ≤ most_steps_low l g → e ≤ most_steps m f → l + m ≤ k → g ≤ t → f ≤ t → t + 1 ≤ h → d + e + 1 ≤ most_steps k h
 two_sides d e k l m h g f t left right lmk gt ft th =
-    let a : l * g ≤ l * t = mul-le-mul (le_refl l) gt in
-    let b : m * f ≤ m * t = mul-le-mul (le_refl m) ft in
-    let c : (l + m) * t ≤ k * t = mul-le-mul lmk (le_refl t) in
-    let n : k * (t + 1) ≤ k * h = mul-le-mul (le_refl k) th in
+    let a : l * g ≤ l * t = mul-le-mul (at_most_itself l) gt in
+    let b : m * f ≤ m * t = mul-le-mul (at_most_itself m) ft in
+    let c : (l + m) * t ≤ k * t = mul-le-mul lmk (at_most_itself t) in
+    let n : k * (t + 1) ≤ k * h = mul-le-mul (at_most_itself k) th in
     omega arith
 
 pub two_sides_low : (d e k l m h g f t : ℕ) → d ≤ most_steps_low l g → e ≤ most_steps_low m f → l + m ≤ k → 1 ≤ k → g ≤ t → f ≤ t → t + 1 ≤ h → d + e + 1 ≤ most_steps_low k h
 two_sides_low d e k l m h g f t left right lmk some gt ft th =
-    let a : l * g ≤ l * t = mul-le-mul (le_refl l) gt in
-    let b : m * f ≤ m * t = mul-le-mul (le_refl m) ft in
-    let c : (l + m) * t ≤ k * t = mul-le-mul lmk (le_refl t) in
-    let n : k * (t + 1) ≤ k * h = mul-le-mul (le_refl k) th in
+    let a : l * g ≤ l * t = mul-le-mul (at_most_itself l) gt in
+    let b : m * f ≤ m * t = mul-le-mul (at_most_itself m) ft in
+    let c : (l + m) * t ≤ k * t = mul-le-mul lmk (at_most_itself t) in
+    let n : k * (t + 1) ≤ k * h = mul-le-mul (at_most_itself k) th in
     omega arith
 
 -- the bound in the words of the contract
 pub within_bound : (d k h e : ℕ) → d ≤ most_steps k h → h ≤ e → d ≤ (k + 1) * (2 * e + 2)
 within_bound d k h e le he =
-    let m : k * h ≤ k * e = mul-le-mul (le_refl k) he in
+    let m : k * h ≤ k * e = mul-le-mul (at_most_itself k) he in
     omega arith

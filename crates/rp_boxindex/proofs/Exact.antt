@@ -1,5 +1,5 @@
 -- The ids that are answered are exactly those whose boxes meet, and rise.
-use Rattle.std.proofs.Common.{◌≡◌, ℕ, Bool, true, false, cond, ◌&&◌, T, eqb, List, [], ◌∷◌, map, Option, Some, refl, sym, ap, ◌∙◌, subst}
+use Rattle.std.proofs.Common.{◌≡◌, ℕ, Bool, true, false, cond, T, eqb, List, [], ◌∷◌, map, Option, Some, refl, sym, ap, ◌∙◌, subst}
 use Rattle.std.specs.FinMap as finite
 use Rattle.std.specs.FinMap.{find, is_sorted, entries_sorted, get-entries}
 use Rattle.std.specs.FinMap.Entries.{below_all}
@@ -17,14 +17,7 @@ use Rattle.rp_boxindex.specs.Boxes.{Entry}
 use Rattle.rp_boxindex.specs.Meeting.{meets, ids_that_meet}
 use Rattle.rp_boxindex.proofs.Places.{at_is}
 use Rattle.std.proofs.Common.{arith}
-
-front : (a b : Bool) → T (a && b) → T a
-front true b p = tt
-front false b p = p
-
-rest : (a b : Bool) → T (a && b) → T b
-rest true b p = p
-rest false b p = absurd p
+use Rattle.rp_algebra.proofs.Tests.{first_of_both, second_of_both}
 
 less : (o : Ordering) → T (is_lt o) → o ≡ Less
 less Less p = refl
@@ -38,7 +31,7 @@ above_one false x e es h k = k
 -- ids that are answered are above what all ids are above
 ids_all_above : (c : Bool) (b : IntegerBox) (x : ℕ) (es : List Entry) → T (below_all nat_cmp x es) → AllByRecursion (λ y. nat_cmp x y ≡ Less) (ids_that_meet c b es)
 ids_all_above c b x [] h = tt
-ids_all_above c b x (e ∷ es) h = above_one (meets c b e) x e (filter (meets c b) es) (less (nat_cmp x e.0) (front _ _ h)) (ids_all_above c b x es (rest _ _ h))
+ids_all_above c b x (e ∷ es) h = above_one (meets c b e) x e (filter (meets c b) es) (less (nat_cmp x e.0) (first_of_both _ _ h)) (ids_all_above c b x es (second_of_both _ _ h))
 
 rise_one : (m : Bool) (e : Entry) (es : List Entry) → AllByRecursion (λ y. nat_cmp e.0 y ≡ Less) (map (λ (z : Entry). z.0) es) → IsStrictlySortedBy nat_cmp (map (λ (z : Entry). z.0) es) → IsStrictlySortedBy nat_cmp (map (λ (z : Entry). z.0) (cond m (e ∷ es) es))
 unfolding IsStrictlySortedBy
@@ -48,7 +41,7 @@ rise_one false e es h k = k
 ids_rise : (c : Bool) (b : IntegerBox) (es : List Entry) → T (is_sorted nat_cmp es) → IsStrictlySortedBy nat_cmp (ids_that_meet c b es)
 unfolding IsStrictlySortedBy
 ids_rise c b [] h = tt
-ids_rise c b (e ∷ es) h = rise_one (meets c b e) e (filter (meets c b) es) (ids_all_above c b e.0 es (front _ _ h)) (ids_rise c b es (rest _ _ h))
+ids_rise c b (e ∷ es) h = rise_one (meets c b e) e (filter (meets c b) es) (ids_all_above c b e.0 es (first_of_both _ _ h)) (ids_rise c b es (second_of_both _ _ h))
 
 pub meeting_ids_rise_spec : MeetingIdsRise
 meeting_ids_rise_spec c b boxes = ids_rise c b (finite.entries boxes) (entries_sorted boxes)
@@ -76,7 +69,7 @@ exact_one c b q e fs found false false is at more none = more
 exact_list : (c : Bool) (b : IntegerBox) (es : List Entry) (q : ℕ) → T (is_sorted nat_cmp es) → list_any (λ i. eqb i q) (ids_that_meet c b es) ≡ is_there_and_meets c b (find nat_cmp q es)
 exact_list c b [] q h = refl
 exact_list c b (e ∷ es) q h =
-    exact_one c b q e (filter (meets c b) es) (find nat_cmp q es) (meets c b e) (eq_by_cmp nat_cmp q e.0) refl refl (exact_list c b es q (rest _ _ h)) (λ same. not_on q (ids_that_meet c b es) (ids_all_above c b q es (subst (λ k. T (below_all nat_cmp k es)) (sym same) (front _ _ h))))
+    exact_one c b q e (filter (meets c b) es) (find nat_cmp q es) (meets c b e) (eq_by_cmp nat_cmp q e.0) refl refl (exact_list c b es q (second_of_both _ _ h)) (λ same. not_on q (ids_that_meet c b es) (ids_all_above c b q es (subst (λ k. T (below_all nat_cmp k es)) (sym same) (first_of_both _ _ h))))
 
 pub meeting_ids_are_exact_spec : MeetingIdsAreExact
 meeting_ids_are_exact_spec c b boxes q = exact_list c b (finite.entries boxes) q (entries_sorted boxes) ∙ ap (is_there_and_meets c b) (sym (get-entries boxes q))

@@ -2,6 +2,7 @@
 use Rattle.std.proofs.Common.{◌≡◌, ℕ, ℤ, Bool, true, false, cond, not, ◌&&◌, int_le, List, ◌∷◌, ◌++◌, refl, arith}
 use Rattle.std.specs.Int.{int_min, int_max}
 use Rattle.std.proofs.lemmas.Int.{ints}
+use Rattle.rp_algebra.proofs.Tests.{false_of_not, both_follow}
 use Rattle.rp_geometry.specs.Geometry.{IntegerBox}
 use Rattle.rp_geometry.specs.parts.LeastBox.{box_union}
 use Rattle.rp_space.specs.Boxes.{integer_box}
@@ -10,15 +11,10 @@ use Rattle.rp_boxindex.specs.Counts.{count}
 use Rattle.rp_boxindex.specs.Meeting.{is_below, do_meet, meets}
 use Rattle.rp_boxindex.specs.tree.Nodes.{is_within, AreWithin}
 use Rattle.rp_boxindex.proofs.Changes.{is_not}
-use Rattle.rp_boxindex.proofs.Counts.{count-none, count-round, false_not_true, when}
+use Rattle.rp_boxindex.proofs.Counts.{count-none, count-round, when}
 use Rattle.rp_boxindex.proofs.Ints.{le_then_le}
 use Rattle.rp_boxindex.proofs.Order.{and_parts}
-use Rattle.rp_boxindex.proofs.Pruned.{below_farther, below_nearer, contradict, not_is}
-
--- two tests follow from two others
-follow : (a b p q : Bool) → (a ≡ true → p ≡ true) → (b ≡ true → q ≡ true) → (a && b) ≡ true → (p && q) ≡ true
-follow true b p q h k m = rw (h refl) (k m)
-follow false b p q h k m = absurd (false_not_true m)
+use Rattle.rp_boxindex.proofs.Pruned.{below_farther, below_nearer, contradict}
 
 -- what the six tests of a box that lies in another say
 record AreSides (hull b : IntegerBox) : Type 0 where
@@ -75,7 +71,7 @@ within_further a b c h k =
     })
 
 pub are_within_further : (a b : IntegerBox) (es : List Entry) → is_within a b ≡ true → AreWithin b es → AreWithin a es
-are_within_further a b es h = count-none (λ (e : Entry). not (is_within a (integer_box e.1))) (λ (e : Entry). not (is_within b (integer_box e.1))) (λ e m. is_not (is_within b (integer_box e.1)) (λ k. absurd (contradict (not_is (is_within a (integer_box e.1)) m) (within_further a b (integer_box e.1) h k)))) es
+are_within_further a b es h = count-none (λ (e : Entry). not (is_within a (integer_box e.1))) (λ (e : Entry). not (is_within b (integer_box e.1))) (λ e m. is_not (is_within b (integer_box e.1)) (λ k. absurd (contradict (false_of_not (is_within a (integer_box e.1)) m) (within_further a b (integer_box e.1) h k)))) es
 
 -- the hull of a node from the boxes around its own and each of its sides: s holds the node's box and the left side
 pub hull_of_node : (s hull : IntegerBox) (left : List Entry) (e : Entry) (right : List Entry) → is_within s (integer_box e.1) ≡ true → AreWithin s left → is_within hull s ≡ true → AreWithin hull right → AreWithin hull (left ++ e ∷ right)
@@ -88,11 +84,11 @@ hull_of_node s hull left e right own on_left more on_right =
 
 six_further : (c : Bool) (b hull f : IntegerBox) → AreSides hull f → (is_below c b.x1 f.x2 && is_below c f.x1 b.x2 && is_below c b.y1 f.y2 && is_below c f.y1 b.y2 && is_below c b.z1 f.z2 && is_below c f.z1 b.z2) ≡ true → (is_below c b.x1 hull.x2 && is_below c hull.x1 b.x2 && is_below c b.y1 hull.y2 && is_below c hull.y1 b.y2 && is_below c b.z1 hull.z2 && is_below c hull.z1 b.z2) ≡ true
 six_further c b hull f s =
-    follow _ (is_below c f.z1 b.z2) _ (is_below c hull.z1 b.z2)
-    (follow _ (is_below c b.z1 f.z2) _ (is_below c b.z1 hull.z2)
-    (follow _ (is_below c f.y1 b.y2) _ (is_below c hull.y1 b.y2)
-    (follow _ (is_below c b.y1 f.y2) _ (is_below c b.y1 hull.y2)
-    (follow (is_below c b.x1 f.x2) (is_below c f.x1 b.x2) (is_below c b.x1 hull.x2) (is_below c hull.x1 b.x2)
+    both_follow _ (is_below c f.z1 b.z2) _ (is_below c hull.z1 b.z2)
+    (both_follow _ (is_below c b.z1 f.z2) _ (is_below c b.z1 hull.z2)
+    (both_follow _ (is_below c f.y1 b.y2) _ (is_below c hull.y1 b.y2)
+    (both_follow _ (is_below c b.y1 f.y2) _ (is_below c b.y1 hull.y2)
+    (both_follow (is_below c b.x1 f.x2) (is_below c f.x1 b.x2) (is_below c b.x1 hull.x2) (is_below c hull.x1 b.x2)
     (λ h. below_farther c b.x1 f.x2 hull.x2 h s.x2) (λ h. below_nearer c hull.x1 f.x1 b.x2 s.x1 h))
     (λ h. below_farther c b.y1 f.y2 hull.y2 h s.y2))
     (λ h. below_nearer c hull.y1 f.y1 b.y2 s.y1 h))

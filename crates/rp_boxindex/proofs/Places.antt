@@ -10,6 +10,7 @@ use Rattle.std.specs.BTreeMap.{is_at, insert_entry}
 use Rattle.std.specs.List.{AllByRecursion}
 use Rattle.std.specs.List.Sorted.{IsStrictlySortedBy}
 use Rattle.std.proofs.lemmas.Bool.{lt-ltb}
+use Rattle.rp_algebra.proofs.Options.{some_not_none}
 use Rattle.rp_boxindex.specs.Counts.{count, SameCounts}
 use Rattle.rp_boxindex.proofs.Counts.{count-none, false_not_true, when, not_counted}
 use Rattle.rp_boxindex.proofs.Order.{and_parts}
@@ -21,9 +22,6 @@ has_id k e = is_at (nat_cmp k) e.0
 -- no id stands twice
 abbrev pub IsUnique : {Y : Type 0} → List (ℕ × Y) → Type 0
 IsUnique {Y} es = (k : ℕ) → count (has_id {Y = Y} k) es ≤ 1
-
-some_not_none : {X : Type 0} (x : X) → Some x ≡ None → ⊥
-some_not_none x h = cc
 
 pub count-map : {X Y : Type 0} (f : X → Y) (p : Y → Bool) (xs : List X) → count p (map f xs) ≡ count (λ x. p (f x)) xs
 count-map f p [] = refl

@@ -16,6 +16,7 @@ use Rattle.rp_boxindex.proofs.Counts.{count-none, count-cover, false_not_true, n
 use Rattle.rp_boxindex.proofs.Changes.{is_not}
 use Rattle.rp_boxindex.proofs.Ints.{le_self, le_then_le, le_then_lt, lt_then_le, lt_is_le, lt_or_le}
 use Rattle.std.proofs.lemmas.Bool.{or_right}
+use Rattle.rp_algebra.proofs.Tests.{false_of_not}
 use Rattle.rp_boxindex.proofs.Order.{or_cases, and_parts, int_eq_is}
 
 -- bounds farther apart
@@ -50,13 +51,9 @@ before_is_lower x y h =
 pub none_after : (c : Bool) (b : IntegerBox) (e : Entry) (es : List Entry) → AllAfter e es → is_below c (low e) b.x2 ≡ false → count (meets_on_x c b) es ≡ 0
 none_after c b e es after f = count-none (meets_on_x c b) (λ (x : Entry). not (is_before e x)) (λ x m. is_not (is_before e x) (λ k. absurd (contradict f (below_nearer c (low e) (low x) b.x2 (before_is_lower e x k) (and_parts (is_below c b.x1 (high x)) (is_below c (low x) b.x2) m).1)))) es after
 
-pub not_is : (b : Bool) → not b ≡ true → b ≡ false
-not_is true h = absurd (false_not_true h)
-not_is false h = refl
-
 -- all boxes before one that begins early enough do so too
 pub low_before : (c : Bool) (b : IntegerBox) (e : Entry) (es : List Entry) → AllBefore es e → is_below c (low e) b.x2 ≡ true → AllLow c b es
-low_before c b e es before t = count-none (λ (x : Entry). not (is_below c (low x) b.x2)) (λ (x : Entry). not (is_before x e)) (λ x m. is_not (is_before x e) (λ k. absurd (contradict (not_is (is_below c (low x) b.x2) m) (below_nearer c (low x) (low e) b.x2 (before_is_lower x e k) t)))) es before
+low_before c b e es before t = count-none (λ (x : Entry). not (is_below c (low x) b.x2)) (λ (x : Entry). not (is_before x e)) (λ x m. is_not (is_before x e) (λ k. absurd (contradict (false_of_not (is_below c (low x) b.x2) m) (below_nearer c (low x) (low e) b.x2 (before_is_lower x e k) t)))) es before
 
 -- where all boxes are low, and one reaches far enough, one meets on the x axis
 some_covered : (c : Bool) (b : IntegerBox) (top : ℤ) (e : Entry) → is_below c b.x1 top ≡ true → int_le top (high e) ≡ true → (t : Bool) → is_below c (low e) b.x2 ≡ t → ((is_below c b.x1 (high e) && t) || not t) ≡ true

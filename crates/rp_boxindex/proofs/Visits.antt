@@ -1,5 +1,6 @@
 -- A visit of a node: what is taken, and how many steps it takes. s, t, u and v are counts of steps, in order.
-use Rattle.std.proofs.Common.{◌≡◌, ℕ, ◌+◌, ◌≤◌, max, ℤ, Bool, true, false, cond, not, ◌&&◌, List, [], ◌∷◌, ◌++◌, refl, sym, ap, ◌∙◌, arith, append-nil}
+use Rattle.std.proofs.Common.{◌≡◌, ℕ, ◌+◌, ◌≤◌, max, ℤ, Bool, true, false, cond, not, List, [], ◌∷◌, ◌++◌, refl, sym, ap, ◌∙◌, arith, append-nil}
+use Rattle.rp_algebra.proofs.Tests.{and_fails}
 use Rattle.rp_geometry.specs.Geometry.{IntegerBox}
 use Rattle.rp_boxindex.specs.Counts.{count}
 use Rattle.rp_boxindex.specs.Bound.{meets_on_x}
@@ -95,10 +96,6 @@ found_none after taker c b top es is short = sym (ap (taken after taker) (ids-no
 -- nor where the hull does not meet the box
 pub found_none_in_hull : {S : Type 0} (after : S → ℕ → S) (taker : S) (c : Bool) (b hull : IntegerBox) (es : List Entry) → AreWithin hull es → do_meet c b hull ≡ false → taker ≡ taken after taker (ids_that_meet c b es)
 found_none_in_hull after taker c b hull es within apart = sym (ap (taken after taker) (ids-unmet c b es (none_in_hull c b hull es within apart)))
-
-and_fails : (p q : Bool) → q ≡ false → (p && q) ≡ false
-and_fails true q h = h
-and_fails false q h = refl
 
 -- all is taken on the left where the node's box begins too late
 pub found_left : {S : Type 0} (after : S → ℕ → S) (taker new : S) (c : Bool) (b : IntegerBox) {tree left right : TreeView} {e : Entry} → AreParts tree left e right → is_below c (low e) b.x2 ≡ false → new ≡ taken after taker (ids_that_meet c b left.entries) → new ≡ taken after taker (ids_that_meet c b tree.entries)

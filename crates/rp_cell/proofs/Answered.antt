@@ -1,6 +1,7 @@
 -- What the searches that a decision calls have found, and that one of them always finds something.
 use Rattle.std.proofs.Common.{◌≡◌, true, false, List, Option, Some, None, refl, sym, ap, ◌∙◌, subst}
 use Rattle.std.specs.Prelude.{◌↔◌, IsSome, IsNone, IfSome, IsTrue, unwrap_or, []}
+use Rattle.rp_algebra.proofs.Options.{of_some}
 use Rattle.rp_geometry.specs.Geometry.{RationalPoint, HalfSpace}
 use Rattle.rp_geometry.specs.sets.Shape.{shape_of_cell}
 use Rattle.rp_geometry.specs.sets.Sets.{IsEmpty, IsNonempty}
@@ -13,10 +14,6 @@ use Rattle.rp_convex.proofs.Certified.{strict_solution_is_member_spec, inside_ce
 use Rattle.rp_convex.proofs.Inside.{member_moves_inside_spec}
 use Rattle.rp_convex.proofs.InsideFound.{inside_is_found_spec}
 use Rattle.rp_convex.proofs.WeakPoint.{weak_point_is_found_spec}
-
--- the fact of an answer that is some
-pub of_some : {A : Type 0} (P : A → Type 0) (o : Option A) (x : A) → o ≡ Some x → IfSome o P → P x
-of_some P o x e h = subst (λ r. IfSome r P) e h
 
 -- what follows of an answer that is some
 pub if_some : {A : Type 0} (P Q : A → Type 0) (o : Option A) → ((x : A) → o ≡ Some x → P x → Q x) → IfSome o P → IfSome o Q

@@ -1,7 +1,6 @@
 -- What shows that a half-space adds nothing to the others of a cell, or that it does.
 use Rattle.std.proofs.Common.{◌≡◌, ℕ, zero, suc, ◌+◌, ◌<◌, ◌≤◌, pos, ◌<ℤ◌, ⊎_elim, Bool, true, false, List, [], ◌∷◌, ◌++◌, length, take, drop, refl, sym, ap, ◌∙◌, subst, arith, append-nil}
 use Rattle.std.specs.Prelude.{Option, Some, None, IsNone, is_some, unwrap_or, ◌↔◌}
-use Rattle.std.specs.List.{slice_get}
 use Rattle.rp_algebra.proofs.Listed.{Listed, first, later, all_of, of_all, pass_all, listed_left, listed_right, listed_cases}
 use Rattle.std.proofs.lemmas.List.{length-drop}
 use Rattle.std.proofs.lemmas.Option.{slice_get_within}
@@ -20,6 +19,7 @@ use Rattle.rp_geometry.proofs.Complement.{complement_is_half_space}
 use Rattle.rp_convex.proofs.Inside.{member_moves_inside_spec}
 use Rattle.rp_convex.proofs.InsideFound.{strict_of, inside_some, inside_is_found_spec}
 use Rattle.rp_corners.proofs.Standing.{listed_contains, contains_listed}
+use Rattle.rp_corners.proofs.LeastPlace.{at_listed}
 use Rattle.rp_clip.specs.Faces.{HasSide}
 use Rattle.rp_cell.specs.Slimming.{tested, IsTested, IsDropProof}
 use Rattle.rp_cell.proofs.Across.{across, across_point, complement_across, positive_across}
@@ -38,12 +38,6 @@ pub of_rest : {A : Type 0} (n : ℕ) (xs : List A) (x : A) → Listed x (drop n 
 of_rest zero xs x l = l
 of_rest (suc n) [] x l = elim l [ ]
 of_rest (suc n) (y ∷ ys) x l = later (of_rest n ys x l)
-
--- the item at a place stands in the list
-at_place : {A : Type 0} (xs : List A) (i : ℕ) (x : A) → slice_get xs i ≡ Some x → Listed x xs
-at_place [] i x e = absurd (cc)
-at_place (y ∷ ys) zero x e = subst (λ z. Listed z (y ∷ ys)) (same_some y x e) first
-at_place (y ∷ ys) (suc i) x e = later (at_place ys i x e)
 
 -- where the others stand: before the place, or behind it
 record StandAround (cell : List HalfSpace) (place : ℕ) (g : HalfSpace) : Type 0 where
@@ -65,7 +59,7 @@ tested_bounds cell place kept h rest b k = of_all IsHalfSpace (tested kept h res
     (listed_cases g (kept ++ rest) (complement h ∷ []) l))
   where
     is_complement : (g : HalfSpace) → Listed g (complement h ∷ []) → IsHalfSpace g
-    is_complement g first = complement_is_half_space h (all_of IsHalfSpace cell b h (at_place cell place h k.at))
+    is_complement g first = complement_is_half_space h (all_of IsHalfSpace cell b h (at_listed cell place h k.at))
     is_complement g (later l) = elim l [ ]
 
 -- ---- a side of its own
@@ -76,7 +70,7 @@ unfolding has_member
 side_has_member cell place kept h rest b c k s = inside_some (tested kept h rest) (across h s.point) (record { point = across_point h s.point s.is_point; sides = sides })
   where
     half : IsHalfSpace h
-    half = all_of IsHalfSpace cell b h (at_place cell place h k.at)
+    half = all_of IsHalfSpace cell b h (at_listed cell place h k.at)
 
     on : side_value h s.point ≡ pos 0
     on = subst (λ (g : HalfSpace). side_value g s.point ≡ pos 0) (same_some s.half h (sym s.at ∙ k.at)) s.on

@@ -12,9 +12,10 @@ use Rattle.rp_geometry.specs.searches.Certificate.{Multiple, is_outside_certific
 use Rattle.rp_geometry.specs.searches.Elimination.{first_outside}
 use Rattle.rp_geometry.specs.searches.ProofLine.{out_line, apart_line, strict_line, weak_line}
 use Rattle.rp_algebra.proofs.Listed.{all_of, of_all, listed_cases}
+use Rattle.rp_algebra.proofs.Options.{of_some}
 use Rattle.rp_convex.proofs.InsideFound.{inside_is_found_spec}
 use Rattle.rp_convex.proofs.WeakPoint.{weak_point_is_found_spec}
-use Rattle.rp_cell.proofs.Answered.{none_unless, of_some, outside_is_some, apart_is_some, line_outside, line_apart}
+use Rattle.rp_cell.proofs.Answered.{none_unless, outside_is_some, apart_is_some, line_outside, line_apart}
 use Rattle.rp_cell.proofs.Dropped.{of_front, of_rest}
 use Rattle.rp_cell.proofs.SlimSoFar.{slice_is}
 

@@ -15,9 +15,8 @@ use Rattle.rp_algebra.proofs.Divisors.{gcd_of-cons, gcd_of-one, gcd_of-positive,
 use Rattle.rp_algebra.proofs.Numbers.{zero_or_not}
 use Rattle.rp_algebra.proofs.Options.{none_not_some, same_some}
 use Rattle.rp_algebra.proofs.Reify.{by_ring_at, reify}
-use Rattle.rp_algebra.proofs.Tests.{and_first, and_second, and_true, zero_is, is_zero_true, nonnegative_is, is_nonnegative_true, false_not_true, false_unless}
+use Rattle.rp_algebra.proofs.Tests.{and_first, and_second, and_true, zero_is, is_zero_true, nonnegative_is, is_nonnegative_true, false_not_true, false_unless, same_test}
 use Rattle.rp_algebra.proofs.Listed.{Listed, all_pass, of_all, all_of, all_append}
-use Rattle.rp_geometry.proofs.InLowestTerms.{same_test}
 use Rattle.rp_geometry.specs.Geometry.{RationalPoint, HalfSpace, IsHalfSpace, half_space_of, side_value, owns_boundary, IsPoint, IsKeptPoint, reduced_point, point_eq}
 use Rattle.rp_geometry.specs.laws.CellLaws.{AreHalfSpaces}
 use Rattle.rp_geometry.specs.laws.SectionLaws.{IsSmallTrace}

@@ -1,19 +1,15 @@
 -- What is left of a ring at a step.
-use Rattle.std.proofs.Common.{◌≡◌, ℕ, zero, suc, ◌+◌, ◌<◌, ◌≤◌, Bool, true, false, ◌&&◌, List, [], ◌∷◌, length, get_or, drop, refl, sym, ap, ◌∙◌, subst, arith}
+use Rattle.std.proofs.Common.{◌≡◌, ℕ, zero, suc, ◌+◌, ◌<◌, ◌≤◌, true, ◌&&◌, List, [], ◌∷◌, length, get_or, drop, refl, sym, ap, ◌∙◌, subst, arith}
 use Rattle.std.specs.Prelude.{nat_le}
 use Rattle.std.specs.List.{list_all, AllByRecursion}
 use Rattle.std.proofs.lemmas.List.{drop_more}
+use Rattle.rp_algebra.proofs.Tests.{and_passing}
 use Rattle.rp_geometry.specs.sections.Ring.{RingStep, Turn, turn_of, turns_to, turns_of, is_turn, angles_rise, is_angle_before}
 
 -- the turns from a step on
 abbrev pub turns_left : ℕ → List RingStep → List Turn
 turns_left i [] = []
 turns_left i (s ∷ steps) = turns_to s (drop i (s ∷ steps))
-
--- two tests, where the second passes
-pub and_passing : (b : Bool) → (b && true) ≡ b
-and_passing true = refl
-and_passing false = refl
 
 -- a step, the next one, and what is behind them
 two_left : (steps : List RingStep) (i : ℕ) (d e : RingStep) → i + 1 < length steps → d ≡ get_or steps i d → e ≡ get_or steps (i + 1) e → drop i steps ≡ d ∷ e ∷ drop (i + 1 + 1) steps

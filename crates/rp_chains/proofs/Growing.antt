@@ -1,39 +1,17 @@
 -- Ranges of numbers, and a group that grows by links until it grows no more.
-use Rattle.std.proofs.Common.{◌≡◌, ℕ, zero, suc, ◌+◌, ◌<◌, ◌≤◌, Bool, true, false, cond, ◌⊎◌, inl, inr, ⊎_elim, List, [], ◌∷◌, length, refl, ap, subst, sym, ◌∙◌, arith}
-use Rattle.std.proofs.lemmas.Bool.{or_cases, or_left, or_right, eqb-true, eq-eqb, cases_order}
+use Rattle.std.proofs.Common.{◌≡◌, ℕ, zero, suc, ◌+◌, ◌<◌, ◌≤◌, Bool, true, ◌⊎◌, inl, inr, ⊎_elim, List, [], ◌∷◌, length, refl, ap, subst, sym, ◌∙◌, arith}
+use Rattle.std.proofs.lemmas.Bool.{or_cases, or_left, or_right, cases_order}
 use Rattle.std.proofs.lemmas.List.FromFn.{length-range_with_len}
-use Rattle.std.specs.Prelude.{◌==◌, ◌||◌}
-use Rattle.std.specs.List.{list_any, filter, range_with_len}
+use Rattle.std.specs.Prelude.{◌||◌}
+use Rattle.std.specs.List.{list_any, filter}
 use Rattle.rp_algebra.proofs.Listed.{Listed, first, later}
 use Rattle.rp_geometry.specs.parts.Groups.{is_linked, is_listed_number, grown, grown_by}
 use Rattle.rp_geometry.specs.parts.Levels.{numbers_below}
-use Rattle.rp_convex.proofs.Filter.{some_passes, passes_some, kept, keeps, not_longer}
+use Rattle.rp_algebra.proofs.Filter.{some_passes, passes_some, kept, keeps, not_longer, filter_grows}
+use Rattle.rp_algebra.proofs.Lists.{range_listed, listed_range}
+use Rattle.rp_geometry.proofs.Numbered.{listed_is, listed_true}
 
 -- ---- lists of numbers
-
--- a number that the test finds stands in the list
-pub listed_is : (k : ℕ) (ks : List ℕ) → is_listed_number k ks ≡ true → Listed k ks
-listed_is k ks e = let s = some_passes (λ j. j == k) ks e in subst (λ j. Listed j ks) (eqb-true s.item k s.passes) s.listed
-
--- a number that stands in the list is found
-pub listed_true : (k : ℕ) (ks : List ℕ) → Listed k ks → is_listed_number k ks ≡ true
-listed_true k ks l = passes_some (λ j. j == k) ks k l (eq-eqb k k refl)
-
--- the numbers of a range stand in its list
-range_listed : (n a k : ℕ) → a ≤ k → k < a + n → Listed k (range_with_len a n)
-range_listed zero a k h l = absurd (omega (arith, h, l))
-range_listed (suc n) a k h l = ⊎_elim
-    (λ (e : a ≡ k). subst (λ j. Listed j (range_with_len a (suc n))) e first)
-    (⊎_elim
-    (λ (e : a < k). later (range_listed n (a + 1) k (omega (arith, e)) (omega (arith, l))))
-    (λ (e : k < a). absurd (omega (arith, e, h))))
-    (cases_order a k)
-
--- and no others
-listed_range : (n a k : ℕ) → Listed k (range_with_len a n) → (a ≤ k) × (k < a + n)
-listed_range zero a k l = elim l [ ]
-listed_range (suc n) a k first = (omega arith, omega arith)
-listed_range (suc n) a k (later l) = let r = listed_range n (a + 1) k l in (omega (arith, r.0), omega (arith, r.1))
 
 -- a number below n is one of the numbers below n
 pub below_listed : (n k : ℕ) → k < n → Listed k (numbers_below n)
@@ -42,18 +20,6 @@ below_listed n k h = range_listed n 0 k (omega arith) (omega (arith, h))
 -- and there are no others
 pub listed_below : (n k : ℕ) → Listed k (numbers_below n) → k < n
 listed_below n k l = let h = (listed_range n 0 k l).1 in omega (arith, h)
-
--- a filter that lets more pass keeps more items, or the same ones
-filter_grows : (xs : List ℕ) (s t : ℕ → Bool) → ((x : ℕ) → Listed x xs → s x ≡ true → t x ≡ true) → (length (filter s xs) < length (filter t xs)) ⊎ (filter s xs ≡ filter t xs)
-filter_grows [] s t more = inr refl
-filter_grows (x ∷ xs) s t more = by_tests (s x) refl (t x) refl (filter_grows xs s t (λ y l. more y (later l)))
-  where
-    by_tests : (a : Bool) → s x ≡ a → (b : Bool) → t x ≡ b → (length (filter s xs) < length (filter t xs)) ⊎ (filter s xs ≡ filter t xs)
-        → (length (cond a (x ∷ filter s xs) (filter s xs)) < length (cond b (x ∷ filter t xs) (filter t xs))) ⊎ (cond a (x ∷ filter s xs) (filter s xs) ≡ cond b (x ∷ filter t xs) (filter t xs))
-    by_tests true e true f r = ⊎_elim (λ h. inl (omega (arith, h))) (λ h. inr (ap (λ ys. x ∷ ys) h)) r
-    by_tests false e false f r = r
-    by_tests false e true f r = ⊎_elim (λ h. inl (omega (arith, h))) (λ h. let l = ap length h in inl (omega (arith, l))) r
-    by_tests true e false f r = absurd (let g : true ≡ false = sym (more x first e) ∙ f in cc)
 
 -- a list with one item at most, and one that is known
 only_one : (k : ℕ) (ks : List ℕ) → Listed k ks → length ks ≤ 1 → ks ≡ k ∷ []

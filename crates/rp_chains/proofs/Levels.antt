@@ -8,7 +8,7 @@ use Rattle.rp_algebra.proofs.Tests.{false_not_true}
 use Rattle.rp_geometry.specs.parts.Levels.{numbers_below, is_within_steps, steps_from, levels_along}
 use Rattle.rp_geometry.specs.sets.Chain.{IsChainBy, IsLevelBy, level_of}
 use Rattle.rp_geometry.specs.laws.ChainLaws.{AreLinkedBelow, LevelsAreFound}
-use Rattle.rp_chains.proofs.Growing.{listed_is, listed_true}
+use Rattle.rp_geometry.proofs.Numbered.{listed_is, listed_true}
 use Rattle.rp_chains.proofs.Steps.{chain_of, of_chain, near_enough, IsFirstCount, steps_found}
 
 -- the entry of a number in a list that is made number by number

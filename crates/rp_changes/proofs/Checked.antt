@@ -2,12 +2,12 @@
 use Rattle.std.proofs.Common.{◌≡◌, ℕ, ◌<◌, Bool, not, List, ◌∷◌, map, length, Option, Some, None, slice_get, is_some, refl, sym, ap, ◌∙◌}
 use Rattle.std.specs.Prelude.{IfSome}
 use Rattle.std.specs.Option.{option_and_then}
+use Rattle.rp_algebra.proofs.Lists.{get_some}
 use Rattle.rp_language.specs.Name.{Label, is_among}
 use Rattle.rp_model.specs.states.State.{Lot, PlainState, live_lots, live_lot, lot_with_id, ids_of, bare_lot, layer_of_lot, layer_with_id}
 use Rattle.rp_model.specs.commands.Verdict.{Refusal, unknown}
 use Rattle.rp_model.specs.commands.Checks.{refuse_if, and_then, check_live, check_each}
 use Rattle.rp_history.proofs.Found.{there_if_found, not_there}
-use Rattle.rp_nearby.proofs.Places.{item_at}
 use Rattle.rp_register.proofs.KeptLots.{bare_ids, bare_live}
 
 -- ---- ids
@@ -15,7 +15,7 @@ use Rattle.rp_register.proofs.KeptLots.{bare_ids, bare_live}
 -- a lot that is found or not, as whether its id is there
 found_there : (x : Label) (ls : List (Lot (Unit {0}))) (r : Option ℕ) → option_and_then (λ k. slice_get ls k) r ≡ lot_with_id x ls → IfSome r (λ k. k < length ls) → is_some r ≡ is_among x (ids_of ls)
 found_there x ls None e h = sym (not_there x ls (sym e))
-found_there x ls (Some k) e h = let item = item_at ls k h in sym (there_if_found x ls item.0 (sym e ∙ item.1))
+found_there x ls (Some k) e h = let item = get_some ls k h in sym (there_if_found x ls item.0 (sym e ∙ item.1))
 
 -- an id has a place in the history where it is registered
 pub registered : (x : Label) (lots history : List (Lot (Unit {0}))) (r : Option ℕ) → history ≡ map bare_lot lots → option_and_then (λ k. slice_get history k) r ≡ lot_with_id x history → IfSome r (λ k. k < length history) → is_some r ≡ is_among x (ids_of lots)
@@ -24,7 +24,7 @@ registered x lots history r e f h = found_there x history r f h ∙ ap (λ (ls :
 -- what is found of live lots in the history has a place there
 live_there : (x : Label) (ls : List (Lot (Unit {0}))) (r : Option ℕ) → option_and_then (λ k. slice_get ls k) r ≡ live_lot x ls → IfSome r (λ k. k < length ls) → is_some r ≡ is_among x (ids_of (live_lots ls))
 live_there x ls None e h = sym (not_there x (live_lots ls) (sym e))
-live_there x ls (Some k) e h = let item = item_at ls k h in sym (there_if_found x (live_lots ls) item.0 (sym e ∙ item.1))
+live_there x ls (Some k) e h = let item = get_some ls k h in sym (there_if_found x (live_lots ls) item.0 (sym e ∙ item.1))
 
 -- an id has a live place in the history where it is live
 pub is_live_as_found : (x : Label) (lots history : List (Lot (Unit {0}))) (r : Option ℕ) → history ≡ map bare_lot lots → option_and_then (λ k. slice_get history k) r ≡ live_lot x history → IfSome r (λ k. k < length history) → is_some r ≡ is_among x (ids_of (live_lots lots))
@@ -32,7 +32,7 @@ is_live_as_found x lots history r e f h = live_there x history r f h ∙ ap (λ 
 
 -- an id that has the place of a live lot is live
 pub is_live_here : (x : Label) (s : PlainState) (k : ℕ) → k < length s.lots → slice_get s.lots k ≡ live_lot x s.lots → check_live s x ≡ None
-is_live_here x s k within same = let item = item_at s.lots k within in ap (λ (b : Bool). refuse_if (not b) (unknown x)) (there_if_found x (live_lots s.lots) item.0 (sym same ∙ item.1))
+is_live_here x s k within same = let item = get_some s.lots k within in ap (λ (b : Bool). refuse_if (not b) (unknown x)) (there_if_found x (live_lots s.lots) item.0 (sym same ∙ item.1))
 
 -- an id that has none is not
 pub is_not_live : (x : Label) (s : PlainState) → live_lot x s.lots ≡ None → check_live s x ≡ Some (unknown x)

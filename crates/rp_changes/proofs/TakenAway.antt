@@ -1,12 +1,13 @@
 -- Children are taken away one after the other.
 use Rattle.std.proofs.Common.{◌≡◌, ℕ, ◌+◌, ◌<◌, List, [], ◌∷◌, ◌++◌, map, length, drop, get_or, refl, sym, ap, ◌∙◌}
+use Rattle.rp_algebra.proofs.Lists.{drop_item}
 use Rattle.rp_geometry.specs.sets.Shape.{Part}
 use Rattle.rp_geometry.specs.parts.Parts.{most_parts}
 use Rattle.rp_walks.specs.Walk.{Outcome, done, stopped, Walk, Tester, after_first, ◌>>=◌}
 use Rattle.rp_walks.specs.Form.{subtract, subtract_part, if_at_most}
 use Rattle.rp_model.specs.commands.Row.{child_parts, joined_parts}
 use Rattle.rp_reports.specs.Check.{Trail, line_tester}
-use Rattle.rp_tests.proofs.Left.{IsLeft, drop_item}
+use Rattle.rp_tests.proofs.Left.{IsLeft}
 use Rattle.rp_changes.specs.declared.child.Child.{Child}
 use Rattle.rp_changes.specs.Children.{formed_child}
 

@@ -19,7 +19,7 @@ use Rattle.rp_reports.specs.laws.RowLaws.{IsSoundChange, IsRightReply}
 use Rattle.rp_runs.proofs.Rows.{line_rows, followed_row_tells_truth_spec}
 use Rattle.rp_states.proofs.Computed.{reply_plain}
 use Rattle.rp_states.proofs.Listing.{all_mapped}
-use Rattle.rp_states.proofs.Parted.{parts_are_sound}
+use Rattle.rp_states.proofs.Parted.{parts_are_sound, read_plain, same_lots}
 use Rattle.rp_states.proofs.Plain.{images_twice}
 use Rattle.rp_states.proofs.PlainRows.{row_same}
 use Rattle.rp_states.proofs.Replies.{plain_new, plain_change, IsFitReply, row_fit}
@@ -35,18 +35,9 @@ same_names : (ks : List (Kept (Unit {0}))) → map plain_kept (map kept_of_parts
 same_names [] = refl
 same_names (k ∷ ks) = ap (λ (js : List (Kept (Unit {0}))). k ∷ js) (same_names ks)
 
--- lots without their sets again
-same_lots : (ls : List (Lot (Unit {0}))) → map plain_lot (map lot_of_parts ls) ≡ ls
-same_lots [] = refl
-same_lots (l ∷ ls) = ap (λ (ms : List (Lot (Unit {0}))). l ∷ ms) (same_lots ls)
-
 -- the parts of the sets that parts make are those parts
 pub plain_parts : (p : PlainState) → plain_of (state_of_parts p) ≡ p
 plain_parts p = λ i. record { layer = p.layer; names = same_names p.names i; lots = same_lots p.lots i }
-
--- sets read from the parts, with the sets or without
-read_plain : (s : State) → state_of_parts (plain_of s) ≡ state_of_parts s
-read_plain s = λ i. record { layer = s.layer; names = images_twice plain_kept kept_of_parts s.names i; lots = images_twice plain_lot lot_of_parts s.lots i }
 
 -- the parts of a sound state are sound
 pub sound_on_lines : (s : State) (p : PlainState) → IsSoundWith IsCheckedPart s → plain_of s ≡ p → IsSoundOnLines p

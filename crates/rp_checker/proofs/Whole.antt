@@ -14,6 +14,7 @@ use Rattle.rp_reports.specs.laws.CheckLaws.{WrittenReportIsAccepted}
 use Rattle.rp_runs.proofs.Rows.{followed_row_tells_truth_spec}
 use Rattle.rp_accepted.proofs.FirstWrong.{finds_first_wrong_spec}
 use Rattle.rp_accepted.proofs.GoneWrong.{found_after, find_next, DonePast, answer_past}
+use Rattle.rp_accepted.proofs.ReportTaken.{body_few}
 use Rattle.rp_true_report.proofs.Accepted.{accepted_is_true_spec}
 use Rattle.rp_true_report.proofs.Answered.{Agrees, TellsNext, answer_told}
 use Rattle.rp_true_report.proofs.Followed.{Comes}
@@ -58,12 +59,6 @@ opening_agrees = record {
   plain = refl;
 }
 
--- the mark, where there is one, leaves no more lines
-fewer_behind : (v : Version) (lines : List (List ℕ)) → length (body_of v lines) ≤ length lines
-fewer_behind one lines = omega arith
-fewer_behind two [] = omega arith
-fewer_behind two (line ∷ lines) = omega arith
-
 -- behind the mark of a version
 marked_trail : (v : Version) (lines : List (List ℕ)) → behind_mark v (record { lines = lines; number = 1; tests = 0 }) ≡ record { lines = body_of v lines; number = first_line_number v; tests = 0 }
 marked_trail one lines = refl
@@ -76,7 +71,7 @@ begins lines v start t first told behind =
     subst (IsGoing lines v 0 opening) (sym (behind ∙ ap (behind_mark v) first ∙ marked_trail v lines))
     (record {
       room = length lines;
-      enough = fewer_behind v lines;
+      enough = body_few v lines;
       finds = ap (λ (w : Version). finding_by w lines) (told ∙ ap (λ (s : Trail). version_by report_mark s.lines) first);
       sets = opening;
       agrees = opening_agrees;

@@ -5,6 +5,7 @@ use Rattle.std.specs.List.{Contains, slice_get}
 use Rattle.std.proofs.lemmas.Bool.{cases_order}
 use Rattle.rp_algebra.proofs.Options.{some_not_none, same_some, known_some}
 use Rattle.rp_algebra.proofs.Tests.{false_not_true}
+use Rattle.rp_algebra.proofs.Lists.{get_some}
 use Rattle.rp_geometry.specs.Geometry.{RationalPoint, HalfSpace, with_cube}
 use Rattle.rp_geometry.specs.searches.Vertex.{meeting_point, vertices, first_vertex}
 use Rattle.rp_geometry.specs.laws.CellLaws.{AreHalfSpaces}
@@ -21,7 +22,7 @@ use Rattle.rp_clip.proofs.FirstOfSet.{one_first, greedy_is_first, before_in_set,
 use Rattle.rp_clip.proofs.Filled.{place_in}
 use Rattle.rp_clip.proofs.HalfAt.{get_below}
 use Rattle.rp_clip.proofs.Lists.{get_contains}
-use Rattle.rp_clip.proofs.Sides.{get_some, map_length, mapped_at}
+use Rattle.rp_clip.proofs.Sides.{map_length, mapped_at}
 use Rattle.rp_clip.specs.Tables.{Rows}
 
 -- ---- the order of bases

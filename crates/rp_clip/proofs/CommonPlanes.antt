@@ -12,6 +12,7 @@ use Rattle.rp_algebra.proofs.Reify.{by_ring_at, reify}
 use Rattle.rp_algebra.proofs.Numbers.{zero_between, nonneg_of_zero, above_not_zero}
 use Rattle.rp_algebra.proofs.Options.{same_some}
 use Rattle.rp_algebra.proofs.Listed.{Listed, first, later, listed_right, listed_cases, place_of}
+use Rattle.rp_algebra.proofs.Lists.{get_some}
 use Rattle.rp_geometry.specs.Geometry.{RationalPoint, HalfSpace, IsPoint, half_space_of, side_value, with_cube, cube_half_spaces, cube_bound}
 use Rattle.rp_geometry.specs.sets.Shape.{shape_of_cell}
 use Rattle.rp_geometry.specs.sets.Sets.{IsNonempty}
@@ -30,7 +31,6 @@ use Rattle.rp_clip.specs.Masks.{half_at, mask_of, IsIn}
 use Rattle.rp_clip.specs.Tables.{Rows}
 use Rattle.rp_clip.proofs.Crossed.{at_listed, listed_at}
 use Rattle.rp_clip.proofs.HalfAt.{at_cell, at_cube, get_below}
-use Rattle.rp_clip.proofs.Sides.{get_some}
 use Rattle.rp_clip.proofs.Flat.{mask_small}
 use Rattle.rp_clip.proofs.Lists.{get_contains}
 use Rattle.rp_clip.proofs.Masks.{zero_not_one, in_mask, mask_in, in_both, both_in, same_or_not}

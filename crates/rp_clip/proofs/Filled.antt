@@ -5,6 +5,7 @@ use Rattle.std.specs.List.{Contains, slice_get}
 use Rattle.std.proofs.lemmas.Bool.{cases_order}
 use Rattle.rp_algebra.proofs.Listed.{place_of}
 use Rattle.rp_algebra.proofs.Options.{same_some}
+use Rattle.rp_algebra.proofs.Lists.{get_some}
 use Rattle.rp_geometry.specs.Geometry.{RationalPoint, HalfSpace, side_value}
 use Rattle.rp_corners.proofs.Standing.{contains_listed}
 use Rattle.rp_clip.specs.Masks.{mask_of}
@@ -16,7 +17,7 @@ use Rattle.rp_clip.specs.declared.cross.Side.TheVariants.{Above}
 use Rattle.rp_clip.proofs.HalfAt.{get_below, get_index}
 use Rattle.rp_clip.proofs.Kept.{read_planes}
 use Rattle.rp_clip.proofs.Lists.{get_contains}
-use Rattle.rp_clip.proofs.Sides.{Row, row, get_some, map_length, known_side, above_side}
+use Rattle.rp_clip.proofs.Sides.{Row, row, map_length, known_side, above_side}
 
 -- a table that has grown twice has grown
 grown_on : {most : ℕ} (cell : List HalfSpace) (h : HalfSpace) (a b c : Rows) → IsGrown most cell h a b → IsGrown most cell h b c → IsGrown most cell h a c

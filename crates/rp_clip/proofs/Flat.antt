@@ -15,9 +15,9 @@ use Rattle.rp_algebra.proofs.Tests.{positive_is, is_positive_true, is_positive_f
 use Rattle.rp_geometry.specs.Geometry.{RationalPoint, HalfSpace, IsPoint, side_value, with_cube, cube_half_spaces, all_nonnegative}
 use Rattle.rp_geometry.specs.searches.Search.{first_of_triples}
 use Rattle.rp_geometry.specs.searches.Vertex.{meeting_point, vertex_at, vertex_if, first_vertex, any_point, lifts, flat_half_spaces}
-use Rattle.rp_convex.proofs.Filter.{some_passes, passes_some, kept, keeps}
+use Rattle.rp_algebra.proofs.Filter.{some_passes, passes_some, kept, keeps}
 use Rattle.rp_convex.proofs.Move.{IsWeak}
-use Rattle.rp_convex.proofs.Progress.{stays_flat}
+use Rattle.rp_convex.proofs.Progress.{stays_flat, flat_not_positive}
 use Rattle.rp_convex.proofs.Vertex.{weak_is}
 use Rattle.rp_corners.proofs.Corners.{meeting_is}
 use Rattle.rp_corners.proofs.Standing.{listed_contains, contains_listed}
@@ -163,11 +163,6 @@ on_at cell p i h few a b = let t = in_mask cell p i few b in subst (λ (g : Half
 -- a half-space that is 0 at the point stays flat
 flat_here : (p : RationalPoint) (h : HalfSpace) → side_value h p ≡ pos 0 → stays_flat p h ≡ true
 flat_here p h e = ap (λ b. not (b || false)) (is_positive_false (side_value h p) (nonpos_of_zero (side_value h p) e))
-
--- what stays flat is not positive
-flat_not_positive : (b : Bool) → not (b || false) ≡ true → b ≡ false
-flat_not_positive true e = absurd (cc)
-flat_not_positive false e = refl
 
 -- one that stays flat is 0 there
 zero_here : (cell : List HalfSpace) (p : RationalPoint) (h : HalfSpace) → IsWeak (with_cube cell) p → Listed h (with_cube cell) → stays_flat p h ≡ true → side_value h p ≡ pos 0

@@ -1,9 +1,10 @@
 -- The vertices that are not below the plane of a further half-space.
-use Rattle.std.proofs.Common.{◌≡◌, ℕ, zero, suc, ◌+◌, ◌*◌, ◌%◌, ◌^◌, ◌<◌, ◌≤◌, inl, Bool, true, false, List, [], ◌∷◌, ◌++◌, length, take, map, refl, sym, ap, ◌∙◌, subst, arith, length-append}
+use Rattle.std.proofs.Common.{◌≡◌, ℕ, ◌+◌, ◌*◌, ◌%◌, ◌^◌, ◌<◌, ◌≤◌, inl, Bool, true, false, List, [], ◌∷◌, ◌++◌, length, take, map, refl, sym, ap, ◌∙◌, subst, arith, length-append}
 use Rattle.std.specs.Prelude.{Some, option_map, slice_index_or}
 use Rattle.std.specs.List.{Contains, slice_get, filter}
 use Rattle.rp_algebra.proofs.Numbers.{above_not_zero}
 use Rattle.rp_algebra.proofs.Options.{same_some}
+use Rattle.rp_algebra.proofs.Lists.{map_get, take_all}
 use Rattle.rp_geometry.specs.Geometry.{RationalPoint, HalfSpace, side_value, reduced_point}
 use Rattle.rp_corners.proofs.Edges.{vertices_follow_edges_spec}
 use Rattle.rp_clip.specs.Masks.{mask_of}
@@ -12,7 +13,7 @@ use Rattle.rp_clip.specs.Sides.{side_of, is_not_below, is_below, with_kept, kept
 use Rattle.rp_clip.specs.Tables.{Rows, AreDifferentVertices}
 use Rattle.rp_clip.specs.declared.cross.Side.{Side}
 use Rattle.rp_clip.specs.declared.cross.Side.TheVariants.{Above, On, Below}
-use Rattle.rp_clip.proofs.Lists.{map_contains, contains_map, map_get, filter_distinct, filter_from, filter_keeps, filter_push_true, filter_push_false, map_push, take_more}
+use Rattle.rp_clip.proofs.Lists.{map_contains, contains_map, filter_distinct, filter_from, filter_keeps, filter_push_true, filter_push_false, map_push, take_more}
 use Rattle.rp_clip.proofs.Masks.{mask_stays, mask_grows, new_place}
 use Rattle.rp_clip.proofs.HalfAt.{index_get, get_below}
 use Rattle.rp_clip.proofs.Sides.{row, known_side, below_side, not_below_is, is_not_below_true, map_length}
@@ -57,19 +58,12 @@ kept_more cell h points i old new p room k at ep el = by_side (side_of h p) refl
     by_side On e a b = kept_on cell h points i old new p _ k at (ap is_not_below e) (mask_grows cell h p room (known_side h p On e)) a b
     by_side Below e a b = kept_off cell h points i old new p k at (ap is_not_below e) a b
 
--- a front as long as the list is the list
-pub take_whole : {A : Type 0} (xs : List A) (i : ℕ) → length xs ≤ i → take i xs ≡ xs
-take_whole [] zero h = refl
-take_whole [] (suc i) h = refl
-take_whole (x ∷ xs) zero h = absurd (omega (arith, h))
-take_whole (x ∷ xs) (suc i) h = ap (λ ys. x ∷ ys) (take_whole xs i (omega (arith, h)))
-
 -- all of them
 pub kept_all : {most : ℕ} (cell : List HalfSpace) (h : HalfSpace) (t kept : Rows) (sides : List Side) (i : ℕ) → HasSides most cell h t sides → IsKeptUpTo cell h t.points i kept → length sides ≤ i → i ≤ length sides
     → IsKeptTable most cell h t kept
 kept_all cell h t kept sides i s k far end =
     let e : length sides ≡ length t.points = ap length s.each ∙ map_length (side_of h) t.points in
-    let all : kept.points ≡ filter (is_kept h) t.points = k.points_are ∙ ap (filter (is_kept h)) (take_whole t.points i (omega (arith, far, e))) in
+    let all : kept.points ≡ filter (is_kept h) t.points = k.points_are ∙ ap (filter (is_kept h)) (take_all t.points i (omega (arith, far, e))) in
     let few = k.few in
     let fits = s.table.fits in
     record {
@@ -148,7 +142,7 @@ below_all cell h t sides i below s k far =
     all : below ≡ map (mask_of cell) (filter (is_under h) t.points)
     all =
         let e : length sides ≡ length t.points = ap length s.each ∙ map_length (side_of h) t.points in
-        k.each ∙ ap (λ (xs : List RationalPoint). map (mask_of cell) (filter (is_under h) xs)) (take_whole t.points i (omega (arith, far, e)))
+        k.each ∙ ap (λ (xs : List RationalPoint). map (mask_of cell) (filter (is_under h) xs)) (take_all t.points i (omega (arith, far, e)))
 
 -- ---- as the code reads them
 

@@ -1,10 +1,10 @@
 -- Lists of different items, and what a filter and a map make of one item more.
 use Rattle.std.proofs.Common.{◌≡◌, ℕ, zero, suc, ◌+◌, ◌⊎◌, inl, inr, ⊎_elim, Bool, true, false, cond, List, [], ◌∷◌, ◌++◌, length, take, map, refl, ap, ◌∙◌, subst, arith}
-use Rattle.std.specs.Prelude.{Some, option_map}
+use Rattle.std.specs.Prelude.{Some}
 use Rattle.std.specs.List.{Contains, slice_get, filter}
 use Rattle.rp_algebra.proofs.Listed.{Listed, first, later, listed_left, listed_right, listed_cases}
 use Rattle.rp_algebra.proofs.Options.{none_not_some, same_some}
-use Rattle.rp_convex.proofs.Filter.{kept, keeps}
+use Rattle.rp_algebra.proofs.Filter.{kept, keeps}
 use Rattle.rp_corners.proofs.Standing.{listed_contains, contains_listed}
 use Rattle.rp_clip.specs.Tables.{AreDistinct}
 
@@ -97,12 +97,6 @@ map_contains {A} {B} f xs x c = listed_contains (f x) (map f xs) (to_listed xs (
     to_listed [] l = elim l [ ]
     to_listed (z ∷ zs) first = first
     to_listed (z ∷ zs) (later l) = later (to_listed zs l)
-
--- what stands at a place of a map
-pub map_get : {A B : Type 0} (f : A → B) (xs : List A) (i : ℕ) → slice_get (map f xs) i ≡ option_map f (slice_get xs i)
-map_get f [] i = refl
-map_get f (x ∷ xs) zero = refl
-map_get f (x ∷ xs) (suc i) = map_get f xs i
 
 -- the items before a place and the one there
 pub take_more : {A : Type 0} (xs : List A) (i : ℕ) (x : A) → slice_get xs i ≡ Some x → take (i + 1) xs ≡ take i xs ++ x ∷ []

@@ -7,11 +7,11 @@ use Rattle.std.proofs.lemmas.Bool.{cases_order}
 use Rattle.std.proofs.lemmas.Nat.{shl_whole, one_shl}
 use Rattle.std.proofs.lemmas.Nat.Bits.{bit_at-zero, bit_at_ones, bit_at_set_same, bit_at_set_other, bit_at_cat_low, bit_at_cat_high}
 use Rattle.rp_algebra.proofs.Options.{same_some}
+use Rattle.rp_algebra.proofs.Lists.{take_all}
 use Rattle.rp_corners.proofs.Standing.{contains_listed}
 use Rattle.rp_clip.specs.Masks.{IsIn}
 use Rattle.rp_clip.specs.Polygons.{Covers, IsRenamed}
 use Rattle.rp_clip.proofs.HalfAt.{get_below}
-use Rattle.rp_clip.proofs.Kept.{take_whole}
 use Rattle.rp_clip.proofs.Lists.{push_cases, push_keeps, push_has, take_more}
 use Rattle.rp_clip.proofs.Bits.{bit_from}
 use Rattle.rp_clip.proofs.Masks.{same_or_not}
@@ -65,8 +65,8 @@ seen_next order count k seen place few e l s = record {
 -- at the end
 pub seen_all : (order : List ℕ) (count k seen : ℕ) → count ≤ 64 → length order ≤ k → seen ≡ 1 * 2 ^ count % 2 ^ 128 - 1 → IsSeen order count k seen → Covers order count
 seen_all order count k seen few far e s = record {
-  below = λ i c. s.below i (subst (λ (xs : List ℕ). Contains xs i) (sym (take_whole order k far)) c);
-  all = λ i l. subst (λ (xs : List ℕ). Contains xs i) (take_whole order k far) (s.places i (ap (λ (n : ℕ). bit_at n i) (e ∙ ones count few) ∙ bit_at_ones count i l));
+  below = λ i c. s.below i (subst (λ (xs : List ℕ). Contains xs i) (sym (take_all order k far)) c);
+  all = λ i l. subst (λ (xs : List ℕ). Contains xs i) (take_all order k far) (s.places i (ap (λ (n : ℕ). bit_at n i) (e ∙ ones count few) ∙ bit_at_ones count i l));
 }
   where
     ones : (n : ℕ) → n ≤ 64 → 1 * 2 ^ n % 2 ^ 128 - 1 ≡ 2 ^ n - 1

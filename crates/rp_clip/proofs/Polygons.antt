@@ -10,6 +10,7 @@ use Rattle.std.proofs.lemmas.Int.{ints}
 use Rattle.rp_algebra.proofs.Listed.{first, later, all_append}
 use Rattle.rp_algebra.proofs.Numbers.{above_not_zero}
 use Rattle.rp_algebra.proofs.Options.{none_not_some, same_some}
+use Rattle.rp_algebra.proofs.Lists.{get_some, take_all}
 use Rattle.rp_geometry.specs.Geometry.{RationalPoint, HalfSpace, IsHalfSpace, IsPoint, side_value, reduced_point}
 use Rattle.rp_corners.specs.Edges.{IsCrossing, IsKeptVertex}
 use Rattle.rp_corners.proofs.Edges.{vertices_follow_edges_spec, crossing_keeps_planes_spec}
@@ -23,12 +24,12 @@ use Rattle.rp_clip.specs.declared.cross.Side.TheVariants.{Above}
 use Rattle.rp_clip.proofs.Added.{added, crossed_true, crossing_found}
 use Rattle.rp_clip.proofs.Crossed.{at_listed}
 use Rattle.rp_clip.proofs.HalfAt.{at_cell}
-use Rattle.rp_clip.proofs.Kept.{read_point, take_whole}
+use Rattle.rp_clip.proofs.Kept.{read_point}
 use Rattle.rp_clip.proofs.Orders.{nothing_in}
 use Rattle.rp_clip.proofs.Lists.{filter_distinct, filter_from, filter_keeps, filter_push_true, filter_push_false, map_push, push_cases, take_more}
 use Rattle.rp_clip.proofs.Masks.{in_mask, mask_in, mask_stays, old_bit, mask_bit, one_longer}
 use Rattle.rp_clip.proofs.Moved.{vertices_to, vertices_from, bounds_to, bit_moved}
-use Rattle.rp_clip.proofs.Sides.{get_some, mapped_at, reduced_side, known_side, map_length}
+use Rattle.rp_clip.proofs.Sides.{mapped_at, reduced_side, known_side, map_length}
 
 -- ---- no half-space
 
@@ -213,7 +214,7 @@ kept_polygon cell order sorted place t to i m k s far end = (
 )
   where
     all : to.points ≡ filter (is_on_first sorted) t.points
-    all = s.points_are ∙ ap (filter (is_on_first sorted)) (take_whole t.points i far)
+    all = s.points_are ∙ ap (filter (is_on_first sorted)) (take_all t.points i far)
 
     moved : (v : RationalPoint) → bit_at (mask_of sorted v) 0 ≡ bit_at (mask_of cell v) place
     moved v = bit_moved cell order sorted m.few k.few m.sorts m.covers v 0 place m.first
@@ -247,7 +248,7 @@ sorted_next cell order rank i h sorted more e at m s = subst (λ (hs : List Half
 
 -- all
 pub sorted_all : (cell : List HalfSpace) (order : List ℕ) (rank : ℕ) (sorted : List HalfSpace) → length order ≤ rank → IsSortedTo cell order rank sorted → IsSorted cell order sorted
-sorted_all cell order rank sorted far s = subst (λ (is : List ℕ). IsSorted cell is sorted) (take_whole order rank far) s.sorts
+sorted_all cell order rank sorted far s = subst (λ (is : List ℕ). IsSorted cell is sorted) (take_all order rank far) s.sorts
 
 -- ---- the first half-space
 

@@ -4,6 +4,7 @@ use Rattle.std.specs.Int.{bit_at}
 use Rattle.std.specs.List.{Contains}
 use Rattle.std.proofs.lemmas.Bool.{cases_order}
 use Rattle.rp_algebra.proofs.Tests.{false_not_true}
+use Rattle.rp_algebra.proofs.Lists.{get_left}
 use Rattle.rp_geometry.specs.Geometry.{RationalPoint, HalfSpace, cube_half_spaces}
 use Rattle.rp_geometry.specs.searches.Vertex.{vertices}
 use Rattle.rp_corners.specs.Bases.{Places, IsBefore}
@@ -14,7 +15,6 @@ use Rattle.rp_clip.specs.Tables.{Rows}
 use Rattle.rp_clip.specs.Taken.{IsWithin, HasFirsts}
 use Rattle.rp_clip.proofs.HalfAt.{at_cell}
 use Rattle.rp_clip.proofs.Masks.{in_mask, mask_in, same_or_not}
-use Rattle.rp_clip.proofs.Ordered.{get_left}
 
 -- no vertex on a plane of before is off the set
 abbrev pub NoneBefore : List HalfSpace → ℕ → ℕ → Type 0

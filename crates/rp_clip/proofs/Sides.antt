@@ -1,5 +1,5 @@
 -- What the side of a point says, and the rows of a table with the sides of its points.
-use Rattle.std.proofs.Common.{◌≡◌, ℕ, zero, suc, ◌<◌, ℤ, pos, ◌≤ℤ◌, ◌<ℤ◌, ⊎_elim, Bool, true, false, List, [], ◌∷◌, length, map, refl, sym, ap, ◌∙◌, subst, arith}
+use Rattle.std.proofs.Common.{◌≡◌, ℕ, suc, ◌<◌, ℤ, pos, ◌≤ℤ◌, ◌<ℤ◌, ⊎_elim, Bool, true, false, List, [], ◌∷◌, length, map, refl, sym, ap, ◌∙◌, subst, arith}
 use Rattle.std.specs.Prelude.{Some, option_map, slice_index_or}
 use Rattle.std.specs.List.{slice_get}
 use Rattle.std.proofs.lemmas.Int.{ints}
@@ -7,6 +7,7 @@ use Rattle.rp_algebra.specs.Integer.{is_zero, is_positive}
 use Rattle.rp_algebra.proofs.IntLaws.{le_or_lt_ℤ}
 use Rattle.rp_algebra.proofs.Tests.{positive_is, not_positive_is, zero_is, is_positive_true, is_positive_false, is_zero_true, is_zero_false, false_not_true}
 use Rattle.rp_algebra.proofs.Numbers.{below_not_zero, nonpos_of_neg, nonpos_of_zero}
+use Rattle.rp_algebra.proofs.Lists.{map_get, get_some}
 use Rattle.rp_geometry.specs.Geometry.{RationalPoint, HalfSpace, IsPoint, side_value, reduced_point}
 use Rattle.rp_convex.proofs.Reduced.{same_sign_reduced}
 use Rattle.rp_clip.specs.Masks.{mask_of}
@@ -15,7 +16,6 @@ use Rattle.rp_clip.specs.Sides.{side_by, side_of, is_not_below}
 use Rattle.rp_clip.specs.declared.cross.Side.{Side}
 use Rattle.rp_clip.specs.declared.cross.Side.TheVariants.{Above, On, Below}
 use Rattle.rp_clip.proofs.HalfAt.{get_index}
-use Rattle.rp_clip.proofs.Lists.{map_get}
 use Rattle.rp_clip.specs.Tables.{Rows}
 
 -- what a side says of the value
@@ -84,12 +84,6 @@ pub is_not_below_true : (h : HalfSpace) (p : RationalPoint) → pos 0 ≤ℤ sid
 is_not_below_true h p l = by_value (side_of h p) (side_value h p) (side_says h p) l
 
 -- ---- the rows of a table
-
--- an item at a place below the length
-pub get_some : {A : Type 0} (xs : List A) (i : ℕ) → i < length xs → (x : A) × (slice_get xs i ≡ Some x)
-get_some [] i h = absurd (omega (arith, h))
-get_some (x ∷ xs) zero h = (x, refl)
-get_some (x ∷ xs) (suc i) h = get_some xs i (omega (arith, h))
 
 -- a map is as long
 pub map_length : {A B : Type 0} (f : A → B) (xs : List A) → length (map f xs) ≡ length xs

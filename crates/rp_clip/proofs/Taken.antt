@@ -9,6 +9,7 @@ use Rattle.std.proofs.lemmas.List.{append-nil, append_assoc}
 use Rattle.std.proofs.lemmas.Nat.{and_comm, and_le_l, and_mask}
 use Rattle.rp_algebra.proofs.Options.{same_some}
 use Rattle.rp_algebra.proofs.Tests.{false_not_true}
+use Rattle.rp_algebra.proofs.Lists.{map_get}
 use Rattle.rp_geometry.specs.Geometry.{RationalPoint, HalfSpace, with_cube}
 use Rattle.rp_geometry.specs.searches.Vertex.{first_vertex, any_point, lifts, flat_half_spaces, complete_points, points_from, first_inside, first_weak_point}
 use Rattle.rp_convex.proofs.Progress.{room_for_next}
@@ -21,7 +22,6 @@ use Rattle.rp_clip.proofs.Masks.{in_both}
 use Rattle.rp_clip.proofs.Off.{off_false}
 use Rattle.rp_clip.proofs.Flat.{AreSame, mask_small, off_place, place_off, lifts_off, tests_agree, first_off_whole, same_first, same_next, same_empty, same_some_flat, smaller}
 use Rattle.rp_clip.proofs.HalfAt.{get_below}
-use Rattle.rp_clip.proofs.Lists.{map_get}
 use Rattle.rp_convex.proofs.Rounds.{IsFar, far_first, far_next}
 use Rattle.rp_clip.proofs.Sides.{map_length}
 use Rattle.rp_clip.specs.Tables.{Rows}

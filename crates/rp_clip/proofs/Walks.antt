@@ -1,7 +1,8 @@
 -- Walks over the places of a set, from one to the next.
-use Rattle.std.proofs.Common.{◌≡◌, ℕ, ◌+◌, ◌-◌, ◌<◌, ◌≤◌, subst, arith, Fits, w32}
+use Rattle.std.proofs.Common.{◌≡◌, ℕ, ◌+◌, ◌-◌, ◌<◌, ◌≤◌, arith, Fits, w32}
 use Rattle.std.specs.Prelude.{Option, Some, None, IfSome, IfNone}
 use Rattle.std.specs.Int.{bit_at}
+use Rattle.rp_algebra.proofs.Options.{of_some}
 use Rattle.rp_clip.specs.Masks.{IsIn, IsLowestFrom, HasNoneFrom}
 
 -- the walk is past a place
@@ -41,10 +42,6 @@ fewer_left set n (Some m) l k = let a = k.some.from_on in let b = k.some.below i
 -- the place after one below 70 fits
 pub after_fits : (n : ℕ) → n < 70 → Fits w32 (n + 1)
 after_fits n h = record { fits = omega (arith, h) }
-
--- what is known of the value of an answer that is some
-of_some : {A : Type 0} (P : A → Type 0) (o : Option A) (x : A) → o ≡ Some x → IfSome o P → P x
-of_some P o x e h = subst (λ (r : Option _). IfSome r P) e h
 
 -- the place that is tried is behind the first, and in the set
 pub tried : (set first n : ℕ) (o : Option ℕ) → o ≡ Some n → IfSome o (λ m. (first < m) × IsIn set m) → (first < n) × IsIn set n

@@ -1,5 +1,4 @@
 pub mod Appended
-pub mod Coordinates
 pub mod Sizes
 pub mod Nearest
 pub mod Painting

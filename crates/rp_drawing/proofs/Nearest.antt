@@ -1,7 +1,7 @@
 -- Quotients rounded to the nearest whole number, and how large they are.
 use Rattle.std.proofs.Common.{◌≡◌, ℕ, ◌+◌, ◌*◌, ◌^◌, ◌≤◌, ◌<◌, ℤ, pos, neg_ℤ, ◌+ℤ◌, ◌-ℤ◌, ◌*ℤ◌, ◌≤ℤ◌, ◌<ℤ◌, unsigned_abs, T, true, [], ◌∷◌, subst, sym, ◌∙◌, arith, FitsSigned, to_z, of_z}
 use Rattle.std.specs.Int.{int_div_euclid}
-use Rattle.std.proofs.lemmas.Int.{ints, to_z-of_z}
+use Rattle.std.proofs.lemmas.Int.{ints}
 use mir.Syntax.{w32, w64, w128}
 use Rattle.rp_algebra.specs.Within.{IsWithin}
 use Rattle.rp_algebra.proofs.IntLaws.{linear, mul_comm_ℤ, lt_of_mul_lt_left_ℤ, nonneg_of_pos_ℤ, nat_nonneg_ℤ, abs_mul_le, abs_add_le, neg_mul_ℤ, mul_one_ℤ, mul_le_mul_left_ℤ, mul_pos_ℤ}
@@ -9,8 +9,9 @@ use Rattle.rp_algebra.proofs.Machine.{Code, value, fits, is_by, code}
 use Rattle.rp_algebra.proofs.Reify.{by_ring_at, reify}
 use Rattle.rp_algebra.proofs.Rounding.{floor_below, floor_next}
 use Rattle.rp_geometry.specs.Geometry.{cube_bound, is_in_closed_range}
+use Rattle.rp_geometry.proofs.Rounded.{closed_range_is}
+use Rattle.rp_cert.proofs.Traced.{short_is}
 use Rattle.rp_drawing.specs.Rounding.{IsNearest, nearest_to}
-use Rattle.rp_drawing.proofs.Coordinates.{closed_range_is}
 
 -- the quotient that the code has is rounded to the nearest
 pub nearest_is : (r n d : ℤ) → IsWithin (2 ^ 125) n → IsWithin (2 ^ 125) d
@@ -78,17 +79,9 @@ coordinate_size v w h e = let k = closed_range_is v w e in sized v w h k.low k.h
     sized : (v w : ℤ) → pos 0 <ℤ w → (neg_ℤ cube_bound *ℤ w) ≤ℤ v → v ≤ℤ (cube_bound *ℤ w) → unsigned_abs v ≤ 16777216 * unsigned_abs w
     sized v w h l k = omega (arith, ints, l, k)
 
--- a number of 32 bits is read as it is
-pub short_is : (v : ℤ) → FitsSigned w32 v → to_z w32 (of_z w32 v) ≡ v
-short_is v h = to_z-of_z w32 v h
-
 -- a number of 32 bits is at most 2 ^ 31 in size
 pub short_size : (v : ℤ) → FitsSigned w32 v → unsigned_abs v ≤ 2 ^ 31
 short_size v h = omega (arith, ints, h)
-
--- and so it is as it is read
-pub short_within : (v : ℤ) → FitsSigned w32 v → IsWithin (2 ^ 31) (to_z w32 (of_z w32 v))
-short_within v h = record { abs_le = rw (short_is v h) (short_size v h) }
 
 -- what is known of a coordinate v / w and of the square in which it is placed
 pub record IsPlaced (v w low span : ℤ) : Type 0 where

@@ -1,7 +1,8 @@
 -- Sections that are painted one behind the other.
-use Rattle.std.proofs.Common.{◌≡◌, ℕ, ◌<◌, Bool, ◌&&◌, true, false, List, [], ◌∷◌, ◌++◌, get_or, Option, Some, None, IfNone, IfSome, length, refl, sym, ◌∙◌, subst, append_assoc, arith, true≢false}
+use Rattle.std.proofs.Common.{◌≡◌, ℕ, ◌<◌, Bool, ◌&&◌, true, false, List, [], ◌∷◌, ◌++◌, get_or, Option, Some, None, IfNone, IfSome, length, sym, ◌∙◌, subst, append_assoc, arith, true≢false}
 use Rattle.std.proofs.lemmas.List.{append-nil}
 use Rattle.std.proofs.lemmas.List.Folds.{list_any_at}
+use Rattle.rp_algebra.proofs.Tests.{false_unless}
 use Rattle.rp_space.specs.declared.bounds.IntBox.{IntBox}
 use Rattle.rp_drawing.specs.Fills.{AreApart, ArePaintedBehind, IsFirstFree, has_fill, is_taken, touch}
 use Rattle.rp_drawing.specs.declared.fill.Painted.{Painted}
@@ -27,13 +28,8 @@ taken_by painted bounds fill k d l e t = list_any_at (λ p. has_fill fill p.fill
     both : {a b : Bool} → a ≡ true → b ≡ true → (a && b) ≡ true
     both h k = rw h k
 
--- a test that isn't true is false
-else_false : (b : Bool) → (b ≡ true → ⊥) → b ≡ false
-else_false true h = absurd (h refl)
-else_false false h = refl
-
 -- a section with the first free fill is apart from those before it
 pub apart_from : (painted : List Painted) (p : Painted) → IsFirstFree painted p.bounds p.fill → (k : ℕ) (d : Painted) → k < length painted → AreApart (get_or painted k d) p
 apart_from painted p free k d l fill e f =
     let own : IsFirstFree painted p.bounds (Some fill) = subst (IsFirstFree painted p.bounds) f free in
-    else_false (touch (get_or painted k d).bounds p.bounds) (λ t. true≢false (sym (taken_by painted p.bounds fill k d l e t) ∙ own.1))
+    false_unless (touch (get_or painted k d).bounds p.bounds) (λ t. true≢false (sym (taken_by painted p.bounds fill k d l e t) ∙ own.1))

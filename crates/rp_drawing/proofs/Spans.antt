@@ -4,7 +4,8 @@ use Rattle.std.specs.Int.{int_min, int_max}
 use Rattle.std.proofs.lemmas.Int.{to_z-of_z}
 use mir.Syntax.{w32, w64}
 use Rattle.rp_algebra.proofs.Machine.{code, is_by}
-use Rattle.rp_drawing.proofs.Nearest.{short_is, short_size}
+use Rattle.rp_cert.proofs.Traced.{short_is}
+use Rattle.rp_drawing.proofs.Nearest.{short_size}
 
 -- the difference of two numbers of 32 bits
 difference_is : (a b : ℤ) → FitsSigned w32 a → FitsSigned w32 b → to_z w64 (of_z w64 (to_z w64 (of_z w64 (to_z w32 (of_z w32 a))) -ℤ to_z w64 (of_z w64 (to_z w32 (of_z w32 b))))) ≡ a -ℤ b

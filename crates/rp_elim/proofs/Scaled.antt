@@ -8,9 +8,8 @@ use Rattle.rp_algebra.specs.Integer.{is_zero, is_positive, is_negative, gcd_of}
 use Rattle.rp_algebra.proofs.IntLaws.{mul_le_mul_left_ℤ, mul_lt_mul_left_ℤ, le_of_mul_le_left_ℤ, lt_of_mul_lt_left_ℤ, cancel_mul_left_ℤ, nat_nonneg_ℤ}
 use Rattle.rp_algebra.proofs.Divisors.{DividesAll, gcd_of-divides, gcd_of-positive_head}
 use Rattle.rp_algebra.proofs.Numbers.{above_not_zero}
-use Rattle.rp_algebra.proofs.Tests.{is_positive_true, zero_is, is_zero_true, at_most_is, at_most_true, negative_is, is_negative_true}
+use Rattle.rp_algebra.proofs.Tests.{is_positive_true, zero_is, is_zero_true, at_most_is, at_most_true, negative_is, is_negative_true, same_test}
 use Rattle.rp_algebra.proofs.Listed.{list_all_true, list_all_is}
-use Rattle.rp_geometry.proofs.InLowestTerms.{same_test}
 use Rattle.rp_geometry.specs.Geometry.{HalfSpace}
 use Rattle.rp_geometry.specs.searches.Certificate.{Multiple, weighted_sum, is_balanced, is_contradiction, is_multiplier}
 use Rattle.rp_geometry.specs.searches.Elimination.{factors_of, reduced_terms, is_refutation, terms_if}

@@ -5,17 +5,15 @@ use Rattle.rp_algebra.specs.Integer.{is_positive, is_negative, gcd_of, reduced_b
 use Rattle.rp_algebra.proofs.IntLaws.{linear, le_or_lt_ℤ, mul_nonneg_ℤ, nat_nonneg_ℤ, nonneg_of_pos_ℤ}
 use Rattle.rp_algebra.proofs.Divisors.{DividesAll, gcd_of-divides}
 use Rattle.rp_algebra.proofs.LowestTerms.{exact_quotient, quotient_of_zero}
-use Rattle.rp_algebra.proofs.Numbers.{opposite_within}
 use Rattle.rp_algebra.proofs.Tests.{and_first, and_second, and_true, false_unless, false_not_true, positive_is, is_positive_true}
 use Rattle.rp_geometry.specs.searches.Certificate.{Multiple, is_balanced, is_contradiction, is_multiplier}
 use Rattle.rp_geometry.specs.searches.Elimination.{factors_of, reduced_terms, negated_terms, normal_terms, is_refutation, terms_if}
-use Rattle.rp_alternative.proofs.Combination.{greatest_minor}
 use Rattle.rp_alternative.proofs.Tests.{multiplier-from, multiplier-to}
-use Rattle.rp_alternative.proofs.Lowest.{divided}
+use Rattle.rp_alternative.proofs.Lowest.{divided, negated_small}
 use Rattle.rp_elim.specs.Factors.{AreFactorsSmall}
 
 -- a number whose negative is a multiplier is below 0
-below : (v : ℤ) → is_multiplier (neg_ℤ v) ≡ true → v <ℤ pos 0
+pub below : (v : ℤ) → is_multiplier (neg_ℤ v) ≡ true → v <ℤ pos 0
 below v e = let h = multiplier-to (neg_ℤ v) e in omega (arith, linear, h)
 
 -- negated terms have multipliers where the negatives are multipliers
@@ -65,11 +63,6 @@ small_multipliers (t ∷ ts) s e =
     and_true (is_multiplier t.factor) (list_all (λ (u : Multiple). is_multiplier u.factor) ts)
     (multiplier-from t.factor (positive_is t.factor (and_first (is_positive t.factor) rest e)) s.0)
     (small_multipliers ts s.1 (and_second (is_positive t.factor) rest e))
-
--- negated terms are as small
-pub negated_small : (ts : List Multiple) → AreFactorsSmall ts → AreFactorsSmall (negated_terms ts)
-negated_small [] s = tt
-negated_small (t ∷ ts) s = (opposite_within greatest_minor t.factor s.0, negated_small ts s.1)
 
 -- ---- terms of no one sign
 -- terms that are neither all positive nor all negative do not refute

@@ -1,7 +1,6 @@
 pub mod Cut
 pub mod Due
 pub mod Followed
-pub mod Members
 pub mod Places
 pub mod Prisms
 pub mod Searched

@@ -1,5 +1,5 @@
 -- The form of a prism, edge by edge.
-use Rattle.std.proofs.Common.{◌≡◌, ℕ, suc, ◌+◌, ◌<◌, ◌≤◌, Bool, true, false, List, ◌++◌, length, drop, refl, sym, ap, ◌∙◌, subst, add-one, arith}
+use Rattle.std.proofs.Common.{◌≡◌, ℕ, suc, ◌+◌, ◌<◌, ◌≤◌, Bool, true, false, List, ◌++◌, length, drop, refl, sym, ap, ◌∙◌, subst, add-one}
 use Rattle.std.specs.Prelude.{Option, Some}
 use Rattle.std.proofs.Math.Seq.{drop-cons}
 use Rattle.std.proofs.lemmas.List.{drop_all}
@@ -11,10 +11,7 @@ use Rattle.rp_walks.specs.Walk.{done, Walk, ◌>>=◌}
 use Rattle.rp_walks.specs.FormLaws.{IfDone}
 use Rattle.rp_walks.specs.Form.{if_at_most, subtract, exchange, exchange_edge, exchange_edges, prism_form, exchange_lists, exchange_cell}
 use Rattle.rp_reports.specs.Check.{Trail, follow_part, line_tester}
-use Rattle.rp_space.specs.Corners.{polygon_corners}
-use Rattle.rp_space.specs.declared.corner.Corner.{Corner as Written}
 use Rattle.rp_footprint.specs.Cells.{no_corner, edge_at, trapezoid_by, trapezoid_at}
-use Rattle.rp_footprint.proofs.Cells.{edges_as_many}
 use Rattle.rp_forms.proofs.Prisms.{prism_is_right_spec}
 use Rattle.rp_verdicts.proofs.Lines.{line_tester_is_right_spec}
 use Rattle.rp_tests.specs.declared.stopped.Stopped.{Stopped}
@@ -58,14 +55,6 @@ cell_stops current o cell t u i e m =
 edge_as_cell : (s : Prism) (u : Bool) (current : List Part) (e : Edge) → exchange_edge line_tester s u current e ≡ exchange_cell line_tester current (trapezoid_by s u e)
 edge_as_cell s true current e = refl
 edge_as_cell s false current e = refl
-
--- there are as many edges as corners
-pub edge_there : (cs : List Written) (k : ℕ) → k < length cs → k < length (edges_of (polygon_corners cs))
-edge_there cs k h = omega (arith, edges_as_many cs)
-
--- and no more
-pub no_edge_there : (cs : List Written) (k : ℕ) → length cs ≤ k → length (edges_of (polygon_corners cs)) ≤ k
-no_edge_there cs k h = omega (arith, edges_as_many cs)
 
 -- the edge with a number and those behind it are left: its cell first
 edge_next : (s : Prism) (current : List Part) (k : ℕ) (cell : Option (List HalfSpace)) → k < length (edges_of s.corners) → cell ≡ trapezoid_at s k

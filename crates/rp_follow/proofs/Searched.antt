@@ -1,11 +1,12 @@
 -- What is left of a search over a list, item by item, up to the first that is found.
 use Rattle.std.proofs.Common.{◌≡◌, ℕ, ◌+◌, ◌<◌, ◌≤◌, Bool, true, false, List, [], ◌∷◌, length, get_or, drop, refl, ap, ◌∙◌}
 use Rattle.std.proofs.Math.ListN.{drop_of_length-le}
+use Rattle.rp_algebra.proofs.Lists.{drop_item}
 use Rattle.rp_walks.specs.Walk.{done, Walk, pass, ◌>>=◌}
 use Rattle.rp_reports.specs.Check.{Trail}
 use Rattle.rp_tests.specs.declared.stopped.Stopped.{Stopped}
 use Rattle.rp_tests.specs.Comes.{StopsBy}
-use Rattle.rp_tests.proofs.Left.{IsLeft, left_as, next_left, stop_left, end_left, drop_item}
+use Rattle.rp_tests.proofs.Left.{IsLeft, left_as, next_left, stop_left, end_left}
 
 -- what comes behind one item: the end, where it was found, and else the rest
 abbrev pub unless_found : Walk Trail Bool → Bool → Walk Trail Bool

@@ -2,25 +2,25 @@
 use Rattle.std.proofs.Common.{◌≡◌, ℕ, ℤ, ◌+◌, ◌<◌, ◌≤◌, Bool, true, false, List, [], ◌∷◌, ◌++◌, map, length, drop, get_or, Option, Some, None, refl, sym, ap, ◌∙◌, arith}
 use Rattle.std.proofs.lemmas.List.{append_assoc, append-nil, drop_all, map-append}
 use Rattle.rp_algebra.proofs.Options.{none_not_some}
+use Rattle.rp_algebra.proofs.Lists.{drop_item}
 use Rattle.rp_geometry.specs.sets.Shape.{Part}
 use Rattle.rp_geometry.specs.sections.Trace.{IsHeight}
 use Rattle.rp_geometry.specs.sections.Slice.{Slice, is_slice, slice_of}
 use Rattle.rp_geometry.specs.parts.Parts.{IsCheckedPart}
-use Rattle.rp_language.specs.Name.{label_eq}
-use Rattle.rp_walks.specs.Walk.{done, stopped, line_wrong, after_first, Walk}
+use Rattle.rp_walks.specs.Walk.{done, stopped, line_wrong, Walk}
 use Rattle.rp_model.specs.commands.Verdict.{Verdict}
 use Rattle.rp_reports.specs.Text.{verdict_text}
 use Rattle.rp_reports.specs.Check.{Trail, taken, taken_if, follow_line, follow_lines, next_slice, slice_told, slices_told}
 use Rattle.rp_slice.proofs.RingFound.{slice_is_found_spec}
 use Rattle.rp_slice.proofs.Sizes.{ring_is_kept_spec, ring_is_short_spec}
-use Rattle.rp_accepted.proofs.Shown.{slice_line, follow_each}
+use Rattle.rp_accepted.proofs.Shown.{slice_line, follow_each, line_then}
 use Rattle.rp_accepted.proofs.SlicesAgain.{is_passing, wanted_where_passing}
 use Rattle.rp_cert.specs.Section.{slice_shown}
 use Rattle.rp_cert.specs.declared.slice.Slice.{Slice as CodeSlice}
 use Rattle.rp_tests.specs.declared.stopped.Stopped.{Stopped}
 use Rattle.rp_tests.specs.Comes.{StopsBy}
 use Rattle.rp_follow.specs.Slices.{follow_slice_line, follow_slice_lines}
-use Rattle.rp_tests.proofs.Left.{IsLeft, left_as, next_left, stop_left, end_left, drop_item}
+use Rattle.rp_tests.proofs.Left.{IsLeft, left_as, next_left, stop_left, end_left}
 
 -- ---- one line
 
@@ -59,15 +59,6 @@ slice_is_left [] s e = absurd (none_not_some s (sym e))
 slice_is_left (line ∷ lines) s e = omega arith
 
 -- ---- the lines in order
-
--- a line and then two walks that come to the same
-line_then : (want : List ℕ) (first second : Walk Trail (Unit {0})) (t : Trail) → first (taken t) ≡ second (taken t) → (lines : List (List ℕ)) → after_first (λ _. first) (follow_line want lines t) ≡ after_first (λ _. second) (follow_line want lines t)
-line_then want first second t e [] = refl
-line_then want first second t e (line ∷ lines) = by_test (label_eq want line)
-  where
-    by_test : (b : Bool) → after_first (λ _. first) (taken_if {A = Unit {0}} b tt t) ≡ after_first (λ _. second) (taken_if {A = Unit {0}} b tt t)
-    by_test true = e
-    by_test false = refl
 
 -- the lines of the slices that are told are wanted one by one
 pub told_one_by_one : (z : ℤ) (ps : List Part) (t : Trail) → follow_slice_lines z ps t ≡ follow_each z ps t

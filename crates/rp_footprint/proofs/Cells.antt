@@ -100,3 +100,11 @@ no_written = record { x = pos 0; y = pos 0 }
 -- the edge that was read, for any corner where there is none
 pub edge_as_read : (cs : List Written) (k : ℕ) (d e : Written) (end : Corner) → k < length cs → edge_at (polygon_corners cs) k ≡ edge_of (polygon_corner (slice_index_or cs k d)) end → edge_at (polygon_corners cs) k ≡ edge_of (polygon_corner (slice_index_or cs k e)) end
 edge_as_read cs k d e end h a = a ∙ ap (λ v. edge_of (polygon_corner v) end) (get_or_default cs k d e h)
+
+-- there are as many edges as corners
+pub edge_there : (cs : List Written) (k : ℕ) → k < length cs → k < length (edges_of (polygon_corners cs))
+edge_there cs k h = omega (arith, edges_as_many cs)
+
+-- and no more
+pub no_edge_there : (cs : List Written) (k : ℕ) → length cs ≤ k → length (edges_of (polygon_corners cs)) ≤ k
+no_edge_there cs k h = omega (arith, edges_as_many cs)

@@ -1,7 +1,6 @@
 pub mod Found
 pub mod Ended
 pub mod Placed
-pub mod Stepped
 pub mod Appended
 pub mod KeptWell
 pub mod Marked

@@ -10,6 +10,7 @@ use Rattle.rp_model.specs.states.State.{Lot, Traced, trace, lineage, lot_with_id
 use Rattle.rp_model.specs.states.Sound.{are_distinct, OriginsStandBefore}
 use Rattle.rp_algebra.proofs.Listed.{all_map}
 use Rattle.rp_algebra.proofs.Tests.{false_unless}
+use Rattle.rp_algebra.proofs.Lists.{get_some}
 use Rattle.rp_states.proofs.Picked.{pick}
 use Rattle.rp_states.proofs.Lineage.{not_in_both}
 use Rattle.rp_states.proofs.Labels.{label_is, label_turned, label_same}
@@ -53,15 +54,9 @@ mark_at_place {S = S} x (h ∷ lots) (b ∷ marks) d (suc k) l at e = ap₂ ◌�
             let alone = first_alone h lots d in
             absurd (cc)
 
--- a place has an item
-item_at : {A : Type 0} (xs : List A) (j : ℕ) → j < length xs → (x : A) × (slice_get xs j ≡ Some x)
-item_at [] j f = absurd (omega arith)
-item_at (x ∷ xs) zero f = (x, refl)
-item_at (x ∷ xs) (suc j) f = item_at xs j (omega arith)
-
 -- the mark of the lot that is found
 pub mark_found : {S : Type 0} (x : Label) (lots : List (Lot S)) (marks : List Bool) → IsTrue (are_distinct (ids_of lots)) → (k : ℕ) → k < length lots → slice_get lots k ≡ lot_with_id x lots → slice_set marks k true ≡ marked_at x lots marks
-mark_found x lots marks d k h same = let l = item_at lots k h in mark_at_place x lots marks d k l.0 l.1 (found_has_id x lots l.0 (sym same ∙ l.1))
+mark_found x lots marks d k h same = let l = get_some lots k h in mark_at_place x lots marks d k l.0 l.1 (found_has_id x lots l.0 (sym same ∙ l.1))
 
 -- ---- marks of lots that are wanted
 
@@ -212,7 +207,7 @@ trace_at {S = S} x lots marks k l d o h at traced =
 pub trace_down : {S : Type 0} (x : Label) (lots : List (Lot S)) (marks : List Bool) (p : ℕ) → IsTrue (are_distinct (ids_of lots)) → OriginsStandBefore [] lots → 0 < p → p ≤ length lots →
     AreTraced x (take p lots) (drop p lots) marks → AreTraced x (take (p - 1) lots) (drop (p - 1) lots) (marked_origins lots (p - 1) marks)
 trace_down {S = S} x lots marks p d o some within traced =
-    let l = item_at lots (p - 1) (omega arith) in
+    let l = get_some lots (p - 1) (omega arith) in
     let next : p ≡ p - 1 + 1 = omega arith in
     trace_at x lots marks (p - 1) l.0 d o (omega arith) l.1 (subst (λ (n : ℕ). AreTraced x (take n lots) (drop n lots) marks) next traced)
 

@@ -3,6 +3,7 @@ use Rattle.std.proofs.Common.{◌≡◌, ℕ, ◌+◌, ◌*◌, ◌≤◌, Bool,
 use Rattle.std.specs.Prelude.{IfSome, filter_map}
 use Rattle.std.specs.List.{slice_get, cons_option}
 use Rattle.std.proofs.lemmas.List.{length-append, length-map}
+use Rattle.rp_algebra.proofs.Filter.{not_longer}
 use Rattle.rp_geometry.specs.parts.Levels.{levels_along, chain_along}
 use Rattle.rp_language.specs.Name.{Label, label_eq, is_among}
 use Rattle.rp_walks.specs.Walk.{Outcome, Walk, Work, pass, first_tester, ◌>>=◌, ◌>>◌}
@@ -19,7 +20,6 @@ use Rattle.rp_space.specs.Listed.{Listed}
 use Rattle.rp_parcels.specs.declared.access.Access.{Access}
 use Rattle.rp_parcels.specs.Access.{access_reply, told_chain, told_levels}
 use Rattle.rp_machine.proofs.Changes.{layer_of_live}
-use Rattle.rp_machine.proofs.LotLemmas.{some_few}
 
 -- ---- in each state
 
@@ -79,8 +79,8 @@ lines_few lots x z w =
   where
     near_few : length (ids_of (layer_lots (lots_in [] lots) x)) ≤ length lots
     near_few =
-        let live : length (live_lots lots) ≤ length lots = some_few is_live lots in
-        let layer : length (layer_lots (lots_in [] lots) x) ≤ length (live_lots lots) = some_few (λ (l : Lot (Unit {0})). label_eq l.layer (layer_with_id (lots_in [] lots) x)) (live_lots lots) in
+        let live : length (live_lots lots) ≤ length lots = not_longer is_live lots in
+        let layer : length (layer_lots (lots_in [] lots) x) ≤ length (live_lots lots) = not_longer (λ (l : Lot (Unit {0})). label_eq l.layer (layer_with_id (lots_in [] lots) x)) (live_lots lots) in
         let ids : length (ids_of (layer_lots (lots_in [] lots) x)) ≡ length (layer_lots (lots_in [] lots) x) = length-map (layer_lots (lots_in [] lots) x) (λ (l : Lot (Unit {0})). l.id) in
         omega arith
 

@@ -1,8 +1,7 @@
 -- Questions that were carried out, and how many neighbours a lot has.
 use Rattle.std.proofs.Common.{◌≡◌, ℕ, ◌+◌, ◌≤◌, Bool, true, false, not, List, [], ◌∷◌, ◌++◌, suc, map, length, Result, Ok, Err, refl, sym, subst, arith}
-use Rattle.std.specs.Prelude.{filter}
 use Rattle.std.proofs.lemmas.List.{length-append, length-map}
-use Rattle.std.proofs.lemmas.List.Filters.{length-filter_both}
+use Rattle.rp_algebra.proofs.Filter.{not_longer}
 use Rattle.rp_geometry.specs.sets.Shape.{Part}
 use Rattle.rp_language.specs.Name.{Label, label_eq}
 use Rattle.rp_language.specs.Expression.{Command}
@@ -58,10 +57,6 @@ question_fails r f e old w o p is cause ends same =
 
 -- ---- neighbours are no more than the lots
 
--- some of a list are no more than all
-pub some_few : {A : Type 0} (p : A → Bool) (xs : List A) → length (filter p xs) ≤ length xs
-some_few {A} p xs = let e = length-filter_both p (λ (x : A). not (p x)) (λ x. refl) xs in omega arith
-
 -- one lot adds one id at most
 touched_one : (found : List Label) (ps : List Part) (l : Lot (Unit {0})) (w : Work) → IfDone (touched_lot first_tester found ps l w) (λ ids. length ids ≤ length found + 1)
 touched_one found ps l w = if_then (λ (ids : List Label). length ids ≤ length found + 1) _ (touch_nearby first_tester ps l.parts w) (λ touches v. by touches)
@@ -95,9 +90,9 @@ lines_few lots x w =
   where
     near_few : length (near_lots (lots_in [] lots) x) ≤ length lots
     near_few =
-        let live : length (live_lots lots) ≤ length lots = some_few is_live lots in
-        let layer : length (lots_of_layer (layer_with_id (lots_in [] lots) x) (live_lots lots)) ≤ length (live_lots lots) = some_few (λ (l : Lot (Unit {0})). label_eq l.layer (layer_with_id (lots_in [] lots) x)) (live_lots lots) in
-        let others : length (near_lots (lots_in [] lots) x) ≤ length (lots_of_layer (layer_with_id (lots_in [] lots) x) (live_lots lots)) = some_few (λ (l : Lot (Unit {0})). not (label_eq x l.id)) (lots_of_layer (layer_with_id (lots_in [] lots) x) (live_lots lots)) in
+        let live : length (live_lots lots) ≤ length lots = not_longer is_live lots in
+        let layer : length (lots_of_layer (layer_with_id (lots_in [] lots) x) (live_lots lots)) ≤ length (live_lots lots) = not_longer (λ (l : Lot (Unit {0})). label_eq l.layer (layer_with_id (lots_in [] lots) x)) (live_lots lots) in
+        let others : length (near_lots (lots_in [] lots) x) ≤ length (lots_of_layer (layer_with_id (lots_in [] lots) x) (live_lots lots)) = not_longer (λ (l : Lot (Unit {0})). not (label_eq x l.id)) (lots_of_layer (layer_with_id (lots_in [] lots) x) (live_lots lots)) in
         omega arith
 
 -- so the ids are no more than the lots

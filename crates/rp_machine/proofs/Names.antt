@@ -8,6 +8,7 @@ use Rattle.std.proofs.lemmas.List.{map-append, length_push, length-map}
 use Rattle.std.proofs.lemmas.List.Sums.{sum_by_push}
 use Rattle.indexmap.specs.IndexMap.{insert_entry}
 use Rattle.rp_algebra.proofs.Listed.{all_append, all_map}
+use Rattle.rp_algebra.proofs.Lists.{all_filter}
 use Rattle.rp_geometry.specs.sets.Shape.{Shape, Part, shape_of_parts}
 use Rattle.rp_geometry.specs.parts.Parts.{IsPart, IsRegion, AreOf}
 use Rattle.rp_language.specs.Name.{Label, label_eq, is_among}
@@ -16,8 +17,8 @@ use Rattle.rp_model.specs.states.State.{Kept, Lot, PlainState, kept_of_parts, lo
 use Rattle.rp_model.specs.states.Sound.{are_distinct, IsSound}
 use Rattle.rp_model.specs.commands.Row.{shapes_of_parts}
 use Rattle.rp_states.proofs.Labels.{distinct_together}
-use Rattle.rp_states.proofs.Listing.{all_kept, all_mapped, all_unmapped}
-use Rattle.rp_states.proofs.Plain.{images_twice, image_sums}
+use Rattle.rp_states.proofs.Listing.{all_mapped, all_unmapped}
+use Rattle.rp_states.proofs.Plain.{images_twice, image_sums, there_is_kept}
 use Rattle.rp_parcels.specs.Kept.{AreSound}
 use Rattle.rp_machine.specs.Named.{kept_under, kept_entry, state_with, AreKeptWell, AreCounted, IsNewName}
 
@@ -29,15 +30,6 @@ found_is_kept x [] = refl
 found_is_kept x (e ∷ es) = by (label_eq x e.0) (found_is_kept x es)
   where
     by : (b : Bool) → lookup (label_eq x) es ≡ parts_of_kept (kept_named x (map kept_entry es)) → cond b (Some e.1) (lookup (label_eq x) es) ≡ parts_of_kept (elim b as (λ _. Option (Kept (Unit {0}))) [ true ↦ Some (kept_entry e) | false ↦ kept_named x (map kept_entry es) ])
-    by true later = refl
-    by false later = later
-
--- something is kept under the names that are there, and under no other
-pub there_is_kept : (x : Label) (ks : List (Kept (Unit {0}))) → is_some (parts_of_kept (kept_named x ks)) ≡ is_among x (names_of ks)
-there_is_kept x [] = refl
-there_is_kept x (k ∷ ks) = by (label_eq x k.name) (there_is_kept x ks)
-  where
-    by : (b : Bool) → is_some (parts_of_kept (kept_named x ks)) ≡ is_among x (names_of ks) → is_some (parts_of_kept (elim b as (λ _. Option (Kept (Unit {0}))) [ true ↦ Some k | false ↦ kept_named x ks ])) ≡ (b || is_among x (names_of ks))
     by true later = refl
     by false later = later
 
@@ -151,5 +143,5 @@ regions_agree s sound =
     let lots = all_map (λ (l : Lot (Unit {0})). AreOf IsPart (shape_of_parts l.parts) l.parts) (λ (l : Lot (Unit {0})). IsRegion l.parts) (λ l of. of.all) s.lots (all_unmapped (λ (l : Lot Shape). AreOf IsPart l.set l.parts) lot_of_parts s.lots sound.lots_keep_parts) in
     record {
       names = λ x. region_agrees (parts_of_kept (kept_named x s.names)) (region_found x s.names named);
-      lots = λ x. region_agrees (parts_of_lot (live_lot x s.lots)) (lot_found x (live_lots s.lots) (all_kept (λ (l : Lot (Unit {0})). IsRegion l.parts) is_live s.lots lots));
+      lots = λ x. region_agrees (parts_of_lot (live_lot x s.lots)) (lot_found x (live_lots s.lots) (all_filter (λ (l : Lot (Unit {0})). IsRegion l.parts) is_live s.lots lots));
     }

@@ -2,11 +2,11 @@
 use Rattle.std.proofs.Common.{◌≡◌, ℕ, zero, suc, ◌+◌, ◌<◌, Bool, true, false, cond, List, [], ◌∷◌, length, drop, Some, slice_get, sym, ap, ◌∙◌, subst}
 use Rattle.std.specs.Prelude.{IsTrue}
 use Rattle.std.proofs.lemmas.Option.{get_or_from_slice_get}
+use Rattle.rp_algebra.proofs.Lists.{drop_item}
 use Rattle.rp_model.specs.states.State.{Lot, is_live, live_lots, lots_of_layer, ids_of}
 use Rattle.rp_model.specs.states.Sound.{are_distinct}
 use Rattle.rp_history.proofs.Found.{first_alone, rest_distinct}
 use Rattle.rp_nearby.specs.Near.{others_in}
-use Rattle.rp_nearby.proofs.Places.{drop_item}
 use Rattle.rp_nearby.proofs.Skipped.{others_all}
 
 -- what is left of a list begins with the lot at the place

@@ -6,6 +6,7 @@ use Rattle.std.specs.Ordering.{nat_cmp}
 use Rattle.std.proofs.lemmas.Bool.{cases_lt}
 use Rattle.std.proofs.lemmas.List.{length-map}
 use Rattle.std.proofs.lemmas.Option.{slice_get-map, slice_get_past}
+use Rattle.rp_algebra.proofs.Lists.{get_left, get_some}
 use Rattle.rp_geometry.specs.Geometry.{IntegerBox}
 use Rattle.rp_space.specs.Boxes.{integer_box}
 use Rattle.rp_language.specs.Name.{Label, is_among}
@@ -14,16 +15,9 @@ use Rattle.rp_states.proofs.Picked.{ended_yes, ended_no}
 use Rattle.rp_history.specs.Lots.{lots_after}
 use Rattle.rp_boxindex.specs.Boxes.{Boxes}
 use Rattle.rp_nearby.specs.Indexed.{hull_of_parts, box_at, NoneBehind, ArePut, StaySame, AreEmptied, hull_if, IsIndexOf, IsIndexed, AreKeptIn}
-use Rattle.rp_nearby.proofs.Places.{item_at}
 use Rattle.rp_nearby.proofs.Put.{put_first, put_back}
 
 -- ---- lists
-
--- an item of the first list
-get_left : {A : Type 0} (xs ys : List A) (k : ℕ) → k < length xs → slice_get (xs ++ ys) k ≡ slice_get xs k
-get_left [] ys k f = absurd (omega (arith, f))
-get_left (x ∷ xs) ys zero f = refl
-get_left (x ∷ xs) ys (suc k) f = get_left xs ys k (omega (arith, f))
 
 -- an item of the second list
 get_right : {A : Type 0} (xs ys : List A) (k d : ℕ) → k ≡ length xs + d → slice_get (xs ++ ys) k ≡ slice_get ys d
@@ -119,7 +113,7 @@ module _ (n : ℕ) (ids : List Label) (lots : List (Lot (Unit {0}))) (new : List
 
       earlier : k < count → box_at after k ≡ hull_if chosen (slice_get (map (ended_at n ids) lots ++ map (born_at n) new) k)
       earlier f =
-          let item = item_at lots k (omega (arith, f, same)) in
+          let item = get_some lots k (omega (arith, f, same)) in
           each k item.0 f item.1
           ∙ sym (ap (hull_if chosen) (get_left (map (ended_at n ids) lots) (map (born_at n) new) k (omega (arith, f, many, same)) ∙ slice_get-map (ended_at n ids) lots k ∙ ap (option_map (ended_at n ids)) item.1))
 

@@ -1,24 +1,19 @@
 -- Coordinates of points of the cube, rounded down in machine numbers, and the box around a point that they make.
-use Rattle.std.proofs.Common.{◌≡◌, ◌≤◌, ◌<◌, ◌^◌, ℤ, pos, neg_ℤ, ◌+ℤ◌, ◌*ℤ◌, ◌≤ℤ◌, ◌<ℤ◌, unsigned_abs, FitsSigned, to_z, of_z, true, ◌&&◌, sym, ap, ◌∙◌, subst, le_of_lt, arith}
+use Rattle.std.proofs.Common.{◌≡◌, ◌≤◌, ◌<◌, ◌^◌, ℤ, pos, neg_ℤ, ◌+ℤ◌, ◌*ℤ◌, ◌≤ℤ◌, ◌<ℤ◌, unsigned_abs, to_z, of_z, true, ◌&&◌, sym, ap, ◌∙◌, subst, le_of_lt, arith}
 use Rattle.std.specs.Prelude.{int_lt, int_le}
-use Rattle.std.specs.Int.{int_div_euclid}
-use Rattle.std.proofs.lemmas.Int.{ints, to_z-of_z}
+use Rattle.std.proofs.lemmas.Int.{ints}
 use mir.Syntax.{w32, w128}
 use Rattle.rp_algebra.specs.Integer.{floor_of}
 use Rattle.rp_algebra.specs.Within.{IsWithin}
 use Rattle.rp_algebra.proofs.IntLaws.{mul_comm_ℤ, nonneg_of_pos_ℤ, lt_of_mul_lt_left_ℤ, le_of_mul_le_left_ℤ}
 use Rattle.rp_algebra.proofs.Machine.{read_is}
 use Rattle.rp_algebra.proofs.Rounding.{floor_below, floor_greatest, le_trans}
-use Rattle.rp_algebra.proofs.Tests.{and_first, and_second, at_most_is}
+use Rattle.rp_algebra.proofs.Tests.{and_first, and_second, at_most_is, less_true}
 use Rattle.rp_geometry.specs.Geometry.{RationalPoint, IsSmallPoint, half_edge, cube_bound, is_in_range, is_cube_point}
 
 -- the test of a lesser number
 less_is : (a b : ℤ) → int_lt a b ≡ true → a <ℤ b
 less_is a b e = grind (arith, ints)
-
--- a lesser number passes it
-less_true : (a b : ℤ) → a <ℤ b → int_lt a b ≡ true
-less_true a b h = grind (arith, ints)
 
 -- what is below is at most
 less_at_most : (a b : ℤ) → a <ℤ b → a ≤ℤ b
@@ -37,14 +32,6 @@ floor_within v w hw e =
 
     size_of : (f : ℤ) → neg_ℤ cube_bound ≤ℤ f → f ≤ℤ cube_bound → unsigned_abs f ≤ half_edge
     size_of f l h = omega (arith, ints)
-
--- the quotient that the code has is the floor
-pub quotient_is : (r v w : ℤ) → FitsSigned w128 v → FitsSigned w128 w → r ≡ int_div_euclid (to_z w128 (of_z w128 v)) (to_z w128 (of_z w128 w)) → r ≡ floor_of v w
-quotient_is r v w fv fw e = e ∙ (λ i. int_div_euclid (to_z-of_z w128 v fv i) (to_z-of_z w128 w fw i))
-
--- a small number stays as it is in 32 bits
-pub short_is : (r : ℤ) → IsWithin half_edge r → to_z w32 (of_z w32 (to_z w128 (of_z w128 r))) ≡ r
-short_is r h = ap (λ (t : ℤ). to_z w32 (of_z w32 t)) (read_is w128 h tt) ∙ read_is w32 h tt
 
 -- ---- a point in machine numbers
 

@@ -1,51 +1,27 @@
 -- The least box around boxes: it holds each of them, and meets what one of them meets.
-use Rattle.std.proofs.Common.{◌≡◌, ℤ, ◌≤ℤ◌, Bool, true, false, ◌&&◌, List, [], ◌∷◌, arith}
+use Rattle.std.proofs.Common.{◌≡◌, ℤ, ◌≤ℤ◌, Bool, true, false, List, [], ◌∷◌, arith}
 use Rattle.std.specs.Prelude.{int_lt, int_le}
 use Rattle.std.proofs.lemmas.Int.{ints}
 use Rattle.rp_algebra.proofs.Listed.{Listed, first, later}
-use Rattle.rp_algebra.proofs.Rounding.{min_left, min_right, max_left, max_right, le_trans}
+use Rattle.rp_algebra.proofs.Tests.{both_follow}
 use Rattle.rp_geometry.specs.Geometry.{IntegerBox}
 use Rattle.rp_geometry.specs.sets.Shape.{Part}
 use Rattle.rp_geometry.specs.parts.LeastBox.{IsBoxWithin, box_union}
+use Rattle.rp_geometry.proofs.LeastBoxes.{box_itself, union_left, union_right, box_further}
 use Rattle.rp_boxindex.specs.Meeting.{do_meet}
 use Rattle.rp_nearby.specs.Indexed.{bounds_of, joined, hull_of, hull_of_parts}
-
--- ---- boxes in boxes
-
--- a box lies in itself
-pub box_itself : (b : IntegerBox) → IsBoxWithin b b
-box_itself b = record { x = (same b.x1, same b.x2); y = (same b.y1, same b.y2); z = (same b.z1, same b.z2) }
-  where
-    same : (a : ℤ) → a ≤ℤ a
-    same a = omega (arith, ints)
-
--- the first of two boxes lies in the least box around both
-first_within : (b e : IntegerBox) → IsBoxWithin b (box_union b e)
-first_within b e = record { x = (min_left b.x1 e.x1, max_left b.x2 e.x2); y = (min_left b.y1 e.y1, max_left b.y2 e.y2); z = (min_left b.z1 e.z1, max_left b.z2 e.z2) }
-
--- and so does the second
-second_within : (b e : IntegerBox) → IsBoxWithin e (box_union b e)
-second_within b e = record { x = (min_right b.x1 e.x1, max_right b.x2 e.x2); y = (min_right b.y1 e.y1, max_right b.y2 e.y2); z = (min_right b.z1 e.z1, max_right b.z2 e.z2) }
-
--- a box lies in what holds a box that holds it
-within_further : (b c e : IntegerBox) → IsBoxWithin b c → IsBoxWithin c e → IsBoxWithin b e
-within_further b c e h k = record {
-  x = (le_trans e.x1 c.x1 b.x1 k.x.0 h.x.0, le_trans b.x2 c.x2 e.x2 h.x.1 k.x.1);
-  y = (le_trans e.y1 c.y1 b.y1 k.y.0 h.y.0, le_trans b.y2 c.y2 e.y2 h.y.1 k.y.1);
-  z = (le_trans e.z1 c.z1 b.z1 k.z.0 h.z.0, le_trans b.z2 c.z2 e.z2 h.z.1 k.z.1);
-}
 
 -- ---- hulls
 
 -- a box lies in the least box around it and further ones
 start_within : (b : IntegerBox) (cs : List IntegerBox) → IsBoxWithin b (joined b cs)
 start_within b [] = box_itself b
-start_within b (c ∷ cs) = within_further b (box_union b c) (joined (box_union b c) cs) (first_within b c) (start_within (box_union b c) cs)
+start_within b (c ∷ cs) = box_further b (box_union b c) (joined (box_union b c) cs) (union_left b c) (start_within (box_union b c) cs)
 
 -- and so does each of these
 further_within : (b c : IntegerBox) (cs : List IntegerBox) → Listed c cs → IsBoxWithin c (joined b cs)
 further_within b c [] l = elim l [ ]
-further_within b c (d ∷ cs) first = within_further c (box_union b c) (joined (box_union b c) cs) (second_within b c) (start_within (box_union b c) cs)
+further_within b c (d ∷ cs) first = box_further c (box_union b c) (joined (box_union b c) cs) (union_right b c) (start_within (box_union b c) cs)
 further_within b c (d ∷ cs) (later l) = further_within (box_union b d) c cs l
 
 -- each box lies in the least box around all
@@ -73,21 +49,15 @@ below_wider a b c d h k e = grind (arith, ints)
 at_most_wider : (a b c d : ℤ) → c ≤ℤ a → b ≤ℤ d → int_le a b ≡ true → int_le c d ≡ true
 at_most_wider a b c d h k e = grind (arith, ints)
 
--- two tests that pass with what they follow from
-both_pass : (a b c d : Bool) → (a ≡ true → c ≡ true) → (b ≡ true → d ≡ true) → (a && b) ≡ true → (c && d) ≡ true
-both_pass true true c d f g e = let h = f e in let k = g e in cc
-both_pass true false c d f g e = absurd (cc)
-both_pass false b c d f g e = absurd (cc)
-
 -- boxes meet where boxes in them do
 pub wider_meet : (closed : Bool) (b c d e : IntegerBox) → IsBoxWithin b d → IsBoxWithin c e → do_meet closed b c ≡ true → do_meet closed d e ≡ true
 wider_meet false b c d e h k =
-    both_pass _ _ _ _ (both_pass _ _ _ _ (both_pass _ _ _ _ (both_pass _ _ _ _ (both_pass _ _ _ _
+    both_follow _ _ _ _ (both_follow _ _ _ _ (both_follow _ _ _ _ (both_follow _ _ _ _ (both_follow _ _ _ _
     (below_wider b.x1 c.x2 d.x1 e.x2 h.x.0 k.x.1) (below_wider c.x1 b.x2 e.x1 d.x2 k.x.0 h.x.1))
     (below_wider b.y1 c.y2 d.y1 e.y2 h.y.0 k.y.1)) (below_wider c.y1 b.y2 e.y1 d.y2 k.y.0 h.y.1))
     (below_wider b.z1 c.z2 d.z1 e.z2 h.z.0 k.z.1)) (below_wider c.z1 b.z2 e.z1 d.z2 k.z.0 h.z.1)
 wider_meet true b c d e h k =
-    both_pass _ _ _ _ (both_pass _ _ _ _ (both_pass _ _ _ _ (both_pass _ _ _ _ (both_pass _ _ _ _
+    both_follow _ _ _ _ (both_follow _ _ _ _ (both_follow _ _ _ _ (both_follow _ _ _ _ (both_follow _ _ _ _
     (at_most_wider b.x1 c.x2 d.x1 e.x2 h.x.0 k.x.1) (at_most_wider c.x1 b.x2 e.x1 d.x2 k.x.0 h.x.1))
     (at_most_wider b.y1 c.y2 d.y1 e.y2 h.y.0 k.y.1)) (at_most_wider c.y1 b.y2 e.y1 d.y2 k.y.0 h.y.1))
     (at_most_wider b.z1 c.z2 d.z1 e.z2 h.z.0 k.z.1)) (at_most_wider c.z1 b.z2 e.z1 d.z2 k.z.0 h.z.1)

@@ -15,6 +15,7 @@ use Rattle.rp_geometry.specs.Geometry.{RationalPoint, IntegerBox, is_in_cell, is
 use Rattle.rp_geometry.specs.sets.Shape.{Shape, Part}
 use Rattle.rp_geometry.specs.parts.LeastBox.{IsInBox, BoxHoldsCell}
 use Rattle.rp_geometry.specs.parts.Parts.{IsPart, IsCheckedPart, AreOf}
+use Rattle.rp_geometry.proofs.LeastBoxes.{box_itself}
 use Rattle.rp_language.specs.Name.{Label, label_eq}
 use Rattle.rp_model.specs.states.State.{Lot, is_live, lots_of_layer, bare_lot, lot_of_parts}
 use Rattle.rp_model.specs.commands.Verdict.{Verdict}
@@ -27,7 +28,7 @@ use Rattle.rp_nearby.specs.declared.moment.Moment.{Moment}
 use Rattle.rp_nearby.specs.declared.moment.Moment.TheVariants.{Now, After}
 use Rattle.rp_nearby.specs.Indexed.{hull_of_parts, box_at, hull_if, IsIndexOf, IsIndexed}
 use Rattle.rp_nearby.specs.Owner.{is_there, is_there_at, boxes_at, owner_verdict, KnowsOwners, BoxesHold, IsOwner}
-use Rattle.rp_nearby.proofs.Hulls.{box_itself, part_within, wider_meet}
+use Rattle.rp_nearby.proofs.Hulls.{part_within, wider_meet}
 use Rattle.rp_nearby.proofs.Reached.{box_reached}
 
 -- ---- the boxes of sound lots

@@ -13,20 +13,19 @@ use Rattle.std.proofs.lemmas.List.Sums.{sum_by-cons}
 use Rattle.std.proofs.lemmas.Map.Keys.{sorted_head, sorted_tail}
 use Rattle.std.proofs.lemmas.Option.{get_or_from_slice_get, slice_get-map}
 use Rattle.rp_algebra.proofs.Listed.{Listed, first, later, all_map, all_of}
+use Rattle.rp_algebra.proofs.Numbers.{same_or_not}
+use Rattle.rp_algebra.proofs.Lists.{get_some, drop_item, all_filter}
 use Rattle.rp_geometry.specs.Geometry.{IntegerBox}
 use Rattle.rp_geometry.specs.sets.Shape.{Part}
 use Rattle.rp_language.specs.Name.{Label, label_eq}
 use Rattle.rp_model.specs.states.State.{Lot, is_live, live_lots, lots_of_layer, other_lots, bare_lot}
 use Rattle.rp_model.specs.commands.Row.{count_pairs, lot_parts}
-use Rattle.rp_states.proofs.Listing.{all_kept}
 use Rattle.rp_boxindex.specs.Boxes.{Boxes}
 use Rattle.rp_boxindex.specs.Meeting.{meeting_ids}
 use Rattle.rp_nearby.specs.declared.near.Reach.{Reach}
 use Rattle.rp_nearby.specs.Indexed.{hull_of_parts, NoneBehind}
 use Rattle.rp_nearby.specs.Near.{may_meet, others_in, pairs_with, is_near, is_closed, is_other_in, is_other_at, lots_at, other_places, AreWithin, AreNear}
 use Rattle.rp_nearby.proofs.Boxed.{none_behind_lots}
-use Rattle.rp_nearby.proofs.Put.{same_or_not}
-use Rattle.rp_nearby.proofs.Places.{item_at, drop_item}
 use Rattle.rp_nearby.proofs.Reached.{places_from, places_rise, places_within, AreAllNear, places_near}
 
 -- the first lot is among the others, or not
@@ -157,7 +156,7 @@ module _ (r : Reach) (ps : List Part) (y x : Label) (lots : List (Lot (Unit {0})
   left_chosen zero n e places h = left_none n places (omega (arith, e)) h
   left_chosen (suc d) n e places h =
       let within : n < length lots = omega (arith, e) in
-      let item = item_at lots n within in
+      let item = get_some lots n within in
       step n item.0 within item.1 (left_chosen d (n + 1) (omega (arith, e))) places h
 
   -- the lots at the places that are near are all that are chosen from a place on
@@ -168,7 +167,7 @@ module _ (r : Reach) (ps : List Part) (y x : Label) (lots : List (Lot (Unit {0})
 others_at : (y x : Label) (lots history : List (Lot (Unit {0}))) → history ≡ map bare_lot lots → (places : List ℕ) → AreWithin lots places → lots_at lots (filter (is_other_at y x history) places) ≡ others_in y x (lots_at lots places)
 others_at y x lots history e [] w = refl
 others_at y x lots history e (k ∷ places) w =
-    let item = item_at lots k w.0 in
+    let item = get_some lots k w.0 in
     let l = item.0 in
     let tested : is_other_at y x history k ≡ is_other_in y x l =
     ap (test_of y x) (ap (λ (ls : List (Lot (Unit {0}))). slice_get ls k) e ∙ slice_get-map bare_lot lots k ∙ ap (option_map bare_lot) item.1) in
@@ -223,7 +222,7 @@ pub others_places : {S : Type 0} (r : Reach) (hull : IntegerBox) (y x : Label) (
 others_places r hull y x from history live none =
     let test = is_other_at y x history in
     let reached = places_from from (meeting_ids (is_closed r) hull live) in
-    let within = all_kept (λ (k : ℕ). k < length history) test reached (places_within (is_closed r) hull live from history none) in
+    let within = all_filter (λ (k : ℕ). k < length history) test reached (places_within (is_closed r) hull live from history none) in
     let rising = IsStrictlySortedBy-filter nat_cmp test reached (places_rise (is_closed r) hull live from) in
     let few = rising_few 0 (length history) (filter test reached) rising (above_none (filter test reached)) within (omega arith) in
     record { within = within; rising = rising; few = omega (arith, few) }

@@ -3,11 +3,12 @@ use Rattle.std.proofs.Common.{◌≡◌, ℕ, zero, suc, ◌+◌, ◌-◌, ◌*�
 use Rattle.std.proofs.lemmas.List.{length-map}
 use Rattle.std.specs.Prelude.{◌/◌}
 use Rattle.std.proofs.Math.Nat.{mul-div_cancel}
+use Rattle.rp_algebra.proofs.Lists.{drop_item}
 use Rattle.rp_geometry.specs.sets.Shape.{Part}
 use Rattle.rp_geometry.specs.parts.Groups.{groups_of}
 use Rattle.rp_walks.specs.Walk.{done, stopped, limit_met, Walk, Tester, pass, after_first, ◌>>=◌}
 use Rattle.rp_walks.specs.Pieces.{pair_count, numbered_from, link_pair, links_with_part, links_among, pieces_of_parts}
-use Rattle.rp_tests.proofs.Left.{IsLeft, all_left, left_as, next_left, end_left, drop_item}
+use Rattle.rp_tests.proofs.Left.{IsLeft, all_left, left_as, next_left, end_left}
 
 -- links between numbered parts
 abbrev pub Links : Type 0

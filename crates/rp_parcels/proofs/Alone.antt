@@ -3,6 +3,7 @@ use Rattle.std.proofs.Common.{◌≡◌, Bool, true, false, ◌&&◌, ◌||◌, 
 use Rattle.std.specs.Prelude.{IsTrue, ◌↔◌}
 use Rattle.std.specs.List.{AllByRecursion}
 use Rattle.rp_algebra.proofs.Listed.{all_map}
+use Rattle.rp_algebra.proofs.Lists.{all_both}
 use Rattle.rp_geometry.specs.Geometry.{RationalPoint, IsPoint}
 use Rattle.rp_geometry.specs.sets.Shape.{Shape, shape_of_parts}
 use Rattle.rp_geometry.specs.sets.Sets.{Overlaps}
@@ -13,7 +14,7 @@ use Rattle.rp_model.specs.commands.Verdict.{Verdict}
 use Rattle.rp_model.specs.commands.Row.{owner_line, is_in_parts}
 use Rattle.rp_verdicts.proofs.Points.{in_parts_is_member}
 use Rattle.rp_states.proofs.Labels.{label_is, label_same}
-use Rattle.rp_states.proofs.Listing.{all_passed, all_both, all_true, pairs_kept, pairs_unmapped}
+use Rattle.rp_states.proofs.Listing.{all_passed, all_true, pairs_kept, pairs_unmapped}
 use Rattle.rp_states.proofs.Plain.{kept_images}
 use Rattle.rp_nearby.specs.Owner.{owner_verdict}
 use Rattle.rp_parcels.specs.Kept.{AreSound}

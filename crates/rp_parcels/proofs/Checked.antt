@@ -1,6 +1,7 @@
 -- What the checks on names come to.
 use Rattle.std.proofs.Common.{◌≡◌, ℕ, ◌<◌, Bool, true, not, List, [], ◌∷◌, map, length, Option, Some, None, slice_get, refl, sym, ap, ◌∙◌, subst}
 use Rattle.std.proofs.lemmas.List.{length-map}
+use Rattle.rp_algebra.proofs.Lists.{get_some}
 use Rattle.rp_language.specs.Name.{Label, is_among}
 use Rattle.rp_model.specs.states.State.{Lot, live_lots, live_lot, lot_with_id, ids_of, bare_lot, layer_of_lot, layer_with_id}
 use Rattle.rp_model.specs.commands.Verdict.{Refusal, known, unknown}
@@ -8,7 +9,6 @@ use Rattle.rp_model.specs.commands.Checks.{refuse_if, and_then, check_new, check
 use Rattle.rp_history.specs.Lots.{lots_in}
 use Rattle.rp_history.proofs.Found.{there_if_found, not_there}
 use Rattle.rp_parcels.specs.Rows.{Cause, refuses, limited, wanting, FailsBy}
-use Rattle.rp_nearby.proofs.Places.{item_at}
 use Rattle.rp_parcels.proofs.Found.{none_here}
 use Rattle.rp_parcels.proofs.Together.{bare_ids}
 
@@ -33,7 +33,7 @@ fails_as c o p e h = subst (FailsBy c) e h
 -- an id that has a place is registered
 pub registered : (x : Label) (lots history : List (Lot (Unit {0}))) → history ≡ map bare_lot lots → (k : ℕ) → k < length history → slice_get history k ≡ lot_with_id x history → check_new (lots_in [] lots) x ≡ Some (known x)
 registered x lots history e k within same =
-    let item = item_at history k within in
+    let item = get_some history k within in
     let among : is_among x (ids_of history) ≡ true = there_if_found x history item.0 (sym same ∙ item.1) in
     ap (λ (b : Bool). refuse_if b (known x)) (sym (ap (is_among x) (ap ids_of e ∙ bare_ids lots)) ∙ among)
 
@@ -43,7 +43,7 @@ not_registered x lots history e same = ap (λ (b : Bool). refuse_if b (known x))
 
 -- an id that has the place of a live lot is live
 pub is_live_here : (x : Label) (lots : List (Lot (Unit {0}))) (k : ℕ) → k < length lots → slice_get lots k ≡ live_lot x lots → check_live (lots_in [] lots) x ≡ None
-is_live_here x lots k within same = let item = item_at lots k within in ap (λ (b : Bool). refuse_if (not b) (unknown x)) (there_if_found x (live_lots lots) item.0 (sym same ∙ item.1))
+is_live_here x lots k within same = let item = get_some lots k within in ap (λ (b : Bool). refuse_if (not b) (unknown x)) (there_if_found x (live_lots lots) item.0 (sym same ∙ item.1))
 
 -- an id that has none is not
 pub is_not_live : (x : Label) (lots : List (Lot (Unit {0}))) → live_lot x lots ≡ None → check_live (lots_in [] lots) x ≡ Some (unknown x)

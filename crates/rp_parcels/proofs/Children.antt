@@ -8,6 +8,7 @@ use Rattle.std.proofs.lemmas.List.{take_more, length-append}
 use Rattle.std.proofs.lemmas.List.Sums.{sum_by-cons}
 use Rattle.rp_algebra.proofs.Listed.{all_append}
 use Rattle.rp_algebra.proofs.Tests.{and_first, and_second}
+use Rattle.rp_algebra.proofs.Lists.{all_both}
 use Rattle.rp_geometry.specs.sets.Shape.{Shape, shape_of_parts}
 use Rattle.rp_geometry.specs.parts.Parts.{IsPart, IsRegion, AreOf}
 use Rattle.rp_language.specs.Name.{Label, label_eq, is_among}
@@ -17,13 +18,13 @@ use Rattle.rp_model.specs.states.State.{Kept, Lot, NewLot, State, PlainState, na
 use Rattle.rp_model.specs.states.Sound.{are_distinct, IsSound}
 use Rattle.rp_model.specs.commands.Verdict.{too_few}
 use Rattle.rp_model.specs.commands.Checks.{refuse_if, and_then, check_live, check_new, check_each, check_subdivide, check_repeated}
-use Rattle.rp_states.proofs.Accepted.{neither, not_repeated}
+use Rattle.rp_states.proofs.Accepted.{not_repeated}
 use Rattle.rp_model.specs.commands.Row.{Reply, accepted, new_lot, joined_parts, FormedChild, child_parts, row_subdivide}
 use Rattle.rp_model.specs.commands.Rule.{set_of, lot_of_set, fill_lots, rule_subdivide}
+use Rattle.rp_model.proofs.Refusals.{neither}
 use Rattle.rp_verdicts.proofs.Right.{first_walks_are_right}
 use Rattle.rp_verdicts.proofs.Outcomes.{Replies}
 use Rattle.rp_verdicts.proofs.Subdivide.{AreFormed, subdivide_meets}
-use Rattle.rp_states.proofs.Listing.{all_both}
 use Rattle.rp_states.proofs.Labels.{label_itself, label_turned}
 use Rattle.rp_states.proofs.PlainRows.{subdivide_same}
 use Rattle.rp_states.proofs.Replies.{plain_new}

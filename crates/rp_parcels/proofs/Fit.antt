@@ -1,12 +1,12 @@
 -- What an accepted row changes leaves sound lots: the laws of rows and states, said of lists of parts.
-use Rattle.std.proofs.Common.{◌≡◌, ℕ, ◌+◌, ◌≤◌, List, [], ◌∷◌, map, length, sum_by, refl, sym, ap, ap₂, ◌∙◌, subst, arith}
+use Rattle.std.proofs.Common.{◌≡◌, ℕ, ◌+◌, ◌≤◌, List, [], map, length, sum_by, sym, ap, ◌∙◌, subst, arith}
 use Rattle.std.specs.Prelude.{IsTrue, false}
 use Rattle.std.specs.List.{AllByRecursion}
 use Rattle.rp_geometry.specs.sets.Shape.{Shape}
 use Rattle.rp_geometry.specs.parts.Parts.{IsPart, AreOf}
+use Rattle.rp_geometry.proofs.Kept.{part_is_checked}
 use Rattle.rp_language.specs.Name.{Label, is_among}
-use Rattle.rp_forms.proofs.Whole.{part_is_checked}
-use Rattle.rp_model.specs.states.State.{Kept, Lot, NewLot, State, PlainState, plain_kept, plain_lot, plain_of, kept_of_parts, lot_of_parts, state_of_parts, ids_of, parts_under_lots, lots_replaced, changed, most_kept_parts}
+use Rattle.rp_model.specs.states.State.{Lot, NewLot, State, PlainState, plain_of, lot_of_parts, state_of_parts, ids_of, parts_under_lots, lots_replaced, changed, most_kept_parts}
 use Rattle.rp_model.specs.states.Sound.{are_distinct, IsSound, IsLaterThan}
 use Rattle.rp_model.specs.commands.Rule.{fill_lots}
 use Rattle.rp_reports.specs.laws.RowLaws.{AreSoundLots}
@@ -14,7 +14,7 @@ use Rattle.rp_states.proofs.Listing.{all_mapped}
 use Rattle.rp_states.proofs.Plain.{images_twice, image_sums}
 use Rattle.rp_states.proofs.Replies.{plain_new, parts_of_new}
 use Rattle.rp_states.proofs.Computed.{changed_plain}
-use Rattle.rp_states.proofs.Parted.{parts_are_sound}
+use Rattle.rp_states.proofs.Parted.{parts_are_sound, read_plain, same_lots}
 use Rattle.rp_states.proofs.Replaced.{replaced_is_sound}
 use Rattle.rp_states.proofs.Fitting.{FitTogether, fit_of}
 use Rattle.rp_history.specs.Lots.{lots_in, lots_after}
@@ -44,26 +44,9 @@ sound_in y lots h = record {
   origins_of_layer = h.origins_of_layer;
 }
 
--- without its sets it has the lots
-lots_back : (lots : List (Lot (Unit {0}))) → map plain_lot (map lot_of_parts lots) ≡ lots
-lots_back [] = refl
-lots_back (l ∷ lots) = ap₂ ◌∷◌ refl (lots_back lots)
-
 -- and is the state of lots
 pub plain_back : (y : Label) (lots : List (Lot (Unit {0}))) → plain_of (sets_of y lots) ≡ lots_in y lots
-plain_back y lots = ap {B = PlainState} (λ (ls : List (Lot (Unit {0}))). record { layer = y; names = []; lots = ls }) (lots_back lots)
-
--- a state of parts is the one of the parts without the sets
-parts_of_plain : (s : State) → state_of_parts (plain_of s) ≡ state_of_parts s
-parts_of_plain s = λ i. record { layer = s.layer; names = names s.names i; lots = lots s.lots i }
-  where
-    names : (ks : List (Kept Shape)) → map kept_of_parts (map plain_kept ks) ≡ map kept_of_parts ks
-    names [] = refl
-    names (k ∷ ks) = ap₂ ◌∷◌ refl (names ks)
-
-    lots : (ls : List (Lot Shape)) → map lot_of_parts (map plain_lot ls) ≡ map lot_of_parts ls
-    lots [] = refl
-    lots (l ∷ ls) = ap₂ ◌∷◌ refl (lots ls)
+plain_back y lots = ap {B = PlainState} (λ (ls : List (Lot (Unit {0}))). record { layer = y; names = []; lots = ls }) (same_lots lots)
 
 -- ids of lots with sets
 pub set_ids : (lots : List (Lot (Unit {0}))) → ids_of (map lot_of_parts lots) ≡ ids_of lots
@@ -85,7 +68,7 @@ sound_after n y lots ids new sound late fit =
     let plain : plain_of (changed n s (lots_replaced ids new)) ≡ changed n (lots_in y lots) (lots_replaced ids (map plain_new new)) =
     changed_plain n s (lots_replaced ids new) ∙ ap (λ (t : PlainState). changed n t (lots_replaced ids (map plain_new new))) (plain_back y lots) in
     let sets : IsSound (sets_of y (lots_after n lots (lots_replaced ids (map plain_new new)))) =
-    subst IsSound (sym (parts_of_plain (changed n s (lots_replaced ids new))) ∙ ap state_of_parts plain) parted in
+    subst IsSound (sym (read_plain (changed n s (lots_replaced ids new))) ∙ ap state_of_parts plain) parted in
     let h = sets in
     record {
       names_keep_parts = h.names_keep_parts;

@@ -9,6 +9,7 @@ use Rattle.std.proofs.lemmas.Bool.{cases_lt, eqb-true}
 use Rattle.std.proofs.lemmas.List.Sorted.{searched}
 use Rattle.std.proofs.lemmas.List.{length-map, map-append}
 use Rattle.rp_algebra.proofs.Listed.{all_append}
+use Rattle.rp_algebra.proofs.Lists.{get_some}
 use Rattle.rp_geometry.specs.sets.Shape.{Part}
 use Rattle.rp_walks.specs.Walk.{Outcome, done, Work, with_lines, after_first, first_tester, weak_test}
 use Rattle.rp_walks.specs.Form.{touch_nearby, touching_pair}
@@ -16,7 +17,6 @@ use Rattle.rp_model.specs.states.State.{Lot, ids_of}
 use Rattle.rp_model.specs.commands.Row.{count_pairs, lot_parts, numbered_lists, links_with_list, links_among_lists}
 use Rattle.rp_nearby.specs.declared.near.Reach.TheVariants.{Touch}
 use Rattle.rp_nearby.specs.Near.{lots_at, AreWithin}
-use Rattle.rp_nearby.proofs.Places.{item_at}
 use Rattle.rp_nearby.proofs.Skipped.{none_of_pairs}
 use Rattle.rp_parcels.specs.declared.pairs.Pair.{Pair}
 use Rattle.rp_parcels.specs.declared.pairs.Judged.{Judged}
@@ -31,14 +31,14 @@ use Rattle.rp_parcels.proofs.Shown.{second_parts, second_id, first_at, lines_app
 pub lists_of_lots : (lots : List (Lot (Unit {0}))) (ks : List ℕ) → AreWithin lots ks → lot_parts (lots_at lots ks) ≡ lists_at lots ks
 lists_of_lots lots [] h = refl
 lists_of_lots lots (k ∷ ks) h =
-    let item = item_at lots k h.0 in
+    let item = get_some lots k h.0 in
     ap lot_parts (first_at lots k k item.0 item.1 ks) ∙ ap₂ ◌∷◌ (sym (second_parts lots k k item.0 item.1)) (lists_of_lots lots ks h.1)
 
 -- their ids
 pub ids_of_places : (lots : List (Lot (Unit {0}))) (ks : List ℕ) → AreWithin lots ks → ids_of (lots_at lots ks) ≡ map (λ k. id_at lots k) ks
 ids_of_places lots [] h = refl
 ids_of_places lots (k ∷ ks) h =
-    let item = item_at lots k h.0 in
+    let item = get_some lots k h.0 in
     ap ids_of (first_at lots k k item.0 item.1 ks) ∙ ap₂ ◌∷◌ (sym (second_id lots k k item.0 item.1)) (ids_of_places lots ks h.1)
 
 -- there are as many

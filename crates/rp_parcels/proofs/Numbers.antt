@@ -2,13 +2,13 @@
 use Rattle.std.proofs.Common.{◌≡◌, ℕ, zero, suc, ◌+◌, ◌<◌, Bool, true, false, cond, List, [], ◌∷◌, ◌++◌, map, length, drop, take, get_or, slice_get, Option, Some, None, refl, sym, ap, ap₂, ◌∙◌, arith, append_assoc, append-nil}
 use Rattle.std.specs.List.{filter_map}
 use Rattle.std.proofs.lemmas.List.{drop_more, take_more, map-append}
+use Rattle.rp_algebra.proofs.Lists.{get_some}
 use Rattle.rp_language.specs.Name.{Label, label_eq}
 use Rattle.rp_model.specs.states.State.{Lot, bare_lot, ids_of, place_among}
 use Rattle.rp_model.specs.commands.Verdict.{Verdict, level_lines}
 use Rattle.rp_history.specs.declared.lot.LotLine.{LotLine}
 use Rattle.rp_history.specs.Lots.{lot_of}
 use Rattle.rp_nearby.specs.Near.{lots_at, AreWithin}
-use Rattle.rp_nearby.proofs.Places.{item_at}
 use Rattle.rp_parcels.specs.declared.pairs.Pair.{Pair}
 use Rattle.rp_parcels.specs.declared.pairs.Judged.{Judged}
 use Rattle.rp_parcels.specs.Judged.{id_at}
@@ -35,7 +35,7 @@ within_left lots (j ∷ places) w (suc k) = within_left lots places w.1 k
 -- the id at the next place comes first of those that are left
 pub ids_left : (lots : List (Lot (Unit {0}))) (places : List ℕ) → AreWithin lots places → (k : ℕ) → k < length places → ids_of (lots_at lots (drop k places)) ≡ id_at lots (get_or places k 0) ∷ ids_of (lots_at lots (drop (k + 1) places))
 ids_left lots places w k h =
-    let item = item_at lots (get_or places k 0) (within_at lots places w k h) in
+    let item = get_some lots (get_or places k 0) (within_at lots places w k h) in
     ap (λ (ks : List ℕ). ids_of (lots_at lots ks)) (drop_more places k 0 h)
     ∙ ap ids_of (first_at lots (get_or places k 0) (get_or places k 0) item.0 item.1 (drop (k + 1) places))
     ∙ ap (λ (x : Label). x ∷ ids_of (lots_at lots (drop (k + 1) places))) (sym (second_id lots (get_or places k 0) (get_or places k 0) item.0 item.1))

@@ -4,6 +4,7 @@ use Rattle.std.specs.Prelude.{IsTrue, IfOk, Result, Ok, Err}
 use Rattle.std.specs.List.{AllByRecursion}
 use Rattle.std.proofs.lemmas.List.{drop_more, drop_all, length-drop, map-append}
 use Rattle.rp_algebra.proofs.Listed.{all_append}
+use Rattle.rp_algebra.proofs.Lists.{get_some, all_filter}
 use Rattle.rp_geometry.specs.sets.Shape.{Part, shape_of_parts}
 use Rattle.rp_geometry.specs.sets.Sets.{Overlaps}
 use Rattle.rp_geometry.specs.parts.Parts.{IsRegion}
@@ -14,7 +15,6 @@ use Rattle.rp_model.specs.states.State.{Lot, bare_lot, is_live, live_lots, lots_
 use Rattle.rp_model.specs.states.Sound.{are_distinct}
 use Rattle.rp_model.specs.commands.Row.{count_with_each, count_among, count_in_layers, lot_parts, all_apart, all_apart_from}
 use Rattle.rp_states.proofs.Labels.{label_is}
-use Rattle.rp_states.proofs.Listing.{all_kept}
 use Rattle.rp_history.specs.declared.lot.LotLine.{LotLine}
 use Rattle.rp_history.specs.Lots.{lot_of}
 use Rattle.rp_history.proofs.Found.{first_alone, rest_distinct}
@@ -22,7 +22,7 @@ use Rattle.rp_region.specs.declared.fault.OpFault.{OpFault}
 use Rattle.rp_nearby.specs.declared.near.Reach.{Reach}
 use Rattle.rp_nearby.specs.declared.near.Reach.TheVariants.{Overlap, Touch}
 use Rattle.rp_nearby.specs.Near.{others_in, pairs_with, is_near, lots_at, AreWithin}
-use Rattle.rp_nearby.proofs.Places.{item_at, there}
+use Rattle.rp_nearby.proofs.Places.{there}
 use Rattle.rp_nearby.proofs.Behind.{others_behind}
 use Rattle.rp_parcels.specs.declared.near.Near.{Near}
 use Rattle.rp_parcels.specs.declared.pairs.Pair.{Pair}
@@ -58,16 +58,16 @@ one_place (h ∷ ls) d (suc j) (suc k) l e f = ap suc (one_place ls (rest_distin
 places_once : (lots : List (Lot (Unit {0}))) → IsTrue (are_distinct (ids_of lots)) → (js ks : List ℕ) → AreWithin lots js → AreWithin lots ks → lots_at lots js ≡ lots_at lots ks → js ≡ ks
 places_once lots d [] [] g h e = refl
 places_once lots d [] (k ∷ ks) g h e =
-    let item = item_at lots k h.0 in
+    let item = get_some lots k h.0 in
     let f : [] ≡ item.0 ∷ lots_at lots ks = e ∙ first_at lots k k item.0 item.1 ks in
     absurd (cc f)
 places_once lots d (j ∷ js) [] g h e =
-    let item = item_at lots j g.0 in
+    let item = get_some lots j g.0 in
     let f : [] ≡ item.0 ∷ lots_at lots js = sym e ∙ first_at lots j j item.0 item.1 js in
     absurd (cc f)
 places_once lots d (j ∷ js) (k ∷ ks) g h e =
-    let first = item_at lots j g.0 in
-    let second = item_at lots k h.0 in
+    let first = get_some lots j g.0 in
+    let second = get_some lots k h.0 in
     let f : first.0 ∷ lots_at lots js ≡ second.0 ∷ lots_at lots ks = sym (first_at lots j j first.0 first.1 js) ∙ e ∙ first_at lots k k second.0 second.1 ks in
     let same : first.0 ≡ second.0 = cc in
     let rest : lots_at lots js ≡ lots_at lots ks = cc in
@@ -223,7 +223,7 @@ module _ (lots : List (Lot (Unit {0}))) (sound : AreSound lots) where
   near_apart k l within at live js near =
       let IsApart = λ (m : Lot (Unit {0})). ¬ Overlaps (shape_of_parts (parts_at lots k)) (shape_of_parts m.parts) in
       subst (AllByRecursion IsApart) (sym near.there)
-      (all_kept IsApart (is_near Overlap (parts_at lots k)) (lots_behind lots k)
+      (all_filter IsApart (is_near Overlap (parts_at lots k)) (lots_behind lots k)
       (subst (AllByRecursion IsApart) (sym (behind_here lots k l at))
       (subst (λ (ps : List Part). AllByRecursion (λ (m : Lot (Unit {0})). ¬ Overlaps (shape_of_parts ps) (shape_of_parts m.parts)) (lots_of_layer l.layer (live_lots (drop (k + 1) lots)))) (sym (second_parts lots k k l at))
       (apart_behind lots sound k l within at live))))
@@ -305,7 +305,7 @@ module _ (lots : List (Lot (Unit {0}))) (y : Label) where
   kept_there : (k : ℕ) (js : List ℕ) → AreWithin lots js → lots_at lots (filter (λ j. is_touching (parts_at lots k) (parts_at lots j)) js) ≡ filter (is_near Touch (parts_at lots k)) (lots_at lots js)
   kept_there k [] w = refl
   kept_there k (j ∷ js) w =
-      let item = item_at lots j w.0 in
+      let item = get_some lots j w.0 in
       let m = item.0 in
       by m item.1 (is_touching (parts_at lots k) (parts_at lots j)) (sym (ap (is_touching (parts_at lots k)) (second_parts lots j j m item.1))) (kept_there k js w.1)
       ∙ sym (ap (λ (ms : List (Lot (Unit {0}))). filter (is_near Touch (parts_at lots k)) ms) (first_at lots j j m item.1 js))
@@ -325,7 +325,7 @@ module _ (lots : List (Lot (Unit {0}))) (y : Label) where
   own_paired sound k ks within behind js near =
       let kept = filter (λ j. is_touching (parts_at lots k) (parts_at lots j)) ks in
       let same : js ≡ kept =
-      places_once lots (ids_distinct lots sound) js kept near.within (all_kept (λ j. j < length lots) (λ j. is_touching (parts_at lots k) (parts_at lots j)) ks within)
+      places_once lots (ids_distinct lots sound) js kept near.within (all_filter (λ j. j < length lots) (λ j. is_touching (parts_at lots k) (parts_at lots j)) ks within)
       (near.there ∙ ap (λ (ms : List (Lot (Unit {0}))). filter (is_near Touch (parts_at lots k)) ms) behind ∙ sym (kept_there k ks within)) in
       ap (map (pair_of k)) same ∙ with_kept k ks
 

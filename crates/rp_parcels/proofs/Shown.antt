@@ -3,6 +3,7 @@ use Rattle.std.proofs.Common.{◌≡◌, ℕ, zero, suc, ◌<◌, Bool, true, fa
 use Rattle.std.specs.Prelude.{IsTrue, ◌↔◌, option_map}
 use Rattle.std.specs.List.{AllByRecursion}
 use Rattle.std.specs.Option.{option_to_list}
+use Rattle.rp_algebra.proofs.Lists.{get_some}
 use Rattle.rp_geometry.specs.sets.Shape.{Part, shape_of_parts}
 use Rattle.rp_geometry.specs.sets.Sets.{Overlaps}
 use Rattle.rp_geometry.specs.parts.Parts.{IsPart, IsRegion}
@@ -23,7 +24,6 @@ use Rattle.rp_nearby.specs.Near.{lots_at, AreWithin}
 use Rattle.rp_parcels.specs.Judged.{pair_of, parts_at, id_at, pair_test, is_passed, pair_outcome, judged, ids_that_meet, with_all_lines, IsPairWithin, CountsNothing}
 use Rattle.rp_parcels.specs.Kept.{AreSound}
 use Rattle.rp_parcels.proofs.Sizes.{region_each}
-use Rattle.rp_nearby.proofs.Places.{item_at}
 use Rattle.rp_nearby.proofs.Skipped.{touched_by}
 use Rattle.rp_nearby.proofs.Skipped.{apart_on}
 use Rattle.rp_parcels.proofs.Framed.{shown_behind, none_counted}
@@ -118,7 +118,7 @@ module _ (lots : List (Lot (Unit {0}))) (j : ℕ) where
       touched_lots first_tester found (parts_at lots j) (lots_at lots ks) w ≡ done (found ++ ids_that_meet (judged_with Touch ks)) (with_all_lines w (judged_with Touch ks))
   touched_shown [] h found w = ap (λ (ids : List Label). done ids w) (sym (append-nil found))
   touched_shown (k ∷ ks) h found w =
-      let item = item_at lots k h.0 in
+      let item = get_some lots k h.0 in
       let l = item.0 in
       let one = judged Touch lots (pair_of j k) in
       let behind = with_lines w one.work.proofs in
@@ -143,7 +143,7 @@ module _ (lots : List (Lot (Unit {0}))) (j : ℕ) where
       all_apart_from first_tester (parts_at lots j) (lot_parts (lots_at lots ks)) w ≡ done tt (with_all_lines w (judged_with Overlap ks))
   apart_shown sound own [] h apart w = refl
   apart_shown sound own (k ∷ ks) h apart w =
-      let item = item_at lots k h.0 in
+      let item = get_some lots k h.0 in
       let l = item.0 in
       let one = judged Overlap lots (pair_of j k) in
       let behind = with_lines w one.work.proofs in

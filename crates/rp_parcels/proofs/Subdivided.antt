@@ -1,6 +1,7 @@
 -- A subdivision, step by step.
 use Rattle.std.proofs.Common.{◌≡◌, ℕ, ◌+◌, ◌<◌, Bool, true, not, List, [], ◌∷◌, ◌++◌, map, drop, length, get_or, Option, Some, None, refl, sym, ap, ◌∙◌}
 use Rattle.std.specs.Prelude.{IfSome}
+use Rattle.rp_algebra.proofs.Lists.{drop_item}
 use Rattle.rp_geometry.specs.Geometry.{HalfSpace, RationalPoint}
 use Rattle.rp_geometry.specs.searches.ProofLine.{ProofLine, in_line, out_line, strict_line, outside_terms}
 use Rattle.rp_geometry.specs.searches.Vertex.{first_inside}
@@ -22,7 +23,6 @@ use Rattle.rp_region.proofs.Left.{IsLeft, all_left, left_as, next_left, cut_left
 use Rattle.rp_parcels.specs.declared.child.Child.{Child}
 use Rattle.rp_parcels.specs.Register.{child_of}
 use Rattle.rp_parcels.specs.Rows.{Cause, refuses, limited, wanting, EndsBy, RefusesBy, FailsBy}
-use Rattle.rp_nearby.proofs.Places.{drop_item}
 use Rattle.rp_parcels.proofs.Tells.{size_tells, check_tells, common_tells, cover_tells, outside_on, outside_child_tells, overlap_on, overlapping_child_tells, double_on, double_on_tells, overlapping_tells}
 use Rattle.rp_parcels.proofs.Walked.{left_by, check_left, check_fails}
 

@@ -13,6 +13,7 @@ use Rattle.rp_geometry.specs.Geometry.{is_zero_half_space, IsKeptHalfSpace, redu
 use Rattle.rp_geometry.specs.sets.Prism.{Corner, Edge, edges_along, edges_of, left_end, right_end, is_upright, below_line, corner_bound, is_corner_in_bounds, Prism, IsPrism}
 use Rattle.rp_geometry.specs.parts.Trapezoid.{least_from, least_y}
 use Rattle.rp_geometry.proofs.InLowestTerms.{size_within}
+use Rattle.rp_geometry.proofs.Complement.{size_of_opposite}
 use Rattle.rp_prism.proofs.Reduced.{reduced_is_kept}
 
 -- ---- corners
@@ -118,10 +119,6 @@ ends_of G e s t slanted = by_order (int_lt e.start.x e.end.x) refl
 difference_size : (u v : ℤ) → nat_abs u ≤ 8388608 → nat_abs v ≤ 8388608 → nat_abs (u -ℤ v) ≤ 16777216
 difference_size u v a b = omega (arith, ints)
 
--- the opposite is as large
-opposite_size : (v : ℤ) (n : ℕ) → nat_abs v ≤ n → nat_abs (neg_ℤ v) ≤ n
-opposite_size v n a = omega (arith, ints)
-
 -- a half-space with a number that is not 0
 second_not_zero : (a b c d : Bool) → b ≡ false → (((a && b) && c) && d) ≡ false
 second_not_zero true b c d e = λ i. (e i && c) && d
@@ -146,7 +143,7 @@ line_is_small l r n =
     let dy = difference_size r.y l.y n.right.y n.left.y in
     record {
       a = dy;
-      b = opposite_size (r.x -ℤ l.x) 16777216 dx;
+      b = size_of_opposite (r.x -ℤ l.x) 16777216 dx;
       d = offset ((r.x -ℤ l.x) *ℤ l.y) ((r.y -ℤ l.y) *ℤ l.x) (abs_mul_le (r.x -ℤ l.x) l.y 16777216 8388608 dx n.left.y) (abs_mul_le (r.y -ℤ l.y) l.x 16777216 8388608 dy n.left.x);
     }
   where

@@ -5,11 +5,11 @@ use Rattle.rp_algebra.specs.Integer.{is_zero, is_positive, gcd_of}
 use Rattle.rp_algebra.proofs.Reify.{by_ring_at, reify}
 use Rattle.rp_algebra.proofs.IntLaws.{mul_pos_ℤ, pos_of_mul_pos_ℤ, nonneg_of_pos_ℤ, cancel_mul_ne_ℤ}
 use Rattle.rp_algebra.proofs.Numbers.{above_not_zero, nat_positive}
-use Rattle.rp_algebra.proofs.Tests.{positive_is, is_positive_true, zero_is, is_zero_true}
+use Rattle.rp_algebra.proofs.Tests.{positive_is, is_positive_true, zero_is, is_zero_true, same_test}
 use Rattle.rp_algebra.proofs.Divisors.{gcd_of-divides}
 use Rattle.rp_algebra.proofs.LowestTerms.{exact_quotient}
 use Rattle.rp_geometry.specs.Geometry.{RationalPoint, HalfSpace, half_space_of, side_value, owns_boundary, holds, is_zero_half_space, reduced_half_space, IsKeptHalfSpace}
-use Rattle.rp_geometry.proofs.InLowestTerms.{same_test, divisor_above, reduced_half_space_is}
+use Rattle.rp_geometry.proofs.InLowestTerms.{divisor_above, reduced_half_space_is}
 
 -- a positive multiple is positive exactly where the number is
 positive_times : (k v : ℤ) → pos 0 <ℤ k → is_positive (k *ℤ v) ≡ is_positive v

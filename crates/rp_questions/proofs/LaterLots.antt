@@ -3,6 +3,7 @@ use Rattle.std.proofs.Common.{◌≡◌, ℕ, zero, suc, ◌+◌, ◌<◌, Bool,
 use Rattle.std.proofs.lemmas.Bool.{eqb-true}
 use Rattle.std.proofs.lemmas.List.{length-map}
 use Rattle.rp_algebra.proofs.Tests.{and_second}
+use Rattle.rp_algebra.proofs.Lists.{drop_item}
 use Rattle.rp_geometry.specs.sets.Shape.{Part}
 use Rattle.rp_language.specs.Name.{Label, label_eq}
 use Rattle.rp_walks.specs.Walk.{done, Walk, pass, after_first}
@@ -14,7 +15,7 @@ use Rattle.rp_states.proofs.Labels.{label_is}
 use Rattle.rp_nearby.specs.declared.near.Reach.TheVariants.{Touch}
 use Rattle.rp_nearby.specs.Near.{is_near}
 use Rattle.rp_nearby.proofs.Skipped.{none_of_pairs}
-use Rattle.rp_tests.proofs.Left.{IsLeft, left_as, next_left, drop_item}
+use Rattle.rp_tests.proofs.Left.{IsLeft, left_as, next_left}
 use Rattle.rp_register.specs.declared.parcel.Parcel.{Parcel}
 use Rattle.rp_register.specs.There.{lot_here, lots_here}
 use Rattle.rp_questions.specs.Access.{count_near, later_counts}

@@ -1,10 +1,10 @@
 -- The live lots of a layer, one after the other, and their ids.
 use Rattle.std.proofs.Common.{◌≡◌, ℕ, zero, suc, ◌+◌, ◌<◌, Bool, true, false, ◌&&◌, cond, List, [], ◌∷◌, ◌++◌, length, get_or, drop, Some, slice_get, refl, sym, ap, ◌∙◌, append_assoc, arith}
 use Rattle.std.proofs.lemmas.List.{map-append}
+use Rattle.rp_algebra.proofs.Lists.{drop_item}
 use Rattle.rp_language.specs.Name.{Label, label_eq}
 use Rattle.rp_model.specs.states.State.{Lot, is_live, live_lots, lots_of_layer, ids_of, place_among}
 use Rattle.rp_nearby.proofs.Behind.{left_at}
-use Rattle.rp_tests.proofs.Left.{drop_item}
 use Rattle.rp_register.specs.declared.parcel.Parcel.{Parcel}
 use Rattle.rp_register.specs.There.{lot_here, lots_here}
 

@@ -2,6 +2,7 @@
 use Rattle.std.proofs.Common.{◌≡◌, ℕ, zero, suc, ◌+◌, ◌<◌, List, [], ◌∷◌, ◌++◌, length, get_or, drop, take, sym, ap, ◌∙◌, subst, arith}
 use Rattle.std.specs.List.{AllByRecursion}
 use Rattle.std.proofs.lemmas.List.{take_more, get_or_default}
+use Rattle.rp_algebra.proofs.Lists.{drop_item}
 use Rattle.rp_geometry.specs.sets.Shape.{Part}
 use Rattle.rp_walks.specs.Walk.{Walk, ◌>>=◌}
 use Rattle.rp_model.specs.commands.Row.{numbered_lists, link_lists, links_with_list, links_among_lists, lot_parts}
@@ -9,7 +10,7 @@ use Rattle.rp_reports.specs.Check.{Trail, line_tester}
 use Rattle.rp_access.specs.Chain.{AreJoined}
 use Rattle.rp_access.specs.Laws.{AreLinksOf}
 use Rattle.rp_access.proofs.Computed.{links_go_on}
-use Rattle.rp_tests.proofs.Left.{IsLeft, left_as, drop_item}
+use Rattle.rp_tests.proofs.Left.{IsLeft, left_as}
 use Rattle.rp_register.specs.declared.parcel.Parcel.{Parcel}
 use Rattle.rp_register.specs.There.{lot_here, lots_here}
 use Rattle.rp_questions.specs.Access.{IsBelow}

@@ -1,5 +1,5 @@
 -- The row of a section: the verdict lines of the slices that the lines tell, and the first line that is another one.
-use Rattle.std.proofs.Common.{◌≡◌, ℕ, ℤ, suc, List, [], ◌∷◌, map, length, drop, refl, sym, ap, ◌∙◌, subst}
+use Rattle.std.proofs.Common.{◌≡◌, ℕ, ℤ, List, map, length, refl, sym, ap, ◌∙◌, subst}
 use Rattle.std.specs.Prelude.{Result}
 use Rattle.std.proofs.lemmas.List.{length-map}
 use Rattle.rp_geometry.specs.sets.Shape.{Part}
@@ -8,6 +8,7 @@ use Rattle.rp_model.specs.commands.Verdict.{Verdict, section_lines}
 use Rattle.rp_model.specs.commands.Row.{reply_lines, row_section}
 use Rattle.rp_reports.specs.Text.{verdict_text}
 use Rattle.rp_reports.specs.Check.{Trail, taken, follow_line, follow_lines, slices_told, follow_slices, line_tester}
+use Rattle.rp_accepted.proofs.Shown.{told_length}
 use Rattle.rp_cert.specs.Section.{slice_shown}
 use Rattle.rp_cert.specs.declared.slice.Slice.{Slice as CodeSlice}
 use Rattle.rp_tests.specs.declared.stopped.Stopped.{Stopped}
@@ -18,11 +19,6 @@ use Rattle.rp_follow.specs.Slices.{follow_slice_lines}
 use Rattle.rp_tests.proofs.Left.{stops_on}
 use Rattle.rp_register.specs.Replies.{IsUnshown}
 use Rattle.rp_questions.specs.Slices.{follow_section_lines}
-
--- as many slices are told as there are parts
-told_length : (z : ℤ) (ps : List Part) (lines : List (List ℕ)) → length (slices_told z ps lines) ≡ length ps
-told_length z [] lines = refl
-told_length z (p ∷ ps) lines = ap (λ n. suc n) (told_length z ps (drop 1 lines))
 
 -- slices that are those told are as many
 pub slices_counted : (z : ℤ) (ps : List Part) (lines : List (List ℕ)) (found : List CodeSlice) → map slice_shown found ≡ slices_told z ps lines → length found ≡ length ps

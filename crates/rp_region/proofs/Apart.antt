@@ -5,10 +5,10 @@ use Rattle.rp_geometry.specs.sets.Shape.{Part, shape_of_cell}
 use Rattle.rp_geometry.specs.sets.Sets.{IsEmpty}
 use Rattle.rp_geometry.specs.laws.CellLaws.{IsSolution}
 use Rattle.rp_geometry.specs.parts.Parts.{IsPart}
+use Rattle.rp_geometry.proofs.Kept.{part_is_checked}
 use Rattle.rp_contact.proofs.Meeting.{boxes_of_overlap_meet_spec}
 use Rattle.rp_contact.proofs.Pairs.{overlap_is_member}
 use Rattle.rp_forms.proofs.Touch.{boxes_touch}
-use Rattle.rp_forms.proofs.Whole.{part_is_checked}
 
 -- no member, where the boxes share no more than boundary
 pub no_common_member : (p q : Part) → IsPart p → IsPart q → boxes_meet p.bounds q.bounds ≡ false → IsEmpty (shape_of_cell (p.cell ++ q.cell))

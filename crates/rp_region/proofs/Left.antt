@@ -1,6 +1,5 @@
 -- What is left of a walk while it is made step by step.
-use Rattle.std.proofs.Common.{◌≡◌, ℕ, ◌+◌, ◌<◌, List, ◌∷◌, length, get_or, drop, Result, Ok, Err, refl, sym, ap, ◌∙◌, subst}
-use Rattle.std.proofs.lemmas.List.{drop_more}
+use Rattle.std.proofs.Common.{◌≡◌, Result, Ok, Err, refl, sym, ap, ◌∙◌, subst}
 use Rattle.rp_walks.specs.Walk.{Outcome, done, Walk, after_first, ◌>>=◌, Work}
 use Rattle.rp_region.specs.declared.fault.OpFault.{OpFault}
 use Rattle.rp_region.specs.declared.fault.OpFault.TheVariants.{Limit, Memory}
@@ -58,10 +57,6 @@ given_up {now = now} left f h = record { told = h.told; untold = subst (λ r. Te
 -- what is left comes to this, and so does the whole walk
 pub end_left : {A : Type 0} {start now : Work} {whole left : Walk Work A} (o : Outcome Work A) → IsLeft start whole now left → left now ≡ o → whole start ≡ o
 end_left o h e = sym h.same ∙ e
-
--- what is left of a list at an item
-pub drop_item : {X : Type 0} (xs : List X) (i : ℕ) (x : X) → i < length xs → x ≡ get_or xs i x → drop i xs ≡ x ∷ drop (i + 1) xs
-drop_item xs i x h e = drop_more xs i x h ∙ ap (λ y. y ∷ drop (i + 1) xs) (sym e)
 
 -- a last walk that is made is what was left
 pub makes_left : {A C : Type 0} (view : C → A) (r : Result C OpFault) {start now : Work} {whole left : Walk Work A} (new : Work) → IsLeft start whole now left → Makes view r now new left → Makes view r start new whole

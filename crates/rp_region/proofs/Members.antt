@@ -1,9 +1,8 @@
 -- The members of the regions that walks come to, and points in them.
-use Rattle.std.proofs.Common.{◌≡◌, ◌*◌, ◌&&◌, ◌||◌, List, [], ◌∷◌, length, refl, ap, ◌∙◌, subst, arith}
+use Rattle.std.proofs.Common.{◌≡◌, ◌*◌, List, [], length, ap, ◌∙◌, subst, arith}
 use Rattle.std.specs.Prelude.{Bool, true, false, Option, Some, None, Result, Ok, Err, is_some, IsSome, IsTrue, IfOk, ◌↔◌}
-use Rattle.std.specs.List.{list_any}
-use Rattle.rp_geometry.specs.Geometry.{RationalPoint, HalfSpace, holds, all_hold}
-use Rattle.rp_geometry.specs.sets.Shape.{Shape, Part, passes, shape_of_cell, shape_of_parts}
+use Rattle.rp_geometry.specs.Geometry.{HalfSpace}
+use Rattle.rp_geometry.specs.sets.Shape.{Shape, Part, shape_of_parts}
 use Rattle.rp_geometry.specs.parts.Parts.{IsPart, IsRegion, AreOf}
 use Rattle.rp_geometry.specs.sets.Sets.{Overlaps}
 use Rattle.rp_geometry.specs.sets.Contact.{IsInContact}
@@ -67,16 +66,6 @@ touch_where true ps qs r w v hp hq m = found_where (IsInContact (shape_of_parts 
 touch_where false ps qs r w v hp hq m = found_where (IsInContact (shape_of_parts ps) (shape_of_parts qs)) (touch_by false ps qs) r w v (touch_is_right_spec IsPart first_tester first_tester_is_right_spec ps qs hp hq w).0 m
 
 -- ---- points
-
--- a cell passes where all of its half-spaces hold
-cell_passes : (cell : List HalfSpace) (p : RationalPoint) → all_hold cell p ≡ passes (shape_of_cell cell) p
-cell_passes [] p = refl
-cell_passes (h ∷ hs) p = ap (λ b. holds h p && b) (cell_passes hs p)
-
--- parts pass where those of one do
-pub some_passes : (parts : List Part) (p : RationalPoint) → list_any (λ part. all_hold part.cell p) parts ≡ passes (shape_of_parts parts) p
-some_passes [] p = refl
-some_passes (q ∷ qs) p = λ i. cell_passes q.cell p i || some_passes qs p i
 
 -- the part that a test makes, or none, is a region
 pub region_made : (cell : List HalfSpace) (o : Option Part) → IsMadeOf IsPart cell o → IsRegion (made_part o)

@@ -1,5 +1,5 @@
 -- The region of a prism, edge by edge.
-use Rattle.std.proofs.Common.{◌≡◌, ℕ, suc, ◌+◌, ◌<◌, ◌≤◌, List, ◌++◌, length, drop, sym, ap, ◌∙◌, subst, add-one, arith}
+use Rattle.std.proofs.Common.{◌≡◌, ℕ, suc, ◌+◌, ◌<◌, ◌≤◌, List, ◌++◌, length, drop, sym, ap, ◌∙◌, subst, add-one}
 use Rattle.std.specs.Prelude.{Option, Some}
 use Rattle.std.proofs.Math.Seq.{drop-cons}
 use Rattle.std.proofs.lemmas.List.{drop_all}
@@ -10,10 +10,7 @@ use Rattle.rp_geometry.specs.sets.Sets.{SameMembers}
 use Rattle.rp_geometry.specs.parts.Parts.{IsPart, AreOf, most_parts}
 use Rattle.rp_walks.specs.Walk.{done, Walk, ◌>>=◌, Work, part_test, first_tester}
 use Rattle.rp_walks.specs.Form.{if_at_most, subtract, exchange, exchange_edges, prism_form, exchange_lists, exchange_cell}
-use Rattle.rp_space.specs.Corners.{polygon_corners}
-use Rattle.rp_space.specs.declared.corner.Corner.{Corner as Written}
 use Rattle.rp_footprint.specs.Cells.{no_corner, edge_at, trapezoid_at}
-use Rattle.rp_footprint.proofs.Cells.{edges_as_many}
 use Rattle.rp_forms.proofs.First.{first_tester_is_right_spec}
 use Rattle.rp_forms.proofs.Prisms.{prism_is_right_spec}
 use Rattle.rp_region.specs.declared.fault.OpFault.{OpFault}
@@ -60,14 +57,6 @@ cell_failed current o cell held w v i s e m =
     fault_left (part_test cell) (exchange first_tester current) (exchange_tells current) (left_as (ap (exchange_cell first_tester current) i) (all_left w (exchange_cell first_tester current o))) e v (subst (λ c. IsFaultOf e w v (part_test c)) s m)
 
 -- ---- the edges in order
-
--- there are as many edges as corners
-pub edge_there : (cs : List Written) (k : ℕ) → k < length cs → k < length (edges_of (polygon_corners cs))
-edge_there cs k h = omega (arith, edges_as_many cs)
-
--- and no more
-pub no_edge_there : (cs : List Written) (k : ℕ) → length cs ≤ k → length (edges_of (polygon_corners cs)) ≤ k
-no_edge_there cs k h = omega (arith, edges_as_many cs)
 
 -- the edge with a number and those behind it are left: its cell first
 edge_next : (s : Prism) (current : List Part) (k : ℕ) (cell : Option (List HalfSpace)) → k < length (edges_of s.corners) → cell ≡ trapezoid_at s k

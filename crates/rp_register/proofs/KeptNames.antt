@@ -9,6 +9,7 @@ use Rattle.indexmap.specs.IndexMap.{insert_entry}
 use Rattle.rp_geometry.specs.sets.Shape.{Part}
 use Rattle.rp_language.specs.Name.{Label, label_eq, is_among}
 use Rattle.rp_model.specs.states.State.{Kept, kept_named, parts_of_kept, names_of, most_names, most_kept_parts}
+use Rattle.rp_states.proofs.Plain.{there_is_kept}
 use Rattle.rp_space.specs.Listed.{Listed}
 use Rattle.rp_register.specs.Kept.{kept_under, kept_entry, AreNamed, IsNewName}
 
@@ -20,15 +21,6 @@ found_is_kept x [] = refl
 found_is_kept x (e ∷ es) = by (label_eq x e.0) (found_is_kept x es)
   where
     by : (b : Bool) → option_map (λ f. f.items) (lookup (label_eq x) es) ≡ parts_of_kept (kept_named x (map kept_entry es)) → option_map (λ f. f.items) (cond b (Some e.1) (lookup (label_eq x) es)) ≡ parts_of_kept (elim b as (λ _. Option (Kept (Unit {0}))) [ true ↦ Some (kept_entry e) | false ↦ kept_named x (map kept_entry es) ])
-    by true later = refl
-    by false later = later
-
--- something is kept under the names that are there, and under no other
-there_is_kept : (x : Label) (ks : List (Kept (Unit {0}))) → is_some (parts_of_kept (kept_named x ks)) ≡ is_among x (names_of ks)
-there_is_kept x [] = refl
-there_is_kept x (k ∷ ks) = by (label_eq x k.name) (there_is_kept x ks)
-  where
-    by : (b : Bool) → is_some (parts_of_kept (kept_named x ks)) ≡ is_among x (names_of ks) → is_some (parts_of_kept (elim b as (λ _. Option (Kept (Unit {0}))) [ true ↦ Some k | false ↦ kept_named x ks ])) ≡ (b || is_among x (names_of ks))
     by true later = refl
     by false later = later
 

@@ -3,6 +3,7 @@ use Rattle.std.proofs.Common.{◌≡◌, ℕ, ◌<◌, Bool, true, List, map, le
 use Rattle.std.specs.Prelude.{IsTrue, option_map}
 use Rattle.std.proofs.lemmas.List.{length-map}
 use Rattle.std.proofs.lemmas.Option.{slice_get-map, slice_get_read}
+use Rattle.rp_algebra.proofs.Lists.{get_some}
 use Rattle.rp_geometry.specs.sets.Shape.{Part}
 use Rattle.rp_language.specs.Name.{Label}
 use Rattle.rp_model.specs.states.State.{Lot, is_live, live_lots, live_lot, lot_with_id, ids_of, bare_lot, parts_of_lot}
@@ -12,7 +13,7 @@ use Rattle.rp_states.proofs.Labels.{label_is}
 use Rattle.rp_history.specs.declared.lot.LotLine.{LotLine}
 use Rattle.rp_history.specs.Lots.{lot_of}
 use Rattle.rp_history.proofs.Found.{found_has_id, found_is_live, picked_lot, if_passed}
-use Rattle.rp_nearby.proofs.Places.{item_at, own_place}
+use Rattle.rp_nearby.proofs.Places.{own_place}
 use Rattle.rp_register.proofs.KeptLots.{bare_found, bare_live_found}
 
 -- what is found without its parts is there with them
@@ -40,7 +41,7 @@ within_lots lots history e k h = subst (λ (n : ℕ). k < n) (ap length e ∙ le
 -- the live lot at its place in the history is the one of the lots
 pub live_here : (x : Label) (lots history : List (Lot (Unit {0}))) → IsTrue (are_distinct (ids_of lots)) → history ≡ map bare_lot lots → (k : ℕ) → k < length lots → slice_get history k ≡ live_lot x history → slice_get lots k ≡ live_lot x lots
 live_here x lots history d e k within same =
-    let item = item_at lots k within in
+    let item = get_some lots k within in
     let l = item.0 in
     let bare : option_map bare_lot (live_lot x lots) ≡ Some (bare_lot l) =
     sym (bare_live_found x lots) ∙ sym (ap (live_lot x) e) ∙ sym same ∙ ap (λ (ls : List (Lot (Unit {0}))). slice_get ls k) e ∙ slice_get-map bare_lot lots k ∙ ap (option_map bare_lot) item.1 in
@@ -61,7 +62,7 @@ live_parts_at x lots history d e k ps within same at = sym at ∙ ap (option_map
 -- the line of a lot at its place
 pub line_at : (lots history : List (Lot (Unit {0}))) (lines : List LotLine) → history ≡ map bare_lot lots → map lot_of lines ≡ history → (k : ℕ) (line : LotLine) → k < length lots → line ≡ get_or lines k line → (l : Lot (Unit {0})) × (slice_get lots k ≡ Some l) × (bare_lot l ≡ lot_of line)
 line_at lots history lines e f k line within is =
-    let item = item_at lots k within in
+    let item = get_some lots k within in
     let many : length lots ≡ length lines = sym (length-map lots bare_lot) ∙ sym (ap length e) ∙ sym (ap length f) ∙ length-map lines lot_of in
     let at : Some (bare_lot item.0) ≡ Some (lot_of line) =
     sym (ap (option_map bare_lot) item.1) ∙ sym (slice_get-map bare_lot lots k) ∙ ap (λ (ls : List (Lot (Unit {0}))). slice_get ls k) (sym e ∙ sym f) ∙ slice_get-map lot_of lines k ∙ ap (option_map lot_of) (slice_get_read lines (length lots) k line many within is) in

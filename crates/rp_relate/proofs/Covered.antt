@@ -7,10 +7,10 @@ use Rattle.rp_geometry.specs.sets.Sets.{IsNonempty, IsEmpty, IsWithin, SameMembe
 use Rattle.rp_geometry.specs.parts.Parts.{IsPart, IsRegion}
 use Rattle.rp_geometry.proofs.SameMembers.{same_itself}
 use Rattle.rp_forms.proofs.Cover.{empty_of_none, nonempty_of_some, show_told, cover_is_right_spec}
-use Rattle.rp_forms.proofs.Whole.{part_is_checked}
 use Rattle.rp_region.specs.declared.fault.OpFault.{OpFault}
 use Rattle.rp_region.specs.declared.fault.OpFault.TheVariants.{Limit, Memory}
 use Rattle.rp_geometry.specs.sets.Relation.{Relation, StandIn}
+use Rattle.rp_geometry.proofs.Kept.{part_is_checked}
 use Rattle.rp_walks.specs.Walk.{Outcome, done, Walk, Work, pass, first_tester}
 use Rattle.rp_walks.specs.Compare.{show_then_no, is_covered, relation_of_parts}
 use Rattle.rp_walks.specs.FormLaws.{IfDone}

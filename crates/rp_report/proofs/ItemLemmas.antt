@@ -16,10 +16,6 @@ pub front_none : {A : Type 0} (o : Option (List A)) → with_front [] o ≡ o
 front_none None = refl
 front_none (Some ys) = refl
 
--- something is left
-pub some_left : (n : ℕ) → false ≡ (n == 0) → 0 < n
-some_left n e = grind arith
-
 -- nothing is left
 pub none_left : (n : ℕ) → true ≡ (n == 0) → n ≡ 0
 none_left n e = grind arith

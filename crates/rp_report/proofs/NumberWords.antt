@@ -8,6 +8,7 @@ use Rattle.std.proofs.lemmas.Bool.{and_parts, or_cases}
 use Rattle.std.proofs.lemmas.Slice.Eq.{bytes_eq-Decides}
 use Rattle.rp_algebra.proofs.Options.{none_not_some, same_some, some_if}
 use Rattle.rp_language.specs.Grammar.{Word, minus_sign, zero_digit, value_of_digits, starts_above_zero, spells_zero, natural_spelled, as_negative, as_whole, number_spelled}
+use Rattle.rp_language.proofs.Decimal.{digit_is}
 
 -- one more digit
 abbrev step : ℕ → ℕ → ℕ
@@ -17,10 +18,6 @@ step n d = 10 * n + (d - zero_digit)
 grows : (n : ℕ) (ds : List ℕ) → n ≤ fold step n ds
 grows n [] = omega arith
 grows n (d ∷ ds) = let more = grows (step n d) ds in omega (arith, more)
-
--- a digit as a number
-digit_is : (d : ℕ) → is_ascii_digit d ≡ true → (48 ≤ d) × (d ≤ 57)
-digit_is d e = (grind arith, grind arith)
 
 -- digits behind a number above 0 are appended to its decimal
 decimal_behind : (n : ℕ) (ds : List ℕ) → 0 < n → list_all is_ascii_digit ds ≡ true → fold step n ds < 10 ^ 64 → decimal (fold step n ds) ≡ decimal n ++ ds

@@ -10,6 +10,7 @@ use Rattle.rp_algebra.proofs.Tests.{and_first, and_second, false_unless, false_n
 use Rattle.rp_algebra.proofs.Options.{same_some, some_not_none}
 use Rattle.rp_geometry.specs.Geometry.{RationalPoint, HalfSpace, point_of, half_space_of, half_space_eq, is_within_bound, cube_bound, offset_bound, is_half_space_in_bounds, is_zero_half_space, reduced_half_space, is_point_in_bounds, reduced_point}
 use Rattle.rp_geometry.specs.Geometry.{point_eq}
+use Rattle.rp_geometry.proofs.Points.{point_eq-to}
 use Rattle.rp_space.specs.declared.half.HalfFault.{HalfFault}
 use Rattle.rp_space.specs.declared.half.HalfFault.TheVariants.{Range as HalfRange, Zero}
 use Rattle.rp_space.specs.declared.point.PointFault.{PointFault}
@@ -103,23 +104,12 @@ point_compared u a b c d x y z w test fits_x fits_y fits_z fits_w is e =
     ∙ ap (λ (v : RationalPoint). point_eq v (point_of (in_128 x) (in_128 y) (in_128 z) (in_128 w))) is
     ∙ ap (point_eq u) (point_of_words x y z w fits_x fits_y fits_z fits_w)
 
--- points that pass the test are the same
-point_same : (p q : RationalPoint) → point_eq p q ≡ true → p ≡ q
-point_same p q e =
-    let x = (Decides-int_eq p.x q.x).0 (and_first _ _ e) in
-    let yzw = and_second (int_eq p.x q.x) _ e in
-    let y = (Decides-int_eq p.y q.y).0 (and_first _ _ yzw) in
-    let zw = and_second (int_eq p.y q.y) _ yzw in
-    let z = (Decides-int_eq p.z q.z).0 (and_first _ _ zw) in
-    let w = (Decides-int_eq p.w q.w).0 (and_second (int_eq p.z q.z) _ zw) in
-    λ i. record { x = x i; y = y i; z = z i; w = w i }
-
 -- a point that was made, if it is the one that was given
 pub point_made : (p q : RationalPoint) (same : Bool) → Ok q ≡ made_point p → same ≡ point_eq q p → kept_if same q ≡ written_point p
 point_made p q same e is = ap (λ (t : Bool). kept_if t q) is ∙ either (point_eq q p) refl ∙ by (is_point_in_bounds p) (int_le (pos 1) p.w) (reduced_point p) e
   where
     either : (t : Bool) → point_eq q p ≡ t → kept_if t q ≡ kept_if t p
-    either true e = ap Some (point_same q p e)
+    either true e = ap Some (point_eq-to q p e)
     either false e = refl
 
     by : (bounds above : Bool) (r : RationalPoint) → Ok q ≡ elim above as (λ _. Result RationalPoint PointFault) [ false ↦ Err Weight | true ↦ elim bounds as (λ _. Result RationalPoint PointFault) [ false ↦ Err PointRange | true ↦ Ok r ] ] → kept_if (point_eq q p) p ≡ kept_if (bounds && above && point_eq r p) p

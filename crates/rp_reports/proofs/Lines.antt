@@ -17,12 +17,12 @@ HasNoEnd line = AllByRecursion (λ b. is_end b ≡ false) line
 -- ---- the lines of a script
 
 -- one more byte
-onto_no_end : (b : ℕ) (pieces : List (List ℕ)) → is_end b ≡ false → AllByRecursion HasNoEnd pieces → AllByRecursion HasNoEnd (onto_first b pieces)
+pub onto_no_end : (b : ℕ) (pieces : List (List ℕ)) → is_end b ≡ false → AllByRecursion HasNoEnd pieces → AllByRecursion HasNoEnd (onto_first b pieces)
 onto_no_end b [] e h = ((e, tt), tt)
 onto_no_end b (p ∷ pieces) e h = ((e, h.0), h.1)
 
 -- the pieces between line ends
-pieces_no_end : (bytes : List ℕ) → AllByRecursion HasNoEnd (slice_split is_end bytes)
+pub pieces_no_end : (bytes : List ℕ) → AllByRecursion HasNoEnd (slice_split is_end bytes)
 pieces_no_end [] = (tt, tt)
 pieces_no_end (b ∷ bytes) = here (is_end b) refl (pieces_no_end bytes)
   where
@@ -31,14 +31,14 @@ pieces_no_end (b ∷ bytes) = here (is_end b) refl (pieces_no_end bytes)
     here false e h = subst (AllByRecursion HasNoEnd) (sym (slice_split-cons_no is_end b bytes e)) (onto_no_end b (slice_split is_end bytes) e h)
 
 -- the first bytes of a line
-take_no_end : (n : ℕ) (line : List ℕ) → HasNoEnd line → HasNoEnd (take n line)
+pub take_no_end : (n : ℕ) (line : List ℕ) → HasNoEnd line → HasNoEnd (take n line)
 take_no_end zero [] h = tt
 take_no_end (suc n) [] h = tt
 take_no_end zero (b ∷ line) h = tt
 take_no_end (suc n) (b ∷ line) h = (h.0, take_no_end n line h.1)
 
 -- a line without its carriage return
-without_no_end : (line : List ℕ) → HasNoEnd line → HasNoEnd (without_return line)
+pub without_no_end : (line : List ℕ) → HasNoEnd line → HasNoEnd (without_return line)
 without_no_end line h = here (slice_index line (length line - 1) == 13)
   where
     here : (t : Bool) → HasNoEnd (elim t as (λ _. List ℕ) [ true ↦ take (length line - 1) line | false ↦ line ])
@@ -46,7 +46,7 @@ without_no_end line h = here (slice_index line (length line - 1) == 13)
     here false = h
 
 -- the lines of pieces
-lines_no_end : (pieces : List (List ℕ)) → AllByRecursion HasNoEnd pieces → AllByRecursion HasNoEnd (lines_of_pieces pieces)
+pub lines_no_end : (pieces : List (List ℕ)) → AllByRecursion HasNoEnd pieces → AllByRecursion HasNoEnd (lines_of_pieces pieces)
 lines_no_end [] h = tt
 lines_no_end ([] ∷ []) h = tt
 lines_no_end ((b ∷ p) ∷ []) h = (h.0, tt)
@@ -60,12 +60,12 @@ script_lines_no_end bytes = lines_no_end (slice_split is_end bytes) (pieces_no_e
 -- ---- the lines of a text
 
 -- a line and its end
-split_line : (line rest : List ℕ) → HasNoEnd line → slice_split is_end (line ++ line_end ∷ rest) ≡ line ∷ slice_split is_end rest
+pub split_line : (line rest : List ℕ) → HasNoEnd line → slice_split is_end (line ++ line_end ∷ rest) ≡ line ∷ slice_split is_end rest
 split_line [] rest h = slice_split-cons_yes is_end line_end rest refl
 split_line (b ∷ line) rest h = slice_split-cons_no is_end b (line ++ line_end ∷ rest) h.0 ∙ ap (onto_first b) (split_line line rest h.1)
 
 -- a line end behind a line
-append_end : (line rest : List ℕ) → (line ++ line_end ∷ []) ++ rest ≡ line ++ line_end ∷ rest
+pub append_end : (line rest : List ℕ) → (line ++ line_end ∷ []) ++ rest ≡ line ++ line_end ∷ rest
 append_end [] rest = refl
 append_end (b ∷ line) rest = ap (λ (l : List ℕ). b ∷ l) (append_end line rest)
 

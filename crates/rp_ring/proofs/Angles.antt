@@ -6,6 +6,7 @@ use Rattle.rp_algebra.proofs.IntLaws.{linear, trichotomy_ℤ}
 use Rattle.rp_algebra.proofs.Reify.{by_ring_at, reify}
 use Rattle.rp_algebra.proofs.Tests.{and_first, and_second, zero_is, is_zero_true, positive_is, is_positive_true, false_not_true, not_positive_is}
 use Rattle.rp_algebra.proofs.Listed.{Listed, first, later}
+use Rattle.rp_algebra.proofs.Numbers.{neg_nonneg}
 use Rattle.rp_geometry.specs.sections.Trace.{Trace}
 use Rattle.rp_geometry.specs.sections.Ring.{RingStep, cross, is_upper, is_before_by, is_angle_before, angles_rise}
 use Rattle.rp_ring.proofs.Traces.{IsDirection}
@@ -24,14 +25,10 @@ upper_to t e =
     record { least = omega (arith, linear, z); then = λ y. p })
     (or_cases (is_positive t.b) _ e)
 
--- the negative of a number that is not above 0
-neg_least : (v : ℤ) → v ≤ℤ pos 0 → pos 0 ≤ℤ neg_ℤ v
-neg_least v h = omega (arith, linear, h)
-
 -- a direction in the second half turn
 pub lower_to : (t : Trace) → IsDirection t.a t.b → is_upper t ≡ false → IsFirst (neg_ℤ t.b) (neg_ℤ t.a)
 lower_to t n e = record {
-  least = neg_least t.b (not_positive_is t.b (or_false_left (is_positive t.b) (is_zero t.b && is_positive t.a) e));
+  least = neg_nonneg t.b (not_positive_is t.b (or_false_left (is_positive t.b) (is_zero t.b && is_positive t.a) e));
   then = λ z. below t.a (not_positive_is t.a (and_false (is_zero t.b) (is_positive t.a) (is_zero_true t.b (unneg t.b z)) (or_false_right (is_positive t.b) (is_zero t.b && is_positive t.a) e))) (λ y. n y (unneg t.b z));
 }
   where

@@ -1,15 +1,17 @@
 -- The closure of a section: near its members are exactly the points of the height at which no trace is negative. It lies on the left of the ring.
-use Rattle.std.proofs.Common.{◌≡◌, ℕ, ◌+◌, ◌*◌, ◌≤◌, ℤ, pos, negsuc, neg_ℤ, nat_abs, ◌+ℤ◌, ◌-ℤ◌, ◌*ℤ◌, ◌≤ℤ◌, ◌<ℤ◌, List, [], ◌∷◌, ⊎_elim, refl, sym, ◌∙◌, subst, arith}
+use Rattle.std.proofs.Common.{◌≡◌, ℕ, ◌+◌, ◌*◌, ◌≤◌, ℤ, pos, neg_ℤ, nat_abs, ◌+ℤ◌, ◌-ℤ◌, ◌*ℤ◌, ◌≤ℤ◌, ◌<ℤ◌, List, [], ◌∷◌, ⊎_elim, sym, ◌∙◌, subst, arith}
 use Rattle.std.proofs.lemmas.Int.{ints}
-use Rattle.rp_algebra.proofs.IntLaws.{linear, signs, nonneg_of_pos_ℤ, le_or_lt_ℤ, nat_nonneg_ℤ, mul_nonneg_ℤ}
+use Rattle.rp_algebra.proofs.IntLaws.{signs, nonneg_of_pos_ℤ, le_or_lt_ℤ, nat_nonneg_ℤ, mul_nonneg_ℤ}
 use Rattle.rp_algebra.proofs.Reify.{by_ring_at, le_by_ring, le_by_multiple, reify}
 use Rattle.rp_algebra.proofs.Listed.{Listed, of_all}
+use Rattle.rp_algebra.proofs.Numbers.{more_positive, size_below, size_above, bounded_below, bounded_above, product_at_least}
 use Rattle.rp_geometry.specs.Geometry.{RationalPoint, HalfSpace, point_of}
-use Rattle.rp_geometry.specs.sets.Contact.{IsCloseTo, IsCloseBy}
+use Rattle.rp_geometry.specs.sets.Contact.{IsCloseTo}
 use Rattle.rp_geometry.specs.searches.Vertex.{det3}
 use Rattle.rp_geometry.specs.sections.Trace.{IsHeight, Trace, trace_value, with_sides}
 use Rattle.rp_geometry.specs.laws.SectionLaws.{IsMemberAt, IsNearAt, IsOnTheLeft, ClosureIsOnTheLeft}
 use Rattle.rp_geometry.specs.sections.Ring.{RingStep, Turn, cross, turns_of}
+use Rattle.rp_geometry.proofs.Points.{apart, near_close, closeness}
 use Rattle.rp_ring.proofs.Traces.{traces}
 use Rattle.rp_ring.proofs.Turns.{joins}
 use Rattle.rp_ring.proofs.Rings.{LevelsHold, IsRingOf, ring_to, on_edge}
@@ -20,20 +22,6 @@ use Rattle.rp_ring.proofs.Center.{IsWithinAll, within_is_member}
 use Rattle.rp_ring.proofs.Spots.{IsWeakAt}
 
 -- ---- no trace is negative near the members
-
--- where t is from -s to s, and a from -m to m, a t is at least -m s
-product_at_least : (m a t s : ℤ) → pos 0 ≤ℤ (m +ℤ a) → pos 0 ≤ℤ (m -ℤ a) → pos 0 ≤ℤ (s +ℤ t) → pos 0 ≤ℤ (s -ℤ t) → pos 0 ≤ℤ (a *ℤ t +ℤ m *ℤ s)
-product_at_least m a t s h k l r =
-    let p : pos 0 ≤ℤ ((m +ℤ a) *ℤ (s +ℤ t) +ℤ (m -ℤ a) *ℤ (s -ℤ t)) = search signs in
-    let e : (m +ℤ a) *ℤ (s +ℤ t) +ℤ (m -ℤ a) *ℤ (s -ℤ t) ≡ (a *ℤ t +ℤ m *ℤ s) +ℤ (a *ℤ t +ℤ m *ℤ s) = by_ring_at (m ∷ a ∷ t ∷ s ∷ []) (search reify depth 40 fits 100000) tt in
-    half (a *ℤ t +ℤ m *ℤ s) (subst (λ (v : ℤ). pos 0 ≤ℤ v) e p)
-  where
-    half : (v : ℤ) → pos 0 ≤ℤ (v +ℤ v) → pos 0 ≤ℤ v
-    half v h = omega (arith, ints)
-
--- the difference of the coordinates x/w and s/v, times both weights
-abbrev apart : ℤ → ℤ → ℤ → ℤ → ℤ
-apart x w s v = x *ℤ v -ℤ s *ℤ w
 
 -- a trace that is negative at one point is not at least 0 at another that is as close by as 1/(1 + 2 m w)
 not_too_near : (a b d x y w s t v m i j : ℤ) → pos 0 <ℤ w → pos 0 <ℤ v → pos 0 ≤ℤ m
@@ -61,36 +49,9 @@ not_too_near a b d x y w s t v m i j hw hv hm ha hb hi hj below at =
         → pos 0 ≤ℤ (n *ℤ ((a *ℤ r +ℤ m *ℤ i) +ℤ (b *ℤ t +ℤ m *ℤ j)) +ℤ m *ℤ ((w *ℤ v -ℤ n *ℤ i) +ℤ (w *ℤ v -ℤ n *ℤ j)) +ℤ n *ℤ w *ℤ s +ℤ n *ℤ v *ℤ f)
     sum_nonnegative n m w v f s a b r t i j hn hm hw hv hf hs ha hb hi hj = search signs depth 20 fits 10000
 
--- a number of a size at most n is at most n
-bounded_above : (n : ℕ) (a : ℤ) → nat_abs a ≤ n → pos 0 ≤ℤ (pos n -ℤ a)
-bounded_above n a h = omega (arith, ints)
-
--- and at least -n
-bounded_below : (n : ℕ) (a : ℤ) → nat_abs a ≤ n → pos 0 ≤ℤ (pos n +ℤ a)
-bounded_below n a h = omega (arith, ints)
-
--- a number is at most its size
-size_above : (t : ℤ) → pos 0 ≤ℤ (pos (nat_abs t) -ℤ t)
-size_above t = omega (arith, ints)
-
--- and at least the negative of it
-size_below : (t : ℤ) → pos 0 ≤ℤ (pos (nat_abs t) +ℤ t)
-size_below t = omega (arith, ints)
-
 -- the product of a number of a size at most n and any number
 bounded_product : (n : ℕ) (a t : ℤ) → nat_abs a ≤ n → pos 0 ≤ℤ (a *ℤ t +ℤ pos n *ℤ pos (nat_abs t))
 bounded_product n a t h = product_at_least (pos n) a t (pos (nat_abs t)) (bounded_below n a h) (bounded_above n a h) (size_below t) (size_above t)
-
--- how close a member has to be: a natural number
-record Closeness (m : ℕ) (w : ℤ) : Type 0 where
-  number : ℕ
-  is : pos number ≡ pos 1 +ℤ pos 2 *ℤ pos m *ℤ w
-  positive : 1 ≤ number
-
--- such a number for each positive weight
-closeness : (m : ℕ) (w : ℤ) → pos 0 <ℤ w → Closeness m w
-closeness m (pos w) h = record { number = 1 + 2 * m * w; is = refl; positive = omega arith }
-closeness m (negsuc w) h = absurd (omega (arith, ints))
 
 -- no trace is negative near the members
 pub near_is_weak : (z : ℤ) (cell : List HalfSpace) (p : RationalPoint) → IsNearAt z cell p → IsWeakAt z (traces z (with_sides cell)) p
@@ -116,34 +77,9 @@ near_is_weak z cell p n = record {
 
 -- ---- a point at which no trace is negative is near the members
 
--- a difference of coordinates at most k is at most the product of the weights, where the second weight has k times the first in it
-close_enough : (t k w s : ℤ) → t ≤ℤ k → pos 0 ≤ℤ k → pos 0 <ℤ w → pos 0 <ℤ s → t ≤ℤ (w *ℤ (s +ℤ k *ℤ w))
-close_enough t k w s h hk hw hs =
-    let d : pos 0 ≤ℤ (k -ℤ t) = omega (arith, linear) in
-    let e : pos 0 ≤ℤ (w -ℤ pos 1) = omega (arith, ints) in
-    let c : pos 0 ≤ℤ (w *ℤ s +ℤ (k -ℤ t) +ℤ k *ℤ ((w -ℤ pos 1) *ℤ (w +ℤ pos 1))) = search signs depth 12 fits 5000 in
-    le_by_ring (t ∷ k ∷ w ∷ s ∷ []) c (search reify depth 40 fits 100000) tt
-
--- the difference to the point on the way is the difference to its start
-apart_near : (x w s v k : ℤ) → apart x w (s +ℤ k *ℤ x) (v +ℤ k *ℤ w) ≡ apart x w s v
-apart_near x w s v k = by_ring_at (x ∷ w ∷ s ∷ v ∷ k ∷ []) (search reify depth 40 fits 100000) tt
-
--- the coordinate of the point near p is close by, where k is large
-near_close : (n k : ℕ) (x w s v : ℤ) → n * nat_abs (apart x w s v) ≤ k → pos 0 <ℤ w → pos 0 <ℤ v → IsCloseBy n x w (s +ℤ pos k *ℤ x) (v +ℤ pos k *ℤ w)
-near_close n k x w s v h hw hv =
-    subst (λ (t : ℤ). (pos n *ℤ pos (nat_abs t)) ≤ℤ (w *ℤ (v +ℤ pos k *ℤ w))) (sym (apart_near x w s v (pos k)))
-    (close_enough (pos (n * nat_abs (apart x w s v))) (pos k) w v (naturals (n * nat_abs (apart x w s v)) k h) (nat_nonneg_ℤ k) hw hv)
-  where
-    naturals : (m k : ℕ) → m ≤ k → pos m ≤ℤ pos k
-    naturals m k h = omega (arith, ints)
-
 -- the point near p, on the way from c, with p counted k times
 abbrev near : ℕ → RationalPoint → RationalPoint → RationalPoint
 near k c p = point_of (c.x +ℤ pos k *ℤ p.x) (c.y +ℤ pos k *ℤ p.y) (c.z +ℤ pos k *ℤ p.z) (c.w +ℤ pos k *ℤ p.w)
-
--- a number above 0 stays so, with what is not negative added
-more_positive : (u k v : ℤ) → pos 0 <ℤ u → pos 0 ≤ℤ k → pos 0 ≤ℤ v → pos 0 <ℤ (u +ℤ k *ℤ v)
-more_positive u k v hu hk hv = search signs
 
 -- all traces are above 0 at the point near p
 near_within : (z : ℤ) (ts : List Trace) (c p : RationalPoint) (k : ℕ) → IsWithinAll z ts c → IsWeakAt z ts p → IsWithinAll z ts (near k c p)

@@ -4,7 +4,7 @@ use Rattle.std.specs.List.{AllByRecursion, list_all}
 use Rattle.std.proofs.lemmas.Int.{ints}
 use Rattle.std.proofs.lemmas.Bool.{or_cases}
 use Rattle.rp_algebra.specs.Integer.{is_zero}
-use Rattle.rp_algebra.proofs.IntLaws.{linear, signs, cancel_mul_left_ℤ, nonneg_of_pos_ℤ}
+use Rattle.rp_algebra.proofs.IntLaws.{linear, signs, cancel_mul_left_ℤ, nonneg_of_pos_ℤ, add_nonneg_ℤ}
 use Rattle.rp_algebra.proofs.Reify.{by_ring_at, le_by_ring, reify}
 use Rattle.rp_algebra.proofs.Tests.{and_first, and_second, zero_is, at_most_is, false_not_true}
 use Rattle.rp_algebra.proofs.Listed.{of_all}
@@ -40,14 +40,10 @@ held_times k v a b hk h = record { least = (let l = h.least in search signs); th
 two_zero : (a c : ℤ) → pos 0 ≤ℤ a → pos 0 ≤ℤ c → a +ℤ c ≡ pos 0 → (a ≡ pos 0) × (c ≡ pos 0)
 two_zero a c h k e = (omega (arith, linear, h, k, e), omega (arith, linear, h, k, e))
 
--- a sum of two numbers at least 0
-two_least : (a c : ℤ) → pos 0 ≤ℤ a → pos 0 ≤ℤ c → pos 0 ≤ℤ (a +ℤ c)
-two_least a c h k = omega (arith, linear, h, k)
-
 -- what is held and what is kept
 pub held_sum : (v a b w c d : ℤ) → IsHeldBy v a b → IsKeptBy w c d → IsHeldBy (v +ℤ w) (a +ℤ c) (b +ℤ d)
 held_sum v a b w c d h k = record {
-  least = two_least v w h.least k.least;
+  least = add_nonneg_ℤ v w h.least k.least;
   then = λ e. (let z = two_zero v w h.least k.least e in first_sum a b c d (h.then z.0) (k.then z.1));
 }
 

@@ -3,34 +3,18 @@ use Rattle.std.proofs.Common.{◌≡◌, ℤ, pos, ◌*ℤ◌, ◌≤ℤ◌, ◌
 use Rattle.std.specs.Prelude.{nat_le}
 use Rattle.std.specs.List.{list_all}
 use Rattle.std.proofs.lemmas.Bool.Decides.{Decides-int_eq}
-use Rattle.rp_algebra.specs.Integer.{int_eq, is_zero, is_positive}
+use Rattle.rp_algebra.specs.Integer.{is_zero, is_positive}
 use Rattle.rp_algebra.proofs.Tests.{and_first, and_second, and_true, zero_is, positive_is, is_positive_true, is_zero_true, false_not_true, false_unless}
 use Rattle.rp_algebra.proofs.Listed.{Listed, all_pass, pass_all}
 use Rattle.rp_geometry.specs.Geometry.{RationalPoint, HalfSpace, IsPoint, SamePlace, reduced_point, point_eq}
 use Rattle.rp_geometry.specs.sections.Trace.{IsAtHeight, Trace, has_trace, holds_level, trace_value, with_sides, is_at_height}
 use Rattle.rp_geometry.specs.sections.Ring.{RingStep, Turn, turns_of, cross, is_lowest_point, is_trace_of, all_traces_hold, is_step, is_turn, all_levels_hold, is_ring, angles_rise}
+use Rattle.rp_geometry.proofs.Points.{point_eq-to, point_eq-same}
 use Rattle.rp_convex.proofs.LowestOne.{lowest_terms_are_one_spec}
 use Rattle.rp_ring.proofs.Traces.{traces, is_trace_of-to, is_trace_of-from, all_traces_hold-to, all_traces_hold-from}
 use Rattle.rp_ring.proofs.Turns.{onward}
 
 -- ---- points
-
--- points with the same numbers are one
-pub point_eq-to : (p q : RationalPoint) → point_eq p q ≡ true → p ≡ q
-point_eq-to p q e =
-    let yzw = and_second (int_eq p.x q.x) _ e in
-    let zw = and_second (int_eq p.y q.y) _ yzw in
-    let ex = (Decides-int_eq p.x q.x).0 (and_first (int_eq p.x q.x) _ e) in
-    let ey = (Decides-int_eq p.y q.y).0 (and_first (int_eq p.y q.y) _ yzw) in
-    let ez = (Decides-int_eq p.z q.z).0 (and_first (int_eq p.z q.z) _ zw) in
-    let ew = (Decides-int_eq p.w q.w).0 (and_second (int_eq p.z q.z) _ zw) in
-    λ i. record { x = ex i; y = ey i; z = ez i; w = ew i }
-
--- a point has its own numbers
-pub point_eq-same : (p : RationalPoint) → point_eq p p ≡ true
-point_eq-same p =
-    and_true _ _ ((Decides-int_eq p.x p.x).1 refl)
-    (and_true _ _ ((Decides-int_eq p.y p.y).1 refl) (and_true _ _ ((Decides-int_eq p.z p.z).1 refl) ((Decides-int_eq p.w p.w).1 refl)))
 
 -- a point in lowest terms
 pub record IsLowestPoint (p : RationalPoint) : Type 0 where

@@ -3,7 +3,7 @@ use Rattle.std.proofs.Common.{◌≡◌, ℤ, pos, neg_ℤ, ◌+ℤ◌, ◌-ℤ�
 use Rattle.std.specs.Prelude.{nat_le}
 use Rattle.std.proofs.lemmas.Int.{ints}
 use Rattle.rp_algebra.proofs.IntLaws.{linear, signs, le_or_lt_ℤ, trichotomy_ℤ, cancel_mul_left_ℤ, mul_pos_ℤ}
-use Rattle.rp_algebra.proofs.Numbers.{zero_difference}
+use Rattle.rp_algebra.proofs.Numbers.{zero_difference, zero_product}
 use Rattle.rp_algebra.proofs.Reify.{by_ring_at, le_by_ring, le_by_multiple, reify}
 use Rattle.rp_algebra.proofs.Listed.{Listed, first, later}
 use Rattle.rp_geometry.specs.Geometry.{RationalPoint, IsPoint, SamePlace}
@@ -33,10 +33,6 @@ turning e f t p q = turning_of e.a e.b e.d f.a f.b f.d t.a t.b t.d p.x p.y p.w q
 pub change_from_zero : (t : Trace) (p q : RationalPoint) → trace_value t p ≡ pos 0 → change t p q ≡ p.w *ℤ trace_value t q
 change_from_zero t p q e = ap (λ (v : ℤ). p.w *ℤ trace_value t q -ℤ q.w *ℤ v) e ∙ by_ring_at (p.w ∷ q.w ∷ trace_value t q ∷ []) (search reify depth 40 fits 100000) tt
 
--- a product with a zero
-zero_right : (k v : ℤ) → v ≡ pos 0 → k *ℤ v ≡ pos 0
-zero_right k v e = ap (λ (u : ℤ). k *ℤ u) e ∙ by_ring_at (k ∷ []) (search reify depth 40 fits 100000) tt
-
 -- the change between two points where the value is 0
 pub no_change : (t : Trace) (p q : RationalPoint) → trace_value t p ≡ pos 0 → trace_value t q ≡ pos 0 → change t p q ≡ pos 0
 no_change t p q ep eq = zero_difference p.w q.w (trace_value t q) (trace_value t p) eq ep
@@ -58,7 +54,7 @@ meet_y ea eb ed fa fb fd x y w i j k = by_ring_at (ea ∷ eb ∷ ed ∷ fa ∷ f
 -- two numbers are equal where a multiple of their difference is 0
 equal_by : (k u v n : ℤ) → pos 0 <ℤ k → k *ℤ (u -ℤ v) ≡ n → n ≡ pos 0 → u ≡ v
 equal_by k u v n h e z =
-    let d : u -ℤ v ≡ pos 0 = cancel_mul_left_ℤ k (u -ℤ v) (pos 0) h (e ∙ z ∙ sym (zero_right k (pos 0) refl)) in
+    let d : u -ℤ v ≡ pos 0 = cancel_mul_left_ℤ k (u -ℤ v) (pos 0) h (e ∙ z ∙ sym (zero_product k (pos 0) refl)) in
     omega (arith, linear, d)
 
 -- points of one height have equal z

@@ -13,6 +13,7 @@ use Rattle.rp_algebra.proofs.Listed.{Listed, first, later, pass_all}
 use Rattle.rp_geometry.specs.Geometry.{RationalPoint, HalfSpace, side_value, owns_boundary, holds}
 use Rattle.rp_geometry.specs.sections.Trace.{IsAtHeight, Trace, has_trace, offset_at, trace_at, upright, trace_holds, trace_value, trace_eq, trace_before}
 use Rattle.rp_geometry.specs.sections.Ring.{is_trace_of, all_traces_hold}
+
 pub use Rattle.rp_geometry.specs.sections.Trace.{traces}
 use Rattle.rp_convex.proofs.Signs.{HaveSameSign, same_sign}
 
@@ -75,7 +76,7 @@ value_of_level : (a b c d x y z w : ℤ) → a *ℤ x +ℤ b *ℤ y +ℤ c *ℤ 
 value_of_level a b c d x y z w = by_ring_at (a ∷ b ∷ c ∷ d ∷ x ∷ y ∷ z ∷ w ∷ []) (search reify depth 40 fits 100000) tt
 
 -- a multiple of a trace's value
-value_of_factor : (g a b d x y w : ℤ) → (g *ℤ a) *ℤ x +ℤ (g *ℤ b) *ℤ y +ℤ (g *ℤ d) *ℤ w ≡ g *ℤ (a *ℤ x +ℤ b *ℤ y +ℤ d *ℤ w)
+pub value_of_factor : (g a b d x y w : ℤ) → (g *ℤ a) *ℤ x +ℤ (g *ℤ b) *ℤ y +ℤ (g *ℤ d) *ℤ w ≡ g *ℤ (a *ℤ x +ℤ b *ℤ y +ℤ d *ℤ w)
 value_of_factor g a b d x y w = by_ring_at (g ∷ a ∷ b ∷ d ∷ x ∷ y ∷ w ∷ []) (search reify depth 40 fits 100000) tt
 
 -- the value of the half-space at a point of the height, from its numbers on the plane

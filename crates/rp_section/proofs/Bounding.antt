@@ -1,20 +1,20 @@
 -- Which sides bound a section: where a cell has a ring, those whose traces are its edges.
-use Rattle.std.proofs.Common.{◌≡◌, ℤ, pos, neg_ℤ, ◌+ℤ◌, ◌-ℤ◌, ◌*ℤ◌, ◌≤ℤ◌, ◌<ℤ◌, Bool, true, false, ◌&&◌, ◌||◌, not, List, [], ◌∷◌, ◌++◌, map, ◌⊎◌, inl, inr, ⊎_elim, Option, Some, None, refl, sym, ap, ◌∙◌, subst, arith}
+use Rattle.std.proofs.Common.{◌≡◌, ℤ, pos, neg_ℤ, ◌+ℤ◌, ◌*ℤ◌, ◌≤ℤ◌, ◌<ℤ◌, Bool, true, false, ◌&&◌, ◌||◌, not, List, [], ◌∷◌, ◌++◌, map, ◌⊎◌, inl, inr, ⊎_elim, Option, Some, None, refl, sym, ap, ◌∙◌, subst, arith}
 use Rattle.std.specs.Prelude.{is_some, option_map}
 use Rattle.std.specs.List.{list_all, list_any}
 use Rattle.std.proofs.lemmas.Int.{ints}
-use Rattle.std.proofs.lemmas.Bool.{or_cases, or_left, or_right}
+use Rattle.std.proofs.lemmas.Bool.{or_cases}
 use Rattle.rp_algebra.specs.Integer.{is_zero, is_positive, is_nonnegative}
 use Rattle.rp_algebra.proofs.IntLaws.{linear, trichotomy_ℤ, cancel_mul_left_ℤ, cancel_mul_ne_ℤ}
-use Rattle.rp_algebra.proofs.Numbers.{zero_or_not, above_not_zero, below_not_zero, nonpos_of_neg}
+use Rattle.rp_algebra.proofs.Numbers.{zero_or_not, above_not_zero, below_not_zero, nonpos_of_neg, neg_positive}
 use Rattle.rp_algebra.proofs.Options.{none_not_some, some_not_none, same_some}
 use Rattle.rp_algebra.proofs.Reify.{by_ring_at, reify}
-use Rattle.rp_algebra.proofs.Tests.{and_first, and_second, and_true, zero_is, is_zero_true, is_zero_false, is_positive_true, is_positive_false, positive_is, not_positive_is, nonnegative_is, is_nonnegative_true, false_not_true, false_unless}
+use Rattle.rp_algebra.proofs.Tests.{and_first, and_second, and_true, zero_is, is_zero_true, is_zero_false, is_positive_true, is_positive_false, positive_is, not_positive_is, nonnegative_is, is_nonnegative_true, false_not_true, false_unless, same_test}
 use Rattle.rp_algebra.proofs.Listed.{Listed, first, later, all_pass, pass_all}
-use Rattle.rp_geometry.proofs.InLowestTerms.{same_test}
+use Rattle.rp_algebra.proofs.Filter.{passes_some}
 use Rattle.rp_geometry.specs.Geometry.{RationalPoint, HalfSpace, IsPoint, side_value, reduced_point}
 use Rattle.rp_geometry.specs.searches.Search.{first_of}
-use Rattle.rp_geometry.specs.searches.Vertex.{cramer_point, negated_point, normal_point, meeting_point}
+use Rattle.rp_geometry.specs.searches.Vertex.{cramer_point, negated_point, meeting_point}
 use Rattle.rp_geometry.specs.sections.Trace.{IsAtHeight, IsHeight, Trace, has_trace, trace_at, trace_value, with_sides, traces, trace_before}
 use Rattle.rp_geometry.specs.sections.Ring.{RingStep, Turn, turn_of, turns_of, cross, crossing, trace_meeting, is_edge_of, corners, edges_among, insert_edge, is_angle_before}
 use Rattle.rp_geometry.specs.laws.SectionLaws.{level_plane}
@@ -26,10 +26,11 @@ use Rattle.rp_ring.proofs.Turns.{onward, backward, joins}
 use Rattle.rp_ring.proofs.Rings.{IsLowestPoint, IsRingOf, on_edge}
 use Rattle.rp_ring.proofs.Unique.{HasEdge, edge_at_two, end_spot}
 use Rattle.rp_ring.proofs.Spots.{IsSpot, cross_turned}
-use Rattle.rp_slice.proofs.RingFound.{meeting_is, meeting_plain, normal_above, normal_below, normal_zero, negative_weight, edge_is, is_edge}
+use Rattle.rp_slice.proofs.RingFound.{meeting_is, meeting_plain, normal_above, normal_below, normal_zero, edge_is, is_edge, crossing_first, crossing_second, negated_value}
 use Rattle.rp_slice.proofs.Sizes.{parallel_none, traces_meet_where_planes_do_spec}
 use Rattle.rp_cert.proofs.Traced.{side_sign}
 use Rattle.rp_space.specs.PositivePoint.{positive_point}
+use Rattle.rp_space.proofs.Positive.{reduced_positive}
 use Rattle.rp_section.specs.declared.side.Side.{Side}
 use Rattle.rp_section.specs.Sides.{side_of, sides_of, are_above, if_above, spot_at, is_other, has_other, is_bound, insert_side, bounds_of}
 
@@ -93,18 +94,6 @@ reduced_zero t p h e =
     {y = t.a *ℤ ((reduced_point p).x *ℤ m.factor) +ℤ t.b *ℤ ((reduced_point p).y *ℤ m.factor) +ℤ t.d *ℤ ((reduced_point p).w *ℤ m.factor)} (search reify depth 40 fits 100000) tt
     ∙ (λ i. t.a *ℤ m.x i +ℤ t.b *ℤ m.y i +ℤ t.d *ℤ m.w i) ∙ e)
 
--- the first trace is 0 where the two cross
-crossing_first : (sa sb sd ta tb td : ℤ) → sa *ℤ (sb *ℤ td -ℤ tb *ℤ sd) +ℤ sb *ℤ (ta *ℤ sd -ℤ sa *ℤ td) +ℤ sd *ℤ (sa *ℤ tb -ℤ ta *ℤ sb) ≡ pos 0
-crossing_first sa sb sd ta tb td = by_ring_at (sa ∷ sb ∷ sd ∷ ta ∷ tb ∷ td ∷ []) (search reify depth 40 fits 100000) tt
-
--- so is the second
-crossing_second : (sa sb sd ta tb td : ℤ) → ta *ℤ (sb *ℤ td -ℤ tb *ℤ sd) +ℤ tb *ℤ (ta *ℤ sd -ℤ sa *ℤ td) +ℤ td *ℤ (sa *ℤ tb -ℤ ta *ℤ sb) ≡ pos 0
-crossing_second sa sb sd ta tb td = by_ring_at (sa ∷ sb ∷ sd ∷ ta ∷ tb ∷ td ∷ []) (search reify depth 40 fits 100000) tt
-
--- a value at the negated numbers
-negated_value : (t : Trace) (p : RationalPoint) → trace_value t p ≡ pos 0 → trace_value t (negated_point p) ≡ pos 0
-negated_value t p e = by_ring_at (t.a ∷ t.b ∷ t.d ∷ p.x ∷ p.y ∷ p.w ∷ []) {y = neg_ℤ (trace_value t p)} (search reify depth 40 fits 100000) tt ∙ ap neg_ℤ e
-
 -- both traces are 0 where they meet
 pub meeting_zero : (z : ℤ) (s t : Trace) (q : RationalPoint) → trace_meeting z s t ≡ Some q → (trace_value s q ≡ pos 0) × (trace_value t q ≡ pos 0)
 unfolding trace_meeting
@@ -114,7 +103,7 @@ meeting_zero z s t q e =
     let tc = crossing_second s.a s.b s.d t.a t.b t.d in
     ⊎_elim
     (λ (low : cross s t <ℤ pos 0).
-    let w = negative_weight (cross s t) low in
+    let w = neg_positive (cross s t) low in
     subst (λ (r : RationalPoint). (trace_value s r ≡ pos 0) × (trace_value t r ≡ pos 0)) (same_some _ q (sym (normal_below c low) ∙ e))
     (reduced_zero s (negated_point c) w (negated_value s c sc), reduced_zero t (negated_point c) w (negated_value t c tc)))
     (λ r. ⊎_elim
@@ -128,7 +117,7 @@ meeting_zero z s t q e =
 positive_weight : (c p : RationalPoint) → positive_point c ≡ Some p → IsPoint p
 positive_weight c p e =
     ⊎_elim
-    (λ (low : c.w <ℤ pos 0). subst IsPoint (same_some _ p (sym (given_below low) ∙ e)) (negative_weight c.w low))
+    (λ (low : c.w <ℤ pos 0). subst IsPoint (same_some _ p (sym (given_below low) ∙ e)) (neg_positive c.w low))
     (λ r. ⊎_elim
     (λ (zero : c.w ≡ pos 0). absurd (none_not_some p (sym (given_zero zero) ∙ e)))
     (λ (high : pos 0 <ℤ c.w). subst IsPoint (same_some _ p (sym (given_above high) ∙ e)) high) r)
@@ -146,18 +135,6 @@ positive_weight c p e =
     given_below h =
         (λ i. elim (is_zero_false c.w (below_not_zero c.w h) i) [ true ↦ None | false ↦ elim (is_positive c.w) [ true ↦ Some c | false ↦ Some (negated_point c) ] ])
         ∙ (λ i. elim (is_positive_false c.w (nonpos_of_neg c.w h) i) [ true ↦ Some c | false ↦ Some (negated_point c) ])
-
--- the same point in lowest terms
-reduced_is_normal : (c : RationalPoint) → option_map reduced_point (positive_point c) ≡ normal_point c
-reduced_is_normal c =
-    elim (is_zero c.w) as (λ b.
-    option_map reduced_point (elim b [ true ↦ None | false ↦ elim (is_positive c.w) [ true ↦ Some c | false ↦ Some (negated_point c) ] ])
-    ≡ elim b [ true ↦ None | false ↦ elim (is_positive c.w) [ true ↦ Some (reduced_point c) | false ↦ Some (reduced_point (negated_point c)) ] ]) [
-      | true ↦ refl
-      | false ↦ elim (is_positive c.w) as (λ b.
-          option_map reduced_point (elim b [ true ↦ Some c | false ↦ Some (negated_point c) ])
-          ≡ elim b [ true ↦ Some (reduced_point c) | false ↦ Some (reduced_point (negated_point c)) ]) [ true ↦ refl | false ↦ refl ]
-    ]
 
 -- an answer with a value
 pub record Has {B : Type 0} (o : Option B) : Type 0 where
@@ -198,12 +175,6 @@ first_has {A} {B} F (w ∷ xs) x y l e =
     by_answer : (o : Option B) → F w ≡ o → (F w ≡ Some y) ⊎ Has (first_of F xs) → Has (elim o [ Some v ↦ Some v | None ↦ first_of F xs ])
     by_answer (Some v) k r = record { value = v; is = refl }
     by_answer None k r = ⊎_elim (λ g. absurd (none_not_some y (sym k ∙ g))) (λ h. h) r
-
--- some item of a list passes where one does
-any_true : {A : Type 0} (test : A → Bool) (xs : List A) (x : A) → Listed x xs → test x ≡ true → list_any test xs ≡ true
-any_true test [] x l e = elim l [ ]
-any_true test (y ∷ xs) x first e = or_left (test y) (list_any test xs) e
-any_true test (y ∷ xs) x (later l) e = or_right (test y) (list_any test xs) (any_true test xs x l e)
 
 -- an item that passes
 record Passes {A : Type 0} (test : A → Bool) (xs : List A) : Type 0 where
@@ -294,7 +265,7 @@ module _ (z : ℤ) (cell : List HalfSpace) (steps : List RingStep) (ring : IsRin
       made : (q : RationalPoint) → positive_point c ≡ Some q → are_above all q ≡ true → IsSpotOn f g q
       made q k a =
           let h = positive_weight c q k in
-          let m = sym (meeting_same f g lf lg) ∙ sym (reduced_is_normal c) ∙ ap (option_map reduced_point) k in
+          let m = sym (meeting_same f g lf lg) ∙ sym (reduced_positive c) ∙ ap (option_map reduced_point) k in
           let n = meeting_plain z f.edge g.edge (reduced_point q) m in
           let zero = meeting_zero z f.edge g.edge (reduced_point q) m in
           record {
@@ -317,9 +288,9 @@ module _ (z : ℤ) (cell : List HalfSpace) (steps : List RingStep) (ring : IsRin
   spot_found : (f g : Side) (q : RationalPoint) → Listed f all → Listed g all → trace_meeting z f.edge g.edge ≡ Some q → IsSpot z ts q → Has (spot_at (level_plane z) all f g)
   unfolding meeting_point
   spot_found f g q lf lg m k =
-      let r = mapped_has reduced_point (positive_point c) q (reduced_is_normal c ∙ meeting_same f g lf lg ∙ m) in
+      let r = mapped_has reduced_point (positive_point c) q (reduced_positive c ∙ meeting_same f g lf lg ∙ m) in
       let h = positive_weight c r.value r.is in
-      let same = same_some (reduced_point r.value) q (sym (ap (option_map reduced_point) r.is) ∙ reduced_is_normal c ∙ meeting_same f g lf lg ∙ m) in
+      let same = same_some (reduced_point r.value) q (sym (ap (option_map reduced_point) r.is) ∙ reduced_positive c ∙ meeting_same f g lf lg ∙ m) in
       let a = above_reduced r.value h ∙ ap (are_above all) same ∙ weak_above q k.height k.weak in
       record {
         value = r.value;
@@ -433,7 +404,7 @@ module _ (z : ℤ) (cell : List HalfSpace) (steps : List RingStep) (ring : IsRin
 
           passes : (s : Side) → Listed s all → Has (spot_at (level_plane z) all f s) → (trace_value s.edge (reduced_point p) ≡ pos 0 → ⊥) → list_any (is_other (level_plane z) all f p) all ≡ true
           passes s ls has n =
-              any_true (is_other (level_plane z) all f p) all s ls
+              passes_some (is_other (level_plane z) all f p) all s ls
               (and_true _ _ (ap not (zero_same s p ls a.point a.spot.height ∙ is_zero_false _ n)) (ap is_some has.is))
 
   -- so the sides that bound the section are those whose traces are edges

@@ -3,7 +3,6 @@ use Rattle.std.proofs.Common.{◌≡◌, ℕ, ◌<◌, ℤ, pos, neg_ℤ, ◌<�
 use Rattle.std.specs.Prelude.{int_le}
 use Rattle.std.specs.List.{list_all}
 use Rattle.rp_algebra.specs.Integer.{is_zero, is_positive, is_negative, gcd_of}
-use Rattle.rp_algebra.proofs.IntLaws.{linear}
 use Rattle.rp_algebra.proofs.Divisors.{DividesAll, gcd_of-divides, gcd_of-positive_head}
 use Rattle.rp_algebra.proofs.Numbers.{above_not_zero}
 use Rattle.rp_algebra.proofs.Tests.{and_first, is_positive_true, is_negative_true, false_unless, false_not_true}
@@ -14,11 +13,10 @@ use Rattle.rp_geometry.specs.searches.Elimination.{factors_of, reduced_terms, ne
 use Rattle.rp_geometry.specs.sections.Trace.{has_trace, offset_at}
 use Rattle.rp_geometry.specs.sections.Flat.{is_level_kind, is_trace_kind, is_flat_refutation, flat_terms_if}
 use Rattle.rp_alternative.proofs.Combination.{ArePositive}
-use Rattle.rp_alternative.proofs.Tests.{multiplier-to}
-use Rattle.rp_alternative.proofs.Lowest.{divided, divided_positive, weighted_sum-divided}
+use Rattle.rp_alternative.proofs.Lowest.{divided, divided_positive, weighted_sum-divided, negated_small}
 use Rattle.rp_elim.specs.Factors.{AreFactorsSmall}
 use Rattle.rp_elim.proofs.Scaled.{same_zero, same_at_most, positive_multipliers}
-use Rattle.rp_elim.proofs.Signs.{negated_multipliers, from_quotients, small_multipliers, negated_small}
+use Rattle.rp_elim.proofs.Signs.{negated_multipliers, from_quotients, small_multipliers, below}
 use Rattle.rp_cert.specs.Section.{cancels_at}
 
 -- ---- terms divided by a common divisor
@@ -60,10 +58,6 @@ pub flat_none : (z : ℤ) (ts : List Multiple) → 0 < length ts → list_all (�
 flat_none z ts n m e = λ i. elim ((reduced_flat z ts n m ∙ e) i) [ true ↦ Some (reduced_terms ts) | false ↦ None ]
 
 -- ---- terms of either sign
-
--- a number whose negative is a multiplier is below 0
-below : (v : ℤ) → is_multiplier (neg_ℤ v) ≡ true → v <ℤ pos 0
-below v e = let h = multiplier-to (neg_ℤ v) e in omega (arith, linear, h)
 
 -- terms of which the negatives have multipliers are negated
 pub normal_negated : (ts : List Multiple) → list_all (λ t. is_multiplier (neg_ℤ t.factor)) ts ≡ true → 0 < length ts → normal_terms ts ≡ reduced_terms (negated_terms ts)

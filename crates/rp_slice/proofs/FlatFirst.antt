@@ -1,12 +1,12 @@
 -- The search finds the first flat certificate, and it is the only first one.
-use Rattle.std.proofs.Common.{◌≡◌, ℕ, zero, suc, ◌<◌, ◌≤◌, ℤ, pos, negsuc, ◌+ℤ◌, ◌*ℤ◌, ◌≤ℤ◌, ◌<ℤ◌, Bool, true, false, not, List, [], ◌∷◌, length, inl, inr, ⊎_elim, Option, Some, None, refl, sym, ap, ◌∙◌, subst, arith}
+use Rattle.std.proofs.Common.{◌≡◌, ℕ, zero, suc, ◌<◌, ◌≤◌, ℤ, pos, negsuc, ◌+ℤ◌, ◌*ℤ◌, ◌≤ℤ◌, ◌<ℤ◌, true, false, not, List, [], ◌∷◌, length, inl, inr, ⊎_elim, Option, Some, None, refl, sym, ap, ◌∙◌, subst, arith}
 use Rattle.std.specs.Prelude.{int_le}
 use Rattle.std.specs.List.{AllByRecursion, list_all, slice_get}
 use Rattle.std.proofs.lemmas.Int.{ints}
 use Rattle.rp_algebra.specs.Integer.{is_zero}
 use Rattle.rp_algebra.proofs.Numbers.{same_or_less}
 use Rattle.rp_algebra.proofs.Reify.{by_ring_at, reify}
-use Rattle.rp_algebra.proofs.Tests.{and_first, and_second, at_most_true, false_not_true}
+use Rattle.rp_algebra.proofs.Tests.{and_first, and_second, at_most_true, false_not_true, false_of_not}
 use Rattle.rp_algebra.proofs.Options.{none_not_some, some_not_none, same_some, if_some, or_else, or_else_found}
 use Rattle.rp_geometry.specs.Geometry.{HalfSpace}
 use Rattle.rp_geometry.specs.searches.Certificate.{Multiple, weighted_sum}
@@ -245,11 +245,6 @@ same_terms z (u ∷ us) (t ∷ ts) e f = λ i. multiple_of (same_factor e i) (sa
 plane_level : (z : ℤ) (h : HalfSpace) → has_trace h ≡ false → holds_level z h ≡ false → plane z h ≡ plane_by false false z h
 plane_level z h e f = λ i. plane_by (e i) (f i) z h
 
--- an answer of `not`
-not_true : (b : Bool) → not b ≡ true → b ≡ false
-not_true true e = absurd (false_not_true false e refl)
-not_true false e = refl
-
 -- a multiple of 0 alone
 zero_alone : (k : ℤ) → k *ℤ pos 0 +ℤ pos 0 ≡ pos 0
 zero_alone k = by_ring_at (k ∷ []) (search reify depth 40 fits 100000) tt
@@ -268,7 +263,7 @@ module _ (z : ℤ) where
   level_refutes : (ts : List Multiple) → ArePositive ts → is_level_kind z ts ≡ true → Refute true (planar z ts)
   level_refutes [] p k = absurd (false_not_true false k refl)
   level_refutes (t ∷ []) p k =
-      let s = plane_level z t.of (not_true (has_trace t.of) (and_first (not (has_trace t.of)) _ k)) (not_true (holds_level z t.of) (and_second (not (has_trace t.of)) _ k)) in (
+      let s = plane_level z t.of (false_of_not (has_trace t.of) (and_first (not (has_trace t.of)) _ k)) (false_of_not (holds_level z t.of) (and_second (not (has_trace t.of)) _ k)) in (
         omega arith,
         (p.0, tt),
         balanced-from (planar z (t ∷ [])) ((λ i. t.factor *ℤ (s i).a +ℤ pos 0) ∙ zero_alone t.factor) ((λ i. t.factor *ℤ (s i).b +ℤ pos 0) ∙ zero_alone t.factor) ((λ i. t.factor *ℤ (s i).c +ℤ pos 0) ∙ zero_alone t.factor),

@@ -2,7 +2,6 @@
 use Rattle.std.proofs.Common.{◌≡◌, ℤ, pos, negsuc, neg_ℤ, ◌+ℤ◌, ◌*ℤ◌, ◌≤ℤ◌, ◌<ℤ◌, Bool, true, false, ◌&&◌, ◌||◌, List, [], ◌∷◌, length, ◌⊎◌, inl, inr, ⊎_elim, Option, Some, None, refl, sym, ap, ◌∙◌, subst, arith}
 use Rattle.std.specs.Prelude.{IsTrue, IsSome, IsNone}
 use Rattle.std.specs.List.{AllByRecursion}
-use Rattle.std.proofs.lemmas.Int.{ints}
 use Rattle.std.proofs.lemmas.Bool.{or_left, or_right}
 use Rattle.rp_algebra.specs.Integer.{is_zero}
 use Rattle.rp_algebra.proofs.IntLaws.{linear}
@@ -25,9 +24,9 @@ use Rattle.rp_alternative.proofs.Lowest.{AreFactorsSmall, half_spaces_of-normal}
 use Rattle.rp_alternative.proofs.Searched.{found_one, found_two, found_three}
 use Rattle.rp_alternative.proofs.Found.{passed, missed, not_missed, refuting}
 use Rattle.rp_alternative.proofs.Weak.{Point, offset_side, point_or_refutation}
-use Rattle.rp_alternative.proofs.Alternative.{great, strict_offset, terms-from}
+use Rattle.rp_alternative.proofs.Alternative.{great, strict_offset, terms-from, strict_side, greater}
 use Rattle.rp_alternative.proofs.Tests.{listed-from}
-use Rattle.rp_ring.proofs.Traces.{traces, trace_in}
+use Rattle.rp_ring.proofs.Traces.{traces, trace_in, value_of_factor}
 use Rattle.rp_ring.proofs.Rings.{LevelsHold}
 use Rattle.rp_ring.proofs.Never.{never_flat}
 use Rattle.rp_ring.proofs.Center.{IsWithinAll, within_is_member}
@@ -132,19 +131,6 @@ found_is_flat z cell k us e =
     (⊎_elim (λ k. or_left (is_level_kind z us) (is_trace_kind z us) k) (λ k. or_right (is_level_kind z us) (is_trace_kind z us) k) p.refutes.kind)
 
 -- ---- what is not missed
--- the value with the strict offset is the side at a point of N times the weight, less the weight
-weighted : (a b c d x y z w : ℤ) → a *ℤ x +ℤ b *ℤ y +ℤ c *ℤ z +ℤ (great *ℤ d +ℤ negsuc 0) *ℤ w ≡ (a *ℤ x +ℤ b *ℤ y +ℤ c *ℤ z +ℤ d *ℤ (great *ℤ w)) +ℤ neg_ℤ w
-weighted a b c d x y z w = by_ring_at (a ∷ b ∷ c ∷ d ∷ x ∷ y ∷ z ∷ w ∷ []) (search reify depth 40 fits 100000) tt
-
--- so that side is above 0
-strict_side : (h : HalfSpace) (p : RationalPoint) → pos 0 <ℤ p.w → pos 0 ≤ℤ offset_side strict_offset p h → pos 0 <ℤ side_value h (point_of p.x p.y p.z (great *ℤ p.w))
-strict_side h p w n =
-    let e = weighted h.a h.b h.c h.d p.x p.y p.z p.w in
-    omega (arith, linear, e, w, n)
-
--- N times a weight above 0 is above 0
-greater : (w : ℤ) → pos 0 <ℤ w → pos 0 <ℤ (great *ℤ w)
-greater w h = omega (arith, ints)
 
 -- a half-space of the list on the plane
 plane_listed : (z : ℤ) (hs : List HalfSpace) (h : HalfSpace) → Listed h hs → Listed (plane z h) (planes z hs)
@@ -159,10 +145,6 @@ raised z q = point_of q.x q.y (z *ℤ (great *ℤ q.w)) (great *ℤ q.w)
 -- the value of an upright half-space does not depend on z
 upright_side : (a b d x y u v w : ℤ) → a *ℤ x +ℤ b *ℤ y +ℤ pos 0 *ℤ u +ℤ d *ℤ w ≡ a *ℤ x +ℤ b *ℤ y +ℤ d *ℤ w
 upright_side a b d x y u v w = by_ring_at (a ∷ b ∷ d ∷ x ∷ y ∷ u ∷ w ∷ []) (search reify depth 40 fits 100000) tt
-
--- a multiple of a trace's value
-value_of_factor : (g a b d x y w : ℤ) → (g *ℤ a) *ℤ x +ℤ (g *ℤ b) *ℤ y +ℤ (g *ℤ d) *ℤ w ≡ g *ℤ (a *ℤ x +ℤ b *ℤ y +ℤ d *ℤ w)
-value_of_factor g a b d x y w = by_ring_at (g ∷ a ∷ b ∷ d ∷ x ∷ y ∷ w ∷ []) (search reify depth 40 fits 100000) tt
 
 -- a factor above 0 of a number above 0
 factor_above : (g v u : ℤ) → pos 0 <ℤ g → u ≡ g *ℤ v → pos 0 <ℤ u → pos 0 <ℤ v

@@ -4,7 +4,7 @@ use Rattle.std.specs.List.{AllByRecursion}
 use Rattle.std.proofs.lemmas.Int.{ints}
 use Rattle.rp_algebra.specs.Integer.{is_zero}
 use Rattle.rp_algebra.proofs.Reify.{by_ring_at, reify}
-use Rattle.rp_algebra.proofs.Tests.{and_first, and_second, and_true, zero_is, is_zero_true, false_not_true}
+use Rattle.rp_algebra.proofs.Tests.{and_first, and_second, and_true, zero_is, is_zero_true, false_not_true, same_test}
 use Rattle.rp_algebra.proofs.Options.{or_else}
 use Rattle.rp_algebra.proofs.Listed.{Listed, first, later}
 use Rattle.rp_geometry.specs.Geometry.{HalfSpace}
@@ -17,7 +17,7 @@ use Rattle.rp_geometry.specs.sections.Flat.{is_trace_kind, is_flat_refutation, f
 use Rattle.rp_alternative.proofs.Relations.{two_by, three_by}
 use Rattle.rp_alternative.proofs.Lowest.{half_spaces_of-normal}
 use Rattle.rp_ring.proofs.Traces.{direction_of}
-use Rattle.rp_slice.proofs.Planar.{plane_by, plane, planes, planar, planar_of, plane_is, third_by, IsNowhere, nowhere_by, same_test, flat_refutation-to, flat_refutation-from, refutation_to, HaveTraces, tests_agree, given, normal-planar, none_of_zero, flat_none_of_zero, flat_none}
+use Rattle.rp_slice.proofs.Planar.{plane_by, plane, planes, planar, planar_of, plane_is, third_by, IsNowhere, nowhere_by, flat_refutation-to, flat_refutation-from, refutation_to, HaveTraces, tests_agree, given, normal-planar, none_of_zero, flat_none_of_zero, flat_none}
 
 module _ (z : ℤ) where
   -- ---- one half-space

@@ -7,7 +7,7 @@ use Rattle.rp_algebra.specs.Integer.{is_zero, is_positive, is_negative, gcd_of, 
 use Rattle.rp_algebra.proofs.Numbers.{above_not_zero, neg_zero}
 use Rattle.rp_algebra.proofs.LowestTerms.{quotient_of_zero}
 use Rattle.rp_algebra.proofs.Reify.{by_ring_at, reify}
-use Rattle.rp_algebra.proofs.Tests.{and_first, and_second, and_true, zero_is, is_zero_true, positive_is, is_positive_true, false_not_true, false_unless}
+use Rattle.rp_algebra.proofs.Tests.{and_first, and_second, and_true, zero_is, is_zero_true, positive_is, is_positive_true, false_not_true, false_unless, same_test}
 use Rattle.rp_algebra.proofs.Listed.{Listed, first, later, list_all_is, list_all_true}
 use Rattle.rp_geometry.specs.Geometry.{HalfSpace, half_space_of}
 use Rattle.rp_geometry.specs.searches.Certificate.{Multiple, weighted_sum, is_balanced, is_contradiction}
@@ -64,12 +64,6 @@ nowhere_by false true z h e = record { a = refl; b = refl }
 nowhere_by false false z h e = record { a = refl; b = refl }
 
 -- ---- tests that agree
-
--- two tests agree where each passes if the other does
-pub same_test : (a b : Bool) → (a ≡ true → b ≡ true) → (b ≡ true → a ≡ true) → a ≡ b
-same_test true b h k = sym (h refl)
-same_test false true h k = k refl
-same_test false false h k = refl
 
 -- the facts of a flat refutation
 pub record RefutesFlat (z : ℤ) (ts : List Multiple) : Type 0 where

@@ -2,14 +2,15 @@
 use Rattle.std.proofs.Common.{◌≡◌, ℤ, pos, neg_ℤ, ◌+ℤ◌, ◌-ℤ◌, ◌*ℤ◌, ◌≤ℤ◌, ◌<ℤ◌, Bool, true, false, not, List, [], ◌∷◌, map, ◌⊎◌, inl, inr, ⊎_elim, Option, Some, None, refl, sym, ap, ◌∙◌, subst, arith}
 use Rattle.std.specs.Prelude.{IsNone, IfSome}
 use Rattle.std.specs.List.{list_all, list_any}
-use Rattle.std.proofs.lemmas.Bool.{or_cases, or_left, or_right}
+use Rattle.std.proofs.lemmas.Bool.{or_cases}
 use Rattle.rp_algebra.specs.Integer.{is_zero, is_positive, is_nonnegative}
 use Rattle.rp_algebra.proofs.IntLaws.{linear, trichotomy_ℤ}
-use Rattle.rp_algebra.proofs.Numbers.{above_not_zero, below_not_zero}
+use Rattle.rp_algebra.proofs.Numbers.{above_not_zero, below_not_zero, neg_positive}
 use Rattle.rp_algebra.proofs.Reify.{by_ring_at, reify}
 use Rattle.rp_algebra.proofs.Tests.{and_first, and_second, and_true, zero_is, is_zero_true, is_zero_false, is_positive_true, is_positive_false, nonnegative_is, is_nonnegative_true, false_not_true, false_unless}
 use Rattle.rp_algebra.proofs.Options.{none_not_some, some_not_none, same_some}
 use Rattle.rp_algebra.proofs.Listed.{Listed, first, later, all_pass, pass_all}
+use Rattle.rp_algebra.proofs.Filter.{passes_some}
 use Rattle.rp_geometry.specs.Geometry.{RationalPoint, HalfSpace, point_of, reduced_point, point_eq}
 use Rattle.rp_geometry.specs.searches.Search.{all_of_pairs}
 use Rattle.rp_geometry.specs.searches.Vertex.{normal_point, negated_point}
@@ -20,12 +21,13 @@ use Rattle.rp_geometry.specs.laws.SectionLaws.{HasMemberAt, IsRing, IsFirstFlat,
 use Rattle.rp_geometry.specs.sections.Ring.{RingStep, Turn, turn_of, turns_to, turns_of, cross, is_angle_before, crossing, trace_meeting, corner_if, corners, joins_both, is_edge_of, insert_edge, step_to, steps_to, steps_along, ring_of, angles_rise, edges_among}
 use Rattle.rp_geometry.specs.sections.Slice.{Slice, slice_of, is_slice}
 use Rattle.rp_geometry.specs.sections.Flat.{first_flat}
+use Rattle.rp_geometry.proofs.Points.{point_eq-to, point_eq-same}
 use Rattle.rp_convex.proofs.LowestOne.{lowest_terms_are_one_spec}
 use Rattle.rp_convex.proofs.Triples.{found_two}
 use Rattle.rp_convex.proofs.Firsts.{from_two}
 use Rattle.rp_ring.proofs.Traces.{IsDirection}
 use Rattle.rp_ring.proofs.Turns.{onward, backward, joins}
-use Rattle.rp_ring.proofs.Rings.{point_eq-to, point_eq-same, IsLowestPoint, IsRingOf, ring_to, on_edge}
+use Rattle.rp_ring.proofs.Rings.{IsLowestPoint, IsRingOf, ring_to, on_edge}
 use Rattle.rp_ring.proofs.Support.{no_change, meet_once}
 use Rattle.rp_ring.proofs.Angles.{HaveDirections, before_chain, before_rest, rising_rest}
 use Rattle.rp_ring.proofs.Unique.{HasEdge, edge_at_two, end_spot, SameEdges, same_edges, EndsAt, ends_at, have_directions, ring_is_the_only_one_spec}
@@ -39,15 +41,15 @@ use Rattle.rp_slice.proofs.Walks.{member_has_ring_spec}
 -- ---- where two traces meet
 
 -- the first trace is 0 there
-crossing_first : (sa sb sd ta tb td : ℤ) → sa *ℤ (sb *ℤ td -ℤ tb *ℤ sd) +ℤ sb *ℤ (ta *ℤ sd -ℤ sa *ℤ td) +ℤ sd *ℤ (sa *ℤ tb -ℤ ta *ℤ sb) ≡ pos 0
+pub crossing_first : (sa sb sd ta tb td : ℤ) → sa *ℤ (sb *ℤ td -ℤ tb *ℤ sd) +ℤ sb *ℤ (ta *ℤ sd -ℤ sa *ℤ td) +ℤ sd *ℤ (sa *ℤ tb -ℤ ta *ℤ sb) ≡ pos 0
 crossing_first sa sb sd ta tb td = by_ring_at (sa ∷ sb ∷ sd ∷ ta ∷ tb ∷ td ∷ []) (search reify depth 40 fits 100000) tt
 
 -- so is the second
-crossing_second : (sa sb sd ta tb td : ℤ) → ta *ℤ (sb *ℤ td -ℤ tb *ℤ sd) +ℤ tb *ℤ (ta *ℤ sd -ℤ sa *ℤ td) +ℤ td *ℤ (sa *ℤ tb -ℤ ta *ℤ sb) ≡ pos 0
+pub crossing_second : (sa sb sd ta tb td : ℤ) → ta *ℤ (sb *ℤ td -ℤ tb *ℤ sd) +ℤ tb *ℤ (ta *ℤ sd -ℤ sa *ℤ td) +ℤ td *ℤ (sa *ℤ tb -ℤ ta *ℤ sb) ≡ pos 0
 crossing_second sa sb sd ta tb td = by_ring_at (sa ∷ sb ∷ sd ∷ ta ∷ tb ∷ td ∷ []) (search reify depth 40 fits 100000) tt
 
 -- a value at the negated numbers
-negated_value : (t : Trace) (p : RationalPoint) → trace_value t p ≡ pos 0 → trace_value t (negated_point p) ≡ pos 0
+pub negated_value : (t : Trace) (p : RationalPoint) → trace_value t p ≡ pos 0 → trace_value t (negated_point p) ≡ pos 0
 negated_value t p e = by_ring_at (t.a ∷ t.b ∷ t.d ∷ p.x ∷ p.y ∷ p.w ∷ []) {y = neg_ℤ (trace_value t p)} (search reify depth 40 fits 100000) tt ∙ ap neg_ℤ e
 
 -- the height of the negated numbers
@@ -73,10 +75,6 @@ normal_below p h =
 pub normal_zero : (p : RationalPoint) → p.w ≡ pos 0 → normal_point p ≡ None
 normal_zero p e = λ i. elim (is_zero_true p.w e i) [ true ↦ None | false ↦ elim (is_positive p.w) [ true ↦ Some (reduced_point p) | false ↦ Some (reduced_point (negated_point p)) ] ]
 
--- a weight below 0 has a negative above 0
-pub negative_weight : (v : ℤ) → v <ℤ pos 0 → pos 0 <ℤ neg_ℤ v
-negative_weight v h = omega (arith, linear, h)
-
 -- the point in lowest terms where two traces meet is the one that is found
 pub meeting_is : (z : ℤ) (s t : Trace) (p : RationalPoint) → IsLowestPoint p → IsAtHeight z p → trace_value s p ≡ pos 0 → trace_value t p ≡ pos 0 → (cross s t ≡ pos 0 → ⊥) → trace_meeting z s t ≡ Some p
 unfolding trace_meeting
@@ -86,7 +84,7 @@ meeting_is z s t p lowest hp sp tp n =
     let tc = crossing_second s.a s.b s.d t.a t.b t.d in
     ⊎_elim
     (λ (low : cross s t <ℤ pos 0).
-    let w = negative_weight (cross s t) low in
+    let w = neg_positive (cross s t) low in
     let turned = subst (λ (v : ℤ). pos 0 <ℤ v) (sym (cross_turned s t)) w in
     let e = meet_once z t s (negated_point c) p (negated_height z c refl) hp turned (no_change t (negated_point c) p (negated_value t c tc) tp) (no_change s (negated_point c) p (negated_value s c sc) sp) in
     normal_below c low ∙ ap Some (lowest_terms_are_one_spec (negated_point c) p w lowest.point e ∙ lowest.lowest))
@@ -109,7 +107,7 @@ meeting_plain z s t p e =
     let c = crossing z s t in
     ⊎_elim
     (λ (low : cross s t <ℤ pos 0).
-    let w = negative_weight (cross s t) low in
+    let w = neg_positive (cross s t) low in
     subst (λ (q : RationalPoint). IsPlain z q) (same_some _ p (sym (normal_below c low) ∙ e)) (record { lowest = reduced_lowest (negated_point c) w; height = reduced_height z (negated_point c) w (negated_height z c refl) }))
     (λ r. ⊎_elim
     (λ (zero : cross s t ≡ pos 0). absurd (none_not_some p (sym (normal_zero c zero) ∙ e)))
@@ -159,11 +157,6 @@ spot_corner z ts p s t k ls lt m =
     given = λ i. elim (pass_all (λ t. is_nonnegative (trace_value t p)) ts (λ t l. is_nonnegative_true (trace_value t p) (k.weak t l)) i) [ true ↦ Some p | false ↦ None ]
 
 -- ---- edges
--- some item of a list passes where one does
-any_true : {A : Type 0} (test : A → Bool) (xs : List A) (x : A) → Listed x xs → test x ≡ true → list_any test xs ≡ true
-any_true test [] x l e = elim l [ ]
-any_true test (y ∷ xs) x first e = or_left (test y) (list_any test xs) e
-any_true test (y ∷ xs) x (later l) e = or_right (test y) (list_any test xs) (any_true test xs x l e)
 
 -- an item that passes
 record Passes {A : Type 0} (test : A → Bool) (xs : List A) : Type 0 where
@@ -213,8 +206,8 @@ edge_to points t e =
 -- a trace that joins two is an edge
 edge_from : (points : List RationalPoint) (t : Trace) → JoinsTwo points t → is_edge_of points t ≡ true
 edge_from points t j =
-    any_true (λ p. list_any (joins_both t p) points) points j.one j.one_listed
-    (any_true (joins_both t j.one) points j.two j.two_listed
+    passes_some (λ p. list_any (joins_both t p) points) points j.one j.one_listed
+    (passes_some (joins_both t j.one) points j.two j.two_listed
     (and_true _ _ (and_true _ _ (is_zero_true _ j.one_zero) (is_zero_true _ j.two_zero)) (ap not (false_unless (point_eq j.one j.two) (λ e. j.apart (point_eq-to j.one j.two e))))))
 
 -- ---- lists of traces by their angles

@@ -1,15 +1,14 @@
 -- Sizes: the numbers of traces and of ends keep the program's bounds, and a ring is short.
-use Rattle.std.proofs.Common.{◌≡◌, suc, ◌+◌, ◌≤◌, ◌<◌, ℤ, pos, neg_ℤ, ◌+ℤ◌, ◌-ℤ◌, ◌*ℤ◌, ◌<ℤ◌, Bool, true, false, List, [], ◌∷◌, length, ⊎_elim, Option, Some, None, refl, sym, ap, ◌∙◌, subst, arith}
-use Rattle.std.specs.Prelude.{IfSome}
+use Rattle.std.proofs.Common.{◌≡◌, suc, ◌+◌, ◌≤◌, ◌<◌, ℤ, pos, neg_ℤ, ◌+ℤ◌, ◌-ℤ◌, ◌*ℤ◌, ◌<ℤ◌, Bool, true, false, List, [], ◌∷◌, length, ⊎_elim, Some, None, refl, sym, ap, ◌∙◌, subst, arith}
 use Rattle.std.proofs.lemmas.Int.{ints}
 use Rattle.rp_algebra.specs.Within.{IsWithin}
 use Rattle.rp_algebra.specs.Integer.{gcd_of}
 use Rattle.rp_algebra.proofs.IntLaws.{linear, trichotomy_ℤ, cancel_mul_left_ℤ, mul_pos_ℤ}
 use Rattle.rp_algebra.proofs.Machine.{code, within_by}
 use Rattle.rp_algebra.proofs.LowestTerms.{quotient_within}
-use Rattle.rp_algebra.proofs.Numbers.{zero_or_not}
+use Rattle.rp_algebra.proofs.Numbers.{zero_or_not, neg_positive}
 use Rattle.rp_algebra.proofs.Reify.{by_ring_at, reify}
-use Rattle.rp_algebra.proofs.Options.{same_some}
+use Rattle.rp_algebra.proofs.Options.{same_some, of_some}
 use Rattle.rp_algebra.proofs.Listed.{Listed, first, later, all_of, of_all}
 use Rattle.rp_geometry.specs.Geometry.{RationalPoint, HalfSpace, IsHalfSpace, IsSmallPoint, IsKeptPoint, half_edge, greatest_offset, side_value}
 use Rattle.rp_geometry.specs.searches.Vertex.{meeting_weight, cramer_point, negated_point, meeting_point}
@@ -29,7 +28,7 @@ use Rattle.rp_ring.proofs.Spots.{reduced_lowest}
 use Rattle.rp_ring.proofs.Unique.{have_directions}
 use Rattle.rp_slice.proofs.FlatFound.{with_sides_bounds}
 use Rattle.rp_slice.proofs.Walks.{count_by, count, AllDirections, count_less, all_directions}
-use Rattle.rp_slice.proofs.RingFound.{meeting_is, normal_above, normal_below, normal_zero, negative_weight}
+use Rattle.rp_slice.proofs.RingFound.{meeting_is, normal_above, normal_below, normal_zero}
 
 -- ---- where traces meet
 -- the determinant of two planes and that of a height
@@ -52,7 +51,7 @@ unfolding meeting_point
 meeting_lowest f g h p n e =
     let c = cramer_point f g h in
     ⊎_elim
-    (λ (low : meeting_weight f g h <ℤ pos 0). subst IsLowestPoint (same_some _ p (sym (normal_below c low) ∙ e)) (reduced_lowest (negated_point c) (negative_weight (meeting_weight f g h) low)))
+    (λ (low : meeting_weight f g h <ℤ pos 0). subst IsLowestPoint (same_some _ p (sym (normal_below c low) ∙ e)) (reduced_lowest (negated_point c) (neg_positive (meeting_weight f g h) low)))
     (λ r. ⊎_elim
     (λ (zero : meeting_weight f g h ≡ pos 0). absurd (n zero))
     (λ (high : pos 0 <ℤ meeting_weight f g h). subst IsLowestPoint (same_some _ p (sym (normal_above c high) ∙ e)) (reduced_lowest c high)) r)
@@ -99,11 +98,6 @@ level_is z k = record {
   d = (let l = k.lower in let u = k.upper in omega (arith, ints, l, u));
   nonzero = refl;
 }
-
--- a value of an answer that is known
-of_some : {B : Type 0} (P : B → Type 0) (o : Option B) (v : B) → o ≡ Some v → IfSome o P → P v
-of_some P (Some u) v e h = subst P (same_some u v e) h
-of_some P None v e h = absurd (cc)
 
 module _ (z : ℤ) (cell : List HalfSpace) (steps : List RingStep) (hz : IsHeight z) (bounds : AreHalfSpaces cell) (ring : IsRingOf z (traces z (with_sides cell)) steps) where
   -- a half-space of the flat list is within its bounds

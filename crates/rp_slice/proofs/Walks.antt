@@ -6,6 +6,7 @@ use Rattle.rp_algebra.proofs.IntLaws.{linear, trichotomy_ℤ, cancel_mul_left_�
 use Rattle.rp_algebra.proofs.Reify.{by_ring_at, reify}
 use Rattle.rp_algebra.proofs.Tests.{and_true, is_positive_true, false_not_true}
 use Rattle.rp_algebra.proofs.Listed.{Listed, first, later}
+use Rattle.rp_algebra.proofs.Numbers.{at_most_itself}
 use Rattle.rp_geometry.specs.Geometry.{RationalPoint, HalfSpace}
 use Rattle.rp_geometry.specs.laws.SectionLaws.{MemberHasRing}
 use Rattle.rp_geometry.specs.sections.Trace.{Trace, trace_value, with_sides}
@@ -306,10 +307,6 @@ module _ (z : ℤ) (cell : List HalfSpace) (next : (s : Side z (traces z (with_s
 -- the traces of the flat list have directions
 pub all_directions : (z : ℤ) (hs : List HalfSpace) → AllDirections (traces z hs)
 all_directions z hs t l = (trace_in z hs t l).direction
-
--- a number is at most itself
-at_most_itself : (n : ℕ) → n ≤ n
-at_most_itself n = omega arith
 
 -- a section with a point inside has a ring
 pub ring_of_open : (z : ℤ) (cell : List HalfSpace) (c : RationalPoint) → IsWithinAll z (traces z (with_sides cell)) c → (steps : List RingStep) × IsRingOf z (traces z (with_sides cell)) steps

@@ -1,18 +1,17 @@
 -- Numbers in lowest terms keep their bounds, and reducing twice is reducing once.
-use Rattle.std.proofs.Common.{◌≡◌, ℕ, zero, suc, ◌<◌, ◌≤◌, ◌^◌, ℤ, pos, neg_ℤ, ◌-ℤ◌, ◌<ℤ◌, nat_abs, to_z, of_z, le_trans, true, false, ◌&&◌, List, [], ◌∷◌, sym, ap, ◌∙◌, subst, arith}
+use Rattle.std.proofs.Common.{◌≡◌, ℕ, zero, suc, ◌<◌, ◌≤◌, ◌^◌, ℤ, pos, neg_ℤ, ◌-ℤ◌, ◌<ℤ◌, nat_abs, to_z, of_z, le_trans, true, false, List, [], ◌∷◌, sym, ap, ◌∙◌, subst, arith}
 use Rattle.std.specs.List.{AllByRecursion}
 use Rattle.std.specs.Int.RustNames.{unsigned_abs, FitsSigned}
 use mir.Syntax.{Width, w64, w128}
 use Rattle.std.proofs.lemmas.Int.{ints, to_z-of_z}
-use Rattle.std.proofs.lemmas.Bool.Decides.{Decides-int_eq}
 use Rattle.std.proofs.lemmas.Bool.{and_parts}
-use Rattle.rp_algebra.specs.Integer.{is_zero, gcd, gcd_of, reduced_by}
-use Rattle.rp_algebra.proofs.Divisors.{gcd_of-positive_four, gcd_of-at_most_four, gcd_of-nil, gcd_of-cons, gcd_of-four, gcd-zero, gcd-at_most_right}
+use Rattle.rp_algebra.specs.Integer.{gcd, gcd_of, reduced_by}
+use Rattle.rp_algebra.proofs.Divisors.{gcd_of-positive_four, gcd_of-at_most_four, gcd_of-nil, gcd_of-cons, gcd-zero, gcd-at_most_right}
 use Rattle.rp_algebra.proofs.LowestTerms.{lowest-gcd, quotient_by_one}
 use Rattle.std.specs.Prelude.{int_lt, int_le}
 use Rattle.rp_algebra.proofs.Machine.{code, is_by}
 use Rattle.rp_geometry.specs.Geometry.{half_space_of, point_of, is_point_in_bounds, HalfSpace, is_half_space_in_bounds, is_zero_half_space, IsHalfSpace, reduced_half_space, IsKeptHalfSpace, complement, RationalPoint, IsPoint, IsSmallPoint, reduced_point, IsKeptPoint}
-use Rattle.rp_geometry.proofs.InLowestTerms.{same_test, divisor_above, reduced_half_space_is, reduced_point_is, size_within}
+use Rattle.rp_geometry.proofs.InLowestTerms.{divisor_above, reduced_half_space_is, reduced_point_is, size_within}
 
 -- a half-space in lowest terms keeps its bounds, and stays as it is when it is reduced again
 pub kept_half_space : (h : HalfSpace) → is_half_space_in_bounds h ≡ true → is_zero_half_space h ≡ false → IsKeptHalfSpace (reduced_half_space h)
@@ -67,53 +66,12 @@ unfolding reduced_half_space
 kept_divisor h k =
     ap (λ (r : HalfSpace). gcd_of (r.a ∷ r.b ∷ r.c ∷ r.d ∷ [])) (sym k.lowest) ∙ lowest-gcd (h.a ∷ h.b ∷ h.c ∷ h.d ∷ []) (divisor_above h k.numbers.nonzero)
 
--- the size of a number and of its negative
-size_of_neg : (v : ℤ) → nat_abs (neg_ℤ v) ≡ nat_abs v
-size_of_neg v = omega (arith, ints)
-
--- the negative is zero where the number is
-is_zero-neg : (v : ℤ) → is_zero (neg_ℤ v) ≡ is_zero v
-is_zero-neg v =
-    same_test (is_zero (neg_ℤ v)) (is_zero v)
-    (λ e. (Decides-int_eq v (pos 0)).1 (from_neg v ((Decides-int_eq (neg_ℤ v) (pos 0)).0 e)))
-    (λ e. (Decides-int_eq (neg_ℤ v) (pos 0)).1 (to_neg v ((Decides-int_eq v (pos 0)).0 e)))
-  where
-    from_neg : (v : ℤ) → neg_ℤ v ≡ pos 0 → v ≡ pos 0
-    from_neg v e = omega (arith, ints)
-
-    to_neg : (v : ℤ) → v ≡ pos 0 → neg_ℤ v ≡ pos 0
-    to_neg v e = omega (arith, ints)
-
 -- a quadruple with the divisor 1 is in lowest terms
 pub lowest_by_one : (h : HalfSpace) → gcd_of (h.a ∷ h.b ∷ h.c ∷ h.d ∷ []) ≡ 1 → reduced_half_space h ≡ h
 unfolding reduced_half_space
 lowest_by_one h e =
     ap (λ (g : ℕ). record { a = reduced_by g h.a; b = reduced_by g h.b; c = reduced_by g h.c; d = reduced_by g h.d }) e
     ∙ (λ i. record { a = quotient_by_one h.a i; b = quotient_by_one h.b i; c = quotient_by_one h.c i; d = quotient_by_one h.d i })
-
--- the complement of a kept half-space is kept
-pub kept_complement : (h : HalfSpace) → IsKeptHalfSpace h → IsKeptHalfSpace (complement h)
-kept_complement h k =
-    let size_a = size_of_neg h.a in
-    let size_b = size_of_neg h.b in
-    let size_c = size_of_neg h.c in
-    let size_d = size_of_neg h.d in
-    let bound_a = k.numbers.a in
-    let bound_b = k.numbers.b in
-    let bound_c = k.numbers.c in
-    let bound_d = k.numbers.d in
-    let same : gcd_of (neg_ℤ h.a ∷ neg_ℤ h.b ∷ neg_ℤ h.c ∷ neg_ℤ h.d ∷ []) ≡ gcd_of (h.a ∷ h.b ∷ h.c ∷ h.d ∷ []) =
-    gcd_of-four (neg_ℤ h.a) (neg_ℤ h.b) (neg_ℤ h.c) (neg_ℤ h.d) ∙ (λ i. gcd (gcd (gcd (size_d i) (size_c i)) (size_b i)) (size_a i)) ∙ sym (gcd_of-four h.a h.b h.c h.d) in
-    record {
-      numbers = record {
-        a = omega (arith, size_a, bound_a);
-        b = omega (arith, size_b, bound_b);
-        c = omega (arith, size_c, bound_c);
-        d = omega (arith, size_d, bound_d);
-        nonzero = (λ i. is_zero-neg h.a i && is_zero-neg h.b i && is_zero-neg h.c i && is_zero-neg h.d i) ∙ k.numbers.nonzero;
-      };
-      lowest = lowest_by_one (complement h) (same ∙ kept_divisor h k);
-    }
 
 -- the divisor of the numbers of a point with a weight above zero
 pub point_divisor_above : (p : RationalPoint) → IsPoint p → 0 < gcd_of (p.x ∷ p.y ∷ p.z ∷ p.w ∷ [])

@@ -1,6 +1,5 @@
 -- What is left of a walk while it is made step by step, whatever answers its tests.
-use Rattle.std.proofs.Common.{◌≡◌, ℕ, ◌+◌, ◌<◌, List, ◌∷◌, length, get_or, drop, Option, Some, None, IfSome, Result, refl, sym, ap, ◌∙◌, subst}
-use Rattle.std.proofs.lemmas.List.{drop_more}
+use Rattle.std.proofs.Common.{◌≡◌, Option, Some, None, IfSome, Result, refl, sym, ap, ◌∙◌, subst}
 use Rattle.rp_walks.specs.Walk.{Stop, Outcome, done, stopped, Walk, after_first, ◌>>=◌}
 use Rattle.rp_tests.specs.declared.stopped.Stopped.{Stopped}
 use Rattle.rp_tests.specs.Comes.{stop_of, StopsBy, Comes}
@@ -47,7 +46,3 @@ comes_left view r new h m = subst (λ o. Comes view r new o) h.same m
 -- what is left comes to this, and so does the whole walk
 pub end_left : {W A : Type 0} {start now : W} {whole left : Walk W A} (o : Outcome W A) → IsLeft start whole now left → left now ≡ o → whole start ≡ o
 end_left o h e = sym h.same ∙ e
-
--- what is left of a list at an item
-pub drop_item : {X : Type 0} (xs : List X) (i : ℕ) (x : X) → i < length xs → x ≡ get_or xs i x → drop i xs ≡ x ∷ drop (i + 1) xs
-drop_item xs i x h e = drop_more xs i x h ∙ ap (λ y. y ∷ drop (i + 1) xs) (sym e)

@@ -1,8 +1,6 @@
 -- The lines of a script, one after the other from its front.
-use Rattle.std.proofs.Common.{◌≡◌, ℕ, ◌+◌, ◌<◌, true, false, List, [], ◌∷◌, length, take, drop, Some, None, refl, ap, ◌∙◌, arith, eqb}
+use Rattle.std.proofs.Common.{◌≡◌, ℕ, ◌+◌, ◌<◌, List, [], ◌∷◌, length, take, drop, Some, None, refl, ap, ◌∙◌, arith}
 use Rattle.std.specs.List.{position, before_first, after_first, slice_split}
-use Rattle.std.proofs.lemmas.Bool.Decides.{nat_tests}
-use Rattle.std.proofs.lemmas.List.{nil_from_length}
 use Rattle.std.proofs.lemmas.List.Splits.{slice_split_none, slice_split_first, length-slice_split}
 use Rattle.rp_language.proofs.Places.{position_or_len-at_some, all_fail-at_none}
 use Rattle.rp_reports.specs.Report.{script_lines, lines_of_pieces, without_return}
@@ -34,11 +32,3 @@ script_lines-no_end (b ∷ bs) h e = ap lines_of_pieces (slice_split_none is_lin
 pub script_lines-nil : script_lines [] ≡ []
 unfolding script_lines
 script_lines-nil = refl
-
--- a list whose length tests as 0 is empty
-pub nil_from_test : (xs : List ℕ) → eqb (length xs) 0 ≡ true → xs ≡ []
-nil_from_test xs e = nil_from_length xs (grind (arith, nat_tests))
-
--- and one whose length does not is not
-pub nonempty_from_test : (xs : List ℕ) → eqb (length xs) 0 ≡ false → 0 < length xs
-nonempty_from_test xs e = grind (arith, nat_tests)

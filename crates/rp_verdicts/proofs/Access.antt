@@ -3,7 +3,7 @@ use Rattle.std.proofs.Common.{◌≡◌, ℕ, zero, suc, ◌+◌, ◌<◌, ◌�
 use Rattle.std.proofs.lemmas.List.{append_assoc, length-map}
 use Rattle.std.proofs.lemmas.Bool.{or_cases, or_left, or_right, eqb-true, eq-eqb, cases_order}
 use Rattle.std.proofs.lemmas.Slice.Eq.{bytes_eq-Decides}
-use Rattle.std.specs.Prelude.{IsTrue, ◌↔◌, ◌==◌, Option, Some, None}
+use Rattle.std.specs.Prelude.{IsTrue, ◌↔◌, ◌==◌, Some, None}
 use Rattle.std.specs.List.{AllByRecursion, slice_get}
 use Rattle.rp_algebra.proofs.Listed.{Listed, first, later, listed_cases, listed_left, listed_right}
 use Rattle.rp_algebra.proofs.Tests.{false_not_true, and_first, and_second, and_true}
@@ -24,9 +24,10 @@ use Rattle.rp_model.specs.commands.Verdict.{Refusal, access_lines}
 use Rattle.rp_model.specs.commands.Checks.{refuse_if, and_then, check_live, check_layer, check_access}
 use Rattle.rp_model.specs.commands.Row.{numbered_lists, lot_parts, links_with_list, links_among_lists, count_among, row_access}
 use Rattle.rp_model.specs.commands.Rule.{AreInContactAt, tells_access, rule_access}
-use Rattle.rp_convex.proofs.Filter.{some_passes, passes_some}
+use Rattle.rp_algebra.proofs.Filter.{some_passes, passes_some}
 use Rattle.rp_geometry.proofs.Members.{contact_turned}
 use Rattle.rp_geometry.proofs.SameMembers.{same_back, contact_same}
+use Rattle.rp_model.proofs.Refusals.{neither}
 use Rattle.rp_chains.proofs.Related.{AreStepsOf, levels_there, chosen_there}
 use Rattle.rp_chains.proofs.Levels.{levels_are_found_spec}
 use Rattle.rp_chains.proofs.Down.{chain_is_found_spec}
@@ -295,11 +296,6 @@ among_layer {S = S} x d (l ∷ ls) e = by_id (label_eq x l.id) refl e (among_lay
 refused_nothing : (b : Bool) (r : Refusal) → refuse_if (not b) r ≡ None → b ≡ true
 refused_nothing true r e = refl
 refused_nothing false r e = absurd (cc)
-
--- two checks that refused nothing
-neither : (o p : Option Refusal) → and_then o p ≡ None → (o ≡ None) × (p ≡ None)
-neither None p e = (refl, e)
-neither (Some r) p e = absurd (cc)
 
 -- both ids have a place among the lots of the layer, where the checks refuse nothing
 pub places_below : {S : Type 0} (s : StateOf S) (x y : Label) → check_access s x y ≡ None → (place_among x (ids_of (layer_lots s x)) < length (ids_of (layer_lots s x))) × (place_among y (ids_of (layer_lots s x)) < length (ids_of (layer_lots s x)))

@@ -20,6 +20,7 @@ use Rattle.rp_model.specs.commands.Rule.{Rule, refused_at_later, refused_at_pair
 use Rattle.rp_verdicts.specs.Limits.{IfDoneWith, AreWithinSoFar, AreApartIfSearched, PassedByCut, PassedBySubdivide, PassedBy, LimitComesAfterRefusals}
 use Rattle.rp_language.proofs.ReadBounds.{read_expressions_are_kept_spec}
 use Rattle.rp_geometry.proofs.SameMembers.{within_same, rest_of_within, overlaps_of_common}
+use Rattle.rp_model.proofs.Refusals.{not_refused_if, neither}
 use Rattle.rp_verdicts.proofs.Meanings.{meanings_agree, unknown_among_same}
 use Rattle.rp_verdicts.proofs.Neighbours.{lot_is_of}
 use Rattle.rp_verdicts.proofs.Parts.{some_part_is_nonempty, nonempty_if, cover_done}
@@ -79,16 +80,6 @@ never_stopped : {W : Type 0} (o : Option Refusal) (r : Reply) (w : W) → IfStop
 never_stopped None r w = tt
 never_stopped (Some x) r w = tt
 
--- a test that did not refuse
-not_refused : (b : Bool) (r : Refusal) → refuse_if b r ≡ None → b ≡ false
-not_refused true r e = absurd (cc)
-not_refused false r e = refl
-
--- two checks that did not refuse
-both_passed : (o further : Option Refusal) → and_then o further ≡ None → (o ≡ None) × (further ≡ None)
-both_passed None further e = (refl, e)
-both_passed (Some r) further e = absurd (cc)
-
 -- ---- pairs
 
 -- a rule that any lines keep
@@ -127,7 +118,7 @@ module _ {W : Type 0} (P : Part → Type 0) (t : Tester W) (right : WalksAreRigh
   register_passed : (x : Label) (a : Shape) (ps : List Part) → AreOf P a ps → (w : W) → IfStopped (row_register t s x ps w) ((check_new s x ≡ None) × IsNonempty a)
   register_passed x a ps h w =
       stopped_checks ((check_new s x ≡ None) × IsNonempty a) (check_new s x) (refuse_if (length ps == 0) empty_region) _ w
-      (λ e d. stopped_told _ ((check_new s x ≡ None) × IsNonempty a) (e, nonempty_if P t right.tests a ps h (not_refused (length ps == 0) empty_region d)))
+      (λ e d. stopped_told _ ((check_new s x ≡ None) × IsNonempty a) (e, nonempty_if P t right.tests a ps h (not_refused_if (length ps == 0) empty_region d)))
 
   -- the names and the sides of a cut
   cut_passed : (x : Label) (a : Shape) (ps : List Part) → AreOf P a ps → (first second : Label) (w : W) → IfStopped (row_cut t s x ps first second w) (PassedByCut t s x a ps first second w)
@@ -139,8 +130,8 @@ module _ {W : Type 0} (P : Part → Type 0) (t : Tester W) (right : WalksAreRigh
       (λ d. stopped_weaker (IfDoneWith (subtract t qs ps v) Outer) (Inner inner v) _
       (stopped_then (AreOf P (Shape.difference (shape_of_parts qs) (shape_of_parts ps))) Outer (subtract t qs ps v) _ (right.differences qs ps k.all h.all v)
       (λ outer u n. stopped_check (Outer outer u) (refuse_if (length outer == 0) (empty_side 2)) _ u
-      (λ f. stopped_told _ (Outer outer u) (not_within outer n (not_refused (length outer == 0) (empty_side 2) f)))))
-      (λ o. (overlaps inner m (not_refused (length inner == 0) (empty_side 1) d), o)))))
+      (λ f. stopped_told _ (Outer outer u) (not_within outer n (not_refused_if (length outer == 0) (empty_side 2) f)))))
+      (λ o. (overlaps inner m (not_refused_if (length inner == 0) (empty_side 1) d), o)))))
       (λ o. (e, o)))
     where
       whole : Shape
@@ -170,8 +161,8 @@ module _ {W : Type 0} (P : Part → Type 0) (t : Tester W) (right : WalksAreRigh
   none_empty : (k : ℕ) (cs : List Child) (fs : List FormedChild) → AreFormed P s cs fs → first_empty_child k fs ≡ None → AllByRecursion IsNonempty (child_sets s cs)
   none_empty k [] [] h e = tt
   none_empty k (c ∷ cs) (f ∷ fs) h e =
-      let d = both_passed (refuse_if (length f.parts == 0) (empty_child k)) (first_empty_child (k + 1) fs) e in
-      (nonempty_if P t right.tests (set_of s c.shape) f.parts h.0.parts (not_refused (length f.parts == 0) (empty_child k) d.0), none_empty (k + 1) cs fs h.1 d.1)
+      let d = neither (refuse_if (length f.parts == 0) (empty_child k)) (first_empty_child (k + 1) fs) e in
+      (nonempty_if P t right.tests (set_of s c.shape) f.parts h.0.parts (not_refused_if (length f.parts == 0) (empty_child k) d.0), none_empty (k + 1) cs fs h.1 d.1)
   none_empty k [] (f ∷ fs) h e = elim h [ ]
   none_empty k (c ∷ cs) [] h e = elim h [ ]
 

@@ -30,11 +30,11 @@ use Rattle.rp_convex.proofs.Cube.{cube_half_spaces_hold_cube_spec}
 use Rattle.rp_convex.proofs.Held.{in_cell_is_member}
 use Rattle.rp_alternative.proofs.Tests.{listed-to}
 use Rattle.rp_geometry.proofs.Members.{member_in_cube, member_passes}
-use Rattle.rp_geometry.proofs.Kept.{are_half_spaces, kept_box}
+use Rattle.rp_geometry.proofs.Kept.{are_half_spaces, kept_box, part_is_checked}
 use Rattle.rp_forms.proofs.Alike.{Alike, same_of_alike, one_part}
 use Rattle.rp_forms.proofs.Walks.{if_done_map, then_done}
 use Rattle.rp_forms.proofs.First.{none_made}
-use Rattle.rp_forms.proofs.Whole.{whole_is_part, part_is_checked}
+use Rattle.rp_forms.proofs.Whole.{whole_is_part}
 use Rattle.rp_verdicts.proofs.Written.{next_is_written, written_point, written_box}
 use Rattle.rp_verdicts.proofs.Dropped.{no_member, no_weak_point, shown, without_kept, IsDropped, dropped_is, dropped_alike}
 

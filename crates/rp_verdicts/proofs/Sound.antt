@@ -2,6 +2,7 @@
 use Rattle.std.proofs.Common.{true, false, List, [], ◌∷◌}
 use Rattle.std.specs.Prelude.{Option, Some}
 use Rattle.std.specs.List.{AllByRecursion}
+use Rattle.rp_algebra.proofs.Lists.{all_filter}
 use Rattle.rp_language.specs.Name.{Label, label_eq}
 use Rattle.rp_geometry.specs.sets.Shape.{Shape, Part}
 use Rattle.rp_walks.specs.Walk.{first_tester}
@@ -12,7 +13,6 @@ use Rattle.rp_walks.specs.FormLaws.{Agree, MeaningsAgree}
 use Rattle.rp_reports.specs.laws.RowLaws.{FormHasTheMembers}
 use Rattle.rp_forms.proofs.First.{first_tester_is_right_spec}
 use Rattle.rp_forms.proofs.Forms.{form_is_right_spec}
-use Rattle.rp_verdicts.proofs.Meanings.{all_filter}
 
 module _ (P : Part → Type 0) where
   -- the parts and the set of what is kept

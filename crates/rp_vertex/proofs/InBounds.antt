@@ -15,12 +15,12 @@ use Rattle.rp_geometry.specs.Geometry.{RationalPoint, HalfSpace, IntegerBox, IsP
 use Rattle.rp_geometry.specs.parts.LeastBox.{box_of_vertex, box_of_vertices, box_union}
 use Rattle.rp_geometry.specs.searches.Vertex.{any_point, vertices}
 use Rattle.rp_geometry.proofs.Boxes.{lower_x, lower_y, lower_z, upper_x, upper_y, upper_z}
+use Rattle.rp_geometry.proofs.Rounded.{opposite_range, floor_within}
 use Rattle.rp_convex.proofs.Lowest.{reduced_is}
 use Rattle.rp_convex.proofs.Move.{IsWeak}
 use Rattle.rp_convex.proofs.Vertex.{weak_is}
 use Rattle.rp_convex.proofs.WeakPoint.{listed_is_vertex}
 use Rattle.rp_vertex.specs.Joined.{HasCube}
-use Rattle.rp_vertex.proofs.Rounded.{floor_within, opposite_range}
 
 -- ---- the closed cube
 

@@ -1,14 +1,14 @@
 -- The least box of a list of vertices, joined one after the other.
-use Rattle.std.proofs.Common.{◌≡◌, ℕ, ◌+◌, ◌-◌, suc, ◌<◌, ℤ, List, [], ◌∷◌, ◌++◌, ◌≤◌, length, map, get_or, take, drop, refl, sym, ap, ◌∙◌, subst, add-one, arith, Contains}
+use Rattle.std.proofs.Common.{◌≡◌, ℕ, ◌+◌, ◌-◌, ◌<◌, ℤ, List, [], ◌∷◌, ◌++◌, ◌≤◌, length, map, get_or, take, drop, refl, sym, ap, ◌∙◌, subst, arith, Contains}
 use Rattle.std.specs.Prelude.{Option, Some, None, filter_map, option_map, unwrap_or}
 use Rattle.std.specs.Int.{int_min, int_max}
 use Rattle.std.specs.List.{cons_option}
 use Rattle.std.specs.Option.{option_to_list}
-use Rattle.std.proofs.Math.Seq.{drop-cons}
 use Rattle.std.proofs.lemmas.List.{drop_all, get_or-map, length-map}
 use Rattle.std.proofs.lemmas.List.Elements.{Contains-get_or}
 use Rattle.std.proofs.lemmas.Grind.{common_steps}
 use Rattle.std.proofs.lemmas.Int.{ints, clamps}
+use Rattle.rp_algebra.proofs.Lists.{drop_item}
 use Rattle.rp_geometry.specs.Geometry.{RationalPoint, HalfSpace, IntegerBox, cube_box, reduced_point, with_cube}
 use Rattle.rp_geometry.specs.parts.LeastBox.{box_of_vertex, box_of_vertices, box_union}
 use Rattle.rp_geometry.specs.searches.Search.{all_of_pairs, all_of_triples}
@@ -65,10 +65,6 @@ joined_option : (v : Option RationalPoint) (ps : List RationalPoint) (o : Option
 joined_option None ps o = refl
 joined_option (Some p) ps o = refl
 
--- the items from one place on are the item there and those behind it
-from_place : {A : Type 0} (xs : List A) (i : ℕ) (x : A) → i < length xs → x ≡ get_or xs i x → drop i xs ≡ x ∷ drop (i + 1) xs
-from_place xs i x h e = rw add-one (drop-cons xs i x h ∙ (λ j. sym e j ∷ drop (suc i) xs))
-
 -- the slice behind a place is the rest of the list
 slice_is : {A : Type 0} (xs : List A) (k : ℕ) → take (length xs - k) (drop k xs) ≡ drop k xs
 slice_is xs k = grind (arith, common_steps)
@@ -78,21 +74,21 @@ pub third_more : {A : Type 0} (F : A → Option RationalPoint) (xs : List A) (i 
     → later ≡ joined o (option_to_list (F x)) → joined o (filter_map F (drop i xs)) ≡ all → joined later (filter_map F (drop (i + 1) xs)) ≡ all
 third_more F xs i x o later all h e f k =
     ap (λ (l : Option IntegerBox). joined l (filter_map F (drop (i + 1) xs))) f ∙ sym (joined_option (F x) (filter_map F (drop (i + 1) xs)) o)
-    ∙ ap (λ ys. joined o (filter_map F ys)) (sym (from_place xs i x h e)) ∙ k
+    ∙ ap (λ ys. joined o (filter_map F ys)) (sym (drop_item xs i x h e)) ∙ k
 
 -- the same of each two items
 pub second_more : {A : Type 0} (F : A → A → Option RationalPoint) (xs : List A) (i : ℕ) (x : A) (o later all : Option IntegerBox) → i < length xs → x ≡ get_or xs i x
     → later ≡ joined o (filter_map (F x) (take (length xs - (i + 1)) (drop (i + 1) xs))) → joined o (all_of_pairs F (drop i xs)) ≡ all → joined later (all_of_pairs F (drop (i + 1) xs)) ≡ all
 second_more F xs i x o later all h e f k =
     ap (λ (l : Option IntegerBox). joined l (all_of_pairs F (drop (i + 1) xs))) (f ∙ ap (λ ys. joined o (filter_map (F x) ys)) (slice_is xs (i + 1))) ∙ sym (joined_append (filter_map (F x) (drop (i + 1) xs)) (all_of_pairs F (drop (i + 1) xs)) o)
-    ∙ ap (λ ys. joined o (all_of_pairs F ys)) (sym (from_place xs i x h e)) ∙ k
+    ∙ ap (λ ys. joined o (all_of_pairs F ys)) (sym (drop_item xs i x h e)) ∙ k
 
 -- the same of each three items
 pub first_more : {A : Type 0} (F : A → A → A → Option RationalPoint) (xs : List A) (i : ℕ) (x : A) (o later all : Option IntegerBox) → i < length xs → x ≡ get_or xs i x
     → later ≡ joined o (all_of_pairs (F x) (take (length xs - (i + 1)) (drop (i + 1) xs))) → joined o (all_of_triples F (drop i xs)) ≡ all → joined later (all_of_triples F (drop (i + 1) xs)) ≡ all
 first_more F xs i x o later all h e f k =
     ap (λ (l : Option IntegerBox). joined l (all_of_triples F (drop (i + 1) xs))) (f ∙ ap (λ ys. joined o (all_of_pairs (F x) ys)) (slice_is xs (i + 1))) ∙ sym (joined_append (all_of_pairs (F x) (drop (i + 1) xs)) (all_of_triples F (drop (i + 1) xs)) o)
-    ∙ ap (λ ys. joined o (all_of_triples F ys)) (sym (from_place xs i x h e)) ∙ k
+    ∙ ap (λ ys. joined o (all_of_triples F ys)) (sym (drop_item xs i x h e)) ∙ k
 
 -- a point of a list stands in it in lowest terms
 pub reduced_stands : (ps : List RationalPoint) (i : ℕ) (p : RationalPoint) → i < length ps → p ≡ get_or ps i p → Contains (map reduced_point ps) (reduced_point p)
@@ -102,7 +98,7 @@ reduced_stands ps i p h e = subst (λ (q : RationalPoint). Contains (map reduced
 pub point_more : (ps : List RationalPoint) (i : ℕ) (p : RationalPoint) (o later all : Option IntegerBox) → i < length ps → p ≡ get_or ps i p
     → later ≡ Some (join_vertex o (reduced_point p)) → joined o (map reduced_point (drop i ps)) ≡ all → joined later (map reduced_point (drop (i + 1) ps)) ≡ all
 point_more ps i p o later all h e f k =
-    ap (λ (l : Option IntegerBox). joined l (map reduced_point (drop (i + 1) ps))) f ∙ ap (λ qs. joined o (map reduced_point qs)) (sym (from_place ps i p h e)) ∙ k
+    ap (λ (l : Option IntegerBox). joined l (map reduced_point (drop (i + 1) ps))) f ∙ ap (λ qs. joined o (map reduced_point qs)) (sym (drop_item ps i p h e)) ∙ k
 
 -- ---- the result
 

@@ -5,8 +5,9 @@ use Rattle.std.proofs.lemmas.Int.{ints}
 use Rattle.rp_algebra.proofs.IntLaws.{linear, signs, le_or_lt_ℤ, pos_of_mul_pos_ℤ, mul_eq_zero_ℤ}
 use Rattle.rp_algebra.proofs.Numbers.{above_not_zero, nonneg_of_zero, nonneg_over, not_both, zero_over}
 use Rattle.rp_algebra.proofs.Reify.{by_ring_at, eq_by_ring, le_by_ring, le_by_multiple, lt_by_ring, zeros, reify}
-use Rattle.rp_geometry.specs.Geometry.{RationalPoint, HalfSpace, IsPoint, SamePlace, complement, half_space_of, point_of, side_value, reduced_point}
+use Rattle.rp_geometry.specs.Geometry.{RationalPoint, HalfSpace, IsPoint, SamePlace, complement, half_space_of, side_value, reduced_point}
 use Rattle.rp_geometry.specs.searches.Vertex.{meeting_weight}
+use Rattle.rp_geometry.proofs.Points.{mixed, side_mixed}
 use Rattle.rp_convex.proofs.Lowest.{reduced_is}
 use Rattle.rp_convex.proofs.Meeting.{meets}
 use Rattle.rp_convex.proofs.Places.{same_side, nonnegative_same}
@@ -211,19 +212,11 @@ cut_two system pair span h end c k g l at =
 
 -- ---- the sides of the cube as ends
 
--- a multiple of a point's numbers and one of another's
-abbrev mixed : ℤ → ℤ → RationalPoint → RationalPoint → RationalPoint
-mixed m n p q = point_of (m *ℤ p.x +ℤ n *ℤ q.x) (m *ℤ p.y +ℤ n *ℤ q.y) (m *ℤ p.z +ℤ n *ℤ q.z) (m *ℤ p.w +ℤ n *ℤ q.w)
-
 -- the value of a half-space there, over plain numbers
 side_mixed_of : (m n a b c d x y z w s t u v : ℤ) →
     a *ℤ (m *ℤ x +ℤ n *ℤ s) +ℤ b *ℤ (m *ℤ y +ℤ n *ℤ t) +ℤ c *ℤ (m *ℤ z +ℤ n *ℤ u) +ℤ d *ℤ (m *ℤ w +ℤ n *ℤ v)
     ≡ m *ℤ (a *ℤ x +ℤ b *ℤ y +ℤ c *ℤ z +ℤ d *ℤ w) +ℤ n *ℤ (a *ℤ s +ℤ b *ℤ t +ℤ c *ℤ u +ℤ d *ℤ v)
 side_mixed_of m n a b c d x y z w s t u v = by_ring_at (m ∷ n ∷ a ∷ b ∷ c ∷ d ∷ x ∷ y ∷ z ∷ w ∷ s ∷ t ∷ u ∷ v ∷ []) (search reify depth 40 fits 100000) tt
-
--- the value of a half-space there
-side_mixed : (h : HalfSpace) (m n : ℤ) (p q : RationalPoint) → side_value h (mixed m n p q) ≡ m *ℤ side_value h p +ℤ n *ℤ side_value h q
-side_mixed h m n p q = side_mixed_of m n h.a h.b h.c h.d p.x p.y p.z p.w q.x q.y q.z q.w
 
 -- multiples of 0
 no_part : (m n u v : ℤ) → u ≡ pos 0 → v ≡ pos 0 → m *ℤ u +ℤ n *ℤ v ≡ pos 0

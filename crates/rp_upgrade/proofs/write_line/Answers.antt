@@ -1,16 +1,12 @@
-use Rattle.std.proofs.Common.{List, ℕ, [], ◌∷◌, ◌++◌, ap, ◌∙◌, append_assoc}
+use Rattle.std.proofs.Common.{[], ◌∷◌}
 use Rattle.std.proofs.lemmas.Result.{err_from_is_err_and}
 use Rattle.rp_reports.specs.Text.{line_end}
 use Rattle.rp_reports.specs.Upgrade.{upgraded_line}
-use Rattle.rp_syntax.specs.Fronts.{AppendsFront}
 use Rattle.rp_syntax.specs.Views.{line_of}
+use Rattle.rp_report.proofs.FrontLemmas.{front_before}
 use Rattle.rp_upgrade.proofs.write_line.Goals as goal
-
--- a front of a text is one of it with more behind it
-longer : (old new text more : List ℕ) → AppendsFront old new text → AppendsFront old new (text ++ more)
-longer old new text more f = record { front = f.front; rest = f.rest ++ more; whole = ap (λ t. t ++ more) f.whole ∙ append_assoc f.front f.rest more; appended = f.appended }
 
 pub returns-in_err-write_upgraded-clause-front : goal.returns-in_err-write_upgraded-clause-front
 returns-in_err-write_upgraded-clause-front c =
     let p = err_from_is_err_and c.from_residual.result c.from_residual.ensures.1 in
-    rw p.1 (longer c.args.out.now.items c.write_upgraded.new.out.items (upgraded_line c.args.line.now (line_of c.args.read.now)) (line_end ∷ []) c.in_err-write_upgraded.ensures)
+    rw p.1 (front_before c.args.out.now.items c.write_upgraded.new.out.items (upgraded_line c.args.line.now (line_of c.args.read.now)) (line_end ∷ []) c.in_err-write_upgraded.ensures)

@@ -1,9 +1,10 @@
 use Rattle.std.proofs.Common.{◌≡◌, Some}
 use Rattle.std.specs.Prelude.{IsTrue}
+use Rattle.rp_algebra.proofs.Options.{of_some}
 use Rattle.rp_geometry.specs.searches.Certificate.{is_inside_certificate}
 use Rattle.rp_geometry.specs.searches.Vertex.{first_inside}
 use Rattle.rp_convex.proofs.Certified.{inside_certificate_shows_member_spec}
-use Rattle.rp_cell.proofs.Answered.{of_some, line_inside}
+use Rattle.rp_cell.proofs.Answered.{line_inside}
 use Rattle.rp_cell.proofs.decide.decide_strict.Goals as goal
 
 first : (c : goal.In-Some) → first_inside c.args.cell.now ≡ Some c.in-Some.points

@@ -1,6 +1,7 @@
 use Rattle.std.proofs.Common.{◌≡◌, Some}
+use Rattle.rp_algebra.proofs.Options.{of_some}
 use Rattle.rp_geometry.specs.searches.Vertex.{first_weak_point}
-use Rattle.rp_cell.proofs.Answered.{of_some, line_at}
+use Rattle.rp_cell.proofs.Answered.{line_at}
 use Rattle.rp_cell.proofs.decide.decide_weak.Goals as goal
 
 first : (c : goal.In-Some) → first_weak_point c.args.cell.now ≡ Some c.in-Some.p

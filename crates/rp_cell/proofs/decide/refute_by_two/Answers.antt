@@ -1,11 +1,12 @@
 use Rattle.std.proofs.Common.{◌≡◌, true, Some}
+use Rattle.rp_algebra.proofs.Options.{of_some}
 use Rattle.rp_geometry.specs.Geometry.{RationalPoint}
 use Rattle.rp_geometry.specs.sets.Shape.{shape_of_cell}
 use Rattle.rp_geometry.specs.sets.Sets.{IsEmpty}
 use Rattle.rp_geometry.specs.searches.Elimination.{first_outside}
 use Rattle.rp_geometry.specs.searches.ProofLine.{strict_line, out_line}
 use Rattle.rp_geometry.specs.laws.CellLaws.{IsSolution}
-use Rattle.rp_cell.proofs.Answered.{of_some, if_some, empty_without_solution, line_of_empty}
+use Rattle.rp_cell.proofs.Answered.{if_some, empty_without_solution, line_of_empty}
 use Rattle.rp_cell.proofs.decide.refute_by_two.Goals as goal
 
 pub returns-clause-empty : goal.returns-clause-empty

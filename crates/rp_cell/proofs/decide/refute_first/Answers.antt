@@ -1,11 +1,11 @@
 use Rattle.std.proofs.Common.{◌≡◌, true, Some}
 use Rattle.std.specs.Prelude.{IsTrue}
+use Rattle.rp_algebra.proofs.Options.{of_some}
 use Rattle.rp_geometry.specs.sets.Shape.{shape_of_cell}
 use Rattle.rp_geometry.specs.sets.Sets.{IsEmpty}
 use Rattle.rp_geometry.specs.searches.Certificate.{is_outside_certificate}
 use Rattle.rp_geometry.specs.searches.Elimination.{first_outside}
 use Rattle.rp_geometry.specs.searches.ProofLine.{strict_line, out_line}
-use Rattle.rp_cell.proofs.Answered.{of_some}
 use Rattle.rp_cell.proofs.decide.refute_first.Goals as goal
 
 pub returns-in-Some-clause-decides : goal.returns-in-Some-clause-decides

@@ -1,8 +1,9 @@
 use Rattle.std.proofs.Common.{true, sym, ◌∙◌}
 use Rattle.std.specs.Prelude.{IsTrue}
+use Rattle.rp_algebra.proofs.Options.{of_some}
 use Rattle.rp_geometry.specs.searches.Certificate.{is_outside_certificate}
 use Rattle.rp_convex.proofs.InsideFound.{inside_is_found_spec}
-use Rattle.rp_cell.proofs.Answered.{none_unless, of_some, outside_is_some, line_outside}
+use Rattle.rp_cell.proofs.Answered.{none_unless, outside_is_some, line_outside}
 use Rattle.rp_cell.proofs.decide.refute_strict.Goals as goal
 
 pub unwrap-requires : goal.unwrap-requires

@@ -1,10 +1,11 @@
 use Rattle.std.proofs.Common.{◌≡◌, false, Some}
 use Rattle.std.specs.Prelude.{IsTrue}
+use Rattle.rp_algebra.proofs.Options.{of_some}
 use Rattle.rp_geometry.specs.Geometry.{RationalPoint}
 use Rattle.rp_geometry.specs.searches.Certificate.{is_outside_certificate}
 use Rattle.rp_geometry.specs.searches.Elimination.{first_outside}
 use Rattle.rp_geometry.specs.laws.CellLaws.{IsSolution}
-use Rattle.rp_cell.proofs.Answered.{of_some, line_of_apart}
+use Rattle.rp_cell.proofs.Answered.{line_of_apart}
 use Rattle.rp_cell.proofs.decide.refute_weak_first.Goals as goal
 
 first : (c : goal.In-Some) → first_outside false c.args.cell.now ≡ Some c.in-Some.terms

@@ -1,8 +1,9 @@
 use Rattle.std.proofs.Common.{sym, ◌∙◌, ap}
 use Rattle.std.specs.Prelude.{IsTrue, is_some}
+use Rattle.rp_algebra.proofs.Options.{of_some}
 use Rattle.rp_geometry.specs.searches.Certificate.{is_inside_certificate}
 use Rattle.rp_convex.proofs.Certified.{inside_certificate_shows_member_spec}
-use Rattle.rp_cell.proofs.Answered.{of_some, line_inside}
+use Rattle.rp_cell.proofs.Answered.{line_inside}
 use Rattle.rp_cell.proofs.decide.search_strict.Goals as goal
 
 pub refute_strict-requires-clause-empty : goal.refute_strict-requires-clause-empty

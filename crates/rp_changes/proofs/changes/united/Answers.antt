@@ -1,8 +1,8 @@
 use Rattle.std.proofs.Common.{◌+◌, drop, sym, subst}
 use Rattle.std.proofs.lemmas.Result.{err_from_is_err_and}
+use Rattle.rp_algebra.proofs.Lists.{drop_item}
 use Rattle.rp_geometry.specs.sets.Shape.{Part}
 use Rattle.rp_space.specs.Listed.{Listed}
-use Rattle.rp_tests.proofs.Left.{drop_item}
 use Rattle.rp_changes.proofs.United.{no_trail, IsUniting, parts_found, parts_not_found, unites_more, unites_none, unites_stops}
 use Rattle.rp_changes.proofs.changes.united.Goals.{in-Some+in_ok-append_copy, in_default}
 use Rattle.rp_changes.proofs.changes.united.Goals as goal

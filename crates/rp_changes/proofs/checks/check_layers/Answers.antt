@@ -1,9 +1,9 @@
 use Rattle.std.proofs.Common.{◌+◌, None, Bool, not, drop, ap, sym, ◌∙◌}
 use Rattle.std.proofs.lemmas.List.{drop_all}
+use Rattle.rp_algebra.proofs.Lists.{drop_item}
 use Rattle.rp_language.specs.Name.{Label, label_eq}
 use Rattle.rp_model.specs.commands.Verdict.{layers}
 use Rattle.rp_model.specs.commands.Checks.{refuse_if, check_live, check_layer, check_each}
-use Rattle.rp_tests.proofs.Left.{drop_item}
 use Rattle.rp_changes.proofs.Checked.{each_refuses, each_passes, first_passes}
 use Rattle.rp_changes.proofs.checks.check_layers.Goals as goal
 

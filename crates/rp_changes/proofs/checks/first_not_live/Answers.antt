@@ -1,8 +1,8 @@
 use Rattle.std.proofs.Common.{Bool, not, ◌+◌, drop, ap, sym, ◌∙◌}
 use Rattle.std.proofs.lemmas.List.{drop_all}
+use Rattle.rp_algebra.proofs.Lists.{drop_item}
 use Rattle.rp_model.specs.commands.Verdict.{unknown}
 use Rattle.rp_model.specs.commands.Checks.{refuse_if, check_live, check_each}
-use Rattle.rp_tests.proofs.Left.{drop_item}
 use Rattle.rp_changes.proofs.Checked.{each_refuses, each_passes}
 use Rattle.rp_changes.proofs.checks.first_not_live.Goals as goal
 

@@ -1,8 +1,8 @@
 use Rattle.std.proofs.Common.{Bool, ◌+◌, drop, ap, sym, ◌∙◌}
 use Rattle.std.proofs.lemmas.List.{drop_all}
+use Rattle.rp_algebra.proofs.Lists.{drop_item}
 use Rattle.rp_model.specs.commands.Verdict.{known}
 use Rattle.rp_model.specs.commands.Checks.{refuse_if, check_new, check_each}
-use Rattle.rp_tests.proofs.Left.{drop_item}
 use Rattle.rp_changes.proofs.Checked.{each_refuses, each_passes}
 use Rattle.rp_changes.proofs.checks.first_registered.Goals as goal
 

@@ -1,9 +1,9 @@
 use Rattle.std.proofs.Common.{List, sym, subst, map, arith}
 use Rattle.std.specs.List.{Contains}
 use Rattle.std.proofs.lemmas.Int.{ints}
+use Rattle.rp_algebra.proofs.Lists.{take_all}
 use Rattle.rp_geometry.specs.Geometry.{RationalPoint, reduced_point}
 use Rattle.rp_clip.proofs.HalfAt.{index_get}
-use Rattle.rp_clip.proofs.Kept.{take_whole}
 use Rattle.rp_clip.proofs.Polygons.{positive_next}
 use Rattle.rp_clip.proofs.polygon.is_positive_at_all.Goals as goal
 
@@ -16,4 +16,4 @@ loop-corner-preserved c =
 pub returns : goal.returns
 returns c = λ e v m.
     c.loop-corner.invariant v
-    (subst (λ (ps : List RationalPoint). Contains (map reduced_point ps) v) (sym (take_whole c.args.corners.now c.loop-corner.corner-index c.loop-corner-test.false)) m)
+    (subst (λ (ps : List RationalPoint). Contains (map reduced_point ps) v) (sym (take_all c.args.corners.now c.loop-corner.corner-index c.loop-corner-test.false)) m)

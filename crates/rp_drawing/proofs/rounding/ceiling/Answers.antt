@@ -1,4 +1,4 @@
-use Rattle.rp_drawing.proofs.Coordinates.{ceiling_is}
+use Rattle.rp_geometry.proofs.Rounded.{ceiling_is}
 use Rattle.rp_drawing.proofs.rounding.ceiling.Goals as goal
 
 pub returns : goal.returns

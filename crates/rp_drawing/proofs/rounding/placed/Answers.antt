@@ -3,8 +3,9 @@ use Rattle.std.proofs.lemmas.Int.{ints}
 use Rattle.rp_algebra.specs.Within.{IsWithin}
 use Rattle.rp_algebra.proofs.IntLaws.{mul_pos_ℤ}
 use Rattle.rp_algebra.proofs.Machine.{code, fits_by, is_by, within_by}
+use Rattle.rp_cert.proofs.Traced.{short_is, short_within}
 use Rattle.rp_drawing.specs.Rounding.{nearest_to}
-use Rattle.rp_drawing.proofs.Nearest.{IsPlaced, coordinate_size, placed_is, placed_within, positive_by, short_is, short_within}
+use Rattle.rp_drawing.proofs.Nearest.{IsPlaced, coordinate_size, placed_is, placed_within, positive_by}
 use Rattle.rp_drawing.proofs.rounding.placed.Goals as goal
 
 pub overflow_sub-distance : goal.overflow_sub-distance

@@ -1,9 +1,10 @@
 use Rattle.std.proofs.Common.{◌+◌, ◌∷◌, [], ◌++◌, take, drop, sym, ap, ◌∙◌}
 use Rattle.std.proofs.lemmas.Result.{err_from_is_err_and}
 use Rattle.std.proofs.lemmas.List.{take_more}
+use Rattle.rp_algebra.proofs.Lists.{drop_item}
 use Rattle.rp_reports.specs.Check.{line_tester}
 use Rattle.rp_walks.specs.Form.{carve_one, carve}
-use Rattle.rp_tests.proofs.Left.{left_as, next_left, stop_left, drop_item}
+use Rattle.rp_tests.proofs.Left.{left_as, next_left, stop_left}
 use Rattle.rp_follow.proofs.difference.carve.Goals as goal
 
 pub returns-in_err-carve_one : goal.returns-in_err-carve_one

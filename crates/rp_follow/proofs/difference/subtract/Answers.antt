@@ -1,11 +1,12 @@
 use Rattle.std.proofs.Common.{[], ◌+◌, List, drop, ap, subst, ◌≤◌, length}
 use Rattle.std.proofs.lemmas.Result.{err_from_is_err_and}
+use Rattle.rp_algebra.proofs.Lists.{drop_item}
 use Rattle.rp_geometry.specs.sets.Shape.{Part}
 use Rattle.rp_geometry.specs.parts.Parts.{most_parts}
 use Rattle.rp_reports.specs.Check.{line_tester}
 use Rattle.rp_walks.specs.Walk.{◌>>=◌}
 use Rattle.rp_walks.specs.Form.{if_at_most, subtract_part, subtract}
-use Rattle.rp_tests.proofs.Left.{left_as, next_left, stop_left, drop_item}
+use Rattle.rp_tests.proofs.Left.{left_as, next_left, stop_left}
 use Rattle.rp_follow.proofs.Steps.{few_pass}
 use Rattle.rp_follow.proofs.difference.subtract.Goals as goal
 

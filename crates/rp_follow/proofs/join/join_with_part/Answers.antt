@@ -1,8 +1,9 @@
 use Rattle.std.proofs.Common.{◌+◌, drop, ap}
 use Rattle.std.proofs.lemmas.Result.{err_from_is_err_and}
+use Rattle.rp_algebra.proofs.Lists.{drop_item}
 use Rattle.rp_reports.specs.Check.{line_tester}
 use Rattle.rp_walks.specs.Form.{join_pair, join_with_part}
-use Rattle.rp_tests.proofs.Left.{left_as, next_left, stop_left, drop_item}
+use Rattle.rp_tests.proofs.Left.{left_as, next_left, stop_left}
 use Rattle.rp_follow.proofs.join.join_with_part.Goals as goal
 
 pub returns-in_err-join_pair : goal.returns-in_err-join_pair

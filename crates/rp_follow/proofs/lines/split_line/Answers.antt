@@ -1,7 +1,8 @@
 use Rattle.std.proofs.Common.{ℕ, ◌+◌, ◌∷◌, List, take, ap, sym, ◌∙◌}
 use Rattle.std.proofs.lemmas.List.{take_rest}
+use Rattle.rp_algebra.proofs.Lists.{nil_from_test, nonempty_from_test}
 use Rattle.rp_reports.specs.Output.{report_lines}
-use Rattle.rp_follow.proofs.Cut.{nil_from_test, nonempty_from_test, lines-nil, lines-at_end, lines-no_end}
+use Rattle.rp_follow.proofs.Cut.{lines-nil, lines-at_end, lines-no_end}
 use Rattle.rp_follow.proofs.lines.split_line.Goals as goal
 
 pub returns-then-is_empty-clause-lines : goal.returns-then-is_empty-clause-lines

@@ -1,7 +1,7 @@
 use Rattle.std.proofs.Common.{ap, ◌∙◌}
 use Rattle.std.specs.List.{list_any}
 use Rattle.rp_geometry.specs.Geometry.{all_hold}
-use Rattle.rp_follow.proofs.Members.{some_passes}
+use Rattle.rp_geometry.proofs.Members.{some_passes}
 use Rattle.rp_follow.proofs.member.passes_form.Goals as goal
 
 pub returns : goal.returns

@@ -5,8 +5,9 @@ use mir.Syntax.{w32}
 use Rattle.rp_walks.specs.Form.{prism_form}
 use Rattle.rp_reports.specs.Check.{line_tester}
 use Rattle.rp_space.specs.Corners.{prism_of}
+use Rattle.rp_footprint.proofs.Cells.{edge_there, no_edge_there}
 use Rattle.rp_tests.proofs.Left.{whole_as}
-use Rattle.rp_follow.proofs.Prisms.{edge_there, no_edge_there, edge_drawn, edge_stops, edges_end, drawn_of}
+use Rattle.rp_follow.proofs.Prisms.{edge_drawn, edge_stops, edges_end, drawn_of}
 use Rattle.rp_follow.proofs.prism.prismed.Goals as goal
 
 pub returns-in_err-current-clause-comes : goal.returns-in_err-current-clause-comes

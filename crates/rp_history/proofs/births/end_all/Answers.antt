@@ -1,9 +1,9 @@
 use Rattle.std.proofs.Common.{◌+◌, ◌∙◌, List, map, drop, ap, sym}
 use Rattle.std.proofs.lemmas.List.{drop_all}
+use Rattle.rp_algebra.proofs.Lists.{drop_item}
 use Rattle.rp_language.specs.Name.{Label}
 use Rattle.rp_model.specs.states.State.{ended_at}
 use Rattle.rp_history.proofs.Ended.{ends_first, ends_none}
-use Rattle.rp_history.proofs.Stepped.{drop_item}
 use Rattle.rp_history.proofs.births.end_all.Goals as goal
 
 pub loop-id-preserved : goal.loop-id-preserved

@@ -1,11 +1,11 @@
 use Rattle.std.proofs.Common.{◌+◌, ◌<◌, List, length, drop, sym, ap, ◌∙◌, subst}
 use Rattle.std.proofs.lemmas.List.{drop_all}
+use Rattle.rp_algebra.proofs.Lists.{drop_item}
 use Rattle.rp_language.specs.Name.{Label}
 use Rattle.rp_history.specs.declared.lot.LotLine.{LotLine}
 use Rattle.rp_history.specs.Lots.{lot_of}
 use Rattle.rp_history.specs.Marks.{marked_all}
 use Rattle.rp_history.proofs.Placed.{lot_at}
-use Rattle.rp_history.proofs.Stepped.{drop_item}
 use Rattle.rp_history.proofs.Marked.{marks_of_marked, marks_of_unmarked}
 use Rattle.rp_history.proofs.lineage.mark_origins.Goals as goal
 

@@ -1,7 +1,8 @@
 use Rattle.std.proofs.Common.{ℤ, sym, subst, ◌∙◌}
 use Rattle.rp_algebra.specs.Within.{IsWithin}
 use Rattle.rp_geometry.specs.Geometry.{half_edge}
-use Rattle.rp_nearby.proofs.Floored.{floor_within, quotient_is, short_is}
+use Rattle.rp_geometry.proofs.Rounded.{quotient_is, short_is}
+use Rattle.rp_nearby.proofs.Floored.{floor_within}
 use Rattle.rp_nearby.proofs.owner.floor.Goals as goal
 
 pub returns-clause-value : goal.returns-clause-value

@@ -1,9 +1,9 @@
 use Rattle.std.proofs.Common.{◌+◌, not, [], drop, refl, ap, sym, ◌∙◌}
 use Rattle.std.proofs.lemmas.List.{drop_all}
+use Rattle.rp_algebra.proofs.Lists.{drop_item}
 use Rattle.rp_language.specs.Name.{is_among}
 use Rattle.rp_model.specs.commands.Checks.{check_repeated}
 use Rattle.rp_parcels.proofs.Repeated.{seen_before, seen_more, was_seen}
-use Rattle.rp_nearby.proofs.Places.{drop_item}
 use Rattle.rp_parcels.proofs.checks.first_repeated.Goals as goal
 
 pub loop-id-init : goal.loop-id-init

@@ -1,10 +1,11 @@
 use Rattle.std.proofs.Common.{◌≡◌, ℕ, ◌-◌, ◌<◌, length, ap, ◌∙◌, subst, arith}
+use Rattle.rp_algebra.proofs.Numbers.{above_zero}
 use Rattle.rp_reports.specs.Text.{step_text}
 use Rattle.rp_reports.specs.SliceText.{is_written_step}
 use Rattle.rp_report.specs.Readers.{items}
 use Rattle.rp_report.specs.SliceReaders.{step}
 use Rattle.rp_report.proofs.SliceLaws.{step_reads}
-use Rattle.rp_report.proofs.ItemLemmas.{with_front, front_none, some_left, none_left, read_next, next_count, none_of, full_of, done_same, next_shorter}
+use Rattle.rp_report.proofs.ItemLemmas.{with_front, front_none, none_left, read_next, next_count, none_of, full_of, done_same, next_shorter}
 use Rattle.rp_report.proofs.slice_line.all_steps.Goals as goal
 
 pub loop-rest-init : goal.loop-rest-init
@@ -19,10 +20,10 @@ loop-rest-init c =
 pub returns-then-items-eq-MAX_STEPS : goal.returns-then-items-eq-MAX_STEPS
 returns-then-items-eq-MAX_STEPS c =
     let count : length c.items.result.now ≡ length c.loop-rest.steps = ap length c.items.ensures.value in
-    full_of step c.loop-rest.steps (36 - length c.loop-rest.steps) c.loop-rest.rest.now (items step 36 c.args.line.now) (omega (arith, count, c.if-items-eq-MAX_STEPS.true)) (some_left (length c.loop-rest.rest.now) c.loop-rest-test.ensures) c.loop-rest.invariant.same
+    full_of step c.loop-rest.steps (36 - length c.loop-rest.steps) c.loop-rest.rest.now (items step 36 c.args.line.now) (omega (arith, count, c.if-items-eq-MAX_STEPS.true)) (above_zero (length c.loop-rest.rest.now) c.loop-rest-test.ensures) c.loop-rest.invariant.same
 
 pub returns-in_err-rest : goal.returns-in_err-rest
-returns-in_err-rest c = c.from_residual.ensures ∙ none_of step c.loop-rest.steps (36 - length c.loop-rest.steps) c.loop-rest.rest.now (items step 36 c.args.line.now) (some_left (length c.loop-rest.rest.now) c.loop-rest-test.ensures) c.in_err-rest.ensures c.loop-rest.invariant.same
+returns-in_err-rest c = c.from_residual.ensures ∙ none_of step c.loop-rest.steps (36 - length c.loop-rest.steps) c.loop-rest.rest.now (items step 36 c.args.line.now) (above_zero (length c.loop-rest.rest.now) c.loop-rest-test.ensures) c.in_err-rest.ensures c.loop-rest.invariant.same
 
 pub loop-rest-smaller : goal.loop-rest-smaller
 loop-rest-smaller c = next_shorter step_text is_written_step step step_reads c.loop-rest.steps c.next_step.new.steps c.loop-rest.rest.now c.in_ok-rest.rest.now c.in_ok-rest.ensures

@@ -1,7 +1,8 @@
 use Rattle.std.proofs.Common.{ℕ, ◌+◌, ◌∷◌, List, drop, ap, sym, ◌∙◌}
 use Rattle.std.proofs.lemmas.List.{take_rest}
+use Rattle.rp_algebra.proofs.Lists.{nil_from_test, nonempty_from_test}
 use Rattle.rp_reports.specs.Report.{script_lines}
-use Rattle.rp_tool.proofs.LineLemmas.{nil_from_test, nonempty_from_test, script_lines-nil, script_lines-at_end, script_lines-no_end}
+use Rattle.rp_tool.proofs.LineLemmas.{script_lines-nil, script_lines-at_end, script_lines-no_end}
 use Rattle.rp_tool.proofs.lines.next_line.Goals as goal
 
 pub returns-then-is_empty-clause-end : goal.returns-then-is_empty-clause-end

@@ -1,4 +1,4 @@
-use Rattle.rp_vertex.proofs.Rounded.{ceiling_is}
+use Rattle.rp_geometry.proofs.Rounded.{ceiling_is}
 use Rattle.rp_vertex.proofs.bounds.ceiling.Goals as goal
 
 pub returns : goal.returns

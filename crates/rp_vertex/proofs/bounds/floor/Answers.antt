@@ -1,7 +1,7 @@
 use Rattle.std.proofs.Common.{ℤ, sym, subst, ◌∙◌}
 use Rattle.rp_algebra.specs.Within.{IsWithin}
 use Rattle.rp_geometry.specs.Geometry.{half_edge}
-use Rattle.rp_vertex.proofs.Rounded.{floor_within, quotient_is, short_is}
+use Rattle.rp_geometry.proofs.Rounded.{floor_within, quotient_is, short_is}
 use Rattle.rp_vertex.proofs.bounds.floor.Goals as goal
 
 pub returns-clause-value : goal.returns-clause-value

@@ -1,7 +1,8 @@
 use Rattle.std.proofs.Common.{List, [], ◌∷◌, ◌++◌, length, sym, ap, ◌∙◌}
+use Rattle.rp_algebra.proofs.Numbers.{above_zero}
 use Rattle.rp_geometry.specs.Geometry.{RationalPoint}
 use Rattle.rp_convex.proofs.Progress.{room_for_next}
-use Rattle.rp_convex.proofs.Rounds.{far_first, far_next, some_flat, found_next, flat_later, fewer_later}
+use Rattle.rp_convex.proofs.Rounds.{far_first, far_next, found_next, flat_later, fewer_later}
 use Rattle.rp_vertex.proofs.certificate.points_on_few.Goals as goal
 
 pub loop-way-init : goal.loop-way-init
@@ -17,7 +18,7 @@ push-requires-in-loop-way c =
 pub loop-way-smaller : goal.loop-way-smaller
 loop-way-smaller c =
     fewer_later c.args.system.now c.loop-way.flat.items c.flat_at-flat-in-loop-way.result.items c.in_ok-next.next
-    (some_flat (length c.loop-way.flat.items) c.loop-way-test.ensures)
+    (above_zero (length c.loop-way.flat.items) c.loop-way-test.ensures)
     (found_next c.args.system.now c.loop-way.flat.items c.as_slice.result.now c.in_ok-next.next c.as_slice.ensures.value (sym c.in_ok-next.ensures))
     (flat_later c.loop-way.flat.items c.as_slice-in-loop-way.result.now c.flat_at-flat-in-loop-way.result.items c.in_ok-next.next c.as_slice-in-loop-way.ensures.value c.flat_at-flat-in-loop-way.ensures)
 
@@ -25,7 +26,7 @@ pub loop-way-preserved : goal.loop-way-preserved
 loop-way-preserved c =
     far_next c.args.system.now c.args.first c.loop-way.flat.items c.flat_at-flat-in-loop-way.result.items c.loop-way.taken c.push-in-loop-way.new.self c.in_ok-next.next
     c.loop-way.invariant
-    (some_flat (length c.loop-way.flat.items) c.loop-way-test.ensures)
+    (above_zero (length c.loop-way.flat.items) c.loop-way-test.ensures)
     (found_next c.args.system.now c.loop-way.flat.items c.as_slice.result.now c.in_ok-next.next c.as_slice.ensures.value (sym c.in_ok-next.ensures))
     (flat_later c.loop-way.flat.items c.as_slice-in-loop-way.result.now c.flat_at-flat-in-loop-way.result.items c.in_ok-next.next c.as_slice-in-loop-way.ensures.value c.flat_at-flat-in-loop-way.ensures)
     c.push-in-loop-way.ensures

@@ -1,11 +1,11 @@
 use Rattle.std.proofs.Common.{◌+◌, [], drop, ap, sym, ◌∙◌}
 use Rattle.std.proofs.lemmas.List.{drop_all}
 use Rattle.std.proofs.lemmas.Result.{err_from_is_err_and}
+use Rattle.rp_algebra.proofs.Lists.{drop_item}
 use Rattle.rp_model.specs.commands.Checks.{check_live, check_each}
 use Rattle.rp_history.specs.Lots.{lots_in}
 use Rattle.rp_parcels.specs.Rows.{cause_of}
 use Rattle.rp_parcels.proofs.Checked.{each_fails, each_passes}
-use Rattle.rp_nearby.proofs.Places.{drop_item}
 use Rattle.rp_parcels.proofs.parcels.Parcels.check_all_live.Goals as goal
 
 pub returns-in_err-live_place : goal.returns-in_err-live_place

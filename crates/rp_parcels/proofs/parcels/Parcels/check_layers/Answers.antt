@@ -1,12 +1,12 @@
 use Rattle.std.proofs.Common.{◌+◌, [], None, Bool, not, drop, ap, sym, ◌∙◌}
 use Rattle.std.proofs.lemmas.List.{drop_all}
+use Rattle.rp_algebra.proofs.Lists.{drop_item}
 use Rattle.rp_language.specs.Name.{Label, label_eq}
 use Rattle.rp_model.specs.commands.Verdict.{layers}
 use Rattle.rp_model.specs.commands.Checks.{refuse_if, check_live, check_layer, check_each}
 use Rattle.rp_history.specs.Lots.{lots_in}
 use Rattle.rp_parcels.specs.Rows.{refuses}
 use Rattle.rp_parcels.proofs.Checked.{each_fails, each_passes, first_passes}
-use Rattle.rp_nearby.proofs.Places.{drop_item}
 use Rattle.rp_parcels.proofs.parcels.Parcels.check_layers.Goals as goal
 
 pub layer_of-requires : goal.layer_of-requires

@@ -1,8 +1,9 @@
 use Rattle.std.proofs.Common.{◌≡◌, ℕ, ◌<◌, ◌==◌, [], ◌∷◌, true, false, length, get_or, refl, sym, ap, ◌∙◌, subst, arith}
 use Rattle.std.proofs.lemmas.Bool.Decides.{nat_tests}
 use Rattle.rp_algebra.proofs.Listed.{all_append}
+use Rattle.rp_algebra.proofs.Lists.{get_some}
 use Rattle.rp_nearby.specs.Near.{AreWithin}
-use Rattle.rp_nearby.proofs.Places.{item_at, place_within}
+use Rattle.rp_nearby.proofs.Places.{place_within}
 use Rattle.rp_parcels.proofs.Found.{item_parts}
 use Rattle.rp_parcels.proofs.Sieved.{pairs_left, near_taken, near_passed}
 use Rattle.rp_parcels.proofs.parcels.Parcels.count_at.Goals as goal
@@ -18,7 +19,7 @@ loop-place-preserved c =
     let k = get_or places i 0 in
     let here = c.loop-place-test.true in
     let within : k < length lots = place_within lots places c.requires i k here refl in
-    let item = item_at lots k within in
+    let item = get_some lots k within in
     let qs = c.region_at.result.now in
     let own = item_parts lots k item.0 qs item.1 c.region_at.ensures in
     let pairs = pairs_left r ps lots places i k item.0 qs here refl item.1 own in

@@ -2,6 +2,7 @@ use Rattle.std.proofs.Common.{◌+◌, Some, drop, refl, ap, sym, ◌∙◌, sli
 use Rattle.std.specs.Prelude.{is_some}
 use Rattle.std.proofs.lemmas.List.{drop_all}
 use Rattle.std.proofs.lemmas.Result.{err_from_is_err_and}
+use Rattle.rp_algebra.proofs.Lists.{get_some}
 use Rattle.rp_language.specs.Name.{Label}
 use Rattle.rp_walks.specs.Walk.{done, first_tester}
 use Rattle.rp_walks.specs.Form.{common_nearby}
@@ -10,7 +11,7 @@ use Rattle.rp_model.specs.commands.Row.{first_overlapped}
 use Rattle.rp_region.proofs.Left.{all_left, left_as, fault_left}
 use Rattle.rp_history.specs.declared.lot.LotLine.{LotLine}
 use Rattle.rp_nearby.specs.Near.{lots_at}
-use Rattle.rp_nearby.proofs.Places.{item_at, place_within}
+use Rattle.rp_nearby.proofs.Places.{place_within}
 use Rattle.rp_nearby.proofs.Skipped.{search_on}
 use Rattle.rp_parcels.proofs.Found.{line_at, item_parts}
 use Rattle.rp_parcels.proofs.Tells.{search_tells, overlapped_tells}
@@ -28,7 +29,7 @@ returns-in_err-points-clause-makes c =
     let i = c.loop-place.place-index in
     let k = slice_index_or places i 0 in
     let within = place_within lots places c.requires i k c.loop-place-test.true refl in
-    let item = item_at lots k within in
+    let item = get_some lots k within in
     let ps = c.args.region.now in
     let qs = c.region_at-other.result.now in
     let parts = item_parts lots k item.0 qs item.1 c.region_at-other.ensures in
@@ -61,7 +62,7 @@ loop-place-preserved c =
     let i = c.loop-place.place-index in
     let k = slice_index_or places i 0 in
     let within = place_within lots places c.requires i k c.loop-place-test.true refl in
-    let item = item_at lots k within in
+    let item = get_some lots k within in
     let ps = c.args.region.now in
     let qs = c.region_at-other.result.now in
     let parts = item_parts lots k item.0 qs item.1 c.region_at-other.ensures in

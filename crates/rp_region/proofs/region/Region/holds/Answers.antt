@@ -2,7 +2,7 @@ use Rattle.std.proofs.Common.{◌&&◌, ap, ◌∙◌}
 use Rattle.std.specs.List.{list_any}
 use Rattle.rp_geometry.specs.Geometry.{all_hold}
 use Rattle.rp_geometry.specs.sets.Shape.{passes, shape_of_parts}
-use Rattle.rp_region.proofs.Members.{some_passes}
+use Rattle.rp_geometry.proofs.Members.{some_passes}
 use Rattle.rp_region.proofs.region.Region.holds.Goals as goal
 
 pub returns-then-is_in_cube : goal.returns-then-is_in_cube

@@ -5,8 +5,9 @@ use mir.Syntax.{w32}
 use Rattle.rp_walks.specs.Walk.{first_tester}
 use Rattle.rp_walks.specs.Form.{prism_form}
 use Rattle.rp_space.specs.Corners.{prism_of}
+use Rattle.rp_footprint.proofs.Cells.{edge_there, no_edge_there}
 use Rattle.rp_region.proofs.Left.{whole_as}
-use Rattle.rp_region.proofs.Prisms.{edge_there, no_edge_there, edge_drawn, edge_failed, edges_end, drawn_members}
+use Rattle.rp_region.proofs.Prisms.{edge_drawn, edge_failed, edges_end, drawn_members}
 use Rattle.rp_region.proofs.region.Region.of_prism.Goals as goal
 
 pub returns-in_err-current-clause-makes : goal.returns-in_err-current-clause-makes

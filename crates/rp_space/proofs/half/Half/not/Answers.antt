@@ -1,6 +1,7 @@
 use Rattle.std.proofs.Common.{sym, subst, ap, ◌∙◌}
 use Rattle.rp_geometry.specs.Geometry.{half_space_of, complement, IsKeptHalfSpace}
-use Rattle.rp_space.proofs.Kept.{kept_complement, half_space_negated}
+use Rattle.rp_geometry.proofs.Kept.{kept_complement}
+use Rattle.rp_space.proofs.Kept.{half_space_negated}
 use Rattle.rp_space.proofs.half.Half.not.Goals as goal
 
 pub invariant_of-result : goal.invariant_of-result

@@ -1,18 +1,18 @@
--- Coordinates of the closed cube, rounded down, up and to the nearest, in machine numbers.
-use Rattle.std.proofs.Common.{◌≡◌, ◌≤◌, ◌<◌, ◌^◌, ℤ, pos, neg_ℤ, ◌-ℤ◌, ◌*ℤ◌, ◌≤ℤ◌, ◌<ℤ◌, unsigned_abs, FitsSigned, to_z, of_z, true, [], ◌∷◌, ap, ◌∙◌, subst, le_of_lt, arith}
+-- Coordinates of points of the closed cube, rounded down and up, in machine numbers.
+use Rattle.std.proofs.Common.{ℤ, neg_ℤ, ◌*ℤ◌, ◌≤ℤ◌, ◌≡◌, true, [], ◌∷◌, arith, ◌≤◌, unsigned_abs, pos, ◌<ℤ◌, subst, FitsSigned, to_z, of_z, ◌∙◌, ap, ◌-ℤ◌, ◌<◌, ◌^◌, le_of_lt}
 use Rattle.std.specs.Prelude.{int_le}
-use Rattle.std.specs.Int.{int_div_euclid}
 use Rattle.std.proofs.lemmas.Int.{ints, to_z-of_z}
-use mir.Syntax.{w32, w128}
+use Rattle.std.specs.Int.{int_div_euclid}
+use mir.Syntax.{w128, w32}
+use Rattle.rp_algebra.proofs.Tests.{and_first, and_second, at_most_is, and_true, at_most_true}
+use Rattle.rp_algebra.proofs.IntLaws.{linear, mul_comm_ℤ, le_of_mul_le_left_ℤ}
+use Rattle.rp_algebra.proofs.Reify.{by_ring_at, reify}
 use Rattle.rp_algebra.specs.Integer.{floor_of, ceiling_of}
 use Rattle.rp_algebra.specs.Within.{IsWithin}
-use Rattle.rp_algebra.proofs.IntLaws.{linear, mul_comm_ℤ, le_of_mul_le_left_ℤ}
-use Rattle.rp_algebra.proofs.Machine.{read_is}
-use Rattle.rp_algebra.proofs.Numbers.{opposite_within}
-use Rattle.rp_algebra.proofs.Reify.{by_ring_at, reify}
 use Rattle.rp_algebra.proofs.Rounding.{floor_below, floor_greatest, le_trans}
-use Rattle.rp_algebra.proofs.Tests.{and_first, and_second, and_true, at_most_is, at_most_true}
-use Rattle.rp_geometry.specs.Geometry.{half_edge, cube_bound, is_in_closed_range}
+use Rattle.rp_algebra.proofs.Machine.{read_is}
+use Rattle.rp_algebra.proofs.Numbers.{opposite_within, from_zero}
+use Rattle.rp_geometry.specs.Geometry.{cube_bound, is_in_closed_range, half_edge}
 
 -- the coordinate v/w is from -M to M
 pub record IsInClosedRange (v w : ℤ) : Type 0 where
@@ -52,10 +52,6 @@ floor_within v w hw e =
     at_most : (f m w : ℤ) → pos 0 <ℤ w → (f *ℤ w) ≤ℤ (m *ℤ w) → f ≤ℤ m
     at_most f m w hw h = le_of_mul_le_left_ℤ w f m hw (subst (λ (t : ℤ). t ≤ℤ (w *ℤ m)) (mul_comm_ℤ f w) (subst (λ (t : ℤ). (f *ℤ w) ≤ℤ t) (mul_comm_ℤ m w) h))
 
--- 0 less a number is its opposite
-pub sub_is : (v : ℤ) → pos 0 -ℤ v ≡ neg_ℤ v
-sub_is v = omega (arith, ints)
-
 -- the quotient that the code has is the floor
 pub quotient_is : (r v w : ℤ) → FitsSigned w128 v → FitsSigned w128 w → r ≡ int_div_euclid (to_z w128 (of_z w128 v)) (to_z w128 (of_z w128 w)) → r ≡ floor_of v w
 quotient_is r v w fv fw e = e ∙ (λ i. int_div_euclid (to_z-of_z w128 v fv i) (to_z-of_z w128 w fw i))
@@ -66,11 +62,11 @@ short_is r h = ap (λ (t : ℤ). to_z w32 (of_z w32 t)) (read_is w128 h tt) ∙ 
 
 -- 0 less a small number is its opposite
 pub opposite_of_short : (r : ℤ) → IsWithin half_edge r → to_z w32 (of_z w32 (pos 0 -ℤ to_z w32 (of_z w32 r))) ≡ neg_ℤ r
-opposite_of_short r h = ap (λ (t : ℤ). to_z w32 (of_z w32 (pos 0 -ℤ t))) (read_is w32 h tt) ∙ ap (λ (t : ℤ). to_z w32 (of_z w32 t)) (sub_is r) ∙ read_is w32 (opposite_within half_edge r h) tt
+opposite_of_short r h = ap (λ (t : ℤ). to_z w32 (of_z w32 (pos 0 -ℤ t))) (read_is w32 h tt) ∙ ap (λ (t : ℤ). to_z w32 (of_z w32 t)) (from_zero r) ∙ read_is w32 (opposite_within half_edge r h) tt
 
 -- the same of a coordinate
 pub opposite_of_long : (v : ℤ) → FitsSigned w128 v → unsigned_abs v < 2 ^ 101 → to_z w128 (of_z w128 (pos 0 -ℤ to_z w128 (of_z w128 v))) ≡ neg_ℤ v
-opposite_of_long v f h = ap (λ (t : ℤ). to_z w128 (of_z w128 (pos 0 -ℤ t))) (to_z-of_z w128 v f) ∙ ap (λ (t : ℤ). to_z w128 (of_z w128 t)) (sub_is v) ∙ read_is w128 (opposite_within (2 ^ 101) v (record { abs_le = le_of_lt h })) tt
+opposite_of_long v f h = ap (λ (t : ℤ). to_z w128 (of_z w128 (pos 0 -ℤ t))) (to_z-of_z w128 v f) ∙ ap (λ (t : ℤ). to_z w128 (of_z w128 t)) (from_zero v) ∙ read_is w128 (opposite_within (2 ^ 101) v (record { abs_le = le_of_lt h })) tt
 
 -- the opposite of the floor of the opposite is the ceiling
 pub ceiling_is : (r v w : ℤ) → FitsSigned w128 v → FitsSigned w128 w → unsigned_abs v < 2 ^ 101 → IsWithin half_edge r
