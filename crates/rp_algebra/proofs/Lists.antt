@@ -13,6 +13,11 @@ map_get f [] i = refl
 map_get f (x ∷ xs) zero = refl
 map_get f (x ∷ xs) (suc i) = map_get f xs i
 
+-- images of images
+pub images_twice : {A B C : Type 0} (f : A → B) (g : B → C) (xs : List A) → map g (map f xs) ≡ map (λ x. g (f x)) xs
+images_twice f g [] = refl
+images_twice f g (x ∷ xs) = ap (λ (zs : List _). g (f x) ∷ zs) (images_twice f g xs)
+
 -- what stands in the first of two lists
 pub get_left : {A : Type 0} (xs ys : List A) (i : ℕ) → i < length xs → slice_get (xs ++ ys) i ≡ slice_get xs i
 get_left [] ys i h = absurd (omega (arith, h))

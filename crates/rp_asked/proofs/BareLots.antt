@@ -1,13 +1,14 @@
 -- Lots without parts: what is told of them is what is told of the lots.
 use Rattle.std.proofs.Common.{◌≡◌, Bool, true, false, not, List, [], ◌∷◌, ◌++◌, map, length, Result, Ok, Err, refl, ap, ◌∙◌, subst}
 use Rattle.std.proofs.lemmas.List.{length-map}
+use Rattle.rp_algebra.proofs.Lists.{images_twice}
 use Rattle.rp_language.specs.Name.{Label, is_among}
 use Rattle.rp_walks.specs.Walk.{Outcome, done, stopped, Walk, pass}
 use Rattle.rp_model.specs.states.State.{Lot, PlainState, Traced, trace, lineage, bare_lot, is_live, live_lots, ids_of}
 use Rattle.rp_model.specs.commands.Verdict.{Verdict, unknown, entry_of, lot_lines}
 use Rattle.rp_model.specs.commands.Checks.{refuse_if}
 use Rattle.rp_model.specs.commands.Row.{Reply, reply_lines, check, row_history}
-use Rattle.rp_states.proofs.Plain.{images_twice, kept_images}
+use Rattle.rp_states.proofs.Plain.{kept_images}
 use Rattle.rp_history.specs.Lots.{lots_in}
 use Rattle.rp_space.specs.Listed.{Listed}
 use Rattle.rp_report.specs.declared.answer.Verdict.{Verdict as CodeVerdict}

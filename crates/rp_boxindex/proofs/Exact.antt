@@ -1,5 +1,5 @@
 -- The ids that are answered are exactly those whose boxes meet, and rise.
-use Rattle.std.proofs.Common.{◌≡◌, ℕ, Bool, true, false, cond, T, eqb, List, [], ◌∷◌, map, Option, Some, refl, sym, ap, ◌∙◌, subst}
+use Rattle.std.proofs.Common.{◌≡◌, ℕ, Bool, true, false, cond, T, eqb, List, [], ◌∷◌, map, Option, Some, refl, sym, ap, ◌∙◌, subst, arith}
 use Rattle.std.specs.FinMap as finite
 use Rattle.std.specs.FinMap.{find, is_sorted, entries_sorted, get-entries}
 use Rattle.std.specs.FinMap.Entries.{below_all}
@@ -16,7 +16,6 @@ use Rattle.rp_boxindex.specs.Laws.{is_there_and_meets, MeetingIdsAreExact, Meeti
 use Rattle.rp_boxindex.specs.Boxes.{Entry}
 use Rattle.rp_boxindex.specs.Meeting.{meets, ids_that_meet}
 use Rattle.rp_boxindex.proofs.Places.{at_is}
-use Rattle.std.proofs.Common.{arith}
 use Rattle.rp_algebra.proofs.Tests.{first_of_both, second_of_both}
 
 less : (o : Ordering) → T (is_lt o) → o ≡ Less

@@ -6,8 +6,8 @@ ghost use Rattle.rp_model.specs.states.State.{parts_in};
 ghost use Rattle.rp_model.specs.commands.Row.{row, form_children};
 ghost use Rattle.rp_reports.specs.Check.{Trail, line_tester};
 ghost use Rattle.rp_tests.specs.Comes.{Comes};
-ghost use Rattle.rp_syntax.specs.Views.{expression_of, child_of};
-ghost use Rattle.rp_changes.specs.Children.{shapes_of, formed_children};
+ghost use Rattle.rp_syntax.specs.Views.{expression_of, child_of, shapes_of};
+ghost use Rattle.rp_changes.specs.Children.{formed_children};
 ghost use Rattle.rp_register.specs.Replies.{Replies};
 
 use crate::changes::define;

@@ -2,6 +2,7 @@
 use Rattle.std.proofs.Common.{◌≡◌, ℕ, ◌<◌, List, [], ◌∷◌, map, refl, sym, ap, ◌∙◌, subst}
 use Rattle.std.specs.Prelude.{IsTrue, IfSome, IfOk, Result, Ok, Err}
 use Rattle.std.specs.List.{AllByRecursion}
+use Rattle.rp_algebra.proofs.Lists.{images_twice}
 use Rattle.rp_geometry.specs.sets.Shape.{Shape}
 use Rattle.rp_geometry.specs.parts.Parts.{IsCheckedPart}
 use Rattle.rp_geometry.specs.sections.Trace.{IsHeight}
@@ -20,7 +21,6 @@ use Rattle.rp_runs.proofs.Rows.{line_rows, followed_row_tells_truth_spec}
 use Rattle.rp_states.proofs.Computed.{reply_plain}
 use Rattle.rp_states.proofs.Listing.{all_mapped}
 use Rattle.rp_states.proofs.Parted.{parts_are_sound, read_plain, same_lots}
-use Rattle.rp_states.proofs.Plain.{images_twice}
 use Rattle.rp_states.proofs.PlainRows.{row_same}
 use Rattle.rp_states.proofs.Replies.{plain_new, plain_change, IsFitReply, row_fit}
 use Rattle.rp_register.specs.declared.reply.Reply.{Reply as CodeReply}

@@ -1,4 +1,3 @@
 pub mod Answers
-pub mod Children
 pub mod Found
 pub mod Marks

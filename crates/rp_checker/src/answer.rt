@@ -2,7 +2,7 @@
 ghost use Rattle.std.specs.Prelude.{◌≡◌, ◌+◌, ◌<◌, ◌∷◌, [], ℕ, length, map, IfOk, is_none, option_map};
 ghost use Rattle.std.specs.List.{AllByRecursion};
 ghost use Rattle.rp_geometry.specs.sections.Trace.{IsHeight};
-ghost use Rattle.rp_language.specs.Expression.{IsKeptExpression, expressions_of, first_unknown_among, heights_of};
+ghost use Rattle.rp_language.specs.Expression.{IsKeptExpression, expressions_of, first_unknown_among, heights_of, HasFewChildren};
 ghost use Rattle.rp_language.specs.Grammar.{bad, reading};
 ghost use Rattle.rp_model.specs.commands.Row.{Reply as ModelReply};
 ghost use Rattle.rp_model.specs.states.State.{PlainState, changed, parts_in, state_of_parts};
@@ -13,7 +13,6 @@ ghost use Rattle.rp_syntax.specs.Versions.{version_of};
 ghost use Rattle.rp_syntax.specs.Views.{child_of, command_of, expression_of, fault_of};
 ghost use Rattle.rp_tests.specs.Comes.{StopsBy};
 ghost use Rattle.rp_checker.specs.Answers.{Answers, echo_with};
-ghost use Rattle.rp_checker.specs.Children.{HasFewChildren};
 ghost use Rattle.rp_register.specs.Kept.{IsSoundOnLines, ComesFromKnown};
 ghost use Rattle.rp_register.specs.Replies.{reply_of, IsUnshown, Replies};
 

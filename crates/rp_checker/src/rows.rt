@@ -2,11 +2,10 @@
 ghost use Rattle.std.specs.Prelude.{◌≡◌};
 ghost use Rattle.std.specs.List.{AllByRecursion};
 ghost use Rattle.rp_geometry.specs.sections.Trace.{IsHeight};
-ghost use Rattle.rp_language.specs.Expression.{IsKeptExpression, expressions_of, heights_of};
+ghost use Rattle.rp_language.specs.Expression.{IsKeptExpression, expressions_of, heights_of, HasFewChildren};
 ghost use Rattle.rp_model.specs.commands.Row.{row};
 ghost use Rattle.rp_reports.specs.Check.{Trail, line_tester};
 ghost use Rattle.rp_syntax.specs.Views.{command_of};
-ghost use Rattle.rp_checker.specs.Children.{HasFewChildren};
 ghost use Rattle.rp_register.specs.Replies.{Replies, reply_asked, reply_told};
 
 use rp_asked::{

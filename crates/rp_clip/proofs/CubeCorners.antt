@@ -4,7 +4,7 @@ use Rattle.std.specs.Prelude.{Option, Some, None, option_map, not, ◌&&◌}
 use Rattle.std.specs.Option.{UnwrapsOrElse}
 use Rattle.std.specs.List.{Contains, list_any}
 use Rattle.std.proofs.lemmas.Bool.Decides.{Decides-int_eq}
-use Rattle.rp_algebra.specs.Integer.{int_eq}
+use Rattle.rp_algebra.specs.Integer.{int_eq, gcd_of, gcd}
 use Rattle.rp_algebra.proofs.Options.{none_not_some, same_some}
 use Rattle.rp_algebra.proofs.Tests.{false_not_true, and_true, and_first, and_second}
 use Rattle.rp_algebra.proofs.Filter.{passes_some}
@@ -12,7 +12,6 @@ use Rattle.rp_corners.proofs.Standing.{contains_listed}
 use Rattle.rp_clip.specs.Clipped.{HasVertices}
 use Rattle.rp_clip.specs.Masks.{mask_of}
 use Rattle.rp_clip.specs.Tables.{Rows, AreDistinct, AreDifferentVertices}
-use Rattle.rp_algebra.specs.Integer.{gcd_of, gcd}
 use Rattle.rp_geometry.specs.Geometry.{RationalPoint, HalfSpace, reduced_point}
 use Rattle.rp_geometry.specs.searches.Vertex.{vertices, meeting_point}
 use Rattle.rp_clip.specs.CubeCorners.{cube_side, cube_corner, cube_corners}

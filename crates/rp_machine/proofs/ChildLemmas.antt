@@ -1,33 +1,23 @@
 -- The children of a subdivision, and what its row comes to.
 use Rattle.std.proofs.Common.{◌≡◌, ℕ, List, [], map, Option, Some, None, Result, Err, refl, sym, ap, ◌∙◌, subst}
 use Rattle.std.specs.Prelude.{option_map}
-use Rattle.std.specs.List.{AllByRecursion}
 use Rattle.rp_language.specs.Name.{Label}
-use Rattle.rp_language.specs.Expression.{Expression, Child, subdivide, IsKeptExpression, first_unknown_among}
+use Rattle.rp_language.specs.Expression.{Expression, subdivide, first_unknown_among}
 use Rattle.rp_walks.specs.Walk.{done, Walk, Work, after_first, first_tester, ◌>>=◌}
 use Rattle.rp_model.specs.states.State.{PlainState, parts_in}
 use Rattle.rp_model.specs.commands.Verdict.{unknown}
 use Rattle.rp_model.specs.commands.Row.{Reply, refusal, check, FormedChild, form_children, row_subdivide, row}
-use Rattle.rp_states.proofs.Plain.{images_twice}
 use Rattle.rp_tests.specs.declared.stopped.Stopped.{Stopped}
 use Rattle.rp_tests.specs.Comes.{StopsBy}
 use Rattle.rp_tests.proofs.Left.{stops_on}
 use Rattle.rp_syntax.specs.declared.command.Expr.{Expr}
-use Rattle.rp_syntax.specs.Views.{child_of}
+use Rattle.rp_syntax.specs.Views.{child_of, shapes_of}
 use Rattle.rp_machine.specs.declared.fault.RowFault.{RowFault}
 use Rattle.rp_machine.specs.declared.reply.Reply.{Reply as CodeReply}
-use Rattle.rp_machine.specs.Children.{shapes_of}
+use Rattle.rp_syntax.proofs.Children.{same_shapes}
 use Rattle.rp_machine.specs.Faults.{fault_of_stop, cause_of_row}
 use Rattle.rp_machine.specs.Replies.{FailsAt, Runs}
 use Rattle.rp_machine.proofs.Changes.{stop_fails}
-
--- the expressions of entries are those of their children
-same_shapes : (entries : List (Label × Expr)) → map (λ (c : Child). c.shape) (map child_of entries) ≡ shapes_of entries
-same_shapes entries = images_twice child_of (λ (c : Child). c.shape) entries
-
--- they are kept
-pub kept_shapes : (entries : List (Label × Expr)) → AllByRecursion IsKeptExpression (map (λ (c : Child). c.shape) (map child_of entries)) → AllByRecursion IsKeptExpression (shapes_of entries)
-kept_shapes entries h = subst (λ (es : List Expression). AllByRecursion IsKeptExpression es) (same_shapes entries) h
 
 -- the row of a subdivision, by its expressions
 abbrev row_by : PlainState → Label → List (Label × Expr) → Option Label → Walk Work Reply

@@ -8,7 +8,7 @@ use Rattle.std.proofs.lemmas.List.{map-append, length_push, length-map}
 use Rattle.std.proofs.lemmas.List.Sums.{sum_by_push}
 use Rattle.indexmap.specs.IndexMap.{insert_entry}
 use Rattle.rp_algebra.proofs.Listed.{all_append, all_map}
-use Rattle.rp_algebra.proofs.Lists.{all_filter}
+use Rattle.rp_algebra.proofs.Lists.{all_filter, images_twice}
 use Rattle.rp_geometry.specs.sets.Shape.{Shape, Part, shape_of_parts}
 use Rattle.rp_geometry.specs.parts.Parts.{IsPart, IsRegion, AreOf}
 use Rattle.rp_language.specs.Name.{Label, label_eq, is_among}
@@ -18,7 +18,7 @@ use Rattle.rp_model.specs.states.Sound.{are_distinct, IsSound}
 use Rattle.rp_model.specs.commands.Row.{shapes_of_parts}
 use Rattle.rp_states.proofs.Labels.{distinct_together}
 use Rattle.rp_states.proofs.Listing.{all_mapped, all_unmapped}
-use Rattle.rp_states.proofs.Plain.{images_twice, image_sums, there_is_kept}
+use Rattle.rp_states.proofs.Plain.{image_sums, there_is_kept}
 use Rattle.rp_parcels.specs.Kept.{AreSound}
 use Rattle.rp_machine.specs.Named.{kept_under, kept_entry, state_with, AreKeptWell, AreCounted, IsNewName}
 

@@ -1,23 +1,10 @@
 -- The children of a subdivision.
-use Rattle.std.specs.Prelude.{◌≤◌, List, length, map}
-use Rattle.rp_language.specs.Name.{Label}
-use Rattle.rp_language.specs.Expression.{Expression, Command, subdivide}
+use Rattle.std.specs.Prelude.{List, map}
 use Rattle.rp_model.specs.commands.Row.{FormedChild}
 use Rattle.rp_space.specs.Listed.{Listed}
 use Rattle.rp_parcels.specs.declared.child.Child.{Child}
 use Rattle.rp_parcels.specs.Register.{child_of}
-use Rattle.rp_syntax.specs.declared.command.Expr.{Expr}
-use Rattle.rp_syntax.specs.Views.{expression_of}
-
--- the expressions of some entries
-abbrev pub shapes_of : List (Label × Expr) → List Expression
-shapes_of entries = map (λ e. expression_of e.1) entries
 
 -- children with their forms
 abbrev pub formed_children : Listed Child → List FormedChild
 formed_children children = map child_of children.items
-
--- a subdivision has no more children than a line may name
-abbrev pub HasFewChildren : Command → Type 0
-HasFewChildren (subdivide x cs) = length cs ≤ 1024
-HasFewChildren _ = Unit {0}

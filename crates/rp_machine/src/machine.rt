@@ -4,7 +4,7 @@ ghost use Rattle.rp_geometry.specs.sets.Shape.{shape_of_parts};
 ghost use Rattle.rp_geometry.specs.sets.Sets.{SameMembers};
 ghost use Rattle.std.specs.List.{AllByRecursion};
 ghost use Rattle.rp_geometry.specs.sections.Trace.{IsHeight};
-ghost use Rattle.rp_language.specs.Expression.{IsKeptExpression, expressions_of, heights_of, closed, first_unknown};
+ghost use Rattle.rp_language.specs.Expression.{IsKeptExpression, expressions_of, heights_of, closed, first_unknown, HasFewChildren};
 ghost use Rattle.rp_language.specs.Grammar.{command};
 ghost use Rattle.rp_walks.specs.Walk.{first_tester};
 ghost use Rattle.rp_walks.specs.Form.{form};
@@ -15,7 +15,6 @@ ghost use Rattle.rp_reports.specs.Machine.{step_answer, after_line, answer_read,
 ghost use Rattle.rp_report.specs.Views.{answer_of};
 ghost use Rattle.rp_syntax.specs.Versions.{version_of};
 ghost use Rattle.rp_syntax.specs.Views.{command_of, expression_of};
-ghost use Rattle.rp_machine.specs.Children.{HasFewChildren};
 ghost use Rattle.rp_machine.specs.Forms.{MakesForm};
 
 use crate::fault::FormFault;

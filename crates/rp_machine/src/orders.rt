@@ -6,8 +6,8 @@ ghost use Rattle.rp_walks.specs.Walk.{first_tester};
 ghost use Rattle.rp_model.specs.states.State.{parts_in, state_of_parts};
 ghost use Rattle.rp_model.specs.states.Sound.{IsLaterThan};
 ghost use Rattle.rp_model.specs.commands.Row.{row, form_children};
-ghost use Rattle.rp_syntax.specs.Views.{expression_of, child_of};
-ghost use Rattle.rp_machine.specs.Children.{shapes_of, formed_children};
+ghost use Rattle.rp_syntax.specs.Views.{expression_of, child_of, shapes_of};
+ghost use Rattle.rp_machine.specs.Children.{formed_children};
 ghost use Rattle.rp_tests.specs.Comes.{Comes};
 ghost use Rattle.rp_machine.specs.Replies.{Runs};
 

@@ -2,13 +2,12 @@
 ghost use Rattle.std.specs.Prelude.{◌≡◌};
 ghost use Rattle.rp_geometry.specs.sections.Trace.{IsHeight};
 ghost use Rattle.std.specs.List.{AllByRecursion};
-ghost use Rattle.rp_language.specs.Expression.{IsKeptExpression, expressions_of, heights_of, ask_section};
+ghost use Rattle.rp_language.specs.Expression.{IsKeptExpression, expressions_of, heights_of, ask_section, HasFewChildren};
 ghost use Rattle.rp_walks.specs.Walk.{Work, first_tester};
 ghost use Rattle.rp_model.specs.states.State.{state_of_parts};
 ghost use Rattle.rp_model.specs.states.Sound.{IsLaterThan};
 ghost use Rattle.rp_model.specs.commands.Row.{row};
 ghost use Rattle.rp_syntax.specs.Views.{expression_of, command_of};
-ghost use Rattle.rp_machine.specs.Children.{HasFewChildren};
 ghost use Rattle.rp_machine.specs.Replies.{Walks, Runs, reply_of_forms, reply_told};
 
 use crate::fault::RowFault;

@@ -2,7 +2,7 @@
 ghost use Rattle.std.specs.Prelude.{◌≡◌, ◌<◌, ◌∷◌, ◌++◌, [], map, IfOk, OnOk, OnErr};
 ghost use Rattle.std.specs.List.{AllByRecursion};
 ghost use Rattle.rp_geometry.specs.sections.Trace.{IsHeight};
-ghost use Rattle.rp_language.specs.Expression.{IsKeptExpression, expressions_of, heights_of};
+ghost use Rattle.rp_language.specs.Expression.{IsKeptExpression, expressions_of, heights_of, HasFewChildren};
 ghost use Rattle.rp_language.specs.Grammar.{command};
 ghost use Rattle.rp_model.specs.states.State.{state_of_parts};
 ghost use Rattle.rp_model.specs.states.Sound.{IsLaterThan};
@@ -11,7 +11,6 @@ ghost use Rattle.rp_reports.specs.Machine.{answer_read, state_read};
 ghost use Rattle.rp_cert.specs.Lines.{line_of};
 ghost use Rattle.rp_report.specs.Views.{answer_of, verdict_of};
 ghost use Rattle.rp_syntax.specs.Views.{command_of, fault_of};
-ghost use Rattle.rp_machine.specs.Children.{HasFewChildren};
 ghost use Rattle.rp_machine.specs.Replies.{verdicts_of_row, proofs_of_row, IsWant};
 
 use crate::fault::RowFault;

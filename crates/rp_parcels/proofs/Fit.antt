@@ -2,6 +2,7 @@
 use Rattle.std.proofs.Common.{◌≡◌, ℕ, ◌+◌, ◌≤◌, List, [], map, length, sum_by, sym, ap, ◌∙◌, subst, arith}
 use Rattle.std.specs.Prelude.{IsTrue, false}
 use Rattle.std.specs.List.{AllByRecursion}
+use Rattle.rp_algebra.proofs.Lists.{images_twice}
 use Rattle.rp_geometry.specs.sets.Shape.{Shape}
 use Rattle.rp_geometry.specs.parts.Parts.{IsPart, AreOf}
 use Rattle.rp_geometry.proofs.Kept.{part_is_checked}
@@ -11,7 +12,7 @@ use Rattle.rp_model.specs.states.Sound.{are_distinct, IsSound, IsLaterThan}
 use Rattle.rp_model.specs.commands.Rule.{fill_lots}
 use Rattle.rp_reports.specs.laws.RowLaws.{AreSoundLots}
 use Rattle.rp_states.proofs.Listing.{all_mapped}
-use Rattle.rp_states.proofs.Plain.{images_twice, image_sums}
+use Rattle.rp_states.proofs.Plain.{image_sums}
 use Rattle.rp_states.proofs.Replies.{plain_new, parts_of_new}
 use Rattle.rp_states.proofs.Computed.{changed_plain}
 use Rattle.rp_states.proofs.Parted.{parts_are_sound, read_plain, same_lots}

@@ -3,14 +3,13 @@ use Rattle.std.proofs.Common.{◌≡◌, ℕ, ◌<◌, Bool, true, List, map, le
 use Rattle.std.specs.Prelude.{IsTrue, option_map}
 use Rattle.std.proofs.lemmas.List.{length-map}
 use Rattle.std.proofs.lemmas.Option.{slice_get-map, slice_get_read}
-use Rattle.rp_algebra.proofs.Lists.{get_some}
+use Rattle.rp_algebra.proofs.Lists.{get_some, images_twice}
 use Rattle.rp_geometry.specs.sets.Shape.{Shape, Part}
 use Rattle.rp_language.specs.Name.{Label}
 use Rattle.rp_model.specs.states.State.{Lot, is_live, live_lots, live_lot, lot_with_id, ids_of, lot_of_parts, bare_lot, parts_of_lot}
 use Rattle.rp_model.specs.states.Sound.{are_distinct}
 use Rattle.rp_states.proofs.Picked.{pick}
 use Rattle.rp_states.proofs.Labels.{label_is}
-use Rattle.rp_states.proofs.Plain.{images_twice}
 use Rattle.rp_history.specs.declared.lot.LotLine.{LotLine}
 use Rattle.rp_history.specs.Lots.{lot_of}
 use Rattle.rp_history.proofs.Found.{found_has_id, found_is_live, picked_lot, if_passed}

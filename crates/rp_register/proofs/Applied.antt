@@ -6,6 +6,7 @@ use Rattle.std.proofs.lemmas.Bool.{or_parts, not-true}
 use Rattle.std.proofs.lemmas.List.{length-map, length_push, map-append}
 use Rattle.std.proofs.lemmas.List.Sums.{sum_by-cons, sum_by_push}
 use Rattle.rp_algebra.proofs.Tests.{and_first, and_second, false_not_true, false_unless}
+use Rattle.rp_algebra.proofs.Lists.{images_twice}
 use Rattle.rp_geometry.specs.sets.Shape.{Shape, Part, shape_of_parts}
 use Rattle.rp_geometry.specs.sets.Sets.{IsNonempty}
 use Rattle.rp_geometry.specs.parts.Parts.{AreOf, IsCheckedPart, most_parts}
@@ -15,7 +16,7 @@ use Rattle.rp_model.specs.states.State.{Kept, Lot, NewLot, PlainState, kept_of_p
 use Rattle.rp_model.specs.states.Sound.{are_distinct, IsLaterThan}
 use Rattle.rp_states.proofs.Labels.{among_right, label_turned}
 use Rattle.rp_states.proofs.Listing.{all_unmapped}
-use Rattle.rp_states.proofs.Plain.{images_twice, image_sums}
+use Rattle.rp_states.proofs.Plain.{image_sums}
 use Rattle.rp_states.proofs.Replaced.{ids_after}
 use Rattle.rp_history.specs.Lots.{AreBornBefore, AreNew}
 use Rattle.rp_register.specs.Kept.{kept_under, state_with, IsNewName, AreFew, IsSoundOnLines, ComesFromKnown}

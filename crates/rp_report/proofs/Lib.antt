@@ -1,5 +1,5 @@
 mod EchoLaws
-mod FrontLemmas
+pub mod FrontLemmas
 mod ItemLemmas
 mod LineLemmas
 mod NumberWords

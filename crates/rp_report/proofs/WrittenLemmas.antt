@@ -8,8 +8,7 @@ use Rattle.rp_algebra.specs.Integer.{int_eq}
 use Rattle.std.proofs.lemmas.Bool.Decides.{Decides-int_eq}
 use Rattle.rp_algebra.proofs.Tests.{and_first, and_second, false_unless, false_not_true}
 use Rattle.rp_algebra.proofs.Options.{same_some, some_not_none}
-use Rattle.rp_geometry.specs.Geometry.{RationalPoint, HalfSpace, point_of, half_space_of, half_space_eq, is_within_bound, cube_bound, offset_bound, is_half_space_in_bounds, is_zero_half_space, reduced_half_space, is_point_in_bounds, reduced_point}
-use Rattle.rp_geometry.specs.Geometry.{point_eq}
+use Rattle.rp_geometry.specs.Geometry.{RationalPoint, HalfSpace, point_of, half_space_of, half_space_eq, is_within_bound, cube_bound, offset_bound, is_half_space_in_bounds, is_zero_half_space, reduced_half_space, is_point_in_bounds, reduced_point, point_eq}
 use Rattle.rp_geometry.proofs.Points.{point_eq-to}
 use Rattle.rp_space.specs.declared.half.HalfFault.{HalfFault}
 use Rattle.rp_space.specs.declared.half.HalfFault.TheVariants.{Range as HalfRange, Zero}

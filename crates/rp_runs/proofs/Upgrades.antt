@@ -5,6 +5,7 @@ use Rattle.std.specs.List.{AllByRecursion}
 use Rattle.std.proofs.lemmas.Bool.{ltb-false}
 use Rattle.std.proofs.lemmas.List.{length-take-le}
 use Rattle.rp_algebra.proofs.Listed.{all_map}
+use Rattle.rp_algebra.proofs.Lists.{images_twice}
 use Rattle.rp_language.specs.Expression.{Command}
 use Rattle.rp_language.specs.Grammar.{space, Version, one, two, too_long, Reading, blank, command, bad, words_of, command_words, reading_of, most_bytes, is_blank, reading, spelling}
 use Rattle.rp_language.specs.Laws.{SpellingIsRead, UpgradeIsRead}
@@ -16,7 +17,6 @@ use Rattle.rp_reports.specs.Upgrade.{upgraded_line, upgraded_script}
 use Rattle.rp_reports.specs.laws.UpgradeLaws.{upgraded_answer, IsUpgradedFrom, IsUpgradedReport, UpgradeKeepsTheReport}
 use Rattle.rp_reports.proofs.Lines.{is_end, HasNoEnd, script_lines_no_end, lines_of_text, without_same}
 use Rattle.rp_states.proofs.Listing.{all_mapped}
-use Rattle.rp_states.proofs.Plain.{images_twice}
 
 -- ---- blank lines
 

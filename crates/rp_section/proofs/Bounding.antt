@@ -3,7 +3,6 @@ use Rattle.std.proofs.Common.{◌≡◌, ℤ, pos, neg_ℤ, ◌+ℤ◌, ◌*ℤ�
 use Rattle.std.specs.Prelude.{is_some, option_map}
 use Rattle.std.specs.List.{list_all, list_any}
 use Rattle.std.proofs.lemmas.Int.{ints}
-use Rattle.std.proofs.lemmas.Bool.{or_cases}
 use Rattle.rp_algebra.specs.Integer.{is_zero, is_positive, is_nonnegative}
 use Rattle.rp_algebra.proofs.IntLaws.{linear, trichotomy_ℤ, cancel_mul_left_ℤ, cancel_mul_ne_ℤ}
 use Rattle.rp_algebra.proofs.Numbers.{zero_or_not, above_not_zero, below_not_zero, nonpos_of_neg, neg_positive}
@@ -11,7 +10,7 @@ use Rattle.rp_algebra.proofs.Options.{none_not_some, some_not_none, same_some}
 use Rattle.rp_algebra.proofs.Reify.{by_ring_at, reify}
 use Rattle.rp_algebra.proofs.Tests.{and_first, and_second, and_true, zero_is, is_zero_true, is_zero_false, is_positive_true, is_positive_false, positive_is, not_positive_is, nonnegative_is, is_nonnegative_true, false_not_true, false_unless, same_test}
 use Rattle.rp_algebra.proofs.Listed.{Listed, first, later, all_pass, pass_all}
-use Rattle.rp_algebra.proofs.Filter.{passes_some}
+use Rattle.rp_algebra.proofs.Filter.{passes_some, some_passes, SomePasses}
 use Rattle.rp_geometry.specs.Geometry.{RationalPoint, HalfSpace, IsPoint, side_value, reduced_point}
 use Rattle.rp_geometry.specs.searches.Search.{first_of}
 use Rattle.rp_geometry.specs.searches.Vertex.{cramer_point, negated_point, meeting_point}
@@ -176,21 +175,6 @@ first_has {A} {B} F (w ∷ xs) x y l e =
     by_answer (Some v) k r = record { value = v; is = refl }
     by_answer None k r = ⊎_elim (λ g. absurd (none_not_some y (sym k ∙ g))) (λ h. h) r
 
--- an item that passes
-record Passes {A : Type 0} (test : A → Bool) (xs : List A) : Type 0 where
-  item : A
-  listed : Listed item xs
-  passes : test item ≡ true
-
--- one does where some item passes
-any_is : {A : Type 0} (test : A → Bool) (xs : List A) → list_any test xs ≡ true → Passes test xs
-any_is test [] e = absurd (false_not_true false e refl)
-any_is test (y ∷ xs) e =
-    ⊎_elim
-    (λ k. record { item = y; listed = first; passes = k })
-    (λ k. let r = any_is test xs k in record { item = r.item; listed = later r.listed; passes = r.passes })
-    (or_cases (test y) (list_any test xs) e)
-
 -- a test whose negation passes fails
 not_passes : (b : Bool) → not b ≡ true → b ≡ true → ⊥
 not_passes true e f = false_not_true false e refl
@@ -323,7 +307,7 @@ module _ (z : ℤ) (cell : List HalfSpace) (steps : List RingStep) (ring : IsRin
   bound_edge : (f : Side) → Listed f all → is_bound (level_plane z) all f ≡ true → HasEdge steps f.edge
   bound_edge f lf e = by_first (first_of (spot_at (level_plane z) all f) all) refl e
     where
-      two : (p : RationalPoint) (one : GivenAt (spot_at (level_plane z) all f) all p) → Passes (is_other (level_plane z) all f p) all → HasEdge steps f.edge
+      two : (p : RationalPoint) (one : GivenAt (spot_at (level_plane z) all f) all p) → SomePasses (is_other (level_plane z) all f p) all → HasEdge steps f.edge
       two p one other =
           let a = spot_is f one.item p lf one.listed one.is in
           let off = and_first (not (is_zero (side_value other.item.half p))) _ other.passes in
@@ -335,7 +319,7 @@ module _ (z : ℤ) (cell : List HalfSpace) (steps : List RingStep) (ring : IsRin
 
       by_first : (o : Option RationalPoint) → first_of (spot_at (level_plane z) all f) all ≡ o → has_other (level_plane z) all f o ≡ true → HasEdge steps f.edge
       by_first None k r = absurd (false_not_true false r refl)
-      by_first (Some p) k r = two p (first_given (spot_at (level_plane z) all f) all p k) (any_is (is_other (level_plane z) all f p) all r)
+      by_first (Some p) k r = two p (first_given (spot_at (level_plane z) all f) all p k) (some_passes (is_other (level_plane z) all f p) all r)
 
   -- ---- an edge bounds the section
   -- the side of an edge of the ring

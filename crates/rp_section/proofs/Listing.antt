@@ -22,11 +22,6 @@ pub append_one : {A : Type 0} (xs : List A) (x : A) (ys : List A) → (xs ++ x �
 append_one [] x ys = refl
 append_one (w ∷ xs) x ys = ap (λ zs. w ∷ zs) (append_one xs x ys)
 
--- three lists
-pub append_append : {A : Type 0} (xs ys zs : List A) → (xs ++ ys) ++ zs ≡ xs ++ (ys ++ zs)
-append_append [] ys zs = refl
-append_append (x ∷ xs) ys zs = ap (λ rest. x ∷ rest) (append_append xs ys zs)
-
 -- ---- half-spaces with a trace
 
 -- those of two lists

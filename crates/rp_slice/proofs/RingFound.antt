@@ -2,7 +2,6 @@
 use Rattle.std.proofs.Common.{◌≡◌, ℤ, pos, neg_ℤ, ◌+ℤ◌, ◌-ℤ◌, ◌*ℤ◌, ◌≤ℤ◌, ◌<ℤ◌, Bool, true, false, not, List, [], ◌∷◌, map, ◌⊎◌, inl, inr, ⊎_elim, Option, Some, None, refl, sym, ap, ◌∙◌, subst, arith}
 use Rattle.std.specs.Prelude.{IsNone, IfSome}
 use Rattle.std.specs.List.{list_all, list_any}
-use Rattle.std.proofs.lemmas.Bool.{or_cases}
 use Rattle.rp_algebra.specs.Integer.{is_zero, is_positive, is_nonnegative}
 use Rattle.rp_algebra.proofs.IntLaws.{linear, trichotomy_ℤ}
 use Rattle.rp_algebra.proofs.Numbers.{above_not_zero, below_not_zero, neg_positive}
@@ -10,7 +9,7 @@ use Rattle.rp_algebra.proofs.Reify.{by_ring_at, reify}
 use Rattle.rp_algebra.proofs.Tests.{and_first, and_second, and_true, zero_is, is_zero_true, is_zero_false, is_positive_true, is_positive_false, nonnegative_is, is_nonnegative_true, false_not_true, false_unless}
 use Rattle.rp_algebra.proofs.Options.{none_not_some, some_not_none, same_some}
 use Rattle.rp_algebra.proofs.Listed.{Listed, first, later, all_pass, pass_all}
-use Rattle.rp_algebra.proofs.Filter.{passes_some}
+use Rattle.rp_algebra.proofs.Filter.{passes_some, some_passes}
 use Rattle.rp_geometry.specs.Geometry.{RationalPoint, HalfSpace, point_of, reduced_point, point_eq}
 use Rattle.rp_geometry.specs.searches.Search.{all_of_pairs}
 use Rattle.rp_geometry.specs.searches.Vertex.{normal_point, negated_point}
@@ -158,21 +157,6 @@ spot_corner z ts p s t k ls lt m =
 
 -- ---- edges
 
--- an item that passes
-record Passes {A : Type 0} (test : A → Bool) (xs : List A) : Type 0 where
-  item : A
-  listed : Listed item xs
-  passes : test item ≡ true
-
--- one does where some item passes
-any_is : {A : Type 0} (test : A → Bool) (xs : List A) → list_any test xs ≡ true → Passes test xs
-any_is test [] e = absurd (false_not_true false e refl)
-any_is test (y ∷ xs) e =
-    ⊎_elim
-    (λ k. record { item = y; listed = first; passes = k })
-    (λ k. let r = any_is test xs k in record { item = r.item; listed = later r.listed; passes = r.passes })
-    (or_cases (test y) (list_any test xs) e)
-
 -- two points of a list that a trace joins
 record JoinsTwo (points : List RationalPoint) (t : Trace) : Type 0 where
   one : RationalPoint
@@ -186,8 +170,8 @@ record JoinsTwo (points : List RationalPoint) (t : Trace) : Type 0 where
 -- an edge has two
 edge_to : (points : List RationalPoint) (t : Trace) → is_edge_of points t ≡ true → JoinsTwo points t
 edge_to points t e =
-    let p = any_is (λ p. list_any (joins_both t p) points) points e in
-    let q = any_is (joins_both t p.item) points p.passes in
+    let p = some_passes (λ p. list_any (joins_both t p) points) points e in
+    let q = some_passes (joins_both t p.item) points p.passes in
     let both = and_first _ (not (point_eq p.item q.item)) q.passes in
     record {
       one = p.item;

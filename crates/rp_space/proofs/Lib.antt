@@ -6,5 +6,5 @@ mod Cramer
 mod Kept
 mod Named
 mod Negative
-mod Positive
+pub mod Positive
 mod Sides

@@ -4,3 +4,4 @@ mod NumberLemmas
 mod ManyLemmas
 mod SpellLemmas
 mod WordLemmas
+pub mod Children

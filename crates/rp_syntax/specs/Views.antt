@@ -31,6 +31,10 @@ expression_of (Not' p e) = Expression.opposite (expression_of e)
 abbrev pub child_of : List ℕ × Expr → Child
 child_of entry = record { id = entry.0; shape = expression_of entry.1 }
 
+-- the expressions of some entries
+abbrev pub shapes_of : List (Label × Expr) → List Expression
+shapes_of entries = map (λ e. expression_of e.1) entries
+
 -- the command of the model
 abbrev pub command_of : Command → ModelCommand
 command_of (commands.Let x e) = define x (expression_of e)

@@ -6,7 +6,7 @@ use Rattle.std.proofs.lemmas.Int.{ints}
 use Rattle.std.proofs.lemmas.Bool.{or_cases}
 use Rattle.rp_algebra.proofs.Listed.{list_all_is}
 use Rattle.rp_algebra.proofs.Tests.{and_first, and_second, and_true, at_most_is, false_not_true}
-use Rattle.rp_geometry.specs.Geometry.{RationalPoint, HalfSpace, IntegerBox, IsPoint, IsKeptHalfSpace, holds, all_hold, complement, is_cube_point, is_listed, cube_half_spaces, box_half_spaces, is_box_in_bounds}
+use Rattle.rp_geometry.specs.Geometry.{RationalPoint, HalfSpace, IntegerBox, IsPoint, IsKeptHalfSpace, holds, all_hold, complement, is_cube_point, is_listed, cube_half_spaces, box_half_spaces, is_box_in_bounds, is_between}
 use Rattle.rp_geometry.specs.sets.Shape.{Part, passes, shape_of_cell, shape_of_parts}
 use Rattle.rp_geometry.specs.sets.Sets.{IsNonempty}
 use Rattle.rp_geometry.specs.searches.Certificate.{is_inside_certificate, is_weak_point, is_outside_certificate}
@@ -24,7 +24,6 @@ use Rattle.rp_geometry.specs.sections.Slice.{Slice, is_slice, slice_of}
 use Rattle.rp_slice.proofs.RingFound.{slice_is_found_spec}
 use Rattle.rp_reports.specs.laws.RowLaws.{LineTesterIsRight}
 use Rattle.rp_geometry.proofs.Boxes.{box_holds}
-use Rattle.rp_geometry.specs.Geometry.{is_between}
 use Rattle.rp_convex.proofs.Certified.{inside_certificate_shows_member_spec}
 use Rattle.rp_convex.proofs.Cube.{cube_half_spaces_hold_cube_spec}
 use Rattle.rp_convex.proofs.Held.{in_cell_is_member}

@@ -1,50 +1,27 @@
 -- Vertices lie in the closed cube, and their boxes are within its bounds.
-use Rattle.std.proofs.Common.{◌≡◌, ℤ, pos, neg_ℤ, ◌-ℤ◌, ◌*ℤ◌, ◌≤ℤ◌, ◌<ℤ◌, true, ◌&&◌, List, [], ◌∷◌, refl, sym, ap, ◌∙◌, subst, arith}
+use Rattle.std.proofs.Common.{◌≡◌, ℤ, pos, neg_ℤ, ◌*ℤ◌, ◌≤ℤ◌, ◌<ℤ◌, true, ◌&&◌, List, [], ◌∷◌, refl, sym, ap, ◌∙◌, subst, arith}
 use Rattle.std.specs.Prelude.{int_le}
 use Rattle.std.specs.Int.{int_min, int_max}
 use Rattle.std.proofs.lemmas.Int.{ints, clamps}
 use Rattle.rp_algebra.specs.Integer.{floor_of, ceiling_of}
 use Rattle.rp_algebra.specs.Within.{IsWithin}
 use Rattle.rp_algebra.proofs.IntLaws.{pos_of_mul_pos_ℤ, nonneg_of_pos_ℤ, le_of_mul_le_left_ℤ, mul_le_mul_left_ℤ, mul_comm_ℤ, neg_mul_ℤ}
-use Rattle.rp_algebra.proofs.Listed.{Listed, first, later, listed_right}
+use Rattle.rp_algebra.proofs.Listed.{Listed, first, later}
 use Rattle.rp_algebra.proofs.Numbers.{opposite_within}
 use Rattle.rp_algebra.proofs.Reify.{by_ring_at, reify}
 use Rattle.rp_algebra.proofs.Rounding.{floor_below, floor_greatest}
 use Rattle.rp_algebra.proofs.Tests.{and_first, and_second, and_true, at_most_is, at_most_true}
-use Rattle.rp_geometry.specs.Geometry.{RationalPoint, HalfSpace, IntegerBox, IsPoint, half_edge, cube_bound, cube_half_spaces, side_value, with_cube, is_within_bound, is_box_in_bounds, is_in_closed_range, is_closed_cube_point, all_nonnegative, reduced_point}
+use Rattle.rp_geometry.specs.Geometry.{RationalPoint, HalfSpace, IntegerBox, IsPoint, half_edge, cube_bound, with_cube, is_within_bound, is_box_in_bounds, is_in_closed_range, is_closed_cube_point, all_nonnegative, reduced_point}
 use Rattle.rp_geometry.specs.parts.LeastBox.{box_of_vertex, box_of_vertices, box_union}
 use Rattle.rp_geometry.specs.searches.Vertex.{any_point, vertices}
-use Rattle.rp_geometry.proofs.Boxes.{lower_x, lower_y, lower_z, upper_x, upper_y, upper_z}
 use Rattle.rp_geometry.proofs.Rounded.{opposite_range, floor_within}
 use Rattle.rp_convex.proofs.Lowest.{reduced_is}
-use Rattle.rp_convex.proofs.Move.{IsWeak}
 use Rattle.rp_convex.proofs.Vertex.{weak_is}
 use Rattle.rp_convex.proofs.WeakPoint.{listed_is_vertex}
+use Rattle.rp_convex.proofs.InCube.{weak_in_cube}
 use Rattle.rp_vertex.specs.Joined.{HasCube}
 
 -- ---- the closed cube
-
--- a coordinate that is not beyond either side of the cube
-range_of : (v w s t : ℤ) → s ≡ v -ℤ neg_ℤ cube_bound *ℤ w → t ≡ cube_bound *ℤ w -ℤ v → pos 0 ≤ℤ s → pos 0 ≤ℤ t → is_in_closed_range v w ≡ true
-range_of v w s t e f h k =
-    and_true (int_le (neg_ℤ cube_bound *ℤ w) v) (int_le v (cube_bound *ℤ w))
-    (at_most_true (neg_ℤ cube_bound *ℤ w) v (over s (neg_ℤ cube_bound *ℤ w) v e h))
-    (at_most_true v (cube_bound *ℤ w) (over t v (cube_bound *ℤ w) f k))
-  where
-    over : (s u v : ℤ) → s ≡ v -ℤ u → pos 0 ≤ℤ s → u ≤ℤ v
-    over s u v e h = omega (arith, ints)
-
--- a point of the weak system of a cell lies in the closed cube
-weak_in_cube : (cell : List HalfSpace) (p : RationalPoint) → IsWeak (with_cube cell) p → is_closed_cube_point p ≡ true
-weak_in_cube cell p k =
-    let m = neg_ℤ cube_bound in
-    let n = cube_bound in
-    let at : (h : HalfSpace) → Listed h cube_half_spaces → pos 0 ≤ℤ side_value h p = λ h l. k.sides h (listed_right h cell cube_half_spaces l) in
-    and_true (is_in_closed_range p.x p.w && is_in_closed_range p.y p.w) (is_in_closed_range p.z p.w)
-    (and_true (is_in_closed_range p.x p.w) (is_in_closed_range p.y p.w)
-    (range_of p.x p.w _ _ (lower_x p.x p.y p.z p.w m) (upper_x p.x p.y p.z p.w n) (at _ first) (at _ (later first)))
-    (range_of p.y p.w _ _ (lower_y p.x p.y p.z p.w m) (upper_y p.x p.y p.z p.w n) (at _ (later (later first))) (at _ (later (later (later first))))))
-    (range_of p.z p.w _ _ (lower_z p.x p.y p.z p.w m) (upper_z p.x p.y p.z p.w n) (at _ (later (later (later (later first))))) (at _ (later (later (later (later (later first)))))))
 
 -- a point at which no half-space of a list with the cube's is negative lies in the closed cube
 pub passed_in_cube : (system : List HalfSpace) (p : RationalPoint) → HasCube system → IsPoint p → all_nonnegative system p ≡ true → is_closed_cube_point p ≡ true

@@ -3,9 +3,8 @@ use Rattle.std.proofs.lemmas.Int.{to_z-of_z}
 use Rattle.std.specs.Int.RustNames.{FitsSigned}
 use Rattle.std.specs.List.{AllByRecursion}
 use Rattle.rp_language.specs.Expression.{Command, IsKeptExpression, expressions_of, ask_at, ask_as_of, ask_list, ask_section, ask_equal, ask_within, ask_overlap}
-use Rattle.rp_syntax.specs.Views.{command_of, expression_of}
-use Rattle.rp_changes.specs.Children.{shapes_of}
-use Rattle.rp_changes.proofs.ChildLemmas.{kept_shapes}
+use Rattle.rp_syntax.specs.Views.{command_of, expression_of, shapes_of}
+use Rattle.rp_syntax.proofs.Children.{kept_shapes}
 use Rattle.rp_checker.proofs.ToldLemmas.{question_asked, question_told}
 use Rattle.rp_checker.proofs.rows.carry_out.Goals as goal
 

@@ -1,8 +1,8 @@
-use Rattle.std.proofs.Common.{◌≡◌, ◌+◌, ◌≤◌, ◌∷◌, [], ◌++◌, List, take, ℤ, to_z, of_z, sym, ap, ◌∙◌, arith}
+use Rattle.std.proofs.Common.{◌≡◌, ◌+◌, ◌≤◌, ◌∷◌, [], ◌++◌, List, take, ℤ, to_z, of_z, sym, ap, ◌∙◌, arith, append_assoc}
 use mir.Syntax.{w32}
 use Rattle.rp_section.specs.declared.side.Side.{Side}
 use Rattle.rp_section.specs.Sides.{sides_of}
-use Rattle.rp_section.proofs.Listing.{sides_more, append_append}
+use Rattle.rp_section.proofs.Listing.{sides_more}
 use Rattle.rp_section.proofs.side.extend.Goals as goal
 
 pub loop-half-preserved : goal.loop-half-preserved
@@ -17,7 +17,7 @@ loop-half-preserved c =
     record {
       items = c.push.ensures.items
           ∙ (λ k. c.loop-half.invariant.items k ++ sides_of z (h ∷ []))
-          ∙ append_append c.args.sides.now.items (sides_of z (take i hs)) (sides_of z (h ∷ []))
+          ∙ append_assoc c.args.sides.now.items (sides_of z (take i hs)) (sides_of z (h ∷ []))
           ∙ ap (λ (xs : List Side). c.args.sides.now.items ++ xs) (sym more);
       few = omega (arith, few, before);
     }

@@ -4,8 +4,8 @@ use Rattle.rp_language.specs.Expression.{IsKeptExpression}
 use Rattle.rp_walks.specs.Walk.{first_tester}
 use Rattle.rp_model.specs.states.State.{parts_in}
 use Rattle.rp_model.specs.commands.Row.{form_children}
-use Rattle.rp_syntax.specs.Views.{child_of}
-use Rattle.rp_machine.specs.Children.{shapes_of, formed_children}
+use Rattle.rp_syntax.specs.Views.{child_of, shapes_of}
+use Rattle.rp_machine.specs.Children.{formed_children}
 use Rattle.rp_machine.proofs.state.State.children.Given as goal
 
 -- what is left of the walk comes to the same as all of it; the expressions still to come are kept

@@ -2,6 +2,7 @@ use Rattle.std.proofs.Common.{◌≡◌, ◌+◌, ◌≤◌, ℕ, true, false, L
 use Rattle.std.specs.Prelude.{is_none}
 use Rattle.std.proofs.lemmas.List.{length-map}
 use Rattle.std.proofs.lemmas.Result.{err_from_is_err_and}
+use Rattle.rp_algebra.proofs.Lists.{images_twice}
 use Rattle.rp_geometry.specs.sets.Shape.{Part}
 use Rattle.rp_language.specs.Name.{Label}
 use Rattle.rp_walks.specs.Walk.{done, pass, count_tests, first_tester}
@@ -9,7 +10,6 @@ use Rattle.rp_walks.specs.Compare.{is_covered}
 use Rattle.rp_model.specs.states.State.{NewLot, layer_with_id, lots_replaced, parts_under_lots, most_kept_parts}
 use Rattle.rp_model.specs.commands.Checks.{and_then, check_subdivide}
 use Rattle.rp_model.specs.commands.Row.{FormedChild, accepted, check_size, parts_with_id, joined_parts, child_parts, first_outside_child, first_overlapping_children, row_subdivide}
-use Rattle.rp_states.proofs.Plain.{images_twice}
 use Rattle.rp_region.specs.Makes.{IsFaultOf}
 use Rattle.rp_region.proofs.Left.{IsLeft, given_up, not_begun}
 use Rattle.rp_history.specs.Lots.{lots_in}
