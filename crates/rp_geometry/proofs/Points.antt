@@ -59,13 +59,13 @@ near_close n k x w s v h hw hv =
     naturals : (m k : ℕ) → m ≤ k → pos m ≤ℤ pos k
     naturals m k h = omega (arith, ints)
 
--- how close a member has to be: a natural number
-pub record Closeness (m : ℕ) (w : ℤ) : Type 0 where
-  number : ℕ
-  is : pos number ≡ pos 1 +ℤ pos 2 *ℤ pos m *ℤ w
-  positive : 1 ≤ number
+-- how close a member has to be: a natural number, by how many differences are added up and by their factor
+pub record Closeness (n m : ℕ) (w : ℤ) : Type 0 where
+  pub number : ℕ
+  pub is : pos number ≡ pos 1 +ℤ pos n *ℤ pos m *ℤ w
+  pub positive : 1 ≤ number
 
 -- such a number for each positive weight
-pub closeness : (m : ℕ) (w : ℤ) → pos 0 <ℤ w → Closeness m w
-closeness m (pos w) h = record { number = 1 + 2 * m * w; is = refl; positive = omega arith }
-closeness m (negsuc w) h = absurd (omega (arith, ints))
+pub closeness : (n m : ℕ) (w : ℤ) → pos 0 <ℤ w → Closeness n m w
+closeness n m (pos w) h = record { number = 1 + n * m * w; is = refl; positive = omega arith }
+closeness n m (negsuc w) h = absurd (omega (arith, ints))

@@ -64,7 +64,7 @@ near_is_weak z cell p n = record {
     far : (t : Trace) → Listed t (traces z (with_sides cell)) → trace_value t p <ℤ pos 0 → ⊥
     far t l e =
         let m = nat_abs t.a + nat_abs t.b in
-        let c = closeness m p.w n.point in
+        let c = closeness 2 m p.w n.point in
         let r = n.close c.number c.positive in
         let q = r.0 in
         let k = held_at_of z cell q r.1 in
