@@ -5,6 +5,7 @@ use Rattle.std.proofs.Math.ListN.{take-append-drop}
 use Rattle.std.proofs.Math.Seq.{drop-cons}
 use Rattle.std.proofs.lemmas.List.Concat.{flat_map-append}
 use Rattle.rp_syntax.specs.Fronts.{AppendsFront}
+use Rattle.rp_syntax.proofs.Fronts.{front_before}
 use Rattle.rp_report.specs.Fronts.{Writes}
 
 -- ---- two texts
@@ -18,11 +19,6 @@ front_behind old middle new first second h f =
       whole = ap (λ xs. first ++ xs) f.whole ∙ sym (append_assoc first f.front f.rest);
       appended = f.appended ∙ ap (λ xs. xs ++ f.front) h ∙ append_assoc old first f.front;
     }
-
--- a front of a text is one of a longer text
-pub front_before : (old new first second : List ℕ) → AppendsFront old new first → AppendsFront old new (first ++ second)
-front_before old new first second f =
-    record { front = f.front; rest = f.rest ++ second; whole = ap (λ xs. xs ++ second) f.whole ∙ append_assoc f.front f.rest second; appended = f.appended }
 
 -- a front of a text between two others
 pub front_between : (old middle new first second third : List ℕ) → middle ≡ old ++ first → AppendsFront middle new second → AppendsFront old new (first ++ second ++ third)

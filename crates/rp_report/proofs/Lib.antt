@@ -1,5 +1,5 @@
 mod EchoLaws
-pub mod FrontLemmas
+mod FrontLemmas
 mod ItemLemmas
 mod LineLemmas
 mod NumberWords

@@ -5,3 +5,4 @@ mod ManyLemmas
 mod SpellLemmas
 mod WordLemmas
 pub mod Children
+pub mod Fronts

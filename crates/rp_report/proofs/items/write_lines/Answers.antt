@@ -1,7 +1,8 @@
 use Rattle.std.proofs.Common.{arith, ◌∷◌, [], ◌++◌, length, ◌<◌}
 use Rattle.std.proofs.lemmas.Result.{err_from_is_err_and}
 use Rattle.rp_reports.specs.Text.{line_end}
-use Rattle.rp_report.proofs.FrontLemmas.{front_before, front_behind, front_within}
+use Rattle.rp_syntax.proofs.Fronts.{front_before}
+use Rattle.rp_report.proofs.FrontLemmas.{front_behind, front_within}
 use Rattle.rp_report.proofs.items.write_lines.Goals as goal
 
 pub returns-in_err-write_text : goal.returns-in_err-write_text

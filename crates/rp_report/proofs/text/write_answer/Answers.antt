@@ -3,10 +3,11 @@ use Rattle.std.proofs.lemmas.Result.{err_from_is_err_and}
 use Rattle.rp_reports.specs.Text.{echo_text, line_end, proof_texts, text_of_lines, answer_lines}
 use Rattle.rp_cert.specs.declared.proof.Proof.{Proof}
 use Rattle.rp_cert.specs.Lines.{line_of}
+use Rattle.rp_syntax.proofs.Fronts.{front_before}
 use Rattle.rp_report.specs.declared.answer.Answer.{Answer}
 use Rattle.rp_report.specs.declared.answer.Verdict.{Verdict}
 use Rattle.rp_report.specs.Views.{answer_of}
-use Rattle.rp_report.proofs.FrontLemmas.{front_before, front_between, front_same, writes_third, writes_same}
+use Rattle.rp_report.proofs.FrontLemmas.{front_between, front_same, writes_third, writes_same}
 use Rattle.rp_report.proofs.LineLemmas.{verdicts_text, answer_text}
 use Rattle.rp_report.proofs.text.write_answer.Goals as goal
 
