@@ -13,7 +13,6 @@ use Rattle.rp_algebra.proofs.Listed.{Listed, first, later, pass_all}
 use Rattle.rp_geometry.specs.Geometry.{RationalPoint, HalfSpace, side_value, owns_boundary, holds}
 use Rattle.rp_geometry.specs.sections.Trace.{IsAtHeight, Trace, has_trace, offset_at, trace_at, upright, trace_holds, trace_value, trace_eq, trace_before}
 use Rattle.rp_geometry.specs.sections.Ring.{is_trace_of, all_traces_hold}
-
 pub use Rattle.rp_geometry.specs.sections.Trace.{traces}
 use Rattle.rp_convex.proofs.Signs.{HaveSameSign, same_sign}
 
