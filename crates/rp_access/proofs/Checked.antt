@@ -1,16 +1,14 @@
 -- The four tests, number by number.
 use Rattle.std.proofs.Common.{◌≡◌, ℕ, suc, ◌+◌, ◌<◌, ◌≤◌, ⊎_elim, Bool, true, false, List, length, take, refl, sym, ap, ◌∙◌, subst, arith}
-use Rattle.std.specs.Prelude.{Option, Some, None, is_some, IsTrue, ◌↔◌, not, slice_index}
+use Rattle.std.specs.Prelude.{Option, Some, None, is_some, IsTrue, ◌↔◌, slice_index}
 use Rattle.std.proofs.lemmas.List.{take_more}
-use Rattle.std.proofs.lemmas.List.Elements.{Contains-push_cases, Contains-get_or}
+use Rattle.std.proofs.lemmas.List.Elements.{Contains-push_cases}
 use Rattle.std.proofs.lemmas.Bool.{eqb-true, eq-eqb}
 use Rattle.std.proofs.Math.Dec.{eqb}
 use Rattle.rp_algebra.proofs.Lists.{take_all}
 use Rattle.rp_geometry.specs.sets.Chain.{level_of}
 use Rattle.rp_access.specs.Chain.{linked_to, PassesTests}
 use Rattle.rp_access.specs.Tests.{IsOfLevel, IsFirstAmong, AreClose, IsCloseToAll, IsRight}
-use Rattle.rp_access.proofs.Tested.{below_of_entry}
-use Rattle.rp_access.proofs.Joined.{link_below}
 
 -- ---- close to all
 
@@ -24,24 +22,11 @@ close_to_next levels own js i h c a =
 pub close_to_all : (levels : List (Option ℕ)) (own : Option ℕ) (js : List ℕ) (i : ℕ) → length js ≤ i → IsCloseToAll levels own (take i js) → IsTrue true ↔ IsCloseToAll levels own js
 close_to_all levels own js i h a = (λ _. subst (IsCloseToAll levels own) (take_all js i h) a, λ _. refl)
 
--- a number that is not close
-pub not_close_to : (levels : List (Option ℕ)) (own : Option ℕ) (js : List ℕ) (i : ℕ) → i < length js → (AreClose own (level_of levels (slice_index js i)) → false ≡ true) → IsTrue false ↔ IsCloseToAll levels own js
-not_close_to levels own js i h bad = (λ t. absurd (cc), λ a. bad (a (slice_index js i) (Contains-get_or js i 0 h)))
-
 -- ---- the own entry
-
--- no entry
-pub right_none : (levels : List (Option ℕ)) (is_last : Bool) (js : List ℕ) → IsTrue (not is_last) ↔ IsRight levels is_last None js
-right_none levels true js = (λ t. absurd (cc), λ r. (let e : None ≡ Some 0 = r.zero_at_last.1 refl in absurd (cc)))
-right_none levels false js = (λ _. record { zero_at_last = (λ e. absurd (cc), λ t. absurd (cc)); nearer = λ k e. absurd (cc) }, λ _. refl)
 
 -- the level 0
 pub right_zero : (levels : List (Option ℕ)) (is_last : Bool) (js : List ℕ) → IsTrue is_last ↔ IsRight levels is_last (Some 0) js
 right_zero levels is_last js = (λ t. record { zero_at_last = (λ _. t, λ _. refl); nearer = λ k e. absurd (let z : 0 ≡ suc k = cc in omega arith) }, λ r. r.zero_at_last.0 refl)
-
--- a level above 0 at the last number
-pub wrong_last : (levels : List (Option ℕ)) (level : ℕ) (js : List ℕ) → 0 < level → IsTrue false ↔ IsRight levels true (Some level) js
-wrong_last levels level js h = (λ t. absurd (cc), λ r. (let e : Some level ≡ Some 0 = r.zero_at_last.1 refl in let z : level ≡ 0 = cc in absurd (omega arith)))
 
 -- a level above 0 elsewhere
 pub right_above : (levels : List (Option ℕ)) (level less : ℕ) (js : List ℕ) → level ≡ suc less → (first : Option ℕ) → IsFirstAmong levels less js first → IsTrue (is_some first) ↔ IsRight levels false (Some level) js
@@ -68,32 +53,12 @@ right_as levels is_last own level js first told e f t h = (
 abbrev pub PassesAt : List (List ℕ) → ℕ → List (Option ℕ) → ℕ → Type 0
 PassesAt g last levels i = ((level_of levels i ≡ Some 0) ↔ (i ≡ last)) × IsCloseToAll levels (level_of levels i) (linked_to g i) × ((k : ℕ) → level_of levels i ≡ Some (suc k) → (j : ℕ) × IsOfLevel levels k (linked_to g i) j)
 
--- entries that are close are there together
-close_together : (o p : Option ℕ) → AreClose o p → is_some o ≡ is_some p
-close_together None None h = refl
-close_together None (Some l) h = absurd h
-close_together (Some k) None h = absurd h
-close_together (Some k) (Some l) h = refl
-
--- they differ by at most 1
-close_levels : (o p : Option ℕ) (k l : ℕ) → AreClose o p → o ≡ Some k → p ≡ Some l → (k ≤ l + 1) × (l ≤ k + 1)
-close_levels o p k l h e f = subst (λ v. AreClose v (Some l)) e (subst (λ v. AreClose o v) f h)
-
 -- entries that are there together and differ by at most 1 are close
 close_of : (o p : Option ℕ) → is_some o ≡ is_some p → ((k l : ℕ) → o ≡ Some k → p ≡ Some l → (k ≤ l + 1) × (l ≤ k + 1)) → AreClose o p
 close_of None None t h = tt
 close_of None (Some l) t h = absurd (cc)
 close_of (Some k) None t h = absurd (cc)
 close_of (Some k) (Some l) t h = h k l refl refl
-
--- where the tests pass at each number, they pass
-pub passes_of_each : (g : List (List ℕ)) (last : ℕ) (levels : List (Option ℕ)) → length levels ≡ length g → ((i : ℕ) → i < length g → PassesAt g last levels i) → PassesTests g last levels
-passes_of_each g last levels n each = record {
-  zero_at_last = λ i h. (each i h).0;
-  together = λ i j l. close_together (level_of levels i) (level_of levels j) ((each i (link_below g i j l)).1 j l);
-  close = λ i j k m l e f. close_levels (level_of levels i) (level_of levels j) k m ((each i (link_below g i j l)).1 j l) e f;
-  nearer = λ i k e. (let h : i < length g = omega (arith, n, below_of_entry levels i (suc k) e) in let m = (each i h).2 k e in (m.0, m.1.listed, m.1.level_is));
-}
 
 -- where they pass, they pass at each number
 pub each_of_passes : (g : List (List ℕ)) (last : ℕ) (levels : List (Option ℕ)) → PassesTests g last levels → (i : ℕ) → i < length g → PassesAt g last levels i

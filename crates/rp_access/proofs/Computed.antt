@@ -1,5 +1,5 @@
 -- Lists of links that link the same numbers as pairs do: levels and chains along them are those that are computed from the pairs.
-use Rattle.std.proofs.Common.{◌≡◌, ℕ, zero, suc, ◌<◌, Bool, true, false, ◌&&◌, ◌||◌, ◌⊎◌, inl, inr, ⊎_elim, List, [], ◌∷◌, ◌++◌, length, replicate, sym, arith}
+use Rattle.std.proofs.Common.{◌≡◌, ℕ, ◌<◌, Bool, true, false, ◌&&◌, ◌||◌, ◌⊎◌, inl, inr, ⊎_elim, List, [], ◌∷◌, ◌++◌, length, sym, arith}
 use Rattle.std.specs.Prelude.{◌==◌}
 use Rattle.std.proofs.lemmas.Bool.{or_cases, or_left, or_right, eqb-true, eq-eqb}
 use Rattle.rp_algebra.proofs.Tests.{and_first, and_second, and_true}
@@ -30,16 +30,6 @@ chain_is_computed_spec g links from last chosen same from_below below right =
     (chosen_there (AreLinkedBelow links (length g)) (IsLinked g) (same_steps g links same) from last (chain_along links (length g) from last) (chain_is_found_spec links (length g) from last from_below below))
 
 -- ---- link by link
-
--- a number without a list of its own is linked to none
-not_linked : (n i j : ℕ) → IsLinked (replicate n []) i j → ⊥
-not_linked zero i j (k, h, e) = omega (arith, h)
-not_linked (suc n) zero j (k, h, e) = omega (arith, h)
-not_linked (suc n) (suc i) j l = not_linked n i j l
-
--- at the beginning nothing is linked
-pub links_begin : (n : ℕ) → AreLinksOf (replicate n []) []
-links_begin n i j = (λ l. absurd (not_linked n i j l), λ r. (let e = r.2 in absurd (cc)))
 
 -- two numbers are those of a pair, in one order or the other
 abbrev are_ends : ℕ × ℕ → ℕ → ℕ → Bool

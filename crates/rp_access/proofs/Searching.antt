@@ -1,9 +1,8 @@
 -- The search for levels: what stays true while numbers are reached and visited in order, and that the levels are right when all are visited.
-use Rattle.std.proofs.Common.{◌≡◌, ℕ, zero, suc, ◌+◌, ◌-◌, ◌^◌, ◌<◌, ◌≤◌, ◌⊎◌, inl, inr, ⊎_elim, Bool, true, false, List, [], ◌∷◌, ◌++◌, length, replicate, get_or-set_same, get_or-set_other, refl, sym, ap, ◌∙◌, subst, arith, add-one, drop}
+use Rattle.std.proofs.Common.{◌≡◌, ℕ, zero, suc, ◌+◌, ◌-◌, ◌^◌, ◌<◌, ◌≤◌, ◌⊎◌, inl, inr, ⊎_elim, Bool, true, false, List, [], ◌∷◌, ◌++◌, length, replicate, get_or-set_same, get_or-set_other, refl, sym, ap, ◌∙◌, subst, arith, add-one}
 use Rattle.std.specs.Prelude.{Option, Some, None, is_some, slice_index, slice_index_or, slice_set}
 use Rattle.std.specs.List.{Contains}
 use Rattle.std.proofs.Math.ListN.{length-set}
-use Rattle.std.proofs.Math.Seq.{drop-cons}
 use Rattle.std.proofs.lemmas.List.{get_or_default, length-replicate}
 use Rattle.std.proofs.lemmas.List.Elements.{Contains-get_or}
 use Rattle.rp_algebra.proofs.Tests.{same_test}
@@ -378,18 +377,6 @@ module _ (g : List (List ℕ)) (last n : ℕ) (as_many : n ≡ length g) (known 
       first (suc p) h = absurd (omega arith)
 
 -- ---- the steps of the code
-
--- one number more of a list is reached
-pub reach_more : (level i : ℕ) (js : List ℕ) (j : ℕ) (s : Search) → i < length js → j ≡ slice_index js i → reach level (drop i js) s ≡ reach level (drop (i + 1) js) (reach_one level j s)
-reach_more level i js j s h e = ap (λ v. reach level v s) (drop-cons js i 0 h) ∙ ap (λ v. reach level (drop (suc i) js) (reach_one level v s)) (sym e) ∙ ap (λ v. reach level (drop v js) (reach_one level j s)) (sym (add-one i))
-
--- a number that has a level stays as it is
-pub one_known : (level j : ℕ) (s : Search) → is_some (level_of s.levels j) ≡ true → reach_one level j s ≡ s
-one_known level j s e = ap (one_by level j s) e
-
--- a number that has none gets this one
-pub one_new : (level j : ℕ) (s : Search) → is_some (level_of s.levels j) ≡ false → reach_one level j s ≡ record { levels = slice_set s.levels j (Some level); queue = s.queue ++ j ∷ [] }
-one_new level j s e = ap (one_by level j s) e
 
 -- the next number of the queue, as the code reads it
 module _ (g : List (List ℕ)) (last next i : ℕ) (s : Search) (a : GoesOn g last next s) (more : next < length s.queue) (i_is : i ≡ slice_index_or s.queue next i) where

@@ -4,7 +4,7 @@ use Rattle.std.specs.Prelude.{Option, Some, None, slice_index, slice_index_or}
 use Rattle.std.proofs.lemmas.List.Elements.{Contains-get_or}
 use Rattle.std.proofs.lemmas.List.{get_or_default}
 use Rattle.rp_geometry.specs.sets.Chain.{level_of}
-use Rattle.rp_access.specs.Chain.{linked_to, IsLinked, AreLinks, IsLevel, IsLeast, HasNoChain, AreLevels, PassesTests, IsFirstOfLevel, GoesDown, IsRoute}
+use Rattle.rp_access.specs.Chain.{linked_to, IsLinked, AreLinks, IsLevel, IsLeast, AreLevels, PassesTests, IsFirstOfLevel, GoesDown, IsRoute}
 use Rattle.rp_access.specs.Searching.{AreBelow}
 use Rattle.rp_access.specs.Tests.{IsFirstAmong}
 use Rattle.rp_access.proofs.Tested.{below_of_entry}
@@ -24,18 +24,6 @@ pub record IsOnWay (g : List (List ℕ)) (last : ℕ) (levels : List (Option ℕ
   pub at_level : level_of levels at ≡ Some left
   pub count : length (drop 1 items) + left ≡ level
   pub whole : (js : List ℕ) → length js ≡ left → GoesDown g last at js → GoesDown g last from (drop 1 items ++ js)
-
--- at the beginning
-pub way_begins : (g : List (List ℕ)) (last : ℕ) (levels : List (Option ℕ)) (from level : ℕ) (items : List ℕ) → items ≡ from ∷ [] → level_of levels from ≡ Some level → IsOnWay g last levels from level items from level
-way_begins g last levels from level items e f = record {
-  begins = e ∙ ap (λ v. from ∷ v) (sym rest);
-  at_level = f;
-  count = omega (arith, ap length rest);
-  whole = λ js _ d. subst (λ v. GoesDown g last from (v ++ js)) (sym rest) d;
-}
-  where
-    rest : drop 1 items ≡ []
-    rest = ap (drop 1) e
 
 module _ (g : List (List ℕ)) (last : ℕ) (levels : List (Option ℕ)) (from level : ℕ) (items : List ℕ) (at left : ℕ) (right : AreLevels g last levels) (passes : PassesTests g last levels) (way : IsOnWay g last levels from level items at left) where
   -- what the entry of a number says is its level
@@ -94,10 +82,6 @@ module _ (g : List (List ℕ)) (last : ℕ) (levels : List (Option ℕ)) (from l
       none_after : (xs : List ℕ) → xs ++ [] ≡ xs
       none_after [] = refl
       none_after (x ∷ xs) = ap (λ v. x ∷ v) (none_after xs)
-
--- no level means no chain
-pub no_way : (g : List (List ℕ)) (last : ℕ) (levels : List (Option ℕ)) (from : ℕ) → AreLevels g last levels → from < length g → level_of levels from ≡ None → HasNoChain g last from
-no_way g last levels from right h e = subst (IsLevel g last from) e (right.each from h)
 
 -- an entry that was read, for any value where there is none
 pub read_entry : (levels : List (Option ℕ)) (i : ℕ) (o : Option ℕ) → i < length levels → o ≡ slice_index_or levels i o → level_of levels i ≡ o

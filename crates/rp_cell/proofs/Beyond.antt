@@ -52,10 +52,6 @@ none_beyond cell b side box small l p m =
     let outside = complement_holds_the_others_spec side (all_of IsHalfSpace (box_half_spaces b) (box_bounds b small) side l) p k.point in
     false_not_true (holds (complement side) p) (k.each (complement side) (listed_right (complement side) cell beyond first)) (outside ∙ ap not within)
 
--- the cell with nothing more and the complement of a side
-pub with_nothing : (cell beyond : List HalfSpace) → (cell ++ []) ++ beyond ≡ cell ++ beyond
-with_nothing cell beyond = ap (λ (c : List HalfSpace). c ++ beyond) (append-nil cell)
-
 -- ---- the lines of the sides
 
 -- the line of the rest, whether a side is told or not

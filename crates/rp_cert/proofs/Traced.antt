@@ -20,7 +20,7 @@ use Rattle.rp_algebra.proofs.Listed.{Listed, all_pass, of_all, all_of, all_appen
 use Rattle.rp_geometry.specs.Geometry.{RationalPoint, HalfSpace, IsHalfSpace, half_space_of, side_value, owns_boundary, IsPoint, IsKeptPoint, reduced_point, point_eq}
 use Rattle.rp_geometry.specs.laws.CellLaws.{AreHalfSpaces}
 use Rattle.rp_geometry.specs.laws.SectionLaws.{IsSmallTrace}
-use Rattle.rp_geometry.specs.sections.Trace.{IsHeight, IsAtHeight, Trace, has_trace, offset_at, trace_at, trace_eq, trace_value, is_at_height, level_point, holds_level, cube_sides, with_sides, traces}
+use Rattle.rp_geometry.specs.sections.Trace.{IsHeight, IsAtHeight, Trace, has_trace, trace_at, trace_eq, trace_value, is_at_height, holds_level, cube_sides, with_sides, traces}
 use Rattle.rp_geometry.specs.sections.Ring.{RingStep, is_step, is_trace_of, is_lowest_point, all_traces_hold, all_levels_hold}
 use Rattle.rp_convex.proofs.Signs.{same_sign}
 use Rattle.rp_ring.proofs.Traces.{IsDirection, direction_of, trace_at-is, side_of_trace, trace_from, trace_eq-to, is_trace_of-to}
@@ -125,10 +125,6 @@ side_sign z h p e k =
 
     to_multiple : (k u v : ℤ) → pos 0 <ℤ k → v ≡ k *ℤ u → pos 0 ≤ℤ u → pos 0 ≤ℤ v
     to_multiple k u v h e n = rw e (mul_nonneg_ℤ k u (nonneg_of_pos_ℤ k h) n)
-
--- the value of a half-space at the point of the height on the axis
-pub axis_value : (z : ℤ) (h : HalfSpace) → side_value h (level_point z) ≡ offset_at z h
-axis_value z h = by_ring_at (h.a ∷ h.b ∷ h.c ∷ h.d ∷ z ∷ []) (search reify depth 40 fits 100000) tt
 
 -- ---- the upright sides of the cube
 

@@ -4,7 +4,7 @@ use Rattle.std.specs.List.{position, before_first, after_first, slice_split}
 use Rattle.std.proofs.lemmas.List.Splits.{slice_split_none, slice_split_first, length-slice_split}
 use Rattle.rp_language.proofs.Places.{position_or_len-at_some, all_fail-at_none}
 use Rattle.rp_reports.specs.Output.{report_lines, whole_lines}
-use Rattle.rp_follow.specs.Lines.{lines_left, count_next, is_line_end}
+use Rattle.rp_follow.specs.Lines.{lines_left, is_line_end}
 use denote.Ref.{Bor}
 
 -- each piece but the last is a line
@@ -35,11 +35,6 @@ unfolding report_lines
 lines-nil = refl
 
 -- ---- the next line and those behind it
-
--- where a line is left, one is next
-pub one_is_next : (line : Option (Bor (List ℕ))) (rest : List ℕ) → 0 < length (lines_left line rest) → count_next line ≡ 1
-one_is_next None rest h = absurd (omega arith)
-one_is_next (Some line) rest h = refl
 
 -- the lines behind it are those of the bytes behind it
 pub lines_behind : (line : Option (Bor (List ℕ))) (rest : List ℕ) → 0 < length (lines_left line rest) → report_lines rest ≡ drop 1 (lines_left line rest)

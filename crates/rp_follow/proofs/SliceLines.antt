@@ -1,7 +1,6 @@
 -- The lines of slices, one by one: each is taken exactly where it shows a slice that passes.
-use Rattle.std.proofs.Common.{◌≡◌, ℕ, ℤ, ◌+◌, ◌<◌, ◌≤◌, Bool, true, false, List, [], ◌∷◌, ◌++◌, map, length, drop, get_or, Option, Some, None, refl, sym, ap, ◌∙◌, arith}
+use Rattle.std.proofs.Common.{◌≡◌, ℕ, ℤ, ◌+◌, ◌<◌, ◌≤◌, Bool, true, false, List, [], ◌∷◌, ◌++◌, map, length, drop, get_or, Option, Some, None, refl, sym, ap, ◌∙◌}
 use Rattle.std.proofs.lemmas.List.{append_assoc, append-nil, drop_all, map-append}
-use Rattle.rp_algebra.proofs.Options.{none_not_some}
 use Rattle.rp_algebra.proofs.Lists.{drop_item}
 use Rattle.rp_geometry.specs.sets.Shape.{Part}
 use Rattle.rp_geometry.specs.sections.Trace.{IsHeight}
@@ -20,7 +19,7 @@ use Rattle.rp_cert.specs.declared.slice.Slice.{Slice as CodeSlice}
 use Rattle.rp_tests.specs.declared.stopped.Stopped.{Stopped}
 use Rattle.rp_tests.specs.Comes.{StopsBy}
 use Rattle.rp_follow.specs.Slices.{follow_slice_line, follow_slice_lines}
-use Rattle.rp_tests.proofs.Left.{IsLeft, left_as, next_left, stop_left, end_left}
+use Rattle.rp_tests.proofs.Left.{IsLeft, left_as, next_left, stop_left}
 
 -- ---- one line
 
@@ -52,11 +51,6 @@ module _ (z : ℤ) (height : IsHeight z) (p : Part) (checked : IsCheckedPart p) 
 -- and that one is told
 pub slice_is_told : (z : ℤ) (p : Part) (t : Trail) (s : Slice) → Some s ≡ next_slice t.lines → is_slice z p.cell s ≡ true → s ≡ slice_told z p.cell (next_slice t.lines)
 slice_is_told z p t s e f = sym (ap (slice_told z p.cell) (sym e) ∙ ap (λ (b : Bool). elim b as (λ _. Slice) [ true ↦ s | false ↦ slice_of z p.cell ]) f)
-
--- a line that was read is a line
-pub slice_is_left : (lines : List (List ℕ)) (s : Slice) → Some s ≡ next_slice lines → 0 < length lines
-slice_is_left [] s e = absurd (none_not_some s (sym e))
-slice_is_left (line ∷ lines) s e = omega arith
 
 -- ---- the lines in order
 
@@ -94,10 +88,6 @@ module _ (z : ℤ) (ps : List Part) (i : ℕ) (p : Part) (h : i < length ps) (e 
       ∙ ap (λ (x : Slice). map slice_shown found ++ (x ∷ rest)) told
       ∙ sym (ap (λ (qs : List Part). map slice_shown found ++ slices_told z qs t.lines) (drop_item ps i p h e))
       ∙ left
-
--- no part is left
-pub slices_end : (z : ℤ) (ps : List Part) (i : ℕ) {start now : Trail} {whole : Walk Trail (Unit {0})} → length ps ≤ i → IsLeft start whole now (follow_each z (drop i ps)) → whole start ≡ done tt now
-slices_end z ps i {now = now} h l = end_left (done tt now) l (ap (λ (qs : List Part). follow_each z qs now) (drop_all i ps h))
 
 -- and all are told
 pub all_told : (z : ℤ) (ps : List Part) (i : ℕ) (found : List CodeSlice) (t : Trail) (all : List Slice) → length ps ≤ i → map slice_shown found ++ slices_told z (drop i ps) t.lines ≡ all → map slice_shown found ≡ all

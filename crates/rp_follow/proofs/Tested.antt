@@ -36,11 +36,6 @@ taken_right P false x t p = tt
 
 -- ---- lines
 
--- a proof line is a line
-pub line_is_left : (lines : List (List ℕ)) (l : ProofLine) → next_proof lines ≡ Some l → 0 < length lines
-line_is_left [] l e = absurd (none_not_some l e)
-line_is_left (line ∷ lines) l e = omega arith
-
 -- a strict test in words of the next proof line
 pub strict_shown : (cell : List HalfSpace) (o : Option ProofLine) (r : Result Bool Stopped) (old new : Trail) → o ≡ next_proof old.lines → Comes (λ b. b) r new (strict_by_line cell o old) → Comes (λ b. b) r new (follow_strict cell old)
 unfolding follow_strict
@@ -151,10 +146,6 @@ few_kept cell kept t u e h = next_left (if_few kept) (λ _. after_few kept) (dro
   where
     below : (n : ℕ) → n ≤ most_half_spaces → nat_le n most_half_spaces ≡ true
     below n h = grind arith
-
--- the box stops it
-pub box_stops : (cell kept : List HalfSpace) (t u v : Trail) (e : Stopped) → IsLeft t (follow_made cell) u (after_few kept) → StopsBy e v (box_by_line (next_proof u.lines) u) → StopsBy e v (follow_made cell t)
-box_stops cell kept t u v e l m = stop_left (λ t. box_by_line (next_proof t.lines) t) (after_box kept) l e v m
 
 -- the sides are left
 pub box_followed : (cell kept : List HalfSpace) (b : IntegerBox) (t u v : Trail) → IsLeft t (follow_made cell) u (after_few kept) → box_by_line (next_proof u.lines) u ≡ done b v → IsLeft t (follow_made cell) v (after_box kept b)

@@ -1,6 +1,6 @@
 -- The cell of an edge, by its number.
 use Rattle.std.proofs.Common.{◌≡◌, ℕ, zero, suc, ◌<◌, ◌≤◌, Bool, true, false, cond, ℤ, pos, nat_abs, List, [], ◌∷◌, length, refl, sym, ap, ◌∙◌, subst, arith}
-use Rattle.std.specs.Prelude.{Some, slice_index_or, int_lt, IsTrue}
+use Rattle.std.specs.Prelude.{slice_index_or, IsTrue}
 use Rattle.std.specs.List.{AllByRecursion}
 use Rattle.std.proofs.lemmas.Int.{ints}
 use Rattle.std.proofs.lemmas.List.{get_or_default}
@@ -18,14 +18,6 @@ use Rattle.rp_prism.proofs.Ends.{both_ends, least_is_near}
 -- the cell by the tests of the ends
 abbrev under_by : ℤ → ℤ → ℤ → Corner → Corner → Bool → List HalfSpace
 under_by low high least s e b = cell_under low high least (cond b s e) (cond b e s)
-
--- an edge that goes to the right
-pub cell_ahead : (low high least : ℤ) (s e : Corner) → is_upright (edge_of s e) ≡ false → int_lt s.x e.x ≡ true → cell_by low high least (is_upright (edge_of s e)) (edge_of s e) ≡ Some (cell_under low high least s e)
-cell_ahead low high least s e u t = ap (λ b. cell_by low high least b (edge_of s e)) u ∙ ap (λ b. Some (under_by low high least s e b)) t
-
--- an edge that goes to the left
-pub cell_turned : (low high least : ℤ) (s e : Corner) → is_upright (edge_of s e) ≡ false → int_lt s.x e.x ≡ false → cell_by low high least (is_upright (edge_of s e)) (edge_of s e) ≡ Some (cell_under low high least e s)
-cell_turned low high least s e u t = ap (λ b. cell_by low high least b (edge_of s e)) u ∙ ap (λ b. Some (under_by low high least s e b)) t
 
 -- ---- the edge with a number
 

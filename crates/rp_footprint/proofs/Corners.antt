@@ -1,41 +1,10 @@
 -- The least y of corners, and the edge with a number.
-use Rattle.std.proofs.Common.{◌≡◌, ℕ, zero, suc, ◌+◌, ◌<◌, ◌≤◌, Bool, true, false, cond, ◌&&◌, ℤ, List, [], ◌∷◌, ◌++◌, length, drop, refl, sym, ap, ◌∙◌, arith, add-one}
-use Rattle.std.specs.Prelude.{slice_index_or, int_lt}
-use Rattle.std.specs.Int.{int_min}
-use Rattle.std.proofs.Math.Seq.{drop-cons}
-use Rattle.std.proofs.lemmas.List.{drop_all}
-use Rattle.rp_geometry.specs.Geometry.{RationalPoint, HalfSpace, holds, all_hold}
+use Rattle.std.proofs.Common.{◌≡◌, ℕ, zero, suc, ◌+◌, ◌<◌, ◌≤◌, List, [], ◌∷◌, ◌++◌, length, refl, sym, ap, ◌∙◌, arith, add-one}
+use Rattle.std.specs.Prelude.{slice_index_or}
 use Rattle.rp_geometry.specs.sets.Prism.{Corner, Edge, edge_of, edges_along}
-use Rattle.rp_geometry.specs.parts.Trapezoid.{least_from, least_y}
 use Rattle.rp_space.specs.Corners.{polygon_corner, polygon_corners}
 use Rattle.rp_space.specs.declared.corner.Corner.{Corner as Written}
 use Rattle.rp_footprint.specs.Cells.{no_corner, edge_at}
-
--- ---- the least y
-
--- the least of a number and itself
-least_itself : (y : ℤ) → int_min y y ≡ y
-least_itself y = by_test (int_lt y y)
-  where
-    by_test : (b : Bool) → cond b y y ≡ y
-    by_test true = refl
-    by_test false = refl
-
--- the first corner counts twice
-pub least_begins : (cs : List Written) (y : ℤ) (d : Written) → 1 ≤ length cs → y ≡ (slice_index_or cs 0 d).y → least_from y (polygon_corners (drop 0 cs)) ≡ least_y (polygon_corners cs)
-least_begins [] y d h e = absurd (omega arith)
-least_begins (c ∷ cs) y d h e = ap (λ v. least_from v (polygon_corners (c ∷ cs))) e ∙ ap (λ v. least_from v (polygon_corners cs)) (least_itself c.y)
-
--- one corner more
-pub least_goes_on : (cs : List Written) (i : ℕ) (y least z : ℤ) (d : Written) → i < length cs → z ≡ (slice_index_or cs i d).y → least ≡ int_min y z → least_from y (polygon_corners (drop i cs)) ≡ least_from least (polygon_corners (drop (i + 1) cs))
-least_goes_on cs i y least z d h e f =
-    ap (λ v. least_from y (polygon_corners v)) (drop-cons cs i d h)
-    ∙ ap (λ v. least_from (int_min y v) (polygon_corners (drop (suc i) cs))) (sym e)
-    ∙ (λ j. least_from (sym f j) (polygon_corners (drop (sym (add-one i) j) cs)))
-
--- no corner is left
-pub least_ends : (cs : List Written) (i : ℕ) (y : ℤ) → length cs ≤ i → least_from y (polygon_corners (drop i cs)) ≡ y
-least_ends cs i y h = ap (λ v. least_from y (polygon_corners v)) (drop_all i cs h)
 
 -- ---- the edge with a number
 
@@ -84,13 +53,3 @@ edge_to_first [] k d e h b = absurd (omega arith)
 edge_to_first (c ∷ cs) k d e h b =
     edge_along (polygon_corner c) (polygon_corner c) (polygon_corners cs) k (edge_of no_corner no_corner) (omega (arith, as_many cs))
     ∙ (λ i. edge_of (corner_at (c ∷ cs) k d h i) (at_last cs (polygon_corner c) k (omega arith) i))
-
--- ---- all half-spaces of a cell
-
--- one half-space more
-pub all_hold_next : (cell : List HalfSpace) (i : ℕ) (d : HalfSpace) (p : RationalPoint) → i < length cell → all_hold (drop i cell) p ≡ (holds (slice_index_or cell i d) p && all_hold (drop (i + 1) cell) p)
-all_hold_next cell i d p h = ap (λ v. all_hold v p) (drop-cons cell i d h) ∙ ap (λ n. holds (slice_index_or cell i d) p && all_hold (drop n cell) p) (sym (add-one i))
-
--- none is left
-pub all_hold_end : (cell : List HalfSpace) (i : ℕ) (p : RationalPoint) → length cell ≤ i → all_hold (drop i cell) p ≡ true
-all_hold_end cell i p h = ap (λ v. all_hold v p) (drop_all i cell h)

@@ -38,10 +38,6 @@ flips true false c = refl
 flips false true c = refl
 flips false false c = refl
 
--- no edge at first
-pub counting_begins : (s : Prism) (p : RationalPoint) → IsCounting s p false 0
-counting_begins s p = refl
-
 -- one edge more is counted
 pub counting_goes_on : (low high : ℤ) (cs : List Written) (p : RationalPoint) (k : ℕ) (odd : Bool) (cell : Option (List HalfSpace)) (inside next : Bool) → k < length cs → IsCounting (prism_of low high cs) p odd k
     → cell ≡ trapezoid_at (prism_of low high cs) k → inside ≡ cell_holds cell p → next ≡ differ inside odd → IsCounting (prism_of low high cs) p next (k + 1)
@@ -54,10 +50,6 @@ counting_goes_on low high cs p k odd cell inside next h a c_is i_is n_is =
     ∙ flips odd (counts s p e) rest
     ∙ ap (λ v. differ odd (parity (counts s p) v)) (sym (drop-cons (edges_of (polygon_corners cs)) k (edge_of no_corner no_corner) (omega (arith, edges_as_many cs))))
     ∙ a
-
--- outside the cube there is no member
-pub not_in_cube : (low high : ℤ) (cs : List Written) (p : RationalPoint) → false ≡ is_cube_point p → false ≡ is_member (Shape.prism (prism_of low high cs)) p
-not_in_cube low high cs p h = λ i. h i && passes_prism (prism_of low high cs) p
 
 -- all edges are counted
 pub counting_ends : (low high : ℤ) (cs : List Written) (p : RationalPoint) (k : ℕ) (odd : Bool) → IsPrism (prism_of low high cs) → length cs ≤ k → IsCounting (prism_of low high cs) p odd k

@@ -6,10 +6,10 @@ use Rattle.rp_geometry.specs.Geometry.{HalfSpace, boxes_meet, complement}
 use Rattle.rp_geometry.specs.sets.Prism.{Edge, is_upright, Prism}
 use Rattle.rp_geometry.specs.sets.Shape.{Part}
 use Rattle.rp_geometry.specs.searches.ProofLine.{strict_line}
-use Rattle.rp_geometry.specs.parts.PartTest.{has_member, slimmed, part_lines, part_of, whole_part}
+use Rattle.rp_geometry.specs.parts.PartTest.{has_member, slimmed, part_lines, part_of}
 use Rattle.rp_geometry.specs.parts.Parts.{most_half_spaces, most_parts}
 use Rattle.rp_walks.specs.Walk.{Outcome, done, stopped, limit_met, Walk, pass, stop, after_first, ◌>>=◌, ◌>>◌, Work, with_lines, most_tests, count_tests, strict_test, part_test, first_tester}
-use Rattle.rp_walks.specs.Form.{made_part, if_at_most, join_pair, join_with_part, join_each, carve_one, carve, carve_or_keep, subtract_pair, subtract_part, subtract, subtract_from_whole, exchange, exchange_edge, exchange_edges, exchange_lists, exchange_cell}
+use Rattle.rp_walks.specs.Form.{made_part, if_at_most, join_pair, join_with_part, join_each, carve_one, carve, carve_or_keep, subtract_pair, subtract_part, subtract, exchange, exchange_edge, exchange_edges, exchange_lists, exchange_cell}
 use Rattle.rp_footprint.specs.Cells.{trapezoid_by}
 use Rattle.rp_region.specs.Makes.{work_after, TellsMore, OnlyTells}
 use Rattle.rp_region.specs.Tells.{strict_tells}
@@ -142,10 +142,6 @@ subtract_tells current [] = pass_tells current
 subtract_tells current (q ∷ qs) =
     then_tells (subtract_part first_tester [] current q) _ (subtract_part_tells [] current q)
     (λ left. then_tells (if_at_most most_parts left) (λ next. subtract first_tester next qs) (few_tells most_parts left) (λ next. subtract_tells next qs))
-
--- the cube without the parts of a list
-pub outside_tells : (ps : List Part) → OnlyTells (subtract_from_whole first_tester ps)
-outside_tells ps = subtract_tells (whole_part ∷ []) ps
 
 -- ---- prisms
 

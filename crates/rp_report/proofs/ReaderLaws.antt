@@ -80,12 +80,6 @@ behind_sound word line rest e =
     let front : take (length word) line ≡ word = (bytes_eq-Decides (take (length word) line) word).0 h.0 in
     sym (take-append-drop (length word) line) ∙ (λ i. front i ++ h.1 i)
 
--- a word and what stands behind it
-pub behind_complete : (word rest : List ℕ) → behind word (word ++ rest) ≡ Some rest
-behind_complete word rest =
-    kept_true _ _ ((bytes_eq-Decides (take (length word) (word ++ rest)) word).1 (take_at word rest (length word) refl))
-    ∙ ap Some (drop_at word rest (length word) refl)
-
 -- a word that was read
 pub word_sound : (word line : List ℕ) (x : Unit {0}) (rest : List ℕ) → the_word word line ≡ Some (x, rest) → line ≡ word ++ rest
 word_sound word line x rest e =

@@ -7,11 +7,11 @@ use Rattle.std.proofs.lemmas.Int.{ints, to_z-of_z}
 use Rattle.std.proofs.lemmas.Bool.{and_parts}
 use Rattle.rp_algebra.specs.Integer.{gcd, gcd_of, reduced_by}
 use Rattle.rp_algebra.proofs.Divisors.{gcd_of-positive_four, gcd_of-at_most_four, gcd_of-nil, gcd_of-cons, gcd-zero, gcd-at_most_right}
-use Rattle.rp_algebra.proofs.LowestTerms.{lowest-gcd, quotient_by_one}
+use Rattle.rp_algebra.proofs.LowestTerms.{quotient_by_one}
 use Rattle.std.specs.Prelude.{int_lt, int_le}
 use Rattle.rp_algebra.proofs.Machine.{code, is_by}
 use Rattle.rp_geometry.specs.Geometry.{half_space_of, point_of, is_point_in_bounds, HalfSpace, is_half_space_in_bounds, is_zero_half_space, IsHalfSpace, reduced_half_space, IsKeptHalfSpace, complement, RationalPoint, IsPoint, IsSmallPoint, reduced_point, IsKeptPoint}
-use Rattle.rp_geometry.proofs.InLowestTerms.{divisor_above, reduced_half_space_is, reduced_point_is, size_within}
+use Rattle.rp_geometry.proofs.InLowestTerms.{reduced_half_space_is, reduced_point_is, size_within}
 
 -- a half-space in lowest terms keeps its bounds, and stays as it is when it is reduced again
 pub kept_half_space : (h : HalfSpace) → is_half_space_in_bounds h ≡ true → is_zero_half_space h ≡ false → IsKeptHalfSpace (reduced_half_space h)
@@ -59,12 +59,6 @@ half_space_divisor h inside =
     let size_b = size_within 16777216 h.b a.1 in
     let size_c = size_within 16777216 h.c ab.1 in
     gcd_of-at_most 844424930131968 (h.a ∷ h.b ∷ h.c ∷ h.d ∷ []) (omega (arith, size_a), (omega (arith, size_b), (omega (arith, size_c), (size_within 844424930131968 h.d abc.1, tt))))
-
--- numbers that are kept have no common divisor but 1
-kept_divisor : (h : HalfSpace) → IsKeptHalfSpace h → gcd_of (h.a ∷ h.b ∷ h.c ∷ h.d ∷ []) ≡ 1
-unfolding reduced_half_space
-kept_divisor h k =
-    ap (λ (r : HalfSpace). gcd_of (r.a ∷ r.b ∷ r.c ∷ r.d ∷ [])) (sym k.lowest) ∙ lowest-gcd (h.a ∷ h.b ∷ h.c ∷ h.d ∷ []) (divisor_above h k.numbers.nonzero)
 
 -- a quadruple with the divisor 1 is in lowest terms
 pub lowest_by_one : (h : HalfSpace) → gcd_of (h.a ∷ h.b ∷ h.c ∷ h.d ∷ []) ≡ 1 → reduced_half_space h ≡ h

@@ -5,15 +5,10 @@ use Rattle.std.proofs.lemmas.List.Concat.{flat_map-append}
 use Rattle.rp_io.specs.Bytes.{Appends, AppendsPrefix}
 use Rattle.rp_reports.specs.Made.{building_lines, made_script, next_seed}
 use Rattle.rp_reports.specs.Text.{text_of_lines, line_end}
-use Rattle.rp_tool.specs.declared.made.MadeLine.TheVariants.{Register, Audit}
-use Rattle.rp_tool.specs.declared.made.Stage.TheVariants.{Registered, Audited}
+use Rattle.rp_tool.specs.declared.made.MadeLine.TheVariants.{Register}
+use Rattle.rp_tool.specs.declared.made.Stage.TheVariants.{Registered}
 use Rattle.rp_tool.specs.Made.{made_line, lines_to_come}
 use Rattle.rp_tool.proofs.SinkLemmas.{Appends-append, Appends-nothing, AppendsPrefix-line, AppendsPrefix-lines}
-
--- behind the last storey all are shown to be apart
-pub building_lines-none : (n i seed : ℕ) → n ≡ 0 → building_lines n i seed ≡ made_line Audit ∷ lines_to_come Audited i n seed
-building_lines-none zero i seed e = refl
-building_lines-none (suc n) i seed e = absurd (omega arith)
 
 -- the next storey is registered first
 pub building_lines-next : (n i seed : ℕ) → 0 < n → building_lines n i seed ≡ made_line (Register i) ∷ lines_to_come Registered i (n - 1) seed

@@ -212,12 +212,6 @@ cut_two system pair span h end c k g l at =
 
 -- ---- the sides of the cube as ends
 
--- the value of a half-space there, over plain numbers
-side_mixed_of : (m n a b c d x y z w s t u v : ℤ) →
-    a *ℤ (m *ℤ x +ℤ n *ℤ s) +ℤ b *ℤ (m *ℤ y +ℤ n *ℤ t) +ℤ c *ℤ (m *ℤ z +ℤ n *ℤ u) +ℤ d *ℤ (m *ℤ w +ℤ n *ℤ v)
-    ≡ m *ℤ (a *ℤ x +ℤ b *ℤ y +ℤ c *ℤ z +ℤ d *ℤ w) +ℤ n *ℤ (a *ℤ s +ℤ b *ℤ t +ℤ c *ℤ u +ℤ d *ℤ v)
-side_mixed_of m n a b c d x y z w s t u v = by_ring_at (m ∷ n ∷ a ∷ b ∷ c ∷ d ∷ x ∷ y ∷ z ∷ w ∷ s ∷ t ∷ u ∷ v ∷ []) (search reify depth 40 fits 100000) tt
-
 -- multiples of 0
 no_part : (m n u v : ℤ) → u ≡ pos 0 → v ≡ pos 0 → m *ℤ u +ℤ n *ℤ v ≡ pos 0
 no_part m n u v eu ev = rw (eu, ev) (by_ring_at (m ∷ n ∷ []) (search reify depth 40 fits 100000) tt)
