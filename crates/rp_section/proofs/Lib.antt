@@ -1,5 +1,6 @@
 mod Bounding
 mod Flats
 mod Listing
+mod Offsets
 mod Rounds
 mod Sliced

@@ -7,6 +7,7 @@
 //! of `rp_cert` says, is said of it too. The slices of a region are those of its parts, in order.
 
 mod flat;
+mod guess;
 mod ring;
 mod side;
 mod slices;

@@ -23,7 +23,7 @@ pub fn ring(cell: &[Half], z: i32) -> RingSteps
 }
 
 /// The half-space above a height, whose plane is that of the height.
-fn level_plane(z: i32) -> Half
+pub fn level_plane(z: i32) -> Half
     requires { IsHeight z }
     ensures { result ≡ level_plane z }
 {

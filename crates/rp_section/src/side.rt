@@ -185,7 +185,7 @@ fn place_for(side: &Side, sides: &[Side]) -> Option<usize>
 }
 
 /// Whether the edge of the first side has a smaller angle than that of the second.
-fn is_before(s: &Side, t: &Side) -> bool
+pub fn is_before(s: &Side, t: &Side) -> bool
     ensures { result ≡ is_angle_before s.now.edge t.now.edge }
 {
     is_angle_before(&s.edge, &t.edge)

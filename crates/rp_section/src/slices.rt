@@ -7,6 +7,7 @@ ghost use Rattle.rp_cert.specs.Section.{slice_shown, Shows};
 ghost use Rattle.rp_section.specs.Shown.{IsFlat, slices_of};
 
 use crate::flat::first_flat;
+use crate::guess::quick_ring;
 use crate::ring::ring;
 use rp_cert::{Slice, check_slice};
 use rp_region::Region;
@@ -41,12 +42,12 @@ pub fn slice(cell: &[Half], z: i32) -> Slice
     ensures shows { Shows z cell.now (slice_shown result) }
 {
     keep_bounds(cell);
-    let ring = Slice::Ring(ring(cell, z));
-    if check_slice(cell, z, &ring) {
-        return ring;
+    let guess = Slice::Ring(quick_ring(cell, z));
+    if check_slice(cell, z, &guess) {
+        return guess;
     }
     match first_flat(cell, z) {
         Some(terms) => Slice::Flat(terms),
-        None => ring,
+        None => Slice::Ring(ring(cell, z)),
     }
 }

@@ -12,8 +12,8 @@ use Rattle.rp_section.proofs.slices.slice.Goals as goal
 pub returns-then-check_slice-clause-value : goal.returns-then-check_slice-clause-value
 returns-then-check_slice-clause-value c =
     let z = read_is w32 (height_within c.args.z c.requires.height) tt in
-    let e = sym (c.check_slice.ensures.value ∙ ap (λ (v : ℤ). is_ring v c.args.cell.now c.ring.result) z) ∙ c.if-check_slice.true in
-    ring_value c.args.z c.args.cell.now c.requires.height c.keep_bounds.ensures c.ring.result e
+    let e = sym (c.check_slice.ensures.value ∙ ap (λ (v : ℤ). is_ring v c.args.cell.now c.quick_ring.result) z) ∙ c.if-check_slice.true in
+    ring_value c.args.z c.args.cell.now c.requires.height c.keep_bounds.ensures c.quick_ring.result e
 
 pub returns-in-Some-clause-value : goal.returns-in-Some-clause-value
 returns-in-Some-clause-value c =
