@@ -1,4 +1,4 @@
--- Ranges of numbers, and a group that grows by links until it grows no more.
+-- The numbers below another, and a group that grows by links until it grows no more.
 use Rattle.std.proofs.Common.{◌≡◌, ℕ, zero, suc, ◌+◌, ◌<◌, ◌≤◌, Bool, true, ◌⊎◌, inl, inr, ⊎_elim, List, [], ◌∷◌, length, refl, ap, subst, sym, ◌∙◌, arith}
 use Rattle.std.proofs.lemmas.Bool.{or_cases, or_left, or_right, cases_order}
 use Rattle.std.proofs.lemmas.List.FromFn.{length-range_with_len}

@@ -1,4 +1,4 @@
--- The least y of corners, and the edge with a number.
+-- The edge with a number, from its corner to the next.
 use Rattle.std.proofs.Common.{◌≡◌, ℕ, zero, suc, ◌+◌, ◌<◌, ◌≤◌, List, [], ◌∷◌, ◌++◌, length, refl, sym, ap, ◌∙◌, arith, add-one}
 use Rattle.std.specs.Prelude.{slice_index_or}
 use Rattle.rp_geometry.specs.sets.Prism.{Corner, Edge, edge_of, edges_along}

@@ -1,12 +1,10 @@
--- Coordinates of points of the closed cube, rounded down and up, in machine numbers.
+-- Points in machine numbers: they are read as they are, and those of the closed cube are in its range.
 use Rattle.std.proofs.Common.{◌≡◌, ◌<◌, ◌^◌, ℤ, unsigned_abs, to_z, of_z, true, ◌&&◌, sym, ◌∙◌, subst, le_of_lt}
 use mir.Syntax.{w128}
 use Rattle.rp_algebra.specs.Within.{IsWithin}
 use Rattle.rp_algebra.proofs.Machine.{read_is}
 use Rattle.rp_algebra.proofs.Tests.{and_first, and_second}
 use Rattle.rp_geometry.specs.Geometry.{RationalPoint, point_of, IsSmallPoint, is_in_closed_range, is_closed_cube_point}
-
--- ---- a point in machine numbers
 
 -- the numbers that are read are those of the point
 pub record AreRead (x y z w : ℤ) (p : RationalPoint) : Type 0 where
