@@ -6,6 +6,7 @@ ghost use Rattle.rp_geometry.specs.sets.Sets.{IsEmpty};
 ghost use Rattle.rp_geometry.specs.laws.CellLaws.{IsSolution};
 ghost use Rattle.rp_geometry.specs.searches.Certificate.{is_outside_certificate};
 ghost use Rattle.rp_geometry.specs.searches.Elimination.{first_outside};
+ghost use Rattle.rp_geometry.specs.searches.Vertex.{first_weak_point};
 ghost use Rattle.rp_geometry.specs.searches.ProofLine.{strict_line, weak_line, out_line, apart_line};
 ghost use Rattle.rp_elim.specs.FewTerms.{first_of_two};
 ghost use Rattle.rp_cell.specs.Decisions.{line_of_strict, line_of_weak, DecidesStrict, DecidesWeak};
@@ -124,13 +125,26 @@ pub fn decide_weak(cell: &[Half]) -> Weak
     if cell.len() < FEW_FOR_PAIRS {
         return search_weak(cell);
     }
-    if cell.len() < MANY {
-        return refute_weak_first(cell);
-    }
-    match weak_on_polygon(cell) {
+    match weak_soon(cell) {
         Some(p) => Weak::At(p),
         None => refute_weak_first(cell),
     }
+}
+
+/// The first weak point of a cell, if it is where it is sought first: on a few lines, or on the polygon of the first plane
+/// of a large cell. `None` tells nothing. In small cells a point is not sought so.
+fn weak_soon(cell: &[Half]) -> Option<Point>
+    requires { length cell.now ≤ 64 }
+    ensures first { IfSome result (λ p. first_weak_point cell.now ≡ Some p) }
+    ensures passes { IfSome result (λ p. IsSolution false cell.now p) }
+{
+    if cell.len() < FEW {
+        return None;
+    }
+    if cell.len() < MANY {
+        return weak_on_few_lines(cell);
+    }
+    weak_on_polygon(cell)
 }
 
 /// The same, by a refutation by two half-spaces, if there is one.
@@ -147,10 +161,13 @@ fn refute_weak_first(cell: &[Half]) -> Weak
     if cell.len() < FEW {
         return search_weak(cell);
     }
+    if cell.len() < MANY {
+        return hold_weak(cell);
+    }
     try_weak(cell)
 }
 
-/// The same, by a search on a few lines of the first plane, and over vertices where the first point is on none of them.
+/// The same, by a search on a few lines of one plane, and over vertices where the first point is on none of them.
 fn try_weak(cell: &[Half]) -> Weak
     requires { length cell.now ≤ 64 }
     ensures decides { DecidesWeak cell.now result }

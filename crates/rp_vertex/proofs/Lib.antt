@@ -1,3 +1,4 @@
+mod CutOff
 pub mod InBounds
 mod Joined
 mod Lines

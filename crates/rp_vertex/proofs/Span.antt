@@ -64,7 +64,7 @@ positive_left system pair span k h h1 h2 p l =
     above_by n (side_value h p) p.w hn l.on.point (subst (λ (t : ℤ). pos 0 ≤ℤ t) (side_less n h p) v)
 
 -- the value of the complement, over plain numbers
-side_complement_of : (a b c d x y z w : ℤ) → neg_ℤ a *ℤ x +ℤ neg_ℤ b *ℤ y +ℤ neg_ℤ c *ℤ z +ℤ neg_ℤ d *ℤ w ≡ neg_ℤ (a *ℤ x +ℤ b *ℤ y +ℤ c *ℤ z +ℤ d *ℤ w)
+pub side_complement_of : (a b c d x y z w : ℤ) → neg_ℤ a *ℤ x +ℤ neg_ℤ b *ℤ y +ℤ neg_ℤ c *ℤ z +ℤ neg_ℤ d *ℤ w ≡ neg_ℤ (a *ℤ x +ℤ b *ℤ y +ℤ c *ℤ z +ℤ d *ℤ w)
 side_complement_of a b c d x y z w = by_ring_at (a ∷ b ∷ c ∷ d ∷ x ∷ y ∷ z ∷ w ∷ []) (search reify depth 40 fits 100000) tt
 
 -- the complement is positive where the half-space is negative

@@ -1,4 +1,4 @@
--- No vertex is wanted on planes that are all that is to be lifted.
+-- No vertex is wanted on planes that are all that is to be lifted, and none is on a plane that a half-space cuts off.
 use Rattle.std.proofs.Common.{◌≡◌, pos, Bool, true, false, ◌||◌, List, [], ◌∷◌, ⊎_elim, refl, sym, ap, ◌∙◌}
 use Rattle.std.specs.Prelude.{Option, Some, None}
 use Rattle.std.proofs.lemmas.Bool.{or_cases}
@@ -10,9 +10,11 @@ use Rattle.rp_geometry.specs.Geometry.{RationalPoint, HalfSpace, half_space_eq, 
 use Rattle.rp_geometry.specs.searches.Search.{first_of, first_of_pairs}
 use Rattle.rp_geometry.specs.searches.Vertex.{lifts, meeting_point, vertex_at}
 use Rattle.rp_corners.proofs.Corners.{IsMeeting, meeting_is, passed_choice}
+use Rattle.rp_vertex.specs.Parallel.{cuts_off, is_cut_off}
 use Rattle.rp_vertex.specs.Wanted.{are_among, is_wanted, lie_within}
 use Rattle.rp_vertex.specs.declared.search.Wanted.{Wanted}
 use Rattle.rp_vertex.specs.declared.search.Wanted.TheVariants.{Any, Lifting}
+use Rattle.rp_vertex.proofs.CutOff.{no_vertex_on, some_passes}
 
 -- a half-space that is one of two is not positive where both are 0
 not_positive : (h f g : HalfSpace) (v : RationalPoint) → (half_space_eq h f || half_space_eq h g) ≡ true → side_value f v ≡ pos 0 → side_value g v ≡ pos 0 → is_positive (side_value h v) ≡ false
@@ -64,3 +66,9 @@ none_with_two w system f g others e =
 pub none_with_one : (w : Wanted) (system : List HalfSpace) (f : HalfSpace) (others : List HalfSpace) → lie_within w f f ≡ true → first_of_pairs (vertex_at (is_wanted w) system f) others ≡ None
 none_with_one w system f others e =
     none_of_pairs (vertex_at (is_wanted w) system f) others (λ g h. none_at (is_wanted w) system f g h (λ v m. not_wanted w f f v e m.tight.first m.tight.first))
+
+-- a plane that a half-space of the list cuts off has no vertex with two others
+pub none_cut_off : (w : Wanted) (system : List HalfSpace) (f : HalfSpace) (others : List HalfSpace) → is_cut_off system f ≡ true → first_of_pairs (vertex_at (is_wanted w) system f) others ≡ None
+none_cut_off w system f others e =
+    let k = some_passes (cuts_off f) system e in
+    none_of_pairs (vertex_at (is_wanted w) system f) others (λ g h. no_vertex_on (is_wanted w) system f g h k.item k.listed k.passes)

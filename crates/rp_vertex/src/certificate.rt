@@ -69,8 +69,8 @@ pub fn first_weak(cell: &[Half]) -> Option<Point>
     )
 }
 
-/// The first inside certificate of a cell, if its first point is found on the first few lines of the first plane, and each
-/// further one on the first plane that may have it. `None` tells nothing, and comes soon.
+/// The first inside certificate of a cell, if its first point is found on the first few lines of the first plane that may
+/// have it, and each further one on the first plane that may. `None` tells nothing, and comes soon.
 /// A cell has at most 64 half-spaces. Takes no memory.
 pub fn inside_on_few_lines(cell: &[Half]) -> Option<Inside>
     requires { length cell.now ≤ 64 }
@@ -84,8 +84,8 @@ pub fn inside_on_few_lines(cell: &[Half]) -> Option<Inside>
     points_on_few(way, system.as_slice(), &mut order, first)
 }
 
-/// The first weak point of a cell, if it is found on the first few lines of the first plane. `None` tells nothing, and comes
-/// soon. A cell has at most 64 half-spaces. Takes no memory.
+/// The first weak point of a cell, if it is found on the first few lines of the first plane that may have it. `None` tells
+/// nothing, and comes soon. A cell has at most 64 half-spaces. Takes no memory.
 pub fn weak_on_few_lines(cell: &[Half]) -> Option<Point>
     requires { length cell.now ≤ 64 }
     ensures first { IfSome result (λ p. first_weak_point cell.now ≡ Some p) }

@@ -20,15 +20,19 @@
 //! lifts some half-spaces tries no line on the planes of all of these. Only [`first_inside_over_triples`], with which
 //! `bench/run` compares, passes over nothing.
 //!
-//! [`inside_on_few_lines`] and [`weak_on_few_lines`] seek the first vertex on a few lines of the first plane, where it
-//! often is; what they find is the first all the same. The boxes round all vertices, and round points that are given,
-//! are found by going over them once (`bounds.rt`).
+//! A plane on which a half-space with the same coefficients, or with the opposite ones, is negative has no vertex
+//! (`parallel.rt`): of two boxes side by side most planes are left out so, before any line on them is tried.
+//!
+//! [`inside_on_few_lines`] and [`weak_on_few_lines`] seek the first vertex on a few lines of the first plane that is not
+//! left out, where it often is; what they find is the first all the same. The boxes round all vertices, and round points
+//! that are given, are found by going over them once (`bounds.rt`).
 
 mod bounds;
 mod certificate;
 mod flat;
 mod line;
 mod order;
+mod parallel;
 mod search;
 
 pub use bounds::{box_of_points, box_of_vertices};

@@ -6,10 +6,12 @@ ghost use Rattle.rp_geometry.specs.searches.Search.{first_of, first_of_pairs};
 ghost use Rattle.rp_geometry.specs.searches.Vertex.{lifts, vertex_at, first_vertex};
 ghost use Rattle.rp_vertex.specs.Joined.{HasCube};
 ghost use Rattle.rp_vertex.specs.Line.{HoldsVertices};
+ghost use Rattle.rp_vertex.specs.Parallel.{is_cut_off};
 ghost use Rattle.rp_vertex.specs.Wanted.{are_among, is_wanted, lie_within};
 
 use crate::line::{Line, line_of};
 use crate::order::Order;
+use crate::parallel::is_cut_off;
 use rp_space::{Half, Meeting, Pair, Point};
 
 /// So many lines of one plane are tried for the first vertex. Most often it is on one of these, where it is on the plane.
@@ -81,7 +83,17 @@ pub(crate) fn vertex_on_few(
 fn has_none(way: Way, wanted: Wanted, system: &[Half], f: &Half, others: &[Half]) -> bool
     ensures { result ≡ true → first_of_pairs (vertex_at (is_wanted wanted.entry) system.now f.now) others.now ≡ None }
 {
-    is_passed_over(way, wanted, f, f)
+    is_passed_over(way, wanted, f, f) || is_left_out(way, system, f)
+}
+
+/// Whether the plane of `f` is left out, since a parallel half-space is negative on it.
+fn is_left_out(way: Way, system: &[Half], f: &Half) -> bool
+    ensures { result ≡ true → is_cut_off system.now f.now ≡ true }
+{
+    match way {
+        Way::Plain => false,
+        Way::Triples | Way::Lines => is_cut_off(system, f),
+    }
 }
 
 /// On how many lines of one plane a vertex is sought: the first one on a few, since there may be none on the plane, and a

@@ -2,7 +2,7 @@ use crate::{
     box_of_vertices, first_inside, first_inside_over_triples, first_weak, inside_on_few_lines,
     weak_on_few_lines,
 };
-use rp_space::{Half, IntBox};
+use rp_space::{Half, IntBox, joined};
 use std::process::Abort;
 use std::test::Fail;
 
@@ -136,4 +136,37 @@ fn corners_are_rounded_down_and_up(rt: HostRuntime) {
         hi: [4, 4, 2],
     };
     assert_eq!(rt; box_of_vertices(&cell), bounds);
+}
+
+/// The six sides of a box.
+fn box_sides(rt: &impl Abort, lo: [i32; 3], hi: [i32; 3]) -> [Half; 6] {
+    [
+        half(rt, (1, 0, 0, -(lo[0] as i64))),
+        half(rt, (-1, 0, 0, hi[0] as i64)),
+        half(rt, (0, 1, 0, -(lo[1] as i64))),
+        half(rt, (0, -1, 0, hi[1] as i64)),
+        half(rt, (0, 0, 1, -(lo[2] as i64))),
+        half(rt, (0, 0, -1, hi[2] as i64)),
+    ]
+}
+
+#[test]
+fn boxes_side_by_side_touch_beyond_planes_that_are_cut_off(rt: HostRuntime) -> Result<(), Fail> {
+    let near = box_sides(&rt, [0, 0, 0], [4, 4, 2]);
+    // Beside it on x, on y and on an edge, upon it, and in it.
+    let cases = [
+        ([4, -1, 0], [9, 3, 2], (4, 0, 0, 1)),
+        ([0, 4, 0], [4, 9, 2], (0, 4, 0, 1)),
+        ([4, 4, 1], [9, 9, 3], (4, 4, 2, 1)),
+        ([1, -2, 2], [3, 9, 5], (1, 0, 2, 1)),
+        ([1, 1, 1], [3, 3, 2], (1, 1, 2, 1)),
+    ];
+    for (lo, hi, corner) in cases {
+        let both = joined(&near, &box_sides(&rt, lo, hi));
+        let soon = weak_on_few_lines(both.as_slice()).ok_or("not soon")?;
+        let first = first_weak(both.as_slice()).ok_or("no weak point")?;
+        assert_eq!(rt; soon.numbers(), first.numbers());
+        assert_eq!(rt; soon.numbers(), corner);
+    }
+    Ok(())
 }

@@ -5,7 +5,7 @@ use Rattle.rp_cell.proofs.Answered.{line_at}
 use Rattle.rp_cell.proofs.decide.decide_weak.Goals as goal
 
 first : (c : goal.In-Some) → first_weak_point c.args.cell.now ≡ Some c.in-Some.p
-first c = of_some (λ p. first_weak_point c.args.cell.now ≡ Some p) c.weak_on_polygon.result c.in-Some.p c.in-Some.is c.weak_on_polygon.ensures.first
+first c = of_some (λ p. first_weak_point c.args.cell.now ≡ Some p) c.weak_soon.result c.in-Some.p c.in-Some.is c.weak_soon.ensures.first
 
 pub returns-in-Some-clause-line : goal.returns-in-Some-clause-line
 returns-in-Some-clause-line c = line_at c.args.cell.now c.in-Some.p (first c)
