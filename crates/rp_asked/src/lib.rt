@@ -3,7 +3,7 @@
 //! those of the questions that a history of lots answers alone.
 //!
 //! Each comes to the verdict lines, the refusal or the stop that its definition has for it, and makes exactly the tests of
-//! that. Nothing is changed. Beside them stand the verdict lines of slices, of neighbours and of an owner.
+//! that. Nothing is changed. Beside them stand the verdict lines of slices, of neighbours, of lots by their ids and of an owner.
 
 mod form;
 mod lines;
@@ -18,7 +18,7 @@ mod reply;
 pub use form::{row_form, short_form};
 pub use lines::slice_lines;
 pub use live::live_count;
-pub use lot_lines::{neighbour_lines, owner_verdict};
+pub use lot_lines::{neighbour_lines, owner_verdict, parcel_lines};
 pub use lots::{lineage, list};
 pub use operand::row_operands;
 pub use questions::{comparison, emptiness, membership, piece_numbers, related, shown_parts};

@@ -1,7 +1,7 @@
 //! The verdict lines of lots.
 ghost use Rattle.std.specs.Prelude.{◌≡◌, ◌≤◌, ◌∷◌, ◌++◌, [], IfOk, OnOk, length, map, option_map, option_copied};
 ghost use Rattle.rp_model.specs.states.State.{lot_with_id, most_kept_parts};
-ghost use Rattle.rp_model.specs.commands.Verdict.{neighbour_lines, lot_lines};
+ghost use Rattle.rp_model.specs.commands.Verdict.{Verdict as ModelVerdict, neighbour_lines, lot_lines};
 ghost use Rattle.rp_history.specs.Lots.{lot_of};
 ghost use Rattle.rp_nearby.specs.Owner.{owner_verdict};
 ghost use Rattle.rp_report.specs.Views.{verdict_of};
@@ -28,7 +28,14 @@ pub fn neighbour_lines(alloc: Global, ids: &[Name]) -> Result<Verdicts, AllocErr
     requires { length ids.now ≤ most_kept_parts }
     ensures { IfOk result (λ lines. map verdict_of lines.items ≡ neighbour_lines ids.now) }
 {
-    let mut lines = one_line(alloc, Verdict::Neighbours(ids.len() as u32))?;
+    parcel_lines(alloc, Verdict::Neighbours(ids.len() as u32), ids)
+}
+
+/// A verdict line, and one for each of some ids. Answers `AllocError` only for want of memory.
+pub fn parcel_lines(alloc: Global, first: Verdict, ids: &[Name]) -> Result<Verdicts, AllocError>
+    ensures { IfOk result (λ lines. map verdict_of lines.items ≡ verdict_of first ∷ map ModelVerdict.parcel ids.now) }
+{
+    let mut lines = one_line(alloc, first)?;
     for id in ids {
         lines.push(Verdict::Parcel(*id))?;
     }

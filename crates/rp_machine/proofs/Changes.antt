@@ -5,7 +5,7 @@ use Rattle.std.specs.List.{AllByRecursion}
 use Rattle.rp_geometry.specs.sets.Shape.{Part}
 use Rattle.rp_geometry.specs.parts.Parts.{most_parts}
 use Rattle.rp_language.specs.Name.{Label, label_eq, is_among}
-use Rattle.rp_walks.specs.Walk.{Outcome, done, stopped, limit_met, Walk, Work, no_work, pass, first_tester, ◌>>=◌, ◌>>◌}
+use Rattle.rp_walks.specs.Walk.{Outcome, done, stopped, Walk, Work, no_work, pass, first_tester, ◌>>=◌, ◌>>◌}
 use Rattle.rp_walks.specs.Form.{join, subtract, near_pair, touching_pair}
 use Rattle.rp_walks.specs.Compare.{is_covered}
 use Rattle.rp_model.specs.states.State.{Kept, Lot, PlainState, live_lots, live_lot, lots_of_layer, other_lots, layer_of_lot, layer_with_id, ids_of, parts_under_lots, most_kept_parts, Change, lots_replaced}
@@ -19,52 +19,23 @@ use Rattle.rp_region.proofs.Grows.{no_more}
 use Rattle.rp_history.specs.Lots.{lots_in}
 use Rattle.rp_parcels.specs.declared.fault.ParcelFault.{ParcelFault}
 use Rattle.rp_parcels.specs.Rows.{Cause, refuses, limited, wanting, cause_of, EndsBy, Changes}
-use Rattle.rp_machine.specs.declared.fault.RowFault.{RowFault}
 use Rattle.rp_machine.specs.declared.reply.Reply.{Reply as CodeReply}
-use Rattle.rp_tests.specs.declared.stopped.Stopped.{Stopped}
-use Rattle.rp_tests.specs.declared.stopped.Stopped.TheVariants.{Wrong, TakenWrong, Told, Limit, Memory}
-use Rattle.rp_tests.specs.Comes.{StopsBy}
 use Rattle.rp_asked.specs.declared.reply.RowEnd.{RowEnd}
-use Rattle.rp_asked.specs.declared.reply.RowEnd.TheVariants.{Refused as EndRefused, Stopped as EndStopped}
 use Rattle.rp_asked.specs.Replies.{EndsBy as Ends}
-use Rattle.rp_machine.specs.Faults.{fault_of_stop, fault_of_end, cause_of_row}
 use Rattle.rp_machine.specs.Named.{state_with}
-use Rattle.rp_machine.specs.Replies.{IsStoppedAt, FailsAt, IsAnswered, Runs}
+use Rattle.rp_machine.specs.Replies.{IsAnswered, Runs}
 
 -- ---- from the lots to the state
 
--- a limit that is met is a stop
-pub stopped_at : {A : Type 0} (o : Outcome Work A) (w : Work) → o ≡ stopped limit_met w → IsStoppedAt w o
-stopped_at o w h = subst (IsStoppedAt w) (sym h) refl
-
--- a stop, as the fault of a row
-pub stop_fails : (e : Stopped) (w : Work) (o : Outcome Work Reply) → StopsBy e w o → FailsAt (cause_of_row (fault_of_stop e)) w o
-stop_fails Wrong w o h = subst (IsStoppedAt w) (sym h) refl
-stop_fails TakenWrong w o h = subst (IsStoppedAt w) (sym h) refl
-stop_fails Told w o h = subst (IsStoppedAt w) (sym h) refl
-stop_fails Limit w o h = subst (IsStoppedAt w) (sym h) refl
-stop_fails (Memory e) w o h = tt
-
--- an end, as the fault of a row
-pub end_fails : (e : RowEnd) (w : Work) (o : Outcome Work Reply) → Ends e w o → FailsAt (cause_of_row (fault_of_end e)) w o
-end_fails (EndRefused r) w o h = h
-end_fails (EndStopped e) w o h = stop_fails e w o h
-
--- what a row of the register comes to, without what is said where memory ran out
-pub fails_at : (c : Cause) (old new : Work) (o : Outcome Work Reply) → EndsBy c old new o → FailsAt c new o
-fails_at (refuses r) old new o h = h
-fails_at limited old new o h = stopped_at o new h
-fails_at wanting old new o h = tt
-
 -- a change of the lots that was answered was run in the state
-pub change_run : {A : Type 0} (y : Label) (ks : List (Kept (Unit {0}))) (asked : Result A ParcelFault) (r : Result CodeReply RowFault) (n : ℕ) (old new : Work) (before after : List (Lot (Unit {0}))) (walk : Walk Work Reply) (o : Outcome Work Reply)
+pub change_run : {A : Type 0} (y : Label) (ks : List (Kept (Unit {0}))) (asked : Result A ParcelFault) (r : Result CodeReply RowEnd) (n : ℕ) (old new : Work) (before after : List (Lot (Unit {0}))) (walk : Walk Work Reply) (o : Outcome Work Reply)
     → IsAnswered asked r → Changes asked n old new before after walk → walk old ≡ o → Runs r n new (state_with y ks before) (state_with y ks after) o
 change_run y ks (Ok x) r n old new before after walk o answered change same =
-    subst (λ (r : Result CodeReply RowFault). Runs r n new (state_with y ks before) (state_with y ks after) o) (sym answered)
+    subst (λ (r : Result CodeReply RowEnd). Runs r n new (state_with y ks before) (state_with y ks after) o) (sym answered)
     (record { change = lots_replaced change.ids change.new; says = sym same ∙ change.says; state = ap (state_with y ks) change.lots })
 change_run y ks (Err e) (Ok r) n old new before after walk o answered change same = absurd answered
 change_run y ks (Err e) (Err f) n old new before after walk o answered change same = (
-  subst (FailsAt (cause_of_row f) new) same (fails_at (cause_of_row f) old new (walk old) (subst (λ (c : Cause). EndsBy c old new (walk old)) (sym answered) change.0)),
+  subst (Ends f new) same (answered old new (walk old) change.0),
   ap (state_with y ks) change.1,
 )
 

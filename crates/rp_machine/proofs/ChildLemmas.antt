@@ -12,12 +12,11 @@ use Rattle.rp_tests.specs.Comes.{StopsBy}
 use Rattle.rp_tests.proofs.Left.{stops_on}
 use Rattle.rp_syntax.specs.declared.command.Expr.{Expr}
 use Rattle.rp_syntax.specs.Views.{child_of, shapes_of}
-use Rattle.rp_machine.specs.declared.fault.RowFault.{RowFault}
-use Rattle.rp_machine.specs.declared.reply.Reply.{Reply as CodeReply}
 use Rattle.rp_syntax.proofs.Children.{same_shapes}
-use Rattle.rp_machine.specs.Faults.{fault_of_stop, cause_of_row}
-use Rattle.rp_machine.specs.Replies.{FailsAt, Runs}
-use Rattle.rp_machine.proofs.Changes.{stop_fails}
+use Rattle.rp_asked.specs.declared.reply.RowEnd.{RowEnd}
+use Rattle.rp_asked.specs.declared.reply.RowEnd.TheVariants.{Stopped as StoppedEnd}
+use Rattle.rp_machine.specs.declared.reply.Reply.{Reply as CodeReply}
+use Rattle.rp_machine.specs.Replies.{Runs}
 
 -- the row of a subdivision, by its expressions
 abbrev row_by : PlainState → Label → List (Label × Expr) → Option Label → Walk Work Reply
@@ -31,18 +30,17 @@ row_is s x entries o w e = ap (λ (es : List Expression). row_by s x entries (fi
 pub shape_missing : (s : PlainState) (x y : Label) (entries : List (Label × Expr)) (w : Work) → Some y ≡ first_unknown_among (parts_in s) (shapes_of entries) → row first_tester s (subdivide x (map child_of entries)) w ≡ done (refusal (unknown y)) w
 shape_missing s x y entries w e = row_is s x entries (Some y) w e
 
--- where the forms are not made, the row has the fault
-pub children_fail : (s : PlainState) (x : Label) (entries : List (Label × Expr)) (n : ℕ) (old new : Work) (e : Stopped) (r : Result CodeReply RowFault) → None ≡ first_unknown_among (parts_in s) (shapes_of entries)
-    → StopsBy e new (form_children first_tester (parts_in s) [] (map child_of entries) old) → r ≡ Err (fault_of_stop e) → Runs r n new s s (row first_tester s (subdivide x (map child_of entries)) old)
+-- where the forms are not made, the row is stopped
+pub children_fail : (s : PlainState) (x : Label) (entries : List (Label × Expr)) (n : ℕ) (old new : Work) (e : Stopped) (r : Result CodeReply RowEnd) → None ≡ first_unknown_among (parts_in s) (shapes_of entries)
+    → StopsBy e new (form_children first_tester (parts_in s) [] (map child_of entries) old) → r ≡ Err (StoppedEnd e) → Runs r n new s s (row first_tester s (subdivide x (map child_of entries)) old)
 children_fail s x entries n old new e r none stops is =
-    subst (λ (r : Result CodeReply RowFault). Runs r n new s s (row first_tester s (subdivide x (map child_of entries)) old)) (sym is) (
-      subst (FailsAt (cause_of_row (fault_of_stop e)) new) (sym (row_is s x entries None old none))
-          (stop_fails e new (row_by s x entries None old) (stops_on (λ formed. row_subdivide first_tester s x formed) e new (form_children first_tester (parts_in s) [] (map child_of entries) old) stops)),
+    subst (λ (r : Result CodeReply RowEnd). Runs r n new s s (row first_tester s (subdivide x (map child_of entries)) old)) (sym is) (
+      subst (StopsBy e new) (sym (row_is s x entries None old none)) (stops_on (λ formed. row_subdivide first_tester s x formed) e new (form_children first_tester (parts_in s) [] (map child_of entries) old) stops),
       refl,
     )
 
 -- where they are made, the row goes on from them
-pub children_made : (s after : PlainState) (x : Label) (entries : List (Label × Expr)) (n : ℕ) (old mid new : Work) (formed : List FormedChild) (r : Result CodeReply RowFault) → None ≡ first_unknown_among (parts_in s) (shapes_of entries)
+pub children_made : (s after : PlainState) (x : Label) (entries : List (Label × Expr)) (n : ℕ) (old mid new : Work) (formed : List FormedChild) (r : Result CodeReply RowEnd) → None ≡ first_unknown_among (parts_in s) (shapes_of entries)
     → form_children first_tester (parts_in s) [] (map child_of entries) old ≡ done formed mid → Runs r n new s after (row_subdivide first_tester s x formed mid) → Runs r n new s after (row first_tester s (subdivide x (map child_of entries)) old)
 children_made s after x entries n old mid new formed r none made run =
     subst (Runs r n new s after) (sym (row_is s x entries None old none ∙ ap (after_first (λ formed. row_subdivide first_tester s x formed)) made)) run

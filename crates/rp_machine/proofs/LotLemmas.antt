@@ -14,46 +14,25 @@ use Rattle.rp_model.specs.commands.Checks.{check_live}
 use Rattle.rp_model.specs.commands.Row.{Reply, reply_lines, row, row_neighbours, touched_lot, touched_lots, parts_with_id}
 use Rattle.rp_states.proofs.Walks.{if_then, if_known, if_checked}
 use Rattle.rp_history.specs.Lots.{lots_in}
-use Rattle.rp_parcels.specs.declared.fault.ParcelFault.{ParcelFault}
-use Rattle.rp_parcels.specs.Rows.{Cause, cause_of, EndsBy, EndsWith}
 use Rattle.rp_space.specs.Listed.{Listed}
 use Rattle.rp_report.specs.declared.answer.Verdict.{Verdict as CodeVerdict}
-use Rattle.rp_machine.specs.declared.fault.RowFault.{RowFault}
 use Rattle.rp_machine.specs.declared.reply.Reply.{Reply as CodeReply}
 use Rattle.rp_asked.specs.declared.reply.RowEnd.{RowEnd}
 use Rattle.rp_asked.specs.Replies.{Tells}
-use Rattle.rp_machine.specs.Faults.{cause_of_row}
-use Rattle.rp_machine.specs.Replies.{FailsAt, Walks, Runs, reply_of_forms, reply_told}
-use Rattle.rp_machine.proofs.Changes.{end_fails, fails_at}
+use Rattle.rp_machine.specs.Replies.{Runs, reply_told}
 
 -- ---- questions
 
 -- a question that was answered was run
-asked_run : (asked : Result (Listed CodeVerdict) RowFault) (n : ℕ) (w : Work) (s : PlainState) (o : Outcome Work Reply) → Walks asked w o → Runs (reply_told asked) n w s s o
+asked_run : (asked : Result (Listed CodeVerdict) RowEnd) (n : ℕ) (w : Work) (s : PlainState) (o : Outcome Work Reply) → Tells asked w o → Runs (reply_told asked) n w s s o
 asked_run (Ok lines) n w s o h = record { change = _; says = h; state = refl }
 asked_run (Err e) n w s o h = (h, refl)
 
 -- the same of the command that asks it
-pub question_run : (r : Result CodeReply RowFault) (asked : Result (Listed CodeVerdict) RowFault) (n : ℕ) (old new : Work) (s : PlainState) (c d : Command) → c ≡ d → r ≡ reply_told asked → Walks asked new (row first_tester s d old) → Runs r n new s s (row first_tester s c old)
+pub question_run : (r : Result CodeReply RowEnd) (asked : Result (Listed CodeVerdict) RowEnd) (n : ℕ) (old new : Work) (s : PlainState) (c d : Command) → c ≡ d → r ≡ reply_told asked → Tells asked new (row first_tester s d old) → Runs r n new s s (row first_tester s c old)
 question_run r asked n old new s c d e is h =
     subst (λ (c : Command). Runs r n new s s (row first_tester s c old)) (sym e)
-    (subst (λ (r : Result CodeReply RowFault). Runs r n new s s (row first_tester s d old)) (sym is) (asked_run asked n new s (row first_tester s d old) h))
-
--- a question about forms was carried out
-forms_run : (asked : Result (Listed CodeVerdict) RowEnd) (n : ℕ) (w : Work) (s : PlainState) (o : Outcome Work Reply) → Tells asked w o → Runs (reply_of_forms asked) n w s s o
-forms_run (Ok lines) n w s o h = record { change = _; says = h; state = refl }
-forms_run (Err e) n w s o h = (end_fails e w o h, refl)
-
--- the same of the command that asks it
-pub forms_question_run : (r : Result CodeReply RowFault) (asked : Result (Listed CodeVerdict) RowEnd) (n : ℕ) (old new : Work) (s : PlainState) (c d : Command) → c ≡ d → r ≡ reply_of_forms asked → Tells asked new (row first_tester s d old) → Runs r n new s s (row first_tester s c old)
-forms_question_run r asked n old new s c d e is h =
-    subst (λ (c : Command). Runs r n new s s (row first_tester s c old)) (sym e)
-    (subst (λ (r : Result CodeReply RowFault). Runs r n new s s (row first_tester s d old)) (sym is) (forms_run asked n new s (row first_tester s d old) h))
-
--- a question to the register that has a fault
-pub question_fails : (r : Result (Listed CodeVerdict) RowFault) (f : RowFault) (e : ParcelFault) (old w : Work) (o p : Outcome Work Reply) → r ≡ Err f → cause_of_row f ≡ cause_of e → EndsWith e old w o → o ≡ p → Walks r w p
-question_fails r f e old w o p is cause ends same =
-    subst (λ (r : Result (Listed CodeVerdict) RowFault). Walks r w p) (sym is) (subst (FailsAt (cause_of_row f) w) same (fails_at (cause_of_row f) old w o (subst (λ (c : Cause). EndsBy c old w o) (sym cause) ends)))
+    (subst (λ (r : Result CodeReply RowEnd). Runs r n new s s (row first_tester s d old)) (sym is) (asked_run asked n new s (row first_tester s d old) h))
 
 -- ---- neighbours are no more than the lots
 

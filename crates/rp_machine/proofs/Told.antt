@@ -1,16 +1,18 @@
 -- What was walked of a command, as the answer and the state that are computed.
-use Rattle.std.proofs.Common.{◌≡◌, ℕ, List, Result, Ok, Err, refl, sym, ap, ◌∙◌}
-use Rattle.std.specs.Prelude.{IfOk, OnOk}
+use Rattle.std.proofs.Common.{◌≡◌, ℕ, List, Option, Some, None, Result, Ok, Err, refl, sym, ap, ◌∙◌}
+use Rattle.std.specs.Prelude.{IfOk, IfSome, IsNone, OnOk}
 use Rattle.rp_language.specs.Expression.{Command}
 use Rattle.rp_language.specs.Grammar.{Version, Reading, command, reading}
-use Rattle.rp_walks.specs.Walk.{Outcome, done, stopped, Work, no_work, first_tester}
+use Rattle.rp_walks.specs.Walk.{Stop, Outcome, stopped, Work, no_work, first_tester}
 use Rattle.rp_model.specs.states.State.{PlainState, changed}
 use Rattle.rp_model.specs.commands.Row.{Reply, row}
 use Rattle.rp_model.specs.commands.Rule.{walked, proofs_walked}
 use Rattle.rp_reports.specs.Text.{Answer}
 use Rattle.rp_reports.specs.Machine.{verdicts_walked, change_walked, answer_read, state_read, step_answer, step_state, Running, after_line}
-use Rattle.rp_machine.specs.declared.fault.RowFault.{RowFault}
-use Rattle.rp_machine.specs.declared.fault.RowFault.TheVariants.{Refused, Limit, Memory}
+use Rattle.rp_tests.specs.declared.stopped.Stopped.{Stopped}
+use Rattle.rp_tests.specs.Comes.{stop_of, StopsBy}
+use Rattle.rp_asked.specs.declared.reply.RowEnd.{RowEnd}
+use Rattle.rp_asked.specs.declared.reply.RowEnd.TheVariants.{Refused, Stopped as StoppedEnd}
 use Rattle.rp_machine.specs.declared.reply.Reply.{Reply as CodeReply}
 use Rattle.rp_machine.specs.Replies.{Runs, IsWant, verdicts_of_row, proofs_of_row}
 
@@ -32,40 +34,42 @@ after_as_read m n line r e = ap (λ (t : PlainState). record { version = m.versi
 abbrev told : ℕ → List ℕ → Outcome Work Reply → Answer
 told n line o = record { number = n; echo = line; proofs = proofs_walked o; verdicts = verdicts_walked o }
 
+-- where memory did not run out, a stop is one of the walk
+is_stopped : {A : Type 0} (e : Stopped) (w : Work) (o : Outcome Work A) → (IsNone (stop_of e) → ⊥) → StopsBy e w o → (why : Stop) × (o ≡ stopped why w)
+is_stopped {A} e w o there h = by (stop_of e) there h
+  where
+    by : (s : Option Stop) → (IsNone s → ⊥) → IfSome s (λ why. o ≡ stopped why w) → (why : Stop) × (o ≡ stopped why w)
+    by None there h = absurd (there refl)
+    by (Some why) there h = (why, h)
+
 -- it is that of the row that was run
-told_of_run : (n : ℕ) (line : List ℕ) (before after : PlainState) (r : Result CodeReply RowFault) (w : Work) (o : Outcome Work Reply) → (IsWant r → ⊥) → Runs r n w before after o
+told_of_run : (n : ℕ) (line : List ℕ) (before after : PlainState) (r : Result CodeReply RowEnd) (w : Work) (o : Outcome Work Reply) → (IsWant r → ⊥) → Runs r n w before after o
     → record { number = n; echo = line; proofs = proofs_of_row r w.proofs; verdicts = verdicts_of_row r } ≡ told n line o
 told_of_run n line before after (Ok r) w o there h = ap (told n line) (sym h.says)
 told_of_run n line before after (Err (Refused r)) w o there h = ap (told n line) (sym h.0)
-told_of_run n line before after (Err Limit) w (done r v) there h = absurd h.0
-told_of_run n line before after (Err Limit) w (stopped why v) there h = refl
-told_of_run n line before after (Err (Memory e)) w o there h = absurd (there tt)
+told_of_run n line before after (Err (StoppedEnd e)) w o there h = ap (told n line) (sym (is_stopped e w o there h.0).1)
 
 -- the answer of a row that was run is the one that is computed
-pub row_answered : (s after : PlainState) (n : ℕ) (line : List ℕ) (c : Command) (r : Result CodeReply RowFault) (w : Work) → (IsWant r → ⊥) → Runs r n w s after (row first_tester s c no_work)
+pub row_answered : (s after : PlainState) (n : ℕ) (line : List ℕ) (c : Command) (r : Result CodeReply RowEnd) (w : Work) → (IsWant r → ⊥) → Runs r n w s after (row first_tester s c no_work)
     → record { number = n; echo = line; proofs = proofs_of_row r w.proofs; verdicts = verdicts_of_row r } ≡ answer_read s n line (command c)
 unfolding walked
 row_answered s after n line c r w there h = told_of_run n line s after r w (row first_tester s c no_work) there h
 
 -- the state after what a row comes to
-state_of_run : (n : ℕ) (before after : PlainState) (r : Result CodeReply RowFault) (w : Work) (o : Outcome Work Reply) → (IsWant r → ⊥) → Runs r n w before after o → after ≡ changed n before (change_walked o)
+state_of_run : (n : ℕ) (before after : PlainState) (r : Result CodeReply RowEnd) (w : Work) (o : Outcome Work Reply) → (IsWant r → ⊥) → Runs r n w before after o → after ≡ changed n before (change_walked o)
 state_of_run n before after (Ok r) w o there h = h.state ∙ ap (λ (o : Outcome Work Reply). changed n before (change_walked o)) (sym h.says)
 state_of_run n before after (Err (Refused r)) w o there h = h.1 ∙ ap (λ (o : Outcome Work Reply). changed n before (change_walked o)) (sym h.0)
-state_of_run n before after (Err Limit) w (done r v) there h = absurd h.0
-state_of_run n before after (Err Limit) w (stopped why v) there h = h.1
-state_of_run n before after (Err (Memory e)) w o there h = absurd (there tt)
+state_of_run n before after (Err (StoppedEnd e)) w o there h = h.1 ∙ ap (λ (o : Outcome Work Reply). changed n before (change_walked o)) (sym (is_stopped e w o there h.0).1)
 
 -- the state after a row that was run is the one that is computed
-pub row_changed : (s after : PlainState) (n : ℕ) (c : Command) (r : Result CodeReply RowFault) (w : Work) → (IsWant r → ⊥) → Runs r n w s after (row first_tester s c no_work) → after ≡ state_read s n (command c)
+pub row_changed : (s after : PlainState) (n : ℕ) (c : Command) (r : Result CodeReply RowEnd) (w : Work) → (IsWant r → ⊥) → Runs r n w s after (row first_tester s c no_work) → after ≡ state_read s n (command c)
 unfolding walked
 row_changed s after n c r w there h = state_of_run n s after r w (row first_tester s c no_work) there h
 
 -- where memory ran out the state is as before
-pub row_unchanged : (before after : PlainState) (n : ℕ) (r : Result CodeReply RowFault) (w : Work) (o : Outcome Work Reply) → IsWant r → Runs r n w before after o → after ≡ before
+pub row_unchanged : (before after : PlainState) (n : ℕ) (r : Result CodeReply RowEnd) (w : Work) (o : Outcome Work Reply) → IsWant r → Runs r n w before after o → after ≡ before
 row_unchanged before after n (Ok r) w o want h = absurd want
-row_unchanged before after n (Err (Refused r)) w o want h = absurd want
-row_unchanged before after n (Err Limit) w o want h = absurd want
-row_unchanged before after n (Err (Memory e)) w o want h = h.1
+row_unchanged before after n (Err e) w o want h = h.1
 
 -- ---- what is true of an answer that is there
 

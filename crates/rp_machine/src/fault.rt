@@ -1,4 +1,5 @@
-//! Why an expression has no form, and why a command has no reply.
+//! Why an expression has no form, and how the row of a command ends where the register has a fault.
+ghost use Rattle.rp_machine.specs.Replies.{IsEndOf};
 
 use rp_asked::RowEnd;
 use rp_parcels::ParcelFault;
@@ -48,84 +49,27 @@ impl From<OpFault> for FormFault {
     }
 }
 
-/// Why a command has no reply.
-#[derive(Clone, Copy, Debug, PartialEq, Eq)]
-pub(crate) enum RowFault {
-    /// Its row refuses it.
-    Refused(Refusal),
-    /// It passes a limit.
-    Limit,
-    /// There was no memory.
-    Memory(AllocError),
-}
-
-impl From<AllocError> for RowFault {
-    ghost use Rattle.std.specs.Prelude.{◌≡◌};
-    ghost use Rattle.rp_machine.specs.declared.fault.RowFault.TheVariants.{Memory};
-
-    ghost from_gives = { λ x e. e ≡ Memory x };
-
-    fn from(fault: AllocError) -> RowFault {
-        RowFault::Memory(fault)
-    }
-}
-
-impl From<Stopped> for RowFault {
-    ghost use Rattle.std.specs.Prelude.{◌≡◌};
-    ghost use Rattle.rp_machine.specs.Faults.{fault_of_stop};
-
-    ghost from_gives = { λ x e. e ≡ fault_of_stop x };
-
-    fn from(stop: Stopped) -> RowFault {
-        match stop {
-            Stopped::Wrong | Stopped::TakenWrong | Stopped::Told | Stopped::Limit => {
-                RowFault::Limit
-            }
-            Stopped::Memory(fault) => RowFault::Memory(fault),
+/// The end of a row whose call of the register has a fault.
+pub(crate) fn row_end(fault: ParcelFault) -> RowEnd
+    ensures { IsEndOf fault result }
+{
+    match fault {
+        ParcelFault::Known(id) => RowEnd::Refused(Refusal::Known(id)),
+        ParcelFault::Unknown(id) => RowEnd::Refused(Refusal::Unknown(id)),
+        ParcelFault::Repeated(id) => RowEnd::Refused(Refusal::Repeated(id)),
+        ParcelFault::Layers(id) => RowEnd::Refused(Refusal::Layers(id)),
+        ParcelFault::Same => RowEnd::Refused(Refusal::Same),
+        ParcelFault::Few => RowEnd::Refused(Refusal::Few),
+        ParcelFault::Empty => RowEnd::Refused(Refusal::Empty),
+        ParcelFault::Limit => RowEnd::Stopped(Stopped::Limit),
+        ParcelFault::Overlaps(id, _) => RowEnd::Refused(Refusal::Overlaps(id)),
+        ParcelFault::EmptySide(k) => RowEnd::Refused(Refusal::EmptySide(k)),
+        ParcelFault::EmptyChild(k) => RowEnd::Refused(Refusal::EmptyChild(k)),
+        ParcelFault::Outside(k, _) => RowEnd::Refused(Refusal::Outside(k)),
+        ParcelFault::ChildrenOverlap(first, second, _) => {
+            RowEnd::Refused(Refusal::ChildrenOverlap(first, second))
         }
-    }
-}
-
-impl From<RowEnd> for RowFault {
-    ghost use Rattle.std.specs.Prelude.{◌≡◌};
-    ghost use Rattle.rp_machine.specs.Faults.{fault_of_end};
-
-    ghost from_gives = { λ x e. e ≡ fault_of_end x };
-
-    fn from(end: RowEnd) -> RowFault {
-        match end {
-            RowEnd::Refused(refusal) => RowFault::Refused(refusal),
-            RowEnd::Stopped(stop) => RowFault::from(stop),
-        }
-    }
-}
-
-impl From<ParcelFault> for RowFault {
-    ghost use Rattle.std.specs.Prelude.{◌≡◌};
-    ghost use Rattle.rp_parcels.specs.Rows.{cause_of};
-    ghost use Rattle.rp_machine.specs.Faults.{cause_of_row};
-
-    ghost from_gives = { λ x e. cause_of_row e ≡ cause_of x };
-
-    fn from(fault: ParcelFault) -> RowFault {
-        match fault {
-            ParcelFault::Known(id) => RowFault::Refused(Refusal::Known(id)),
-            ParcelFault::Unknown(id) => RowFault::Refused(Refusal::Unknown(id)),
-            ParcelFault::Repeated(id) => RowFault::Refused(Refusal::Repeated(id)),
-            ParcelFault::Layers(id) => RowFault::Refused(Refusal::Layers(id)),
-            ParcelFault::Same => RowFault::Refused(Refusal::Same),
-            ParcelFault::Few => RowFault::Refused(Refusal::Few),
-            ParcelFault::Empty => RowFault::Refused(Refusal::Empty),
-            ParcelFault::Limit => RowFault::Limit,
-            ParcelFault::Overlaps(id, _) => RowFault::Refused(Refusal::Overlaps(id)),
-            ParcelFault::EmptySide(k) => RowFault::Refused(Refusal::EmptySide(k)),
-            ParcelFault::EmptyChild(k) => RowFault::Refused(Refusal::EmptyChild(k)),
-            ParcelFault::Outside(k, _) => RowFault::Refused(Refusal::Outside(k)),
-            ParcelFault::ChildrenOverlap(first, second, _) => {
-                RowFault::Refused(Refusal::ChildrenOverlap(first, second))
-            }
-            ParcelFault::Gap(_) => RowFault::Refused(Refusal::Gap),
-            ParcelFault::Memory(fault) => RowFault::Memory(fault),
-        }
+        ParcelFault::Gap(_) => RowEnd::Refused(Refusal::Gap),
+        ParcelFault::Memory(fault) => RowEnd::from(fault),
     }
 }

@@ -1,21 +1,18 @@
 //! The forms of the expressions of a command.
-ghost use Rattle.std.specs.Prelude.{◌≡◌, Err, List, IfSome, IfOk, IsNone};
-ghost use Rattle.rp_geometry.specs.sets.Shape.{Part, shape_of_parts};
+ghost use Rattle.std.specs.Prelude.{◌≡◌, Err, IfSome, IfOk, IsNone};
+ghost use Rattle.rp_geometry.specs.sets.Shape.{shape_of_parts};
 ghost use Rattle.rp_geometry.specs.sets.Sets.{SameMembers};
 ghost use Rattle.rp_language.specs.Expression.{IsKeptExpression, closed, first_unknown};
-ghost use Rattle.rp_walks.specs.Walk.{Work, Walk, first_tester};
+ghost use Rattle.rp_walks.specs.Walk.{first_tester};
 ghost use Rattle.rp_walks.specs.Form.{form};
 ghost use Rattle.rp_model.specs.states.State.{parts_in, state_of_parts};
 ghost use Rattle.rp_model.specs.states.Sound.{IsSound};
-ghost use Rattle.rp_model.specs.commands.Row.{Reply as ModelReply, shapes_of_parts};
+ghost use Rattle.rp_model.specs.commands.Row.{shapes_of_parts};
 ghost use Rattle.rp_syntax.specs.Views.{expression_of};
-ghost use Rattle.rp_asked.specs.Replies.{row_of_form};
 ghost use Rattle.rp_machine.specs.Forms.{MakesForm};
-ghost use Rattle.rp_machine.specs.Replies.{GoesOn};
 
-use crate::fault::{FormFault, RowFault};
+use crate::fault::FormFault;
 use crate::state::State;
-use rp_asked::row_form;
 use rp_once::{first_unknown, formed};
 use rp_region::{Region, Work};
 use rp_space::Name;
@@ -72,18 +69,5 @@ impl State {
         let mut walked = work.fresh(alloc);
         let form = formed(alloc, self, region, &mut walked);
         Ok(work.take_over(walked, form)?)
-    }
-
-    /// The form of the one expression of a command, behind which its row goes on.
-    pub(crate) fn row_form(
-        &self,
-        alloc: Global,
-        region: &Expr,
-        work: &mut Work,
-    ) -> Result<Region, RowFault>
-        requires { IsKeptExpression (expression_of region.now) }
-        ensures { (next : List Part → Walk Work ModelReply) → GoesOn (λ form. form) result work.new next (row_of_form first_tester (parts_in self.now) (expression_of region.now) next work.old) }
-    {
-        Ok(row_form(alloc, self, region, work)?)
     }
 }

@@ -1,17 +1,16 @@
 //! Commands that ask something about lots.
-ghost use Rattle.std.specs.Prelude.{◌≡◌, ◌≤◌, ◌*◌, ◌∷◌, ◌++◌, IfOk, IfSome, OnOk, length, map, option_copied};
+ghost use Rattle.std.specs.Prelude.{◌≡◌, ◌≤◌, ◌*◌, ◌++◌, IfOk, IfSome, OnOk, length, map, option_copied};
 ghost use Rattle.rp_language.specs.Expression.{ask_neighbours, ask_history, ask_at, ask_as_of, ask_audit, ask_list, ask_access};
 ghost use Rattle.rp_walks.specs.Walk.{Work, first_tester};
 ghost use Rattle.rp_model.specs.states.State.{live_lots, most_kept_parts};
-ghost use Rattle.rp_model.specs.commands.Verdict.{Verdict as ModelVerdict};
 ghost use Rattle.rp_model.specs.commands.Row.{row};
 ghost use Rattle.rp_parcels.specs.Access.{told_chain, told_levels};
 ghost use Rattle.rp_report.specs.Views.{verdict_of};
-ghost use Rattle.rp_machine.specs.Replies.{Walks};
+ghost use Rattle.rp_asked.specs.Replies.{Tells};
 
-use crate::fault::RowFault;
+use crate::fault::row_end;
 use crate::state::State;
-use rp_asked::{lineage, list, neighbour_lines, one_line, owner_verdict};
+use rp_asked::{RowEnd, lineage, list, neighbour_lines, one_line, owner_verdict, parcel_lines};
 use rp_boxindex::Quiet;
 use rp_region::Work;
 use rp_report::{Verdict, Verdicts};
@@ -21,17 +20,6 @@ use std::thread::Threads;
 
 /// A run of at most so many parcels, or pairs of parcels, is not split.
 const GRAIN: usize = 16;
-
-/// A verdict line, and one for each of some ids. Answers `AllocError` only for want of memory.
-fn parcel_lines(alloc: Global, first: Verdict, ids: &[Name]) -> Result<Verdicts, AllocError>
-    ensures { IfOk result (λ lines. map verdict_of lines.items ≡ verdict_of first ∷ map ModelVerdict.parcel ids.now) }
-{
-    let mut lines = one_line(alloc, first)?;
-    for id in ids {
-        lines.push(Verdict::Parcel(*id))?;
-    }
-    Ok(lines)
-}
 
 /// The verdict lines of a chain, if there is one. Answers `AllocError` only for want of memory.
 fn chain_lines(alloc: Global, chain: Option<&Names>) -> Result<Verdicts, AllocError>
@@ -72,27 +60,31 @@ impl State {
         alloc: Global,
         id: Name,
         work: &mut Work,
-    ) -> Result<Verdicts, RowFault>
-        ensures { Walks result work.new (row first_tester self.now (ask_neighbours id) work.old) }
+    ) -> Result<Verdicts, RowEnd>
+        ensures { Tells result work.new (row first_tester self.now (ask_neighbours id) work.old) }
     {
-        let ids = self
+        let found = self
             .parcels()
-            .neighbours(rt, alloc, &Quiet, GRAIN, id, work)?;
+            .neighbours(rt, alloc, &Quiet, GRAIN, id, work);
+        let ids = match found {
+            Ok(ids) => ids,
+            Err(fault) => return Err(row_end(fault)),
+        };
         // Only so that it is known that there are few lots.
         let _ = self.parcels().history();
         Ok(neighbour_lines(alloc, ids.items())?)
     }
 
     /// `history`: the lot and all lots that it was made from. It makes no test.
-    pub(crate) fn lineage(&self, alloc: Global, id: Name) -> Result<Verdicts, RowFault>
-        ensures { (w : Work) → Walks result w (row first_tester self.now (ask_history id) w) }
+    pub(crate) fn lineage(&self, alloc: Global, id: Name) -> Result<Verdicts, RowEnd>
+        ensures { (w : Work) → Tells result w (row first_tester self.now (ask_history id) w) }
     {
-        Ok(lineage(alloc, self.parcels().history(), id)?)
+        lineage(alloc, self.parcels().history(), id)
     }
 
     /// `at`: the live lot of the present layer that has the point. It makes no test.
-    pub(crate) fn owner(&self, alloc: Global, point: &Point) -> Result<Verdicts, RowFault>
-        ensures { (w : Work) → Walks result w (row first_tester self.now (ask_at point.now) w) }
+    pub(crate) fn owner(&self, alloc: Global, point: &Point) -> Result<Verdicts, RowEnd>
+        ensures { (w : Work) → Tells result w (row first_tester self.now (ask_at point.now) w) }
     {
         let owner = self.parcels().at(self.layer(), point);
         Ok(one_line(alloc, owner_verdict(owner))?)
@@ -104,8 +96,8 @@ impl State {
         alloc: Global,
         line: u32,
         point: &Point,
-    ) -> Result<Verdicts, RowFault>
-        ensures { (w : Work) → Walks result w (row first_tester self.now (ask_as_of line point.now) w) }
+    ) -> Result<Verdicts, RowEnd>
+        ensures { (w : Work) → Tells result w (row first_tester self.now (ask_as_of line point.now) w) }
     {
         let owner = self.parcels().at_line(self.layer(), line, point);
         Ok(one_line(alloc, owner_verdict(owner))?)
@@ -117,19 +109,22 @@ impl State {
         rt: &R,
         alloc: Global,
         work: &mut Work,
-    ) -> Result<Verdicts, RowFault>
-        ensures { Walks result work.new (row first_tester self.now ask_audit work.old) }
+    ) -> Result<Verdicts, RowEnd>
+        ensures { Tells result work.new (row first_tester self.now ask_audit work.old) }
     {
-        let count = self.parcels().audit(rt, alloc, &Quiet, GRAIN, work)?;
-        Ok(one_line(alloc, Verdict::Clear(count))?)
+        match self.parcels().audit(rt, alloc, &Quiet, GRAIN, work) {
+            Ok(count) => Ok(one_line(alloc, Verdict::Clear(count))?),
+            Err(fault) => Err(row_end(fault)),
+        }
     }
 
     /// `list`: the live lots. It makes no test.
-    pub(crate) fn list(&self, alloc: Global) -> Result<Verdicts, RowFault>
-        ensures { (w : Work) → Walks result w (row first_tester self.now ask_list w) }
+    pub(crate) fn list(&self, alloc: Global) -> Result<Verdicts, RowEnd>
+        ensures { (w : Work) → Tells result w (row first_tester self.now ask_list w) }
     {
         Ok(list(alloc, self.parcels().history())?)
     }
+
     /// `access`: a shortest chain of live lots of one layer from one to another, each in contact with the next, and the
     /// level of each lot of the layer that has one.
     pub(crate) fn access<R: Threads + Sync>(
@@ -139,12 +134,16 @@ impl State {
         from: Name,
         to: Name,
         work: &mut Work,
-    ) -> Result<Verdicts, RowFault>
-        ensures { Walks result work.new (row first_tester self.now (ask_access from to) work.old) }
+    ) -> Result<Verdicts, RowEnd>
+        ensures { Tells result work.new (row first_tester self.now (ask_access from to) work.old) }
     {
-        let access = self
+        let found = self
             .parcels()
-            .access(rt, alloc, &Quiet, GRAIN, from, to, work)?;
+            .access(rt, alloc, &Quiet, GRAIN, from, to, work);
+        let access = match found {
+            Ok(access) => access,
+            Err(fault) => return Err(row_end(fault)),
+        };
         // Only so that it is known that there are few lots.
         let _ = self.parcels().history();
         let mut lines = chain_lines(alloc, access.chain.as_ref())?;

@@ -101,6 +101,7 @@ impl Machine {
             Line::Bad(why) => bad_line(alloc, n, line, why),
         }
     }
+
     /// The answer to a line that reads as the command, and what it changes.
     fn answer<R: Threads + Sync>(
         &mut self,

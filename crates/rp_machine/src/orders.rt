@@ -11,9 +11,9 @@ ghost use Rattle.rp_machine.specs.Children.{formed_children};
 ghost use Rattle.rp_tests.specs.Comes.{Comes};
 ghost use Rattle.rp_machine.specs.Replies.{Runs};
 
-use crate::fault::RowFault;
 use crate::reply::Reply;
 use crate::state::State;
+use rp_asked::{RowEnd, row_form};
 use rp_once::formed;
 use rp_parcels::Child;
 use rp_region::Work;
@@ -31,11 +31,11 @@ impl State {
         name: Name,
         region: &Expr,
         work: &mut Work,
-    ) -> Result<Reply, RowFault>
+    ) -> Result<Reply, RowEnd>
         requires { IsKeptExpression (expression_of region.now) }
         ensures { (n : ℕ) → Runs result n work.new self.old self.new (row first_tester self.old (define name (expression_of region.now)) work.old) }
     {
-        let form = self.row_form(alloc, region, work)?;
+        let form = row_form(alloc, self, region, work)?;
         self.keep(name, form)
     }
 
@@ -47,12 +47,12 @@ impl State {
         id: Name,
         region: &Expr,
         work: &mut Work,
-    ) -> Result<Reply, RowFault>
+    ) -> Result<Reply, RowEnd>
         requires later { IsLaterThan n (state_of_parts self.old) }
         requires kept { IsKeptExpression (expression_of region.now) }
         ensures { Runs result n work.new self.old self.new (row first_tester self.old (register id (expression_of region.now)) work.old) }
     {
-        let form = self.row_form(alloc, region, work)?;
+        let form = row_form(alloc, self, region, work)?;
         self.register_form(alloc, n, id, form, work)
     }
 
@@ -66,12 +66,12 @@ impl State {
         first: Name,
         second: Name,
         work: &mut Work,
-    ) -> Result<Reply, RowFault>
+    ) -> Result<Reply, RowEnd>
         requires later { IsLaterThan n (state_of_parts self.old) }
         requires kept { IsKeptExpression (expression_of region.now) }
         ensures { Runs result n work.new self.old self.new (row first_tester self.old (cut id (expression_of region.now) first second) work.old) }
     {
-        let form = self.row_form(alloc, region, work)?;
+        let form = row_form(alloc, self, region, work)?;
         self.cut_by(alloc, n, id, &form, first, second, work)
     }
 
@@ -83,14 +83,14 @@ impl State {
         id: Name,
         entries: &[(Name, Expr)],
         work: &mut Work,
-    ) -> Result<Reply, RowFault>
+    ) -> Result<Reply, RowEnd>
         requires later { IsLaterThan n (state_of_parts self.old) }
         requires kept { AllByRecursion IsKeptExpression (shapes_of entries.now) }
         requires few { length entries.now ≤ 1024 }
         ensures { Runs result n work.new self.old self.new (row first_tester self.old (subdivide id (map child_of entries.now)) work.old) }
     {
         if let Some(name) = self.first_unknown_shape(entries) {
-            return Err(RowFault::Refused(Refusal::Unknown(name)));
+            return Err(RowEnd::Refused(Refusal::Unknown(name)));
         }
         let children = self.children(alloc, entries, work)?;
         self.subdivide_into(alloc, n, id, children.items(), work)

@@ -8,13 +8,14 @@ ghost use Rattle.rp_model.specs.states.State.{state_of_parts};
 ghost use Rattle.rp_model.specs.states.Sound.{IsLaterThan};
 ghost use Rattle.rp_model.specs.commands.Row.{row};
 ghost use Rattle.rp_syntax.specs.Views.{expression_of, command_of};
-ghost use Rattle.rp_machine.specs.Replies.{Walks, Runs, reply_of_forms, reply_told};
+ghost use Rattle.rp_asked.specs.Replies.{Tells};
+ghost use Rattle.rp_machine.specs.Replies.{Runs, reply_told};
 
-use crate::fault::RowFault;
 use crate::reply::Reply;
 use crate::state::State;
 use rp_asked::{
-    RowEnd, comparison, emptiness, membership, piece_numbers, related, shown_parts, slice_lines,
+    RowEnd, comparison, emptiness, membership, piece_numbers, related, row_form, shown_parts,
+    slice_lines,
 };
 use rp_once::Question;
 use rp_region::Work;
@@ -25,23 +26,10 @@ use std::alloc::Global;
 use std::thread::Threads;
 
 /// The reply to a question.
-fn told(asked: Result<Verdicts, RowFault>) -> Result<Reply, RowFault>
+fn told(asked: Result<Verdicts, RowEnd>) -> Result<Reply, RowEnd>
     ensures { result ≡ reply_told asked }
 {
-    match asked {
-        Ok(lines) => Ok(Reply::Told(lines)),
-        Err(fault) => Err(fault),
-    }
-}
-
-/// The reply to a question about forms.
-fn told_of_forms(asked: Result<Verdicts, RowEnd>) -> Result<Reply, RowFault>
-    ensures { result ≡ reply_of_forms asked }
-{
-    match asked {
-        Ok(lines) => Ok(Reply::Told(lines)),
-        Err(end) => Err(RowFault::from(end)),
-    }
+    Ok(Reply::Told(asked?))
 }
 
 impl State {
@@ -54,7 +42,7 @@ impl State {
         n: u32,
         command: &Command,
         work: &mut Work,
-    ) -> Result<Reply, RowFault>
+    ) -> Result<Reply, RowEnd>
         requires later { IsLaterThan n (state_of_parts self.old) }
         requires kept { AllByRecursion IsKeptExpression (expressions_of (command_of command.now)) }
         requires heights { AllByRecursion IsHeight (heights_of (command_of command.now)) }
@@ -63,25 +51,17 @@ impl State {
     {
         match command {
             Command::Let(name, region) => self.define(alloc, *name, region, work),
-            Command::Member(region, point) => {
-                told_of_forms(membership::<Work, State>(alloc, self, region, point))
-            }
-            Command::Empty(region) => told_of_forms(emptiness(alloc, self, region, work)),
-            Command::Pieces(region) => told_of_forms(piece_numbers(alloc, self, region, work)),
-            Command::Show(region) => told_of_forms(shown_parts(alloc, self, region, work)),
-            Command::Equal(a, b) => {
-                told_of_forms(comparison(alloc, self, Question::Equal, a, b, work))
-            }
-            Command::Within(a, b) => {
-                told_of_forms(comparison(alloc, self, Question::Within, a, b, work))
-            }
-            Command::Overlap(a, b) => {
-                told_of_forms(comparison(alloc, self, Question::Overlap, a, b, work))
-            }
-            Command::Contact(a, b) => {
-                told_of_forms(comparison(alloc, self, Question::Contact, a, b, work))
-            }
-            Command::Rcc(a, b) => told_of_forms(related(alloc, self, a, b, work)),
+            Command::Member(region, point) => told(membership::<Work, State>(
+                alloc, self, region, point,
+            )),
+            Command::Empty(region) => told(emptiness(alloc, self, region, work)),
+            Command::Pieces(region) => told(piece_numbers(alloc, self, region, work)),
+            Command::Show(region) => told(shown_parts(alloc, self, region, work)),
+            Command::Equal(a, b) => told(comparison(alloc, self, Question::Equal, a, b, work)),
+            Command::Within(a, b) => told(comparison(alloc, self, Question::Within, a, b, work)),
+            Command::Overlap(a, b) => told(comparison(alloc, self, Question::Overlap, a, b, work)),
+            Command::Contact(a, b) => told(comparison(alloc, self, Question::Contact, a, b, work)),
+            Command::Rcc(a, b) => told(related(alloc, self, a, b, work)),
             Command::Register(id, region) => self.register(alloc, n, *id, region, work),
             Command::Cut(id, by, first, second) => {
                 self.cut(alloc, n, *id, by, *first, *second, work)
@@ -108,12 +88,12 @@ impl State {
         region: &Expr,
         z: i32,
         work: &mut Work,
-    ) -> Result<Verdicts, RowFault>
+    ) -> Result<Verdicts, RowEnd>
         requires kept { IsKeptExpression (expression_of region.now) }
         requires height { IsHeight z }
-        ensures { Walks result work.new (row first_tester self.now (ask_section (expression_of region.now) z) work.old) }
+        ensures { Tells result work.new (row first_tester self.now (ask_section (expression_of region.now) z) work.old) }
     {
-        let form = self.row_form(alloc, region, work)?;
+        let form = row_form(alloc, self, region, work)?;
         let slices = section(alloc, &form, z)?;
         Ok(slice_lines(alloc, slices)?)
     }

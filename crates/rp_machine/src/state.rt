@@ -10,14 +10,16 @@ ghost use Rattle.rp_language.specs.Expression.{set_layer};
 ghost use Rattle.rp_parcels.specs.Register.{child_of};
 ghost use Rattle.rp_machine.specs.Replies.{Runs, IsAnswered};
 
-use crate::fault::RowFault;
+use crate::fault::row_end;
 use crate::named::NamedRegions;
 use crate::reply::Reply;
+use rp_asked::RowEnd;
 use rp_boxindex::Quiet;
 use rp_parcels::{Child, ParcelFault, Parcels};
 use rp_region::{Region, Work};
 use rp_report::Refusal;
 use rp_space::Name;
+use rp_tests::Stopped;
 use std::alloc::{AllocError, Global};
 use std::marker::Model;
 
@@ -51,12 +53,12 @@ fn base_layer() -> Name
 }
 
 /// The reply to a change of the register.
-fn answered(change: Result<(), ParcelFault>) -> Result<Reply, RowFault>
+fn answered(change: Result<(), ParcelFault>) -> Result<Reply, RowEnd>
     ensures { IsAnswered change result }
 {
     match change {
         Ok(()) => Ok(Reply::Done),
-        Err(fault) => Err(RowFault::from(fault)),
+        Err(fault) => Err(row_end(fault)),
     }
 }
 
@@ -116,14 +118,14 @@ impl State {
     }
 
     /// Keeps a form under a name: it must be new, and there must be room for both.
-    pub(crate) fn keep(&mut self, name: Name, form: Region) -> Result<Reply, RowFault>
+    pub(crate) fn keep(&mut self, name: Name, form: Region) -> Result<Reply, RowEnd>
         ensures { (n : ℕ) (w : Work) → Runs result n w self.old self.new (row_define self.old name form w) }
     {
         if self.region_named(&name).is_some() {
-            return Err(RowFault::Refused(Refusal::Known(name)));
+            return Err(RowEnd::Refused(Refusal::Known(name)));
         }
         if !self.has_room_for(&form) {
-            return Err(RowFault::Limit);
+            return Err(RowEnd::Stopped(Stopped::Limit));
         }
         self.names.keep(name, form)?;
         Ok(Reply::Done)
@@ -137,7 +139,7 @@ impl State {
         id: Name,
         form: Region,
         work: &mut Work,
-    ) -> Result<Reply, RowFault>
+    ) -> Result<Reply, RowEnd>
         requires { IsLaterThan n (state_of_parts self.old) }
         ensures { Runs result n work.new self.old self.new (row_register first_tester self.old id form work.old) }
     {
@@ -157,7 +159,7 @@ impl State {
         first: Name,
         second: Name,
         work: &mut Work,
-    ) -> Result<Reply, RowFault>
+    ) -> Result<Reply, RowEnd>
         requires { IsLaterThan n (state_of_parts self.old) }
         ensures { Runs result n work.new self.old self.new (row_cut first_tester self.old id form.now first second work.old) }
     {
@@ -172,7 +174,7 @@ impl State {
         id: Name,
         children: &[Child],
         work: &mut Work,
-    ) -> Result<Reply, RowFault>
+    ) -> Result<Reply, RowEnd>
         requires later { IsLaterThan n (state_of_parts self.old) }
         requires few { length children.now ≤ 1024 }
         ensures { Runs result n work.new self.old self.new (row_subdivide first_tester self.old id (map child_of children.now) work.old) }
@@ -188,7 +190,7 @@ impl State {
         new: Name,
         ids: &[Name],
         work: &mut Work,
-    ) -> Result<Reply, RowFault>
+    ) -> Result<Reply, RowEnd>
         requires { IsLaterThan n (state_of_parts self.old) }
         ensures { Runs result n work.new self.old self.new (row_consolidate self.old new ids.now work.old) }
     {
@@ -196,7 +198,7 @@ impl State {
     }
 
     /// `retire`: a lot ends. It takes no memory.
-    pub(crate) fn retire(&mut self, n: u32, id: Name) -> Result<Reply, RowFault>
+    pub(crate) fn retire(&mut self, n: u32, id: Name) -> Result<Reply, RowEnd>
         requires { IsLaterThan n (state_of_parts self.old) }
         ensures { (w : Work) → Runs result n w self.old self.new (row_retire self.old id w) }
     {
@@ -204,7 +206,7 @@ impl State {
     }
 
     /// `layer`: the layer is the present one from now on.
-    pub(crate) fn set_layer(&mut self, layer: Name) -> Result<Reply, RowFault>
+    pub(crate) fn set_layer(&mut self, layer: Name) -> Result<Reply, RowEnd>
         ensures { (n : ℕ) (w : Work) → Runs result n w self.old self.new (row first_tester self.old (set_layer layer) w) }
     {
         self.layer = layer;

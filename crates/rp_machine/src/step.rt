@@ -13,13 +13,14 @@ ghost use Rattle.rp_report.specs.Views.{answer_of, verdict_of};
 ghost use Rattle.rp_syntax.specs.Views.{command_of, fault_of};
 ghost use Rattle.rp_machine.specs.Replies.{verdicts_of_row, proofs_of_row, IsWant};
 
-use crate::fault::RowFault;
 use crate::reply::Reply;
 use crate::state::State;
+use rp_asked::RowEnd;
 use rp_cert::Proofs;
 use rp_region::Work;
 use rp_report::{Answer, Echo, Refusal, Verdict, Verdicts};
 use rp_syntax::{Command, Why};
+use rp_tests::Stopped;
 use std::alloc::{AllocError, Global};
 use std::thread::Threads;
 
@@ -62,7 +63,7 @@ fn with_line(mut lines: Verdicts, verdict: Verdict) -> Verdicts
 
 /// The verdict lines of a row: those of its reply, or the one line of a refusal or a change, for which there is room.
 /// Takes no memory. Answers `AllocError` only where the row does.
-fn row_lines(row: Result<Reply, RowFault>, room: Verdicts) -> Result<Verdicts, AllocError>
+fn row_lines(row: Result<Reply, RowEnd>, room: Verdicts) -> Result<Verdicts, AllocError>
     requires empty { room.items ≡ [] }
     requires room { 0 < room.spare }
     ensures lines { IfOk result (λ lines. map verdict_of lines.items ≡ verdicts_of_row row) }
@@ -72,18 +73,20 @@ fn row_lines(row: Result<Reply, RowFault>, room: Verdicts) -> Result<Verdicts, A
     match row {
         Ok(Reply::Told(lines)) => Ok(lines),
         Ok(Reply::Done) => Ok(with_line(room, Verdict::Ok)),
-        Err(RowFault::Refused(refusal)) => Ok(with_line(room, Verdict::Refused(refusal))),
-        Err(RowFault::Limit) => Ok(with_line(room, Verdict::Refused(Refusal::Limit))),
-        Err(RowFault::Memory(fault)) => Err(fault),
+        Err(RowEnd::Refused(refusal)) => Ok(with_line(room, Verdict::Refused(refusal))),
+        Err(RowEnd::Stopped(Stopped::Memory(fault))) => Err(fault),
+        Err(
+            RowEnd::Stopped(Stopped::Wrong | Stopped::TakenWrong | Stopped::Told | Stopped::Limit),
+        ) => Ok(with_line(room, Verdict::Refused(Refusal::Limit))),
     }
 }
 
-/// The proof lines of a row, which has done this work: none where it passes a limit. Takes no memory.
-fn row_proofs(alloc: Global, row: &Result<Reply, RowFault>, work: Work) -> Proofs
+/// The proof lines of a row, which has done this work: none where it is stopped. Takes no memory.
+fn row_proofs(alloc: Global, row: &Result<Reply, RowEnd>, work: Work) -> Proofs
     ensures { map line_of result.items ≡ proofs_of_row row.now work.proofs }
 {
     match row {
-        Err(RowFault::Limit) => Proofs::new(alloc),
+        Err(RowEnd::Stopped(_)) => Proofs::new(alloc),
         _ => work.into_proofs(),
     }
 }

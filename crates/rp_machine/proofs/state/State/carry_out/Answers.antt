@@ -4,7 +4,7 @@ use Rattle.std.specs.List.{AllByRecursion}
 use Rattle.rp_language.specs.Expression.{Command, IsKeptExpression, expressions_of, ask_equal, ask_within, ask_overlap, ask_at, ask_as_of, ask_list, ask_section}
 use Rattle.rp_syntax.specs.Views.{command_of, expression_of, shapes_of}
 use Rattle.rp_syntax.proofs.Children.{kept_shapes}
-use Rattle.rp_machine.proofs.LotLemmas.{question_run, forms_question_run}
+use Rattle.rp_machine.proofs.LotLemmas.{question_run}
 use Rattle.rp_machine.proofs.state.State.carry_out.Goals as goal
 
 pub subdivide-requires-clause-kept : goal.subdivide-requires-clause-kept
@@ -30,15 +30,15 @@ returns-in-Section g c =
 
 pub returns-in-Equal : goal.returns-in-Equal
 returns-in-Equal g c =
-    forms_question_run c.told_of_forms-in-Equal.result c.comparison.result c.args.n c.args.work.now c.comparison.new.tests c.args.self.now (command_of c.args.command.now) (ask_equal (expression_of c.in-Equal.a) (expression_of c.in-Equal.b)) (ap command_of c.in-Equal.is)
-    c.told_of_forms-in-Equal.ensures c.comparison.ensures
+    question_run c.told-in-Equal.result c.comparison.result c.args.n c.args.work.now c.comparison.new.tests c.args.self.now (command_of c.args.command.now) (ask_equal (expression_of c.in-Equal.a) (expression_of c.in-Equal.b)) (ap command_of c.in-Equal.is)
+    c.told-in-Equal.ensures c.comparison.ensures
 
 pub returns-in-Within : goal.returns-in-Within
 returns-in-Within g c =
-    forms_question_run c.told_of_forms-in-Within.result c.comparison-in-Within.result c.args.n c.args.work.now c.comparison-in-Within.new.tests c.args.self.now (command_of c.args.command.now) (ask_within (expression_of c.in-Within.a) (expression_of c.in-Within.b)) (ap command_of c.in-Within.is)
-    c.told_of_forms-in-Within.ensures c.comparison-in-Within.ensures
+    question_run c.told-in-Within.result c.comparison-in-Within.result c.args.n c.args.work.now c.comparison-in-Within.new.tests c.args.self.now (command_of c.args.command.now) (ask_within (expression_of c.in-Within.a) (expression_of c.in-Within.b)) (ap command_of c.in-Within.is)
+    c.told-in-Within.ensures c.comparison-in-Within.ensures
 
 pub returns-in-Overlap : goal.returns-in-Overlap
 returns-in-Overlap g c =
-    forms_question_run c.told_of_forms-in-Overlap.result c.comparison-in-Overlap.result c.args.n c.args.work.now c.comparison-in-Overlap.new.tests c.args.self.now (command_of c.args.command.now) (ask_overlap (expression_of c.in-Overlap.a) (expression_of c.in-Overlap.b)) (ap command_of c.in-Overlap.is)
-    c.told_of_forms-in-Overlap.ensures c.comparison-in-Overlap.ensures
+    question_run c.told-in-Overlap.result c.comparison-in-Overlap.result c.args.n c.args.work.now c.comparison-in-Overlap.new.tests c.args.self.now (command_of c.args.command.now) (ask_overlap (expression_of c.in-Overlap.a) (expression_of c.in-Overlap.b)) (ap command_of c.in-Overlap.is)
+    c.told-in-Overlap.ensures c.comparison-in-Overlap.ensures

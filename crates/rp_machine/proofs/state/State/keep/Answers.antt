@@ -1,8 +1,6 @@
 use Rattle.std.proofs.Common.{List, true, false, refl, sym, ap, ◌∙◌, subst}
 use Rattle.rp_model.specs.states.State.{Kept, PlainState, changed, name_added}
-use Rattle.rp_model.specs.commands.Row.{row_define}
 use Rattle.rp_machine.specs.Named.{kept_under, state_with, IsNewName}
-use Rattle.rp_machine.proofs.Changes.{stopped_at}
 use Rattle.rp_machine.proofs.Names.{there_as_found, names_are_sound}
 use Rattle.rp_machine.proofs.RowLemmas.{known_name, no_room, new_name, fits_new}
 use Rattle.rp_machine.proofs.state.State.keep.Goals as goal
@@ -15,7 +13,7 @@ returns-then-is_some c n w =
 pub returns-then-not-has_room_for : goal.returns-then-not-has_room_for
 returns-then-not-has_room_for c n w =
     let new = there_as_found c.args.name c.args.self.now.names c.region_named.result false c.region_named.ensures (sym c.if-is_some.ensures) in
-    (stopped_at (row_define c.args.self.now c.args.name c.args.form w) w (no_room c.args.self.now c.args.name c.args.form new (sym c.if-not-has_room_for.ensures) w), refl)
+    (no_room c.args.self.now c.args.name c.args.form new (sym c.if-not-has_room_for.ensures) w, refl)
 
 pub keep-requires : goal.keep-requires
 keep-requires c =

@@ -12,7 +12,7 @@ pub returns : goal.returns
 returns c =
     let z = c.args.z in
     let fits : FitsSigned w32 z = search rules in
-    let w = c.row_form.new.work in
-    c.in_ok-form.ensures (row_section first_tester z) ∙ section_told z c.in_ok-form.form w
+    let w = c.row_form.new.tests in
+    c.in_ok-form.ensures.goes_on (row_section first_tester z) ∙ section_told z c.in_ok-form.form w
     ∙ ap (λ (slices : List Slice). done (reply_lines (section_lines slices)) w) (sym (c.in_ok-slices.ensures ∙ ap (λ y. slices_of y c.in_ok-form.form) (to_z-of_z w32 z fits)))
     ∙ ap (λ (vs : List Verdict). done (reply_lines vs) w) (sym c.in_ok-slice_lines.ensures)

@@ -1,7 +1,7 @@
 use Rattle.std.proofs.Common.{◌≡◌, ◌∷◌, ◌++◌, map, drop}
 use Rattle.rp_model.specs.commands.Verdict.{Verdict}
 use Rattle.rp_report.specs.Views.{verdict_of}
-use Rattle.rp_machine.proofs.lots.parcel_lines.Given as goal
+use Rattle.rp_asked.proofs.lot_lines.parcel_lines.Given as goal
 
 -- the lines so far and those of the ids still to come are all lines
 abbrev pub invariant-loop-id : goal.invariant-loop-id
