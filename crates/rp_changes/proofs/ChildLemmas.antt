@@ -14,7 +14,7 @@ use Rattle.rp_tests.proofs.Left.{stops_on}
 use Rattle.rp_syntax.specs.declared.command.Expr.{Expr}
 use Rattle.rp_syntax.specs.Views.{child_of, shapes_of}
 use Rattle.rp_register.specs.declared.reply.Reply.{Reply}
-use Rattle.rp_register.specs.declared.reply.RowEnd.{RowEnd}
+use Rattle.rp_asked.specs.declared.reply.RowEnd.{RowEnd}
 use Rattle.rp_syntax.proofs.Children.{same_shapes}
 use Rattle.rp_register.specs.Replies.{Replies}
 

@@ -4,8 +4,8 @@ use Rattle.rp_model.specs.commands.Verdict.{Refusal}
 use Rattle.rp_report.specs.Views.{refusal_of}
 use Rattle.rp_tests.specs.declared.stopped.Stopped.{Stopped}
 use Rattle.rp_tests.specs.declared.stopped.Stopped.TheVariants.{Memory}
-use Rattle.rp_register.specs.declared.reply.RowEnd.{RowEnd}
-use Rattle.rp_register.specs.declared.reply.RowEnd.TheVariants.{Refused, Unshown, Stopped as StoppedEnd}
+use Rattle.rp_asked.specs.declared.reply.RowEnd.{RowEnd}
+use Rattle.rp_asked.specs.declared.reply.RowEnd.TheVariants.{Refused, Stopped as StoppedEnd}
 
 -- memory ran out
 abbrev pub IsWant : Stopped → Type 0
@@ -15,7 +15,6 @@ IsWant _ = ⊥
 -- a check comes to the refusal; nothing is said where memory ran out
 abbrev pub FailsBy : RowEnd → Option Refusal → Type 0
 FailsBy (Refused r) o = o ≡ Some (refusal_of r)
-FailsBy (Unshown n) o = ⊥
 FailsBy (StoppedEnd e) o = IsWant e
 
 -- a check was made: it refuses nothing, or it fails so

@@ -8,9 +8,10 @@ ghost use Rattle.rp_tests.specs.Comes.{Comes};
 ghost use Rattle.rp_register.specs.Replies.{Replies};
 
 use crate::checks::{check_consolidate, check_room, live_place};
+use rp_asked::RowEnd;
 use rp_follow::Form;
 use rp_history::Birth;
-use rp_register::{Born, Change, Register, Reply, RowEnd};
+use rp_register::{Born, Change, Register, Reply};
 use rp_report::Refusal;
 use rp_space::{Listed, Name, Names};
 use rp_tests::Stopped;

@@ -10,8 +10,9 @@ ghost use Rattle.rp_tests.specs.Comes.{Comes};
 ghost use Rattle.rp_changes.specs.Checks.{Checks};
 
 use indexmap::IndexSet;
+use rp_asked::RowEnd;
 use rp_follow::Form;
-use rp_register::{Register, RowEnd};
+use rp_register::Register;
 use rp_report::Refusal;
 use rp_space::Name;
 use rp_tests::Stopped;

@@ -1,19 +1,20 @@
 //! Lots are cut in two and subdivided: the rest of each row, behind its forms.
 ghost use Rattle.std.specs.Prelude.{◌≡◌, ◌≤◌, ◌∷◌, [], length, map, IfOk};
 ghost use Rattle.rp_model.specs.states.State.{lots_replaced};
-ghost use Rattle.rp_model.specs.commands.Row.{row_cut, row_subdivide, new_lot, accepted};
+ghost use Rattle.rp_model.specs.commands.Row.{row_cut, row_subdivide, new_lot};
 ghost use Rattle.rp_reports.specs.Check.{line_tester};
 ghost use Rattle.rp_changes.specs.Children.{formed_children};
-ghost use Rattle.rp_register.specs.Replies.{Replies, new_lot_of, reply_of};
+ghost use Rattle.rp_register.specs.Replies.{Replies, change_of, new_lot_of};
 
 use crate::checks::{check_cut, check_room, check_subdivide, layer_of};
 use crate::child::Child;
 use crate::children::{
     child_ids, count_near, count_parts, first_empty, first_outside, first_overlapping, has_gap,
 };
+use rp_asked::RowEnd;
 use rp_follow::{Form, Trail, differed, joined};
 use rp_history::Birth;
-use rp_register::{Born, Change, Register, Reply, RowEnd, count_tests};
+use rp_register::{Born, Change, Register, Reply, count_tests};
 use rp_report::Refusal;
 use rp_space::{Listed, Name, Names};
 use std::alloc::{AllocError, Global};
@@ -45,7 +46,7 @@ pub(crate) fn cut(
     let mut born = Listed::new(alloc);
     born.push(born_of(alloc, layer, id, first, inner)?)?;
     born.push(born_of(alloc, layer, id, second, outer)?)?;
-    Ok(replaced(alloc, id, born)?)
+    Ok(Reply::Changed(replaced(alloc, id, born)?))
 }
 
 /// A live lot is to be divided into children, which lie in it, share no point and leave no gap. As many tests are
@@ -78,17 +79,17 @@ pub(crate) fn subdivide(
         return Err(RowEnd::Refused(Refusal::Gap));
     }
     let born = children_born(alloc, layer_of(register, &id), id, children)?;
-    Ok(replaced(alloc, id, born)?)
+    Ok(Reply::Changed(replaced(alloc, id, born)?))
 }
 
 /// One lot is to end, and others are to be born in its place. Answers `AllocError` only for want of memory.
-fn replaced(alloc: Global, id: Name, born: Listed<Born>) -> Result<Reply, AllocError>
-    ensures { IfOk result (λ reply. reply_of reply ≡ accepted (lots_replaced (id ∷ []) (map new_lot_of born.items))) }
+fn replaced(alloc: Global, id: Name, born: Listed<Born>) -> Result<Change, AllocError>
+    ensures { IfOk result (λ change. change_of change ≡ lots_replaced (id ∷ []) (map new_lot_of born.items)) }
 {
-    Ok(Reply::Changed(Change::Replaced {
+    Ok(Change::Replaced {
         ends: Names::copy_of(alloc, &[id])?,
         born,
-    }))
+    })
 }
 
 /// A lot that is born of another one, in a layer, with its form. Answers `AllocError` only for want of memory.

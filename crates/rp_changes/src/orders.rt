@@ -14,8 +14,9 @@ use crate::changes::define;
 use crate::child::Child;
 use crate::divide::{cut, subdivide};
 use crate::overlaps::make_lot;
+use rp_asked::{RowEnd, row_form, short_form};
 use rp_follow::Trail;
-use rp_register::{Register, Reply, RowEnd};
+use rp_register::{Register, Reply};
 use rp_report::Refusal;
 use rp_space::{Listed, Name};
 use rp_syntax::Expr;
@@ -33,7 +34,7 @@ pub fn definition(
     requires { IsKeptExpression (expression_of region.now) }
     ensures { Replies result trail.new (row line_tester register.now (define name (expression_of region.now)) trail.old) }
 {
-    let form = register.row_form(alloc, region, trail)?;
+    let form = row_form(alloc, register, region, trail)?;
     define(register, name, form)
 }
 
@@ -48,7 +49,7 @@ pub fn registration(
     requires { IsKeptExpression (expression_of region.now) }
     ensures { Replies result trail.new (row line_tester register.now (register_lot id (expression_of region.now)) trail.old) }
 {
-    let form = register.row_form(alloc, region, trail)?;
+    let form = row_form(alloc, register, region, trail)?;
     make_lot(alloc, register, id, form, trail)
 }
 
@@ -65,7 +66,7 @@ pub fn cutting(
     requires { IsKeptExpression (expression_of region.now) }
     ensures { Replies result trail.new (row line_tester register.now (cut id (expression_of region.now) first second) trail.old) }
 {
-    let form = register.row_form(alloc, region, trail)?;
+    let form = row_form(alloc, register, region, trail)?;
     cut(alloc, register, id, &form, first, second, trail)
 }
 
@@ -114,7 +115,7 @@ fn children(
 {
     let mut children = Listed::new(alloc);
     for entry in entries {
-        let form = register.form(alloc, &entry.1, trail)?;
+        let form = short_form(alloc, register, &entry.1, trail)?;
         children.push(Child { id: entry.0, form })?;
     }
     Ok(children)

@@ -9,10 +9,11 @@ ghost use Rattle.rp_register.specs.There.{lots_here};
 
 use crate::changes::one_born;
 use crate::checks::{check_registration, check_room};
+use rp_asked::RowEnd;
 use rp_follow::{Form, Trail, common};
 use rp_history::Birth;
 use rp_nearby::Reach;
-use rp_register::{Change, Parcel, Register, Reply, RowEnd, count_tests};
+use rp_register::{Change, Parcel, Register, Reply, count_tests};
 use rp_report::Refusal;
 use rp_space::{Name, Names};
 use rp_tests::Stopped;

@@ -24,9 +24,10 @@ use Rattle.rp_states.proofs.Parted.{parts_are_sound, read_plain, same_lots}
 use Rattle.rp_states.proofs.PlainRows.{row_same}
 use Rattle.rp_states.proofs.Replies.{plain_new, plain_change, IsFitReply, row_fit}
 use Rattle.rp_register.specs.declared.reply.Reply.{Reply as CodeReply}
-use Rattle.rp_register.specs.declared.reply.RowEnd.{RowEnd}
+use Rattle.rp_register.specs.declared.reply.Reply.TheVariants.{Told, Unshown, Changed}
+use Rattle.rp_asked.specs.declared.reply.RowEnd.{RowEnd}
 use Rattle.rp_register.specs.Kept.{IsSoundOnLines, ComesFromKnown}
-use Rattle.rp_register.specs.Replies.{reply_of, Replies}
+use Rattle.rp_register.specs.Replies.{change_in, Replies}
 
 -- ---- states of parts and of sets
 
@@ -89,11 +90,15 @@ module _ (p : PlainState) (sound : IsSoundOnLines p) (c : Command) (kept : AllBy
 -- the same of what the code has made of the row
 module _ (p : PlainState) (sound : IsSoundOnLines p) (c : Command) (kept : AllByRecursion IsKeptExpression (expressions_of c)) (t u : Trail) where
   -- what comes of the reply is sound
-  pub replied_sound : AllByRecursion IsHeight (heights_of c) → (n : ℕ) → IsLaterThan n (state_of_parts p) → (r : Result CodeReply RowEnd) → Replies r u (row line_tester p c t) → IfOk r (λ x. IsSoundOnLines (changed n p (reply_of x).change))
-  replied_sound heights n late (Ok x) h = subst (λ (o : Outcome Trail Reply). IfDone o (λ r. IsSoundOnLines (changed n p r.change))) h (reply_sound p sound c kept t heights n late)
+  pub replied_sound : AllByRecursion IsHeight (heights_of c) → (n : ℕ) → IsLaterThan n (state_of_parts p) → (r : Result CodeReply RowEnd) → Replies r u (row line_tester p c t) → IfOk r (λ x. IsSoundOnLines (changed n p (change_in x)))
+  replied_sound heights n late (Ok (Told lines)) h = sound
+  replied_sound heights n late (Ok (Unshown k)) h = sound
+  replied_sound heights n late (Ok (Changed d)) h = subst (λ (o : Outcome Trail Reply). IfDone o (λ r. IsSoundOnLines (changed n p r.change))) h (reply_sound p sound c kept t heights n late)
   replied_sound heights n late (Err e) h = tt
 
   -- the lots that the reply brings come from lots that are there
-  pub replied_known : (r : Result CodeReply RowEnd) → Replies r u (row line_tester p c t) → IfOk r (λ x. ComesFromKnown p (reply_of x).change)
-  replied_known (Ok x) h = subst (λ (o : Outcome Trail Reply). IfDone o (λ r. ComesFromKnown p r.change)) h (reply_known p sound c kept t)
+  pub replied_known : (r : Result CodeReply RowEnd) → Replies r u (row line_tester p c t) → IfOk r (λ x. ComesFromKnown p (change_in x))
+  replied_known (Ok (Told lines)) h = tt
+  replied_known (Ok (Unshown k)) h = tt
+  replied_known (Ok (Changed d)) h = subst (λ (o : Outcome Trail Reply). IfDone o (λ r. ComesFromKnown p r.change)) h (reply_known p sound c kept t)
   replied_known (Err e) h = tt

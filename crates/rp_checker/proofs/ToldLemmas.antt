@@ -7,12 +7,10 @@ use Rattle.rp_model.specs.commands.Row.{Reply as ModelReply, row}
 use Rattle.rp_reports.specs.Check.{Trail, line_tester}
 use Rattle.rp_report.specs.declared.answer.Verdict.{Verdict as CodeVerdict}
 use Rattle.rp_space.specs.Listed.{Listed}
+use Rattle.rp_asked.specs.declared.reply.RowEnd.{RowEnd}
+use Rattle.rp_asked.specs.Replies.{Tells}
 use Rattle.rp_register.specs.declared.reply.Reply.{Reply}
-use Rattle.rp_register.specs.declared.reply.RowEnd.{RowEnd}
-use Rattle.rp_asked.specs.declared.reply.RowEnd.{RowEnd as AskedEnd}
-use Rattle.rp_asked.specs.declared.reply.RowEnd.TheVariants.{Refused, Stopped as StoppedEnd}
-use Rattle.rp_asked.specs.Replies.{Tells as TellsAsked}
-use Rattle.rp_register.specs.Replies.{Replies, Tells, reply_asked, reply_told}
+use Rattle.rp_register.specs.Replies.{Replies, reply_told}
 
 -- the reply to a question
 told_replies : (q : Result (Listed CodeVerdict) RowEnd) (t : Trail) (o : Outcome Trail ModelReply) → Tells q t o → Replies (reply_told q) t o
@@ -24,15 +22,3 @@ pub question_told : (r : Result Reply RowEnd) (q : Result (Listed CodeVerdict) R
 question_told r q t u s asked asks same is h =
     subst (λ (x : Result Reply RowEnd). Replies x u (row line_tester s asked t)) (sym is)
     (told_replies q u (row line_tester s asked t) (subst (λ (c : Command). Tells q u (row line_tester s c t)) (sym same) h))
-
--- the reply to a question about forms
-asked_replies : (q : Result (Listed CodeVerdict) AskedEnd) (t : Trail) (o : Outcome Trail ModelReply) → TellsAsked q t o → Replies (reply_asked q) t o
-asked_replies (Ok lines) t o h = h
-asked_replies (Err (Refused r)) t o h = h
-asked_replies (Err (StoppedEnd e)) t o h = h
-
--- such a question that the command asks, followed from one trail to another
-pub question_asked : (r : Result Reply RowEnd) (q : Result (Listed CodeVerdict) AskedEnd) (t u : Trail) (s : PlainState) (asked asks : Command) → asked ≡ asks → r ≡ reply_asked q → TellsAsked q u (row line_tester s asks t) → Replies r u (row line_tester s asked t)
-question_asked r q t u s asked asks same is h =
-    subst (λ (x : Result Reply RowEnd). Replies x u (row line_tester s asked t)) (sym is)
-    (asked_replies q u (row line_tester s asked t) (subst (λ (c : Command). TellsAsked q u (row line_tester s c t)) (sym same) h))

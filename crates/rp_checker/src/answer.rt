@@ -1,5 +1,5 @@
 //! Whole answers of a report, and what each changes.
-ghost use Rattle.std.specs.Prelude.{◌≡◌, ◌+◌, ◌<◌, ◌∷◌, [], ℕ, length, map, IfOk, is_none, option_map};
+ghost use Rattle.std.specs.Prelude.{◌≡◌, ◌+◌, ◌<◌, ◌∷◌, [], ℕ, Ok, length, map, IfOk, is_none, option_map};
 ghost use Rattle.std.specs.List.{AllByRecursion};
 ghost use Rattle.rp_geometry.specs.sections.Trace.{IsHeight};
 ghost use Rattle.rp_language.specs.Expression.{IsKeptExpression, expressions_of, first_unknown_among, heights_of, HasFewChildren};
@@ -7,21 +7,21 @@ ghost use Rattle.rp_language.specs.Grammar.{bad, reading};
 ghost use Rattle.rp_model.specs.commands.Row.{Reply as ModelReply};
 ghost use Rattle.rp_model.specs.states.State.{PlainState, changed, parts_in, state_of_parts};
 ghost use Rattle.rp_model.specs.states.Sound.{IsLaterThan};
-ghost use Rattle.rp_reports.specs.Check.{Trail as ModelTrail, limit_allowed, follow_verdicts, follow_walk, follow_command, follow_fault, follow_text, follow_echo, next_echo, follow_answer};
+ghost use Rattle.rp_reports.specs.Check.{Trail as ModelTrail, limit_allowed, follow_walk, follow_command, follow_fault, follow_text, follow_echo, next_echo, follow_answer};
 ghost use Rattle.rp_walks.specs.Walk.{Outcome};
 ghost use Rattle.rp_syntax.specs.Versions.{version_of};
 ghost use Rattle.rp_syntax.specs.Views.{child_of, command_of, expression_of, fault_of};
 ghost use Rattle.rp_tests.specs.Comes.{StopsBy};
 ghost use Rattle.rp_checker.specs.Answers.{Answers, echo_with};
 ghost use Rattle.rp_register.specs.Kept.{IsSoundOnLines, ComesFromKnown};
-ghost use Rattle.rp_register.specs.Replies.{reply_of, IsUnshown, Replies};
+ghost use Rattle.rp_register.specs.Replies.{change_in, Replies};
 
 use crate::halt::Halt;
 use crate::lines::{follow_limit, follow_verdict, follow_verdicts};
 use crate::rows::carry_out;
-use rp_asked::one_line;
+use rp_asked::{RowEnd, one_line};
 use rp_follow::Trail;
-use rp_register::{Register, Reply, RowEnd};
+use rp_register::{Register, Reply};
 use rp_report::{Refusal, Verdict, read_echo};
 use rp_space::Name;
 use rp_syntax::{Command, Expr, Line, Version, Why, read_line};
@@ -44,17 +44,6 @@ fn follow_stopped(allowed: bool, stopped: Stopped, trail: &mut Trail<'_>) -> Res
         }
         Stopped::Memory(fault) => Err(Halt::Memory(fault)),
     }
-}
-
-/// What becomes of a reply whose verdict lines don't stand next: the report may tell of a limit in their place where the
-/// command can meet one, and else the line of this number is wrong.
-fn follow_unshown(allowed: bool, number: u32, trail: &mut Trail<'_>) -> Result<(), Halt>
-    ensures { (n : ℕ) (s : PlainState) (o : Outcome ModelTrail ModelReply) → IsUnshown number trail.old o → Answers (λ _. s) result trail.new (follow_walk n s allowed o) }
-{
-    if !(allowed && trail.tells_limit()) {
-        return Err(Halt::Wrong(number));
-    }
-    follow_limit(trail)
 }
 
 /// The answer to a line that is no command, behind its echo.
@@ -159,15 +148,16 @@ fn follow_reply(
     trail: &mut Trail<'_>,
 ) -> Result<(), Halt>
     requires later { IsLaterThan n (state_of_parts register.old) }
-    requires known { ComesFromKnown register.old (reply_of reply).change }
-    requires sound { IsSoundOnLines (changed n register.old (reply_of reply).change) }
-    ensures { Answers (λ _. register.new) result trail.new (follow_verdicts n register.old allowed (reply_of reply) trail.old) }
+    requires known { ComesFromKnown register.old (change_in reply) }
+    requires sound { IsSoundOnLines (changed n register.old (change_in reply)) }
+    ensures { (o : Outcome ModelTrail ModelReply) → Replies (Ok reply) trail.old o → Answers (λ _. register.new) result trail.new (follow_walk n register.old allowed o) }
 {
     if allowed && trail.tells_limit() {
         return follow_limit(trail);
     }
     match reply {
         Reply::Told(lines) => follow_verdicts(alloc, lines.items(), trail),
+        Reply::Unshown(number) => Err(Halt::Wrong(number)),
         Reply::Changed(change) => {
             follow_verdict(alloc, &Verdict::Ok, trail)?;
             register.apply(alloc, n, change)?;
@@ -186,8 +176,8 @@ fn follow_row(
     trail: &mut Trail<'_>,
 ) -> Result<(), Halt>
     requires later { IsLaterThan n (state_of_parts register.old) }
-    requires known { IfOk row (λ reply. ComesFromKnown register.old (reply_of reply).change) }
-    requires sound { IfOk row (λ reply. IsSoundOnLines (changed n register.old (reply_of reply).change)) }
+    requires known { IfOk row (λ reply. ComesFromKnown register.old (change_in reply)) }
+    requires sound { IfOk row (λ reply. IsSoundOnLines (changed n register.old (change_in reply))) }
     ensures { (o : Outcome ModelTrail ModelReply) → Replies row trail.old o → Answers (λ _. register.new) result trail.new (follow_walk n register.old allowed o) }
 {
     match row {
@@ -197,7 +187,6 @@ fn follow_row(
             let lines = one_line(alloc, Verdict::Refused(refusal))?;
             follow_reply(alloc, register, n, allowed, Reply::Told(lines), trail)
         }
-        Err(RowEnd::Unshown(number)) => follow_unshown(allowed, number, trail),
         Err(RowEnd::Stopped(stopped)) => follow_stopped(allowed, stopped, trail),
     }
 }

@@ -6,33 +6,21 @@ ghost use Rattle.rp_language.specs.Expression.{IsKeptExpression, expressions_of,
 ghost use Rattle.rp_model.specs.commands.Row.{row};
 ghost use Rattle.rp_reports.specs.Check.{Trail, line_tester};
 ghost use Rattle.rp_syntax.specs.Views.{command_of};
-ghost use Rattle.rp_register.specs.Replies.{Replies, reply_asked, reply_told};
+ghost use Rattle.rp_register.specs.Replies.{Replies, reply_told};
 
-use rp_asked::{
-    RowEnd as AskedEnd, comparison, emptiness, membership, piece_numbers, related, shown_parts,
-};
+use rp_asked::{RowEnd, comparison, emptiness, membership, piece_numbers, related, shown_parts};
 use rp_changes::{consolidate, cutting, definition, registration, retire, subdivision};
 use rp_follow::Trail;
 use rp_once::Question;
 use rp_questions::{access, audit, lineage, list, neighbours, owner, owner_then, section};
-use rp_register::{Change, Register, Reply, RowEnd};
+use rp_register::{Change, Register, Reply};
 use rp_report::Verdicts;
 use rp_syntax::Command;
 use std::alloc::Global;
 
-/// The reply to a question about lots or of a section.
-fn told_of_lots(asked: Result<Verdicts, RowEnd>) -> Result<Reply, RowEnd>
+/// The reply to a question.
+fn told(asked: Result<Verdicts, RowEnd>) -> Result<Reply, RowEnd>
     ensures { result ≡ reply_told asked }
-{
-    match asked {
-        Ok(lines) => Ok(Reply::Told(lines)),
-        Err(end) => Err(end),
-    }
-}
-
-/// The reply to a question about forms.
-fn told(asked: Result<Verdicts, AskedEnd>) -> Result<Reply, RowEnd>
-    ensures { result ≡ reply_asked asked }
 {
     Ok(Reply::Told(asked?))
 }
@@ -75,14 +63,14 @@ pub(crate) fn carry_out(
         ),
         Command::Consolidate(new, ids) => consolidate(alloc, register, *new, ids.items()),
         Command::Retire(id) => retire(alloc, register, *id),
-        Command::Neighbours(id) => told_of_lots(neighbours(alloc, register, *id, trail)),
-        Command::History(id) => told_of_lots(lineage(alloc, register, *id)),
-        Command::At(point) => told_of_lots(owner(alloc, register, point)),
-        Command::Asof(line, point) => told_of_lots(owner_then(alloc, register, *line, point)),
-        Command::Audit => told_of_lots(audit(alloc, register, trail)),
-        Command::List => told_of_lots(list(alloc, register)),
-        Command::Section(region, z) => told_of_lots(section(alloc, register, region, *z, trail)),
-        Command::Access(from, to) => told_of_lots(access(alloc, register, *from, *to, trail)),
+        Command::Neighbours(id) => told(neighbours(alloc, register, *id, trail)),
+        Command::History(id) => told(lineage(alloc, register, *id)),
+        Command::At(point) => told(owner(alloc, register, point)),
+        Command::Asof(line, point) => told(owner_then(alloc, register, *line, point)),
+        Command::Audit => told(audit(alloc, register, trail)),
+        Command::List => told(list(alloc, register)),
+        Command::Section(region, z) => section(alloc, register, region, *z, trail),
+        Command::Access(from, to) => told(access(alloc, register, *from, *to, trail)),
         Command::Layer(layer) => Ok(Reply::Changed(Change::Layer(*layer))),
     }
 }

@@ -1,4 +1,3 @@
-pub mod EndsAsked
 pub mod PairsLeft
 pub mod ShownApart
 pub mod Touching

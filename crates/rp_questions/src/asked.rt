@@ -2,16 +2,16 @@
 ghost use Rattle.rp_language.specs.Expression.{ask_history, ask_at, ask_as_of, ask_list};
 ghost use Rattle.rp_model.specs.commands.Row.{row, row_neighbours, row_audit};
 ghost use Rattle.rp_reports.specs.Check.{Trail, line_tester};
-ghost use Rattle.rp_register.specs.Replies.{Tells};
+ghost use Rattle.rp_asked.specs.Replies.{Tells};
 
 use crate::apart::show_apart;
 use crate::behind::pairs_in_layers;
 use crate::live::count_live;
 use crate::touched::touched;
-use rp_asked::{neighbour_lines, one_line, owner_verdict};
+use rp_asked::{RowEnd, neighbour_lines, one_line, owner_verdict};
 use rp_follow::Trail;
 use rp_nearby::{Moment, Reach};
-use rp_register::{Register, RowEnd, count_tests};
+use rp_register::{Register, count_tests};
 use rp_report::{Refusal, Verdict, Verdicts};
 use rp_space::{Name, Point};
 use std::alloc::Global;
@@ -77,5 +77,5 @@ pub fn list(alloc: Global, register: &Register) -> Result<Verdicts, RowEnd>
 pub fn lineage(alloc: Global, register: &Register, id: Name) -> Result<Verdicts, RowEnd>
     ensures { (t : Trail) → Tells result t (row line_tester register.now (ask_history id) t) }
 {
-    Ok(rp_asked::lineage(alloc, register.history(), id)?)
+    rp_asked::lineage(alloc, register.history(), id)
 }

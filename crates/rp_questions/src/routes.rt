@@ -7,14 +7,15 @@ ghost use Rattle.rp_model.specs.commands.Row.{row};
 ghost use Rattle.rp_language.specs.Name.{label_eq};
 ghost use Rattle.rp_reports.specs.Check.{line_tester};
 ghost use Rattle.rp_report.specs.Views.{refusal_of};
+ghost use Rattle.rp_asked.specs.Replies.{Tells};
 ghost use Rattle.rp_register.specs.There.{lot_here, lots_here};
-ghost use Rattle.rp_register.specs.Replies.{Tells};
 
 use crate::layer::{later_in_layer, lots_in_layer};
 use crate::links::{Pairs, joined, links_among};
 use crate::route_lines::access_lines;
+use rp_asked::RowEnd;
 use rp_follow::Trail;
-use rp_register::{Register, RowEnd, count_tests};
+use rp_register::{Register, count_tests};
 use rp_report::{Refusal, Verdicts};
 use rp_space::Name;
 use std::alloc::Global;

@@ -12,12 +12,12 @@ ghost use Rattle.rp_follow.specs.Stops.{IsWrongOrMemory};
 ghost use Rattle.rp_report.specs.Views.{verdict_of};
 ghost use Rattle.rp_syntax.specs.Views.{expression_of};
 ghost use Rattle.rp_questions.specs.Slices.{follow_section_lines};
-ghost use Rattle.rp_register.specs.Replies.{Tells};
+ghost use Rattle.rp_register.specs.Replies.{Replies};
 
-use rp_asked::slice_lines;
+use rp_asked::{RowEnd, row_form, slice_lines};
 use rp_follow::{Form, Slices, Trail, slices};
-use rp_register::{Register, RowEnd};
-use rp_report::{Verdict, Verdicts, write_verdict};
+use rp_register::{Register, Reply};
+use rp_report::{Verdict, write_verdict};
 use rp_syntax::Expr;
 use rp_tests::Stopped;
 use std::alloc::Global;
@@ -30,25 +30,25 @@ pub fn section(
     region: &Expr,
     z: i32,
     trail: &mut Trail<'_>,
-) -> Result<Verdicts, RowEnd>
+) -> Result<Reply, RowEnd>
     requires kept { IsKeptExpression (expression_of region.now) }
     requires height { IsHeight z }
-    ensures { Tells result trail.new (row line_tester register.now (ask_section (expression_of region.now) z) trail.old) }
+    ensures { Replies result trail.new (row line_tester register.now (ask_section (expression_of region.now) z) trail.old) }
 {
-    let form = register.row_form(alloc, region, trail)?;
+    let form = row_form(alloc, register, region, trail)?;
     shown_slices(alloc, &form, z, trail)
 }
 
-/// The verdict lines of the slices of the parts of a form, as the next lines show them.
-fn shown_slices(alloc: Global, form: &Form, z: i32, trail: &Trail<'_>) -> Result<Verdicts, RowEnd>
+/// The slices of the parts of a form, as the next lines show them.
+fn shown_slices(alloc: Global, form: &Form, z: i32, trail: &Trail<'_>) -> Result<Reply, RowEnd>
     requires few { length form.now.items ≤ most_parts }
     requires height { IsHeight z }
-    ensures { Tells result trail.now (row_section line_tester z form.now.items trail.now) }
+    ensures { Replies result trail.now (row_section line_tester z form.now.items trail.now) }
 {
     let mut ahead = trail.ahead();
     match follow_slices(alloc, form, z, &mut ahead) {
-        Ok(slices) => Ok(slice_lines(alloc, slices)?),
-        Err(Stopped::Wrong) => Err(RowEnd::Unshown(ahead.number())),
+        Ok(slices) => Ok(Reply::Told(slice_lines(alloc, slices)?)),
+        Err(Stopped::Wrong) => Ok(Reply::Unshown(ahead.number())),
         Err(stopped) => Err(RowEnd::Stopped(stopped)),
     }
 }

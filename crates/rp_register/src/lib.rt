@@ -1,11 +1,10 @@
 #![tactic(auto)]
-//! What the check of a report keeps between two answers, and what the row of every command needs of it: the form of an
-//! expression, the lots that are there, and how many pairs of parts may meet.
+//! What the check of a report keeps between two answers, and what the row of every command needs of it: what names and
+//! lots stand for, the lots that are there, and how many pairs of parts may meet.
 //!
 //! A [`Register`] is by its type a sound state of parts, as the lines of the report show them, and a change leaves one.
-//! The form of an expression is that of its parts, test by test on the next lines. Names and live lots are found by
-//! their ids, and the live lots near a form, all of them and no other, by the boxes around lots, and so is the lot that
-//! has a point.
+//! Names and live lots are found by their ids, and the live lots near a form, all of them and no other, by the boxes
+//! around lots, and so is the lot that has a point.
 
 mod boxes;
 mod count;
@@ -22,5 +21,5 @@ pub use count::count_tests;
 pub use near::count_pairs;
 pub use parcel::Parcel;
 pub use register::Register;
-pub use reply::{Born, Change, Reply, RowEnd};
+pub use reply::{Born, Change, Reply};
 pub use there::Near;

@@ -1,19 +1,18 @@
-//! What a row that is followed on the lines of a report comes to: verdict lines or a change, or why it ends.
+//! What a row that is followed on the lines of a report comes to: verdict lines or a change.
 
-use rp_asked::RowEnd as AskedEnd;
 use rp_follow::Form;
 use rp_history::Birth;
-use rp_report::{Refusal, Verdicts};
+use rp_report::Verdicts;
 use rp_space::{Listed, Name, Names};
-use rp_tests::Stopped;
-use std::alloc::AllocError;
-use thiserror::Error;
 
 /// What a command comes to.
 #[derive(Debug, Drop)]
 pub enum Reply {
     /// It has asked something: the verdict lines.
     Told(Verdicts),
+    /// It has asked something, and its verdict lines don't stand next: the line of this number is the first that is another
+    /// one, or no line is left there. None of them is taken.
+    Unshown(u32),
     /// It is to change something, once its verdict line was seen.
     Changed(Change),
 }
@@ -34,56 +33,4 @@ pub enum Change {
 pub struct Born {
     pub birth: Birth,
     pub form: Form,
-}
-
-/// Why a row has no reply.
-#[derive(Clone, Copy, Debug, PartialEq, Eq, Drop, Error)]
-pub enum RowEnd {
-    /// The row refuses the command.
-    #[error("the command is refused")]
-    Refused(Refusal),
-    /// The verdict lines of the reply don't stand next: the line of this number is the first that is another one, or no line
-    /// is left there. None of them is taken.
-    #[error("line {0} is not that of the reply")]
-    Unshown(u32),
-    /// It is stopped.
-    #[error("the row is stopped")]
-    Stopped(Stopped),
-}
-
-impl From<Stopped> for RowEnd {
-    ghost use Rattle.std.specs.Prelude.{◌≡◌};
-    ghost use Rattle.rp_register.specs.declared.reply.RowEnd.TheVariants.{Stopped as StoppedEnd};
-
-    ghost from_gives = { λ x e. e ≡ StoppedEnd x };
-
-    fn from(stopped: Stopped) -> RowEnd {
-        RowEnd::Stopped(stopped)
-    }
-}
-
-impl From<AllocError> for RowEnd {
-    ghost use Rattle.std.specs.Prelude.{◌≡◌};
-    ghost use Rattle.rp_register.specs.declared.reply.RowEnd.TheVariants.{Stopped as StoppedEnd};
-    ghost use Rattle.rp_tests.specs.declared.stopped.Stopped.TheVariants.{Memory};
-
-    ghost from_gives = { λ x e. e ≡ StoppedEnd (Memory x) };
-
-    fn from(fault: AllocError) -> RowEnd {
-        RowEnd::Stopped(Stopped::Memory(fault))
-    }
-}
-
-impl From<AskedEnd> for RowEnd {
-    ghost use Rattle.std.specs.Prelude.{◌≡◌};
-    ghost use Rattle.rp_register.specs.Replies.{end_of};
-
-    ghost from_gives = { λ x e. e ≡ end_of x };
-
-    fn from(end: AskedEnd) -> RowEnd {
-        match end {
-            AskedEnd::Refused(refusal) => RowEnd::Refused(refusal),
-            AskedEnd::Stopped(stopped) => RowEnd::Stopped(stopped),
-        }
-    }
 }

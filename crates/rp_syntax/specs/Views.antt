@@ -1,5 +1,6 @@
 -- Commands of the code as those of the model.
 use Rattle.std.specs.Prelude.{List, ℕ, map}
+use Rattle.rp_language.specs.Name.{Label}
 use Rattle.rp_language.specs.Expression.{Expression, Child, Command as ModelCommand, define, ask_member, ask_empty, ask_pieces, ask_show, ask_equal, ask_within, ask_overlap, ask_contact, ask_relation, register, cut, subdivide, consolidate, retire, ask_neighbours, ask_history, ask_at, ask_as_of, ask_audit, ask_list, set_layer, ask_section, ask_access}
 use Rattle.rp_language.specs.Grammar.{Fault, too_long, bad_syntax, out_of_range, zero_half_space, too_many_nodes, Reading, blank, command, bad}
 use Rattle.rp_space.specs.Boxes.{integer_box}

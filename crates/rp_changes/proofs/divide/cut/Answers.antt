@@ -2,8 +2,8 @@ use Rattle.std.proofs.Common.{◌≡◌, ◌+◌, ◌==◌, ℕ, List, [], ◌�
 use Rattle.std.proofs.lemmas.Result.{err_from_is_err_and}
 use Rattle.rp_geometry.specs.sets.Shape.{Part}
 use Rattle.rp_walks.specs.Walk.{done, pass}
-use Rattle.rp_model.specs.states.State.{NewLot, parts_under_lots, lots_replaced, most_kept_parts}
-use Rattle.rp_model.specs.commands.Row.{Reply, accepted, check_size, new_lot}
+use Rattle.rp_model.specs.states.State.{Change, NewLot, parts_under_lots, lots_replaced, most_kept_parts}
+use Rattle.rp_model.specs.commands.Row.{accepted, check_size, new_lot}
 use Rattle.rp_tests.specs.Comes.{StopsBy}
 use Rattle.rp_tests.proofs.Left.{next_left, stop_left, end_left}
 use Rattle.rp_language.specs.Name.{Label}
@@ -54,4 +54,4 @@ returns c =
     (next_left (check_size (parts_under_lots s.lots + (length inner + length outer)) most_kept_parts) (λ _. pass (cut_reply s x c.args.first c.args.second inner outer))
     (cut_left s x c.args.first c.args.second whole c.args.form.now.items inner outer c.args.trail.now u v c.in_ok-place.ensures.checks (parts_here x s c.in_ok-place.place whole c.in_ok-place.ensures.lot c.form_at-whole.ensures) c.in_ok-inner.ensures.comes some c.in_ok-outer.ensures.comes more)
     room) refl
-    ∙ ap (λ (r : Reply). done r v) (sym (c.in_ok-replaced.ensures ∙ ap (λ (ls : List (NewLot (Unit {0}))). accepted (lots_replaced (x ∷ []) ls)) new))
+    ∙ ap (λ (d : Change (Unit {0})). done (accepted d) v) (sym (c.in_ok-replaced.ensures ∙ ap (lots_replaced (x ∷ [])) new))

@@ -6,10 +6,10 @@ use Rattle.rp_language.specs.Name.{Label}
 use Rattle.rp_walks.specs.Walk.{done}
 use Rattle.rp_walks.specs.Form.{near_pair}
 use Rattle.rp_walks.specs.Compare.{is_covered}
-use Rattle.rp_model.specs.states.State.{NewLot, parts_under_lots, lots_replaced, most_kept_parts}
+use Rattle.rp_model.specs.states.State.{Change, parts_under_lots, lots_replaced, most_kept_parts}
 use Rattle.rp_model.specs.commands.Verdict.{outside_lot, children_overlap}
 use Rattle.rp_model.specs.commands.Checks.{check_subdivide}
-use Rattle.rp_model.specs.commands.Row.{Reply, FormedChild, accepted, check_size, new_lot, joined_parts, child_parts, count_among, first_empty_child, first_outside_child, first_overlapping_children}
+use Rattle.rp_model.specs.commands.Row.{FormedChild, accepted, check_size, new_lot, joined_parts, child_parts, count_among, first_empty_child, first_outside_child, first_overlapping_children}
 use Rattle.rp_reports.specs.Check.{follow_count, line_tester}
 use Rattle.rp_tests.specs.Comes.{StopsBy}
 use Rattle.rp_tests.proofs.Left.{next_left, stop_left, end_left}
@@ -68,4 +68,4 @@ returns c =
     end_left (done (subdivide_reply s x cs) y)
     (next_left (is_covered line_tester whole (joined_parts (child_parts cs))) (covered_rest s x cs)
     (cover_left s x cs whole t v u z named some (parts_here x s c.in_ok-place.place whole c.in_ok-place.ensures.lot c.form_at-whole.ensures) room inside counted apart) covered) refl
-    ∙ ap (λ (r : Reply). done r y) (sym (c.in_ok-replaced.ensures ∙ ap (λ (ls : List (NewLot (Unit {0}))). accepted (lots_replaced (x ∷ []) ls)) born))
+    ∙ ap (λ (d : Change (Unit {0})). done (accepted d) y) (sym (c.in_ok-replaced.ensures ∙ ap (lots_replaced (x ∷ [])) born))
