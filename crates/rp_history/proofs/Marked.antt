@@ -15,6 +15,7 @@ use Rattle.rp_states.proofs.Lineage.{not_in_both}
 use Rattle.rp_states.proofs.Labels.{label_is, label_turned, label_same}
 use Rattle.rp_history.specs.Marks.{marked_lots, marked_at, marked_all, marked_by, marked_origins}
 use Rattle.rp_history.proofs.Found.{first_alone, rest_distinct, found_has_id}
+use Rattle.rp_history.proofs.Stepped.{item_at}
 
 -- ---- one mark
 
@@ -52,12 +53,6 @@ mark_at_place {S = S} x (h ∷ lots) (b ∷ marks) d (suc k) l at e = ap₂ ◌�
             let twice : is_among h.id (ids_of lots) ≡ true = subst (λ (y : Label). is_among y (ids_of lots) ≡ true) (sym same) (there lots k at) in
             let alone = first_alone h lots d in
             absurd (cc)
-
--- a place has an item
-item_at : {A : Type 0} (xs : List A) (j : ℕ) → j < length xs → (x : A) × (slice_get xs j ≡ Some x)
-item_at [] j f = absurd (omega arith)
-item_at (x ∷ xs) zero f = (x, refl)
-item_at (x ∷ xs) (suc j) f = item_at xs j (omega arith)
 
 -- the mark of the lot that is found
 pub mark_found : {S : Type 0} (x : Label) (lots : List (Lot S)) (marks : List Bool) → IsTrue (are_distinct (ids_of lots)) → (k : ℕ) → k < length lots → slice_get lots k ≡ lot_with_id x lots → slice_set marks k true ≡ marked_at x lots marks

@@ -6,7 +6,7 @@ use Rattle.rp_model.specs.states.State.{Lot, is_live, live_lots, lots_of_layer, 
 use Rattle.rp_model.specs.states.Sound.{are_distinct}
 use Rattle.rp_history.proofs.Found.{first_alone, rest_distinct}
 use Rattle.rp_nearby.specs.Near.{others_in}
-use Rattle.rp_nearby.proofs.Places.{drop_item}
+use Rattle.rp_history.proofs.Stepped.{drop_item}
 use Rattle.rp_nearby.proofs.Skipped.{others_all}
 
 -- what is left of a list begins with the lot at the place

@@ -14,7 +14,7 @@ use Rattle.rp_states.proofs.Picked.{ended_yes, ended_no}
 use Rattle.rp_history.specs.Lots.{lots_after}
 use Rattle.rp_boxindex.specs.Boxes.{Boxes}
 use Rattle.rp_nearby.specs.Indexed.{hull_of_parts, box_at, NoneBehind, ArePut, StaySame, AreEmptied, hull_if, IsIndexOf, IsIndexed, AreKeptIn}
-use Rattle.rp_nearby.proofs.Places.{item_at}
+use Rattle.rp_history.proofs.Stepped.{item_at}
 use Rattle.rp_nearby.proofs.Put.{put_first, put_back}
 
 -- ---- lists

@@ -26,7 +26,7 @@ use Rattle.rp_nearby.specs.Indexed.{hull_of_parts, NoneBehind}
 use Rattle.rp_nearby.specs.Near.{may_meet, others_in, pairs_with, is_near, is_closed, is_other_in, is_other_at, lots_at, other_places, AreWithin, AreNear}
 use Rattle.rp_nearby.proofs.Boxed.{none_behind_lots}
 use Rattle.rp_nearby.proofs.Put.{same_or_not}
-use Rattle.rp_nearby.proofs.Places.{item_at, drop_item}
+use Rattle.rp_history.proofs.Stepped.{item_at, drop_item}
 use Rattle.rp_nearby.proofs.Reached.{places_from, places_rise, places_within, AreAllNear, places_near}
 
 -- the first lot is among the others, or not

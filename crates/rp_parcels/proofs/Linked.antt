@@ -16,7 +16,7 @@ use Rattle.rp_model.specs.states.State.{Lot, ids_of}
 use Rattle.rp_model.specs.commands.Row.{count_pairs, lot_parts, numbered_lists, links_with_list, links_among_lists}
 use Rattle.rp_nearby.specs.declared.near.Reach.TheVariants.{Touch}
 use Rattle.rp_nearby.specs.Near.{lots_at, AreWithin}
-use Rattle.rp_nearby.proofs.Places.{item_at}
+use Rattle.rp_history.proofs.Stepped.{item_at}
 use Rattle.rp_nearby.proofs.Skipped.{none_of_pairs}
 use Rattle.rp_parcels.specs.declared.pairs.Pair.{Pair}
 use Rattle.rp_parcels.specs.declared.pairs.Judged.{Judged}

@@ -23,9 +23,8 @@ use Rattle.rp_nearby.specs.Near.{lots_at, AreWithin}
 use Rattle.rp_parcels.specs.Judged.{pair_of, parts_at, id_at, pair_test, is_passed, pair_outcome, judged, ids_that_meet, with_all_lines, IsPairWithin, CountsNothing}
 use Rattle.rp_parcels.specs.Kept.{AreSound}
 use Rattle.rp_parcels.proofs.Sizes.{region_each}
-use Rattle.rp_nearby.proofs.Places.{item_at}
-use Rattle.rp_nearby.proofs.Skipped.{touched_by}
-use Rattle.rp_nearby.proofs.Skipped.{apart_on}
+use Rattle.rp_history.proofs.Stepped.{item_at}
+use Rattle.rp_nearby.proofs.Skipped.{touched_by, apart_on}
 use Rattle.rp_parcels.proofs.Framed.{shown_behind, none_counted}
 
 -- ---- items of a list by their numbers

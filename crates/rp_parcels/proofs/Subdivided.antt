@@ -22,7 +22,7 @@ use Rattle.rp_region.proofs.Left.{IsLeft, all_left, left_as, next_left, cut_left
 use Rattle.rp_parcels.specs.declared.child.Child.{Child}
 use Rattle.rp_parcels.specs.Register.{child_of}
 use Rattle.rp_parcels.specs.Rows.{Cause, refuses, limited, wanting, EndsBy, RefusesBy, FailsBy}
-use Rattle.rp_nearby.proofs.Places.{drop_item}
+use Rattle.rp_history.proofs.Stepped.{drop_item}
 use Rattle.rp_parcels.proofs.Tells.{size_tells, check_tells, common_tells, cover_tells, outside_on, outside_child_tells, overlap_on, overlapping_child_tells, double_on, double_on_tells, overlapping_tells}
 use Rattle.rp_parcels.proofs.Walked.{left_by, check_left, check_fails}
 

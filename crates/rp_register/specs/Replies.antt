@@ -11,8 +11,12 @@ use Rattle.rp_reports.specs.Check.{Trail, follow_lines, line_tester}
 use Rattle.rp_reports.specs.Text.{verdict_text}
 use Rattle.rp_space.specs.Listed.{Listed}
 use Rattle.rp_report.specs.declared.answer.Verdict.{Verdict as CodeVerdict}
+use Rattle.rp_report.specs.declared.answer.Refusal.TheVariants.{Known, Unknown, Repeated, Layers, Same, Few}
 use Rattle.rp_report.specs.Views.{refusal_of, verdict_of}
+use Rattle.rp_tests.specs.declared.stopped.Stopped.TheVariants.{Memory}
 use Rattle.rp_tests.specs.Comes.{StopsBy}
+use Rattle.rp_history.specs.declared.fault.NameFault.{NameFault}
+use Rattle.rp_history.specs.declared.fault.NameFault.TheVariants.{Known as NameKnown, Unknown as NameUnknown, Repeated as NameRepeated, Layers as NameLayers, Same as NameSame, Few as NameFew, Memory as NameMemory}
 use Rattle.rp_register.specs.declared.reply.Reply.{Reply}
 use Rattle.rp_register.specs.declared.reply.Reply.TheVariants.{Told, Changed}
 use Rattle.rp_register.specs.declared.reply.Born.{Born}
@@ -91,3 +95,15 @@ end_of (AskedStopped e) = StoppedEnd e
 abbrev pub reply_asked : Result (Listed CodeVerdict) AskedEnd → Result Reply RowEnd
 reply_asked (Ok lines) = Ok (Told lines)
 reply_asked (Err e) = Err (end_of e)
+
+-- ---- checks on names
+
+-- why a row ends whose check on names is failed
+abbrev pub end_of_names : NameFault → RowEnd
+end_of_names (NameKnown x) = Refused (Known x)
+end_of_names (NameUnknown x) = Refused (Unknown x)
+end_of_names (NameRepeated x) = Refused (Repeated x)
+end_of_names (NameLayers x) = Refused (Layers x)
+end_of_names NameSame = Refused Same
+end_of_names NameFew = Refused Few
+end_of_names (NameMemory e) = StoppedEnd (Memory e)

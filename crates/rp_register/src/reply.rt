@@ -2,7 +2,7 @@
 
 use rp_asked::RowEnd as AskedEnd;
 use rp_follow::Form;
-use rp_history::Birth;
+use rp_history::{Birth, NameFault};
 use rp_report::{Refusal, Verdicts};
 use rp_space::{Listed, Name, Names};
 use rp_tests::Stopped;
@@ -84,6 +84,25 @@ impl From<AskedEnd> for RowEnd {
         match end {
             AskedEnd::Refused(refusal) => RowEnd::Refused(refusal),
             AskedEnd::Stopped(stopped) => RowEnd::Stopped(stopped),
+        }
+    }
+}
+
+impl From<NameFault> for RowEnd {
+    ghost use Rattle.std.specs.Prelude.{◌≡◌};
+    ghost use Rattle.rp_register.specs.Replies.{end_of_names};
+
+    ghost from_gives = { λ x e. e ≡ end_of_names x };
+
+    fn from(fault: NameFault) -> RowEnd {
+        match fault {
+            NameFault::Known(id) => RowEnd::Refused(Refusal::Known(id)),
+            NameFault::Unknown(id) => RowEnd::Refused(Refusal::Unknown(id)),
+            NameFault::Repeated(id) => RowEnd::Refused(Refusal::Repeated(id)),
+            NameFault::Layers(id) => RowEnd::Refused(Refusal::Layers(id)),
+            NameFault::Same => RowEnd::Refused(Refusal::Same),
+            NameFault::Few => RowEnd::Refused(Refusal::Few),
+            NameFault::Memory(fault) => RowEnd::Stopped(Stopped::Memory(fault)),
         }
     }
 }

@@ -3,7 +3,7 @@ use Rattle.std.proofs.lemmas.List.{length-append}
 use Rattle.rp_model.specs.commands.Row.{joined_parts, child_parts}
 use Rattle.rp_parcels.specs.declared.child.Child.{Child}
 use Rattle.rp_parcels.specs.Register.{child_of}
-use Rattle.rp_nearby.proofs.Places.{drop_item}
+use Rattle.rp_history.proofs.Stepped.{drop_item}
 use Rattle.rp_parcels.proofs.Children.{kept_more}
 use Rattle.rp_parcels.proofs.subdivide.count_parts.Goals as goal
 

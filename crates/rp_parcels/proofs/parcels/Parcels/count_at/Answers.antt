@@ -2,7 +2,8 @@ use Rattle.std.proofs.Common.{◌≡◌, ℕ, ◌<◌, ◌==◌, [], ◌∷◌, 
 use Rattle.std.proofs.lemmas.Bool.Decides.{nat_tests}
 use Rattle.rp_algebra.proofs.Listed.{all_append}
 use Rattle.rp_nearby.specs.Near.{AreWithin}
-use Rattle.rp_nearby.proofs.Places.{item_at, place_within}
+use Rattle.rp_nearby.proofs.Places.{place_within}
+use Rattle.rp_history.proofs.Stepped.{item_at}
 use Rattle.rp_parcels.proofs.Found.{item_parts}
 use Rattle.rp_parcels.proofs.Sieved.{pairs_left, near_taken, near_passed}
 use Rattle.rp_parcels.proofs.parcels.Parcels.count_at.Goals as goal
