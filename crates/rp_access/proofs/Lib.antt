@@ -8,3 +8,4 @@ pub mod Ways
 -- for other crates
 pub mod Short
 pub mod Computed
+pub mod Routes

@@ -7,8 +7,12 @@ use Rattle.rp_walks.specs.Form.{form}
 use Rattle.rp_model.specs.commands.Verdict.{unknown}
 use Rattle.rp_model.specs.commands.Row.{Reply, reply_lines, refusal, check, with_forms}
 use Rattle.rp_space.specs.Listed.{Listed}
+use Rattle.rp_history.specs.declared.fault.NameFault.{NameFault}
+use Rattle.rp_history.specs.declared.fault.NameFault.TheVariants.{Known as NameKnown, Unknown as NameUnknown, Repeated as NameRepeated, Layers as NameLayers, Same as NameSame, Few as NameFew, Memory as NameMemory}
+use Rattle.rp_report.specs.declared.answer.Refusal.TheVariants.{Known, Unknown, Repeated, Layers, Same, Few}
 use Rattle.rp_report.specs.declared.answer.Verdict.{Verdict as CodeVerdict}
 use Rattle.rp_report.specs.Views.{refusal_of, verdict_of}
+use Rattle.rp_tests.specs.declared.stopped.Stopped.TheVariants.{Memory}
 use Rattle.rp_tests.specs.Comes.{StopsBy}
 use Rattle.rp_asked.specs.declared.reply.RowEnd.{RowEnd}
 use Rattle.rp_asked.specs.declared.reply.RowEnd.TheVariants.{Refused, Stopped as StoppedEnd}
@@ -35,3 +39,13 @@ row_of_form tester m e next = check (option_map unknown (first_unknown_among m (
 -- the row of two expressions, by what comes behind their forms
 abbrev pub row_of_forms : {W : Type 0} → Tester W → Meaning (List Part) → Expression → Expression → (List Part → List Part → Walk W Reply) → Walk W Reply
 row_of_forms tester m e f next = check (option_map unknown (first_unknown_among m (e ∷ f ∷ []))) (with_forms tester m e f next)
+
+-- why a row ends whose check on names is failed
+abbrev pub end_of_names : NameFault → RowEnd
+end_of_names (NameKnown x) = Refused (Known x)
+end_of_names (NameUnknown x) = Refused (Unknown x)
+end_of_names (NameRepeated x) = Refused (Repeated x)
+end_of_names (NameLayers x) = Refused (Layers x)
+end_of_names NameSame = Refused Same
+end_of_names NameFew = Refused Few
+end_of_names (NameMemory e) = StoppedEnd (Memory e)

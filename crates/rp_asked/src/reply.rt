@@ -3,6 +3,7 @@ ghost use Rattle.std.specs.Prelude.{◌≡◌, ◌∷◌, [], map, IfOk};
 ghost use Rattle.rp_model.specs.commands.Row.{reply_lines, yes_or_no};
 ghost use Rattle.rp_report.specs.Views.{verdict_of};
 
+use rp_history::NameFault;
 use rp_report::{Refusal, Verdict, Verdicts};
 use rp_tests::Stopped;
 use std::alloc::{AllocError, Global};
@@ -39,6 +40,25 @@ impl From<AllocError> for RowEnd {
 
     fn from(fault: AllocError) -> RowEnd {
         RowEnd::Stopped(Stopped::Memory(fault))
+    }
+}
+
+impl From<NameFault> for RowEnd {
+    ghost use Rattle.std.specs.Prelude.{◌≡◌};
+    ghost use Rattle.rp_asked.specs.Replies.{end_of_names};
+
+    ghost from_gives = { λ x e. e ≡ end_of_names x };
+
+    fn from(fault: NameFault) -> RowEnd {
+        match fault {
+            NameFault::Known(id) => RowEnd::Refused(Refusal::Known(id)),
+            NameFault::Unknown(id) => RowEnd::Refused(Refusal::Unknown(id)),
+            NameFault::Repeated(id) => RowEnd::Refused(Refusal::Repeated(id)),
+            NameFault::Layers(id) => RowEnd::Refused(Refusal::Layers(id)),
+            NameFault::Same => RowEnd::Refused(Refusal::Same),
+            NameFault::Few => RowEnd::Refused(Refusal::Few),
+            NameFault::Memory(fault) => RowEnd::Stopped(Stopped::Memory(fault)),
+        }
     }
 }
 

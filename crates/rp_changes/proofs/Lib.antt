@@ -3,6 +3,5 @@ pub mod ChildLemmas
 pub mod Defined
 pub mod Divided
 pub mod Registered
-pub mod Repeated
 pub mod TakenAway
 pub mod United

@@ -7,7 +7,7 @@ ghost use Rattle.rp_reports.specs.Check.{Trail};
 ghost use Rattle.rp_tests.specs.Comes.{Comes};
 ghost use Rattle.rp_register.specs.Replies.{Replies};
 
-use crate::checks::{check_consolidate, check_room, live_place};
+use crate::checks::check_room;
 use rp_asked::RowEnd;
 use rp_follow::Form;
 use rp_history::Birth;
@@ -37,7 +37,7 @@ pub(crate) fn define(register: &Register, name: Name, form: Form) -> Result<Repl
 pub fn retire(alloc: Global, register: &Register, id: Name) -> Result<Reply, RowEnd>
     ensures { (t : Trail) → Replies result t (row_retire register.now id t) }
 {
-    live_place(register, id)?;
+    register.history().check_live(id)?;
     Ok(Reply::Changed(Change::Replaced {
         ends: Names::copy_of(alloc, &[id])?,
         born: Listed::new(alloc),
@@ -53,7 +53,7 @@ pub fn consolidate(
 ) -> Result<Reply, RowEnd>
     ensures { (t : Trail) → Replies result t (row_consolidate register.now new ids.now t) }
 {
-    let layer = check_consolidate(alloc, register, new, ids)?;
+    let layer = register.history().check_consolidate(alloc, new, ids)?;
     let form = united(alloc, register, ids)?;
     check_room(register, form.items().len())?;
     let birth = Birth {

@@ -6,7 +6,7 @@ ghost use Rattle.rp_reports.specs.Check.{line_tester};
 ghost use Rattle.rp_changes.specs.Children.{formed_children};
 ghost use Rattle.rp_register.specs.Replies.{Replies, change_of, new_lot_of};
 
-use crate::checks::{check_cut, check_room, check_subdivide, layer_of};
+use crate::checks::check_room;
 use crate::child::Child;
 use crate::children::{
     child_ids, count_near, count_parts, first_empty, first_outside, first_overlapping, has_gap,
@@ -31,7 +31,8 @@ pub(crate) fn cut(
 ) -> Result<Reply, RowEnd>
     ensures { Replies result trail.new (row_cut line_tester register.now id form.now.items first second trail.old) }
 {
-    let place = check_cut(register, id, first, second)?;
+    let history = register.history();
+    let place = history.check_cut(id, first, second)?;
     let whole = register.form_at(place);
     let inner = joined(alloc, whole, form, trail)?;
     if inner.items().is_empty() {
@@ -42,7 +43,7 @@ pub(crate) fn cut(
         return Err(RowEnd::Refused(Refusal::EmptySide(2)));
     }
     check_room(register, inner.items().len() + outer.items().len())?;
-    let layer = layer_of(register, &id);
+    let layer = history.layer_of(&id);
     let mut born = Listed::new(alloc);
     born.push(born_of(alloc, layer, id, first, inner)?)?;
     born.push(born_of(alloc, layer, id, second, outer)?)?;
@@ -62,7 +63,8 @@ pub(crate) fn subdivide(
     ensures { Replies result trail.new (row_subdivide line_tester register.now id (formed_children children) trail.old) }
 {
     let ids = child_ids(alloc, children.items())?;
-    let place = check_subdivide(alloc, register, id, ids.items())?;
+    let history = register.history();
+    let place = history.check_subdivide(alloc, id, ids.items())?;
     if let Some(number) = first_empty(children.items()) {
         return Err(RowEnd::Refused(Refusal::EmptyChild(number)));
     }
@@ -78,7 +80,7 @@ pub(crate) fn subdivide(
     if has_gap(alloc, whole, children.items(), trail)? {
         return Err(RowEnd::Refused(Refusal::Gap));
     }
-    let born = children_born(alloc, layer_of(register, &id), id, children)?;
+    let born = children_born(alloc, history.layer_of(&id), id, children)?;
     Ok(Reply::Changed(replaced(alloc, id, born)?))
 }
 

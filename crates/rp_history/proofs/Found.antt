@@ -1,9 +1,9 @@
 -- Lots are found by their ids.
-use Rattle.std.proofs.Common.{◌≡◌, ℕ, suc, ◌+◌, ◌-◌, ◌≤◌, Bool, true, false, ◌||◌, cond, not, List, [], ◌∷◌, filter, Option, Some, None, slice_get, is_some, is_none, refl, sym, ap, ◌∙◌, subst, arith}
+use Rattle.std.proofs.Common.{◌≡◌, ℕ, zero, suc, ◌+◌, ◌-◌, ◌≤◌, Bool, true, false, ◌||◌, cond, not, List, [], ◌∷◌, filter, Option, Some, None, slice_get, is_some, is_none, refl, sym, ap, ◌∙◌, subst, arith}
 use Rattle.std.specs.Prelude.{IsTrue, IfSome, position}
 use Rattle.std.specs.List.{position_from}
 use Rattle.std.specs.Option.{option_and_then}
-use Rattle.std.proofs.lemmas.Bool.{or_parts, not-true}
+use Rattle.std.proofs.lemmas.Bool.{or_parts, or_left, or_right, not-true}
 use Rattle.std.proofs.lemmas.Iterator.Adapters.{position_from-zero}
 use Rattle.rp_algebra.proofs.Tests.{and_first, and_second}
 use Rattle.rp_language.specs.Name.{Label, label_eq, is_among}
@@ -12,7 +12,7 @@ use Rattle.rp_model.specs.states.Sound.{are_distinct}
 use Rattle.rp_states.proofs.Picked.{pick}
 use Rattle.rp_states.proofs.Listing.{all_passed, all_true}
 use Rattle.rp_states.proofs.Looked.{true_of_found}
-use Rattle.rp_states.proofs.Labels.{label_is}
+use Rattle.rp_states.proofs.Labels.{label_is, label_itself}
 
 -- what is none, as a test
 pub none_if_not_some : {A : Type 0} (o : Option A) (b : Bool) → is_some o ≡ not b → is_none o ≡ b
@@ -151,3 +151,26 @@ module _ {S : Type 0} where
   -- a live lot that is found is live
   pub found_is_live : (x : Label) (ls : List (Lot S)) (l : Lot S) → live_lot x ls ≡ Some l → is_live l ≡ true
   found_is_live x ls l e = true_of_found (λ (m : Lot S). is_live m ≡ true) x (live_lots ls) l (all_passed (λ (m : Lot S). is_live m ≡ true) is_live ls (all_true (λ (m : Lot S). is_live m ≡ true → is_live m ≡ true) (λ m f. f) ls)) e
+
+-- the id of an item is there
+pub there : {S : Type 0} (ls : List (Lot S)) (k : ℕ) (l : Lot S) → slice_get ls k ≡ Some l → is_among l.id (ids_of ls) ≡ true
+there [] k l e = absurd (cc)
+there (h ∷ ls) zero l e = let same : h ≡ l = cc in or_left (label_eq l.id h.id) (is_among l.id (ids_of ls)) (subst (λ (m : Lot _). label_eq l.id m.id ≡ true) (sym same) (label_itself l.id))
+there (h ∷ ls) (suc k) l e = or_right (label_eq l.id h.id) (is_among l.id (ids_of ls)) (there ls k l e)
+
+-- an item is the lot with its id
+pub own_place : {S : Type 0} (ls : List (Lot S)) → IsTrue (are_distinct (ids_of ls)) → (k : ℕ) (l : Lot S) → slice_get ls k ≡ Some l → lot_with_id l.id ls ≡ Some l
+own_place [] d k l e = absurd (cc)
+own_place (h ∷ ls) d zero l e = let same : h ≡ l = cc in by (label_eq l.id h.id) (subst (λ (m : Lot _). label_eq l.id m.id ≡ true) (sym same) (label_itself l.id)) same
+  where
+    by : (b : Bool) → b ≡ true → h ≡ l → pick b (Some h) (lot_with_id l.id ls) ≡ Some l
+    by true f same = ap Some same
+    by false f same = absurd (cc)
+own_place (h ∷ ls) d (suc k) l e = by (label_eq l.id h.id) refl (own_place ls (rest_distinct h ls d) k l e) (there ls k l e)
+  where
+    by : (b : Bool) → label_eq l.id h.id ≡ b → lot_with_id l.id ls ≡ Some l → is_among l.id (ids_of ls) ≡ true → pick b (Some h) (lot_with_id l.id ls) ≡ Some l
+    by true f later t =
+        let twice : is_among h.id (ids_of ls) ≡ true = subst (λ (y : Label). is_among y (ids_of ls) ≡ true) (label_is l.id h.id f) t in
+        let alone = first_alone h ls d in
+        absurd (cc)
+    by false f later t = later

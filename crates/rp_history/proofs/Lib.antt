@@ -4,3 +4,11 @@ pub mod Placed
 pub mod Appended
 pub mod KeptWell
 pub mod Marked
+-- checks on names
+pub mod Checked
+pub mod Repeated
+-- for other crates
+pub mod Bare
+pub mod Together
+pub mod Numbers
+pub mod Sizes

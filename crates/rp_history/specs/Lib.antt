@@ -1,3 +1,5 @@
 pub mod Lots
 pub mod Kept
 pub mod Marks
+pub mod Checks
+pub mod Parts

@@ -95,6 +95,7 @@ impl History {
     pub fn live_place(&self, id: &Name) -> Option<usize>
         ensures lot { option_and_then (λ k. slice_get self.now k) result ≡ live_lot id.now self.now }
         ensures within { IfSome result (λ k. k < length self.now) }
+        ensures distinct { IsTrue (are_distinct (ids_of self.now)) }
     {
         self.list.live_place(id)
     }

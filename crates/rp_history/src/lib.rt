@@ -3,14 +3,18 @@
 //!
 //! Births and ends are noted as the definition says, and no lot is ever taken out; want of memory leaves all as it was.
 //! The place of a lot, and of a live one, is that of its id, found without a walk. The lineage of a lot is the
-//! definition's: the lots that are reached through origins, in the order of their births.
+//! definition's: the lots that are reached through origins, in the order of their births. The checks on names that come
+//! before the rest of a command are made on it.
 
 mod births;
+mod checks;
+mod fault;
 mod history;
 mod lineage;
 mod list;
 mod lot;
 
+pub use fault::NameFault;
 pub use history::History;
 pub use lot::{Birth, LotLine};
 

@@ -7,10 +7,9 @@ use Rattle.rp_language.specs.Name.{Label, label_eq, is_among}
 use Rattle.rp_model.specs.states.State.{Lot, lot_with_id, ids_of}
 use Rattle.rp_model.specs.states.Sound.{are_distinct}
 use Rattle.rp_states.proofs.Labels.{label_is, label_is_not, among_left, among_right, among_neither}
-use Rattle.rp_history.proofs.Found.{first_alone, rest_distinct, found_has_id}
+use Rattle.rp_history.proofs.Found.{first_alone, rest_distinct, found_has_id, there, own_place}
 use Rattle.rp_boxindex.specs.Boxes.{Boxes}
 use Rattle.rp_nearby.specs.Indexed.{box_at, AreEmptied}
-use Rattle.rp_nearby.proofs.Places.{there, own_place}
 use Rattle.rp_nearby.proofs.Put.{taken_here, taken_apart}
 
 -- two lots with one id stand at one place

@@ -1,48 +1,20 @@
 -- Lots at places, one after the other.
-use Rattle.std.proofs.Common.{◌≡◌, ℕ, zero, suc, ◌+◌, ◌<◌, Bool, true, false, List, [], ◌∷◌, ◌++◌, map, length, drop, get_or, Option, Some, None, slice_get, refl, ap, ◌∙◌, subst, sym, arith}
+use Rattle.std.proofs.Common.{◌≡◌, ℕ, zero, suc, ◌+◌, ◌<◌, Bool, false, List, [], ◌∷◌, ◌++◌, map, length, drop, get_or, Option, Some, None, slice_get, ap, ◌∙◌, subst, sym, arith}
 use Rattle.std.specs.Option.{option_to_list}
-use Rattle.std.specs.Prelude.{IsTrue, option_map, Result, Ok, Err, IfOk}
-use Rattle.std.proofs.lemmas.Bool.{or_left, or_right}
+use Rattle.std.specs.Prelude.{option_map, Result, Ok, Err, IfOk}
 use Rattle.std.proofs.lemmas.List.{get_or_default, length-map}
 use Rattle.std.proofs.lemmas.Option.{slice_get-map, slice_get_read}
 use Rattle.rp_algebra.proofs.Lists.{drop_item}
-use Rattle.rp_language.specs.Name.{Label, label_eq, is_among}
-use Rattle.rp_model.specs.states.State.{Lot, lot_with_id, ids_of}
-use Rattle.rp_model.specs.states.Sound.{are_distinct}
-use Rattle.rp_states.proofs.Labels.{label_is, label_itself}
-use Rattle.rp_states.proofs.Picked.{pick}
+use Rattle.rp_language.specs.Name.{Label}
+use Rattle.rp_model.specs.states.State.{Lot}
 use Rattle.rp_history.specs.declared.lot.LotLine.{LotLine}
 use Rattle.rp_history.specs.Lots.{lot_of}
-use Rattle.rp_history.proofs.Found.{first_alone, rest_distinct}
 use Rattle.rp_nearby.specs.Near.{is_other_in, is_other_at, lots_at, AreWithin}
 
 -- what follows where a call has a result
 pub if_ok_then : {A E : Type 0} (P Q : A → Type 0) (r : Result A E) → ((x : A) → P x → Q x) → IfOk r P → IfOk r Q
 if_ok_then P Q (Ok x) f h = f x h
 if_ok_then P Q (Err e) f h = tt
-
--- the id of an item is there
-pub there : {S : Type 0} (ls : List (Lot S)) (k : ℕ) (l : Lot S) → slice_get ls k ≡ Some l → is_among l.id (ids_of ls) ≡ true
-there [] k l e = absurd (cc)
-there (h ∷ ls) zero l e = let same : h ≡ l = cc in or_left (label_eq l.id h.id) (is_among l.id (ids_of ls)) (subst (λ (m : Lot _). label_eq l.id m.id ≡ true) (sym same) (label_itself l.id))
-there (h ∷ ls) (suc k) l e = or_right (label_eq l.id h.id) (is_among l.id (ids_of ls)) (there ls k l e)
-
--- an item is the lot with its id
-pub own_place : {S : Type 0} (ls : List (Lot S)) → IsTrue (are_distinct (ids_of ls)) → (k : ℕ) (l : Lot S) → slice_get ls k ≡ Some l → lot_with_id l.id ls ≡ Some l
-own_place [] d k l e = absurd (cc)
-own_place (h ∷ ls) d zero l e = let same : h ≡ l = cc in by (label_eq l.id h.id) (subst (λ (m : Lot _). label_eq l.id m.id ≡ true) (sym same) (label_itself l.id)) same
-  where
-    by : (b : Bool) → b ≡ true → h ≡ l → pick b (Some h) (lot_with_id l.id ls) ≡ Some l
-    by true f same = ap Some same
-    by false f same = absurd (cc)
-own_place (h ∷ ls) d (suc k) l e = by (label_eq l.id h.id) refl (own_place ls (rest_distinct h ls d) k l e) (there ls k l e)
-  where
-    by : (b : Bool) → label_eq l.id h.id ≡ b → lot_with_id l.id ls ≡ Some l → is_among l.id (ids_of ls) ≡ true → pick b (Some h) (lot_with_id l.id ls) ≡ Some l
-    by true f later t =
-        let twice : is_among h.id (ids_of ls) ≡ true = subst (λ (y : Label). is_among y (ids_of ls) ≡ true) (label_is l.id h.id f) t in
-        let alone = first_alone h ls d in
-        absurd (cc)
-    by false f later t = later
 
 -- a place of a list is within
 pub place_within : {A : Type 0} (lots : List A) (places : List ℕ) → AreWithin lots places → (i k : ℕ) → i < length places → k ≡ get_or places i 0 → k < length lots

@@ -105,15 +105,6 @@ module _ (lots : List (Lot (Unit {0}))) (x z : Label) where
 
 -- ---- the answer
 
--- the numbers of a chain are below the count
-pub route_below : (g : List (List ℕ)) (n from last : ℕ) → from < n → ((i j : ℕ) → IsLinked g i j → j < n) → (route : List ℕ) → IsRoute g from last route → AllByRecursion (λ k. k < n) route
-route_below g n from last h linked [] r = tt
-route_below g n from last h linked (i ∷ js) r = (subst (λ k. k < n) (sym r.0) h, down js from r.2)
-  where
-    down : (ks : List ℕ) (k : ℕ) → GoesDown g last k ks → AllByRecursion (λ k. k < n) ks
-    down [] k d = tt
-    down (j ∷ ks) k d = (linked k j d.0.linked, down ks j d.1)
-
 -- the lines of a chain
 pub chain_told : (ids names : List Label) (route : List ℕ) → names ≡ filter_map (slice_get ids) route → length names ≡ length route → (Verdict.access (length names - 1) ∷ map Verdict.parcel names) ≡ chain_lines ids (Some route)
 chain_told ids names route e f = ap₂ (λ (k : ℕ) (xs : List Label). Verdict.access (k - 1) ∷ map Verdict.parcel xs) f e

@@ -4,7 +4,8 @@ use Rattle.std.proofs.lemmas.List.{take_more}
 use Rattle.rp_geometry.specs.sets.Shape.{Part}
 use Rattle.rp_language.specs.Name.{Label}
 use Rattle.rp_history.specs.declared.lot.Birth.{Birth}
-use Rattle.rp_parcels.specs.Register.{new_lots, parts_divided}
+use Rattle.rp_parcels.specs.Register.{parts_divided}
+use Rattle.rp_history.specs.Parts.{new_lots}
 
 -- the births are those of the ids, in the layer and from the lot
 abbrev pub AreBirthsOf : Label → Label → List Label → List Birth → Type 0

@@ -3,7 +3,6 @@ pub mod Sizes
 pub mod Found
 pub mod Stepped
 pub mod Checked
-pub mod Repeated
 pub mod Moved
 pub mod Divided
 pub mod Tells

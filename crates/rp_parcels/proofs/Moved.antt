@@ -13,10 +13,11 @@ use Rattle.rp_history.specs.Lots.{new_lot_of, lots_after}
 use Rattle.rp_boxindex.specs.Boxes.{Boxes}
 use Rattle.rp_nearby.specs.Indexed.{boxes_in, hull_of_parts, NoneBehind, ArePut, StaySame, IsIndexed, AreEmptied}
 use Rattle.rp_nearby.proofs.Boxed.{indexed_after, indexed_again, indexed_back, indexed_ended, indexed_none, none_behind_live, none_behind_ever}
-use Rattle.rp_parcels.specs.Kept.{lots_with_parts, AreSound, IsRegister}
-use Rattle.rp_parcels.specs.Register.{new_lots}
+use Rattle.rp_parcels.specs.Kept.{AreSound, IsRegister}
+use Rattle.rp_history.specs.Parts.{lots_with_parts, new_lots}
 use Rattle.rp_parcels.proofs.Sizes.{few_lots}
-use Rattle.rp_parcels.proofs.Together.{bare-with_parts, length-with_parts, register_again}
+use Rattle.rp_parcels.proofs.Together.{register_again}
+use Rattle.rp_history.proofs.Together.{bare-with_parts, length-with_parts}
 
 -- the parts of new lots are those of their regions
 pub new_lists : (births : List Birth) (lists : List (List Part)) → length births ≡ length lists → map (λ a. a.parts) (new_lots births lists) ≡ lists

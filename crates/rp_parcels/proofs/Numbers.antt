@@ -9,12 +9,13 @@ use Rattle.rp_model.specs.commands.Verdict.{Verdict, level_lines}
 use Rattle.rp_history.specs.declared.lot.LotLine.{LotLine}
 use Rattle.rp_history.specs.Lots.{lot_of}
 use Rattle.rp_nearby.specs.Near.{lots_at, AreWithin}
+use Rattle.rp_history.proofs.Stepped.{filter_kept}
 use Rattle.rp_parcels.specs.declared.pairs.Pair.{Pair}
 use Rattle.rp_parcels.specs.declared.pairs.Judged.{Judged}
 use Rattle.rp_parcels.specs.Judged.{id_at}
 use Rattle.rp_parcels.specs.Access.{told_levels}
 use Rattle.rp_parcels.specs.Touching.{links_that_meet}
-use Rattle.rp_parcels.proofs.Found.{line_at}
+use Rattle.rp_history.proofs.Bare.{line_at}
 use Rattle.rp_parcels.proofs.Shown.{second_id, first_at}
 use Rattle.rp_parcels.proofs.Linked.{meet_append}
 
@@ -75,27 +76,11 @@ meet_passed ps js i p j h e f g t = sym (meet_more ps js i p j h e f g ∙ ap (�
 
 -- ---- numbers of ids
 
--- the next id is the one looked for
-pub number_here : (x y : Label) (ids : List Label) → label_eq x y ≡ true → place_among x (y ∷ ids) ≡ 0
-number_here x y ids e = ap (λ (b : Bool). elim b as (λ _. ℕ) [ true ↦ 0 | false ↦ suc (place_among x ids) ]) e
-
--- or another one
-pub number_later : (x y : Label) (ids : List Label) → label_eq x y ≡ false → place_among x (y ∷ ids) ≡ suc (place_among x ids)
-number_later x y ids e = ap (λ (b : Bool). elim b as (λ _. ℕ) [ true ↦ 0 | false ↦ suc (place_among x ids) ]) e
-
 -- the id at a number
 pub id_there : (lots : List (Lot (Unit {0}))) (places : List ℕ) → AreWithin lots places → (k : ℕ) → k < length places → slice_get (ids_of (lots_at lots places)) k ≡ Some (id_at lots (get_or places k 0))
 id_there lots [] w k h = absurd (omega (arith, h))
 id_there lots (j ∷ places) w zero h = ap (λ (xs : List Label). slice_get xs 0) (ids_left lots (j ∷ places) w 0 h)
 id_there lots (j ∷ places) w (suc k) h = ap (λ (xs : List Label). slice_get xs (suc k)) (ids_left lots (j ∷ places) w 0 (omega arith)) ∙ id_there lots places w.1 k (omega (arith, h))
-
--- what is left of a list begins with an entry that was read
-pub entry_left : {A : Type 0} (xs : List A) (k : ℕ) (d x : A) → k < length xs → get_or xs k d ≡ x → drop k xs ≡ x ∷ drop (k + 1) xs
-entry_left xs k d x h e = drop_more xs k d h ∙ ap (λ y. y ∷ drop (k + 1) xs) e
-
--- an item of which a value is given
-filter_kept : (f : ℕ → Option Label) (x : ℕ) (xs : List ℕ) (y : Label) → f x ≡ Some y → filter_map f (x ∷ xs) ≡ y ∷ filter_map f xs
-filter_kept f x xs y e = rw e
 
 -- the ids of numbers, with one more
 pub named_next : (f : ℕ → Option Label) (numbers : List ℕ) (i : ℕ) (y : Label) (ids more all : List Label) → i < length numbers → f (get_or numbers i 0) ≡ Some y → more ≡ ids ++ y ∷ [] → ids ++ filter_map f (drop i numbers) ≡ all → more ++ filter_map f (drop (i + 1) numbers) ≡ all

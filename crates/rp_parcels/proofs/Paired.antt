@@ -17,12 +17,11 @@ use Rattle.rp_model.specs.commands.Row.{count_with_each, count_among, count_in_l
 use Rattle.rp_states.proofs.Labels.{label_is}
 use Rattle.rp_history.specs.declared.lot.LotLine.{LotLine}
 use Rattle.rp_history.specs.Lots.{lot_of}
-use Rattle.rp_history.proofs.Found.{first_alone, rest_distinct}
+use Rattle.rp_history.proofs.Found.{first_alone, rest_distinct, there}
 use Rattle.rp_region.specs.declared.fault.OpFault.{OpFault}
 use Rattle.rp_nearby.specs.declared.near.Reach.{Reach}
 use Rattle.rp_nearby.specs.declared.near.Reach.TheVariants.{Overlap, Touch}
 use Rattle.rp_nearby.specs.Near.{others_in, pairs_with, is_near, lots_at, AreWithin}
-use Rattle.rp_nearby.proofs.Places.{there}
 use Rattle.rp_nearby.proofs.Behind.{others_behind}
 use Rattle.rp_parcels.specs.declared.near.Near.{Near}
 use Rattle.rp_parcels.specs.declared.pairs.Pair.{Pair}
@@ -30,7 +29,8 @@ use Rattle.rp_parcels.specs.Kept.{AreSound}
 use Rattle.rp_parcels.specs.Judged.{pair_of, parts_at, judged, with_all_lines, IsPairWithin}
 use Rattle.rp_parcels.specs.Touching.{lists_at, is_touching, places_with, places_among, AreRising}
 use Rattle.rp_parcels.specs.Behind.{is_live_in, live_places, lots_behind, tests_behind, AreNearBehind, ArePairsBehind}
-use Rattle.rp_parcels.proofs.Found.{ids_distinct, line_at}
+use Rattle.rp_parcels.proofs.Found.{ids_distinct}
+use Rattle.rp_history.proofs.Bare.{line_at}
 use Rattle.rp_parcels.proofs.Sizes.{region_each}
 use Rattle.rp_parcels.proofs.Shown.{first_at, second_parts, pairs_within, lines_append, judged_with, apart_shown}
 use Rattle.rp_parcels.proofs.Audited.{apart_behind, near_alone}

@@ -9,21 +9,8 @@ use Rattle.rp_geometry.proofs.Members.{not_in_nothing}
 use Rattle.rp_model.specs.states.State.{Lot, lot_of_parts, parts_under_lots, most_kept_parts}
 use Rattle.rp_states.proofs.Listing.{all_unmapped}
 use Rattle.rp_states.proofs.Plain.{image_sums}
+use Rattle.rp_history.proofs.Sizes.{as_many_parts}
 use Rattle.rp_parcels.specs.Kept.{AreSound}
-
--- parts with a member are some
-some_part : (ps : List Part) → IsNonempty (shape_of_parts ps) → 1 ≤ length ps
-some_part [] h = absurd (not_in_nothing h.0 h.1)
-some_part (p ∷ ps) h = omega arith
-
--- lots with a part each are at most as many as their parts
-as_many_parts : (lots : List (Lot (Unit {0}))) → AllByRecursion (λ l. IsNonempty (shape_of_parts l.parts)) lots → length lots ≤ parts_under_lots lots
-as_many_parts [] h = omega arith
-as_many_parts (l ∷ lots) h =
-    let more = as_many_parts lots h.1 in
-    let one = some_part l.parts h.0 in
-    let all = sum_by-cons (λ (k : Lot (Unit {0})). length k.parts) l lots in
-    omega (arith, more, one, all)
 
 -- each sound lot has a member
 pub all_nonempty : (lots : List (Lot (Unit {0}))) → AreSound lots → AllByRecursion (λ l. IsNonempty (shape_of_parts l.parts)) lots

@@ -1,15 +1,13 @@
--- Checks on names refuse without a proof line.
+-- Checks that make no test refuse without a proof line.
 use Rattle.std.proofs.Common.{◌≡◌, ℕ, ◌+◌, ◌==◌, Bool, true, false, List, [], ◌∷◌, length, Option, Some, None, refl, subst}
-use Rattle.std.specs.Prelude.{IfSome, IfErr, Result, Ok, Err, not, nat_lt}
+use Rattle.std.specs.Prelude.{IfSome}
 use Rattle.rp_geometry.specs.searches.ProofLine.{ProofLine}
-use Rattle.rp_language.specs.Name.{Label, is_among}
-use Rattle.rp_model.specs.states.State.{StateOf, ids_of, live_lots, layer_of_first}
-use Rattle.rp_model.specs.commands.Verdict.{Refusal, known, unknown, repeated, layers, too_few, overlaps, empty_child, outside_lot, children_overlap, gap}
-use Rattle.rp_model.specs.commands.Checks.{refuse_if, and_then, check_new, check_live, check_each, check_repeated, check_layer, check_subdivide, check_consolidate}
+use Rattle.rp_model.specs.commands.Verdict.{Refusal, overlaps, empty_child, outside_lot, children_overlap, gap}
+use Rattle.rp_model.specs.commands.Checks.{refuse_if, and_then}
 use Rattle.rp_model.specs.commands.Row.{FormedChild, first_empty_child}
 use Rattle.rp_parcels.specs.declared.fault.ParcelFault.{ParcelFault}
 use Rattle.rp_parcels.specs.declared.fault.ParcelFault.TheVariants.{Known, Unknown, Repeated, Layers, Same, Few, Empty, Limit, Overlaps, EmptySide, EmptyChild, Outside, ChildrenOverlap, Gap, Memory}
-use Rattle.rp_parcels.specs.Rows.{cause_of, FailsBy, IsTold, Checks}
+use Rattle.rp_parcels.specs.Rows.{cause_of, FailsBy, IsTold}
 
 -- the refusal is shown by points
 abbrev pub is_shown : Refusal → Bool
@@ -32,36 +30,6 @@ then_never (Some r) p h k = h
 pub if_never : (b : Bool) (r : Refusal) → is_shown r ≡ false → NeverShown (refuse_if b r)
 if_never true r h = h
 if_never false r h = tt
-
--- each of a list
-pub each_never : (test : Label → Option Refusal) → ((x : Label) → NeverShown (test x)) → (xs : List Label) → NeverShown (check_each test xs)
-each_never test h [] = tt
-each_never test h (x ∷ xs) = then_never (test x) (check_each test xs) (h x) (each_never test h xs)
-
--- a label that stands twice
-pub repeated_never : (before xs : List Label) → NeverShown (check_repeated before xs)
-repeated_never before [] = tt
-repeated_never before (x ∷ xs) = then_never (refuse_if (is_among x before) (repeated x)) (check_repeated (x ∷ before) xs) (if_never (is_among x before) (repeated x) refl) (repeated_never (x ∷ before) xs)
-
-module _ {S : Type 0} (s : StateOf S) where
-  -- a consolidation
-  pub consolidate_never : (new : Label) (ids : List Label) → NeverShown (check_consolidate s new ids)
-  consolidate_never new ids =
-      then_never _ _ (if_never _ too_few refl)
-      (then_never _ _ (each_never (check_live s) (λ x. if_never _ (unknown x) refl) ids)
-      (then_never _ _ (repeated_never [] ids)
-      (then_never _ _ (each_never (check_layer s (layer_of_first s ids)) (λ x. if_never _ (layers x) refl) ids)
-      (if_never _ (known new) refl))))
-
-  -- a subdivision
-  pub subdivide_never : (x : Label) (ids : List Label) → NeverShown (check_subdivide s x ids)
-  subdivide_never x ids =
-      let live = refuse_if (not (is_among x (ids_of (live_lots s.lots)))) (unknown x) in
-      let new = check_each (check_new s) ids in
-      then_never (refuse_if (nat_lt (length ids) 2) too_few) (and_then live (and_then new (check_repeated [] ids))) (if_never (nat_lt (length ids) 2) too_few refl)
-      (then_never live (and_then new (check_repeated [] ids)) (if_never (not (is_among x (ids_of (live_lots s.lots)))) (unknown x) refl)
-      (then_never new (check_repeated [] ids) (each_never (check_new s) (λ z. if_never (is_among z (ids_of s.lots)) (known z) refl) ids)
-      (repeated_never [] ids)))
 
 -- a child without a part
 pub empty_never : (k : ℕ) (cs : List FormedChild) → NeverShown (first_empty_child k cs)
@@ -89,8 +57,3 @@ untold (Outside k points) o lines h f = absurd (never (outside_lot k) o refl h f
 untold (ChildrenOverlap m n points) o lines h f = absurd (never (children_overlap m n) o refl h f)
 untold (Gap points) o lines h f = absurd (never gap o refl h f)
 untold (Memory e) o lines h f = tt
-
--- the same of a result
-pub checks_untold : {A : Type 0} (r : Result A ParcelFault) (o : Option Refusal) (lines : List ProofLine) → NeverShown o → Checks r o → IfErr r (IsTold lines)
-checks_untold (Ok x) o lines h f = tt
-checks_untold (Err e) o lines h f = untold e o lines h f

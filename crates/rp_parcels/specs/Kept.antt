@@ -1,21 +1,12 @@
 -- What a register keeps: the history of its lots, and beside it the parts of each lot and two indexes of boxes.
-use Rattle.std.specs.Prelude.{◌≡◌, ℕ, List, [], ◌∷◌, map, length}
+use Rattle.std.specs.Prelude.{◌≡◌, ℕ, List, [], map, length}
 use Rattle.rp_geometry.specs.sets.Shape.{Part}
 use Rattle.rp_model.specs.states.State.{Lot, bare_lot, state_of_parts, parts_under_lots}
 use Rattle.rp_model.specs.states.Sound.{IsSound}
 use Rattle.rp_history.specs.Lots.{lots_in}
+use Rattle.rp_history.specs.Parts.{lots_with_parts}
 use Rattle.rp_boxindex.specs.Boxes.{Boxes}
 use Rattle.rp_nearby.specs.Indexed.{IsIndexed}
-
--- a lot with the parts
-abbrev pub with_parts : {S : Type 0} → Lot S → List Part → Lot S
-with_parts l ps = record { id = l.id; layer = l.layer; set = l.set; parts = ps; born = l.born; ended = l.ended; origins = l.origins }
-
--- lots with their parts, in order
-abbrev pub lots_with_parts : {S : Type 0} → List (Lot S) → List (List Part) → List (Lot S)
-lots_with_parts [] lists = []
-lots_with_parts (l ∷ ls) [] = []
-lots_with_parts (l ∷ ls) (ps ∷ lists) = with_parts l ps ∷ lots_with_parts ls lists
 
 -- the lots are those of a sound state
 abbrev pub AreSound : List (Lot (Unit {0})) → Type 0

@@ -5,7 +5,6 @@ use Rattle.rp_language.specs.Name.{Label}
 use Rattle.rp_model.specs.states.State.{Lot, NewLot, lots_replaced, state_of_parts, most_kept_parts}
 use Rattle.rp_model.specs.states.Sound.{IsLaterThan}
 use Rattle.rp_model.specs.commands.Row.{FormedChild}
-use Rattle.rp_history.specs.declared.lot.Birth.{Birth}
 use Rattle.rp_history.specs.Lots.{lots_in, lots_after, AreNew}
 use Rattle.rp_parcels.specs.declared.child.Child.{Child}
 use Rattle.rp_parcels.specs.Kept.{AreSound}
@@ -17,12 +16,6 @@ IsLater n lots = IsLaterThan n (state_of_parts (lots_in [] lots))
 -- a child of a subdivision, as the model sees it
 abbrev pub child_of : Child → FormedChild
 child_of c = record { id = c.id; parts = c.region }
-
--- births with the parts of their regions, as lots to be made
-abbrev pub new_lots : List Birth → List (List Part) → List (NewLot (Unit {0}))
-new_lots [] lists = []
-new_lots (b ∷ births) [] = []
-new_lots (b ∷ births) (ps ∷ lists) = record { id = b.id; layer = b.layer; set = tt; parts = ps; origins = b.origins.items } ∷ new_lots births lists
 
 -- lots may end and others be born in their place by the line: the new ids are new, and the lots are sound afterwards
 pub record IsFitChange (n : ℕ) (lots : List (Lot (Unit {0}))) (ids : List Label) (new : List (NewLot (Unit {0}))) : Type 0 where

@@ -4,7 +4,6 @@ ghost use Rattle.std.specs.List.{AllByRecursion, slice_get};
 ghost use Rattle.rp_walks.specs.Walk.{first_tester};
 ghost use Rattle.rp_model.specs.states.State.{ids_of, place_among, layer_with_id, most_kept_parts};
 ghost use Rattle.rp_model.specs.commands.Verdict.{level_lines};
-ghost use Rattle.rp_model.specs.commands.Checks.{check_access};
 ghost use Rattle.rp_model.specs.commands.Row.{access_by_links, row_access};
 ghost use Rattle.rp_history.specs.Lots.{lots_in};
 ghost use Rattle.rp_access.specs.Chain.{IsLinked};
@@ -57,7 +56,7 @@ impl Parcels {
         requires { 1 ≤ grain }
         ensures row { Answers access_reply result work.old work.new (row_access first_tester (lots_in [] self.now) from to) }
     {
-        let layer = self.check_access(from, to)?;
+        let layer = self.history().check_access(from, to)?;
         let places = self.live_places(alloc, Some(layer))?;
         let near = self.later_pairs(alloc, watch, &places, Reach::Touch)?;
         let all = self.judge_counted(rt, alloc, watch, grain, &near, Reach::Touch, work)?;
@@ -66,20 +65,6 @@ impl Parcels {
         let told = self.told_access(alloc, &places, &links, &from, &to)?;
         append_all(alloc, work, all)?;
         Ok(told)
-    }
-
-    /// The checks on ids, in order, and the layer of both.
-    fn check_access(&self, from: Name, to: Name) -> Result<Name, ParcelFault>
-        ensures checks { Checks result (check_access (lots_in [] self.now) from to) }
-        ensures layer { IfOk result (λ y. y ≡ layer_with_id (lots_in [] self.now) from) }
-    {
-        self.live_place(from)?;
-        self.live_place(to)?;
-        let layer = self.layer_of(&from);
-        if self.layer_of(&to) != layer {
-            return Err(ParcelFault::Layers(to));
-        }
-        Ok(layer)
     }
 
     /// The chain and the levels along links between the parcels at some places, by their numbers.

@@ -6,7 +6,8 @@ ghost use Rattle.rp_model.specs.commands.Row.{row_retire};
 ghost use Rattle.rp_history.specs.Lots.{lots_in, lots_after};
 ghost use Rattle.rp_nearby.specs.Indexed.{IsIndexed};
 ghost use Rattle.rp_parcels.specs.Kept.{AreSound};
-ghost use Rattle.rp_parcels.specs.Register.{IsLater, IsFitChange, new_lots};
+ghost use Rattle.rp_parcels.specs.Register.{IsLater, IsFitChange};
+ghost use Rattle.rp_history.specs.Parts.{new_lots};
 ghost use Rattle.rp_parcels.specs.declared.fault.ParcelFault.TheVariants.{Unknown};
 ghost use Rattle.rp_parcels.specs.Rows.{Changes};
 
@@ -39,7 +40,8 @@ pub struct Parcels {
 impl Model for Parcels {
     ghost use Rattle.std.specs.Prelude.{List};
     ghost use Rattle.rp_model.specs.states.State.{Lot};
-    ghost use Rattle.rp_parcels.specs.Kept.{lots_with_parts, IsRegister};
+    ghost use Rattle.rp_parcels.specs.Kept.{IsRegister};
+    ghost use Rattle.rp_history.specs.Parts.{lots_with_parts};
 
     ghost Value = { List (Lot (Unit {0})) };
 

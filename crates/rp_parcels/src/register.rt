@@ -67,7 +67,7 @@ impl Parcels {
     fn check_registration(&self, id: Name, region: &Region) -> Result<(), ParcelFault>
         ensures { Checks result (and_then (check_new (lots_in [] self.now) id) (refuse_if (length region.now == 0) empty_region)) }
     {
-        self.check_new(id)?;
+        self.history().check_new(id)?;
         if region.parts().is_empty() {
             return Err(ParcelFault::Empty);
         }

@@ -10,7 +10,8 @@ ghost use Rattle.rp_model.specs.commands.Row.{row_cut, row_consolidate, parts_wi
 ghost use Rattle.rp_region.specs.Makes.{Makes};
 ghost use Rattle.rp_history.specs.Lots.{lots_in, lots_after};
 ghost use Rattle.rp_parcels.specs.Kept.{AreSound};
-ghost use Rattle.rp_parcels.specs.Register.{IsLater, IsFitChange, new_lots, parts_divided};
+ghost use Rattle.rp_parcels.specs.Register.{IsLater, IsFitChange, parts_divided};
+ghost use Rattle.rp_history.specs.Parts.{new_lots};
 ghost use Rattle.rp_parcels.specs.Rows.{Changes, IsTold, cause_of, wanting};
 
 use crate::fault::ParcelFault;
@@ -41,7 +42,7 @@ impl Parcels {
         ensures sound { OnOk result (AreSound self.new) }
         ensures later { OnOk result (IsLater (line + 1) self.new) }
     {
-        let place = self.check_cut(id, first, second)?;
+        let place = self.history().check_cut(id, first, second)?;
         let whole = self.region_at(place);
         let inner = whole.both(alloc, by, work)?;
         if inner.parts().is_empty() {
@@ -80,7 +81,7 @@ impl Parcels {
         ensures sound { OnOk result (AreSound self.new) }
         ensures later { OnOk result (IsLater (line + 1) self.new) }
     {
-        let layer = self.check_consolidate(alloc, new, ids)?;
+        let layer = self.history().check_consolidate(alloc, new, ids)?;
         let region = self.joined(alloc, ids, work)?;
         self.check_room(region.parts().len())?;
         let births = [Birth {

@@ -46,7 +46,7 @@ impl Parcels {
         ensures later { OnOk result (IsLater (line + 1) self.new) }
     {
         let ids = child_ids(alloc, children)?;
-        let place = self.check_subdivide(alloc, id, ids.items())?;
+        let place = self.history().check_subdivide(alloc, id, ids.items())?;
         check_some(children)?;
         self.check_room(count_parts(children))?;
         let whole = self.region_at(place);

@@ -1,5 +1,5 @@
 -- The verdict lines of a chain and of levels, along links between the numbers of lots.
-use Rattle.std.proofs.Common.{◌≡◌, ℕ, zero, suc, ◌+◌, ◌-◌, ◌<◌, List, [], ◌∷◌, ◌++◌, map, length, drop, get_or, slice_get, Option, Some, None, sym, ap, ap₂, ◌∙◌, subst, append_assoc, arith}
+use Rattle.std.proofs.Common.{◌≡◌, ℕ, zero, suc, ◌+◌, ◌-◌, ◌<◌, List, [], ◌∷◌, ◌++◌, map, length, drop, get_or, slice_get, Option, Some, None, sym, ap, ap₂, ◌∙◌, append_assoc, arith}
 use Rattle.std.specs.Prelude.{filter_map, option_map, MatchOption, IfSome}
 use Rattle.std.specs.List.{AllByRecursion}
 use Rattle.std.proofs.lemmas.List.{drop_more, map-append, get_or_default}
@@ -10,9 +10,11 @@ use Rattle.rp_model.specs.commands.Verdict.{Verdict, chain_lines, level_lines, a
 use Rattle.rp_report.specs.declared.answer.Verdict.{Verdict as CodeVerdict}
 use Rattle.rp_report.specs.Views.{verdict_of}
 use Rattle.rp_chains.proofs.One.{one_level}
-use Rattle.rp_access.specs.Chain.{IsLinked, AreLevels, HasNoChain, GoesDown, IsRoute}
+use Rattle.rp_access.specs.Chain.{IsLinked, AreLevels, HasNoChain, IsRoute}
 use Rattle.rp_access.specs.Route.{Numbers}
 use Rattle.rp_access.specs.Laws.{AreLinksOf}
+use Rattle.rp_access.proofs.Routes.{route_below}
+use Rattle.rp_history.proofs.Stepped.{filter_kept}
 use Rattle.rp_access.proofs.Computed.{levels_are_computed_spec, chain_is_computed_spec}
 use Rattle.rp_register.specs.declared.parcel.Parcel.{Parcel}
 use Rattle.rp_questions.proofs.LayerLots.{ids_here, ids_left}
@@ -22,10 +24,6 @@ use Rattle.rp_questions.proofs.LayerLots.{ids_here, ids_left}
 -- the ids of the numbers of a chain, as lines
 abbrev pub id_lines : List Label → List ℕ → List Verdict
 id_lines ids numbers = map Verdict.parcel (filter_map (slice_get ids) numbers)
-
--- an item of which a value is given
-filter_kept : (f : ℕ → Option Label) (x : ℕ) (xs : List ℕ) (y : Label) → f x ≡ Some y → filter_map f (x ∷ xs) ≡ y ∷ filter_map f xs
-filter_kept f x xs y e = rw e
 
 -- the line of one more lot of a chain
 pub lot_told : (ids : List Label) (numbers : List ℕ) (i n : ℕ) (y : Label) (v : CodeVerdict) (lines more : List CodeVerdict) (all : List Verdict) → i < length numbers → n ≡ get_or numbers i n → slice_get ids n ≡ Some y → verdict_of v ≡ Verdict.parcel y → more ≡ lines ++ v ∷ []
@@ -61,20 +59,7 @@ level_passed_over (m ∷ ms) n h lines more levels left_levels all f made left =
     ∙ sym (ap₂ (λ (xs : List Label) (ls : List (Option ℕ)). map verdict_of lines ++ level_lines xs ls) (ids_left (m ∷ ms) n l h (get_or_default (m ∷ ms) n m l h)) f)
     ∙ left
 
--- what is left of a list begins with an entry that was read
-pub entry_left : {A : Type 0} (xs : List A) (k : ℕ) (d x : A) → k < length xs → get_or xs k d ≡ x → drop k xs ≡ x ∷ drop (k + 1) xs
-entry_left xs k d x h e = drop_more xs k d h ∙ ap (λ y. y ∷ drop (k + 1) xs) e
-
 -- ---- the chain
-
--- the numbers of a chain are below the count
-route_below : (g : List (List ℕ)) (n from last : ℕ) → from < n → ((i j : ℕ) → IsLinked g i j → j < n) → (route : List ℕ) → IsRoute g from last route → AllByRecursion (λ k. k < n) route
-route_below g n from last h linked [] r = tt
-route_below g n from last h linked (i ∷ js) r = (subst (λ k. k < n) (sym r.0) h, down js from r.2)
-  where
-    down : (ks : List ℕ) (k : ℕ) → GoesDown g last k ks → AllByRecursion (λ k. k < n) ks
-    down [] k d = tt
-    down (j ∷ ks) k d = (linked k j d.0.linked, down ks j d.1)
 
 -- the numbers of the chain, if there is one
 pub chain_below : (g : List (List ℕ)) (n from last : ℕ) → from < n → ((i j : ℕ) → IsLinked g i j → j < n) → (o : Option Numbers) → MatchOption o (HasNoChain g last from) (λ r. IsRoute g from last r.items) → IfSome o (λ r. AllByRecursion (λ k. k < n) r.items)

@@ -58,11 +58,3 @@ pub id_there : (ls : List Parcel) (k : ℕ) (l : Parcel) → k < length ls → l
 id_there [] k l h e = absurd (omega (arith, h))
 id_there (m ∷ ls) zero l h e = ap (λ (x : Parcel). Some (lot_here x).id) (sym e)
 id_there (m ∷ ls) (suc k) l h e = id_there ls k l (omega (arith, h)) e
-
--- the next id is the one looked for
-pub number_here : (x y : Label) (ids : List Label) → label_eq x y ≡ true → place_among x (y ∷ ids) ≡ 0
-number_here x y ids e = ap (λ (b : Bool). elim b as (λ _. ℕ) [ true ↦ 0 | false ↦ suc (place_among x ids) ]) e
-
--- or another one
-pub number_later : (x y : Label) (ids : List Label) → label_eq x y ≡ false → place_among x (y ∷ ids) ≡ suc (place_among x ids)
-number_later x y ids e = ap (λ (b : Bool). elim b as (λ _. ℕ) [ true ↦ 0 | false ↦ suc (place_among x ids) ]) e

@@ -4,13 +4,12 @@ use Rattle.std.specs.Prelude.{IsTrue}
 use Rattle.std.specs.List.{AllByRecursion}
 use Rattle.std.proofs.lemmas.Bool.{or_parts, not-true}
 use Rattle.std.proofs.lemmas.List.{length-map, length_push, map-append}
-use Rattle.std.proofs.lemmas.List.Sums.{sum_by-cons, sum_by_push}
+use Rattle.std.proofs.lemmas.List.Sums.{sum_by_push}
 use Rattle.rp_algebra.proofs.Tests.{and_first, and_second, false_not_true, false_unless}
 use Rattle.rp_algebra.proofs.Lists.{images_twice}
 use Rattle.rp_geometry.specs.sets.Shape.{Shape, Part, shape_of_parts}
 use Rattle.rp_geometry.specs.sets.Sets.{IsNonempty}
 use Rattle.rp_geometry.specs.parts.Parts.{AreOf, IsCheckedPart, most_parts}
-use Rattle.rp_geometry.proofs.Members.{not_in_nothing}
 use Rattle.rp_language.specs.Name.{Label, label_eq, is_among}
 use Rattle.rp_model.specs.states.State.{Kept, Lot, NewLot, PlainState, kept_of_parts, lot_of_parts, state_of_parts, names_of, ids_of, changed, lots_replaced, parts_under_lots, most_names, most_kept_parts}
 use Rattle.rp_model.specs.states.Sound.{are_distinct, IsLaterThan}
@@ -19,6 +18,7 @@ use Rattle.rp_states.proofs.Listing.{all_unmapped}
 use Rattle.rp_states.proofs.Plain.{image_sums}
 use Rattle.rp_states.proofs.Replaced.{ids_after}
 use Rattle.rp_history.specs.Lots.{AreBornBefore, AreNew}
+use Rattle.rp_history.proofs.Sizes.{as_many_parts}
 use Rattle.rp_register.specs.Kept.{kept_under, state_with, IsNewName, AreFew, IsSoundOnLines, ComesFromKnown}
 
 -- ---- labels that are distinct
@@ -60,20 +60,6 @@ name_is_new y ks lots x ps h =
     }
 
 -- ---- lots
-
--- parts with a member are some
-some_part : (ps : List Part) → IsNonempty (shape_of_parts ps) → 1 ≤ length ps
-some_part [] h = absurd (not_in_nothing h.0 h.1)
-some_part (p ∷ ps) h = omega arith
-
--- lots with a part each are at most as many as their parts
-as_many_parts : (lots : List (Lot (Unit {0}))) → AllByRecursion (λ l. IsNonempty (shape_of_parts l.parts)) lots → length lots ≤ parts_under_lots lots
-as_many_parts [] h = omega arith
-as_many_parts (l ∷ lots) h =
-    let more = as_many_parts lots h.1 in
-    let one = some_part l.parts h.0 in
-    let all = sum_by-cons (λ (k : Lot (Unit {0})). length k.parts) l lots in
-    omega (arith, more, one, all)
 
 -- each lot of a sound state has few parts
 few_each : (lots : List (Lot (Unit {0}))) → AllByRecursion (λ l. AreOf IsCheckedPart l.set l.parts) (map lot_of_parts lots) → AllByRecursion (λ (l : Lot (Unit {0})). length l.parts ≤ most_parts) lots

@@ -4,5 +4,4 @@ pub mod Counted
 pub mod KeptLots
 pub mod KeptNames
 pub mod Known
-pub mod Placed
 pub mod Present

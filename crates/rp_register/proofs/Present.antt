@@ -10,9 +10,10 @@ use Rattle.rp_model.specs.states.Sound.{are_distinct}
 use Rattle.rp_history.specs.declared.lot.LotLine.{LotLine}
 use Rattle.rp_history.specs.Lots.{lot_of}
 use Rattle.rp_register.specs.declared.parcel.Parcel.{Parcel}
-use Rattle.rp_register.specs.Kept.{IsSoundOnLines, with_parts}
+use Rattle.rp_register.specs.Kept.{IsSoundOnLines}
+use Rattle.rp_history.specs.Parts.{with_parts}
 use Rattle.rp_register.specs.There.{lot_here}
-use Rattle.rp_register.proofs.Placed.{live_here, line_at}
+use Rattle.rp_history.proofs.Bare.{live_here, line_at}
 
 -- ---- sizes
 

@@ -1,5 +1,5 @@
 -- What the check keeps between two answers.
-use Rattle.std.specs.Prelude.{◌≡◌, ℕ, ◌+◌, ◌≤◌, Bool, false, IsTrue, List, [], ◌∷◌, map, length, Some, None, slice_get}
+use Rattle.std.specs.Prelude.{◌≡◌, ℕ, ◌+◌, ◌≤◌, Bool, false, IsTrue, List, map, length, Some, None, slice_get}
 use Rattle.std.specs.List.{AllByRecursion}
 use Rattle.rp_geometry.specs.Geometry.{RationalPoint}
 use Rattle.rp_geometry.specs.sets.Shape.{Part}
@@ -9,6 +9,7 @@ use Rattle.rp_model.specs.states.State.{Kept, Lot, NewLot, Change, nothing_chang
 use Rattle.rp_model.specs.states.Sound.{are_distinct, IsSoundWith}
 use Rattle.rp_model.specs.commands.Row.{is_in_parts}
 use Rattle.rp_space.specs.Listed.{Listed}
+use Rattle.rp_history.specs.Parts.{lots_with_parts}
 use Rattle.rp_boxindex.specs.Boxes.{Boxes}
 use Rattle.rp_nearby.specs.Indexed.{IsIndexed}
 
@@ -36,15 +37,13 @@ pub record IsNewName (ks : List (Kept (Unit {0}))) (x : Label) (ps : List Part) 
 
 -- ---- lots
 
--- a lot with the parts
-abbrev pub with_parts : Lot (Unit {0}) → List Part → Lot (Unit {0})
-with_parts l ps = record { id = l.id; layer = l.layer; set = tt; parts = ps; born = l.born; ended = l.ended; origins = l.origins }
+-- the lists of parts of forms
+abbrev pub lists_of : List (Listed Part) → List (List Part)
+lists_of forms = map (λ f. f.items) forms
 
 -- lots with the parts of their forms, in order
 abbrev pub lots_with_forms : List (Lot (Unit {0})) → List (Listed Part) → List (Lot (Unit {0}))
-lots_with_forms [] forms = []
-lots_with_forms (l ∷ ls) [] = []
-lots_with_forms (l ∷ ls) (f ∷ forms) = with_parts l f.items ∷ lots_with_forms ls forms
+lots_with_forms ls forms = lots_with_parts ls (lists_of forms)
 
 -- few lots with few parts, all together and each
 pub record AreFew (lots : List (Lot (Unit {0}))) : Type 0 where

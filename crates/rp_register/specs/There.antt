@@ -6,7 +6,7 @@ use Rattle.rp_tests.specs.declared.stopped.Stopped.TheVariants.{Limit, Memory}
 use Rattle.rp_model.specs.states.State.{Lot}
 use Rattle.rp_history.specs.Lots.{lot_of}
 use Rattle.rp_register.specs.declared.parcel.Parcel.{Parcel}
-use Rattle.rp_register.specs.Kept.{with_parts}
+use Rattle.rp_history.specs.Parts.{with_parts}
 
 -- a lot with the parts of its form
 abbrev pub lot_here : Parcel → Lot (Unit {0})

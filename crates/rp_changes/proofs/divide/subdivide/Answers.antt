@@ -15,8 +15,24 @@ use Rattle.rp_tests.specs.Comes.{StopsBy}
 use Rattle.rp_tests.proofs.Left.{next_left, stop_left, end_left}
 use Rattle.rp_changes.specs.declared.child.Child.{Child}
 use Rattle.rp_changes.specs.Children.{formed_child}
+use Rattle.rp_history.proofs.Checked.{fails_first, fails_as, divided_is_live}
+use Rattle.rp_changes.proofs.Checked.{names_end}
 use Rattle.rp_changes.proofs.Divided.{parts_here, subdivide_reply, covered_rest, cover_left}
 use Rattle.rp_changes.proofs.divide.subdivide.Goals as goal
+
+pub returns-in_err-place : goal.returns-in_err-place
+returns-in_err-place c =
+    let p = err_from_is_err_and c.from_residual-in_err-place.result c.from_residual-in_err-place.ensures.1 in
+    let s = c.args.register.now in
+    let e = c.in_err-place.field-0.0 in
+    let names = c.items-2.ensures ∙ c.in_ok-ids.ensures ∙ ap (λ (ds : List Child). map (λ (f : FormedChild). f.id) (map formed_child ds)) c.items.ensures in
+    rw (p.1, p.2) (names_end e _ _ c.args.trail.now (fails_first e _ _ (fails_as e _ _ (ap (check_subdivide s c.args.id) names) (c.in_err-place.ensures.checks c.args.register.now c.history-history.ensures.value))))
+
+pub form_at-whole-requires : goal.form_at-whole-requires
+form_at-whole-requires c = c.in_ok-place.ensures.within c.args.register.now c.history-history.ensures.value
+
+pub layer_of-requires : goal.layer_of-requires
+layer_of-requires c s same = divided_is_live s c.args.id c.items-2.result.now (c.in_ok-place.ensures.checks s same)
 
 pub returns-in_err-has_gap : goal.returns-in_err-has_gap
 returns-in_err-has_gap c =
@@ -31,7 +47,7 @@ returns-in_err-has_gap c =
     let y = c.has_gap.new.trail in
     let e = c.in_err-has_gap.field-0.0 in
     let whole = c.form_at-whole.result.now.items in
-    let named = sym (ap (check_subdivide s x) (c.items-2.ensures ∙ c.in_ok-ids.ensures ∙ ap (λ (ds : List Child). map (λ (f : FormedChild). f.id) (map formed_child ds)) c.items.ensures)) ∙ c.in_ok-place.ensures.checks in
+    let named = sym (ap (check_subdivide s x) (c.items-2.ensures ∙ c.in_ok-ids.ensures ∙ ap (λ (ds : List Child). map (λ (f : FormedChild). f.id) (map formed_child ds)) c.items.ensures)) ∙ (c.in_ok-place.ensures.checks c.args.register.now c.history-history.ensures.value) in
     let some = sym (c.in_default.ensures ∙ ap (λ (ds : List Child). first_empty_child 1 (map formed_child ds)) c.items-3.ensures) in
     let size = c.count_parts.ensures ∙ ap (λ (ds : List Child). length (joined_parts (child_parts (map formed_child ds)))) c.items-4.ensures in
     let room = subst (λ (n : ℕ). check_size (parts_under_lots s.lots + n) most_kept_parts t ≡ done tt t) size (c.in_ok-check_room.ensures t) in
@@ -41,7 +57,7 @@ returns-in_err-has_gap c =
     let joined = ap (λ (ds : List Child). joined_parts (child_parts (map formed_child ds))) c.items-8.ensures in
     rw (p.1, p.2)
     (stop_left (is_covered line_tester whole (joined_parts (child_parts cs))) (covered_rest s x cs)
-    (cover_left s x cs whole t v u z named some (parts_here x s c.in_ok-place.place whole c.in_ok-place.ensures.lot c.form_at-whole.ensures) room inside counted apart) e y
+    (cover_left s x cs whole t v u z named some (parts_here x s c.in_ok-place.place whole (c.in_ok-place.ensures.lot c.args.register.now c.history-history.ensures.value) c.form_at-whole.ensures) room inside counted apart) e y
     (subst (λ (qs : List Part). StopsBy e y (is_covered line_tester whole qs z)) joined c.in_err-has_gap.ensures))
 
 pub returns : goal.returns
@@ -55,7 +71,7 @@ returns c =
     let z = c.first_overlapping.new.trail in
     let y = c.has_gap.new.trail in
     let whole = c.form_at-whole.result.now.items in
-    let named = sym (ap (check_subdivide s x) (c.items-2.ensures ∙ c.in_ok-ids.ensures ∙ ap (λ (ds : List Child). map (λ (f : FormedChild). f.id) (map formed_child ds)) c.items.ensures)) ∙ c.in_ok-place.ensures.checks in
+    let named = sym (ap (check_subdivide s x) (c.items-2.ensures ∙ c.in_ok-ids.ensures ∙ ap (λ (ds : List Child). map (λ (f : FormedChild). f.id) (map formed_child ds)) c.items.ensures)) ∙ (c.in_ok-place.ensures.checks c.args.register.now c.history-history.ensures.value) in
     let some = sym (c.in_default.ensures ∙ ap (λ (ds : List Child). first_empty_child 1 (map formed_child ds)) c.items-3.ensures) in
     let size = c.count_parts.ensures ∙ ap (λ (ds : List Child). length (joined_parts (child_parts (map formed_child ds)))) c.items-4.ensures in
     let room = subst (λ (n : ℕ). check_size (parts_under_lots s.lots + n) most_kept_parts t ≡ done tt t) size (c.in_ok-check_room.ensures t) in
@@ -64,8 +80,8 @@ returns c =
     let apart = ap (λ (ds : List Child). first_overlapping_children line_tester 1 (map formed_child ds) u) (sym c.items-7.ensures) ∙ c.in_ok-first.ensures ∙ ap (λ o. done (option_map (λ q. children_overlap q.0 q.1) o) z) c.in_default-3.is in
     let joined = ap (λ (ds : List Child). joined_parts (child_parts (map formed_child ds))) c.items-8.ensures in
     let covered = ap (λ (qs : List Part). is_covered line_tester whole qs z) (sym joined) ∙ c.in_ok-has_gap.ensures ∙ ap (λ (b : Bool). done (not b) y) c.if-branch.false in
-    let born = c.in_ok-born.ensures ∙ ap (λ (l : Label). map (λ (f : FormedChild). new_lot l f.id f.parts (x ∷ [])) cs) c.layer_of.ensures in
+    let born = c.in_ok-born.ensures ∙ ap (λ (l : Label). map (λ (f : FormedChild). new_lot l f.id f.parts (x ∷ [])) cs) (c.layer_of.ensures c.args.register.now c.history-history.ensures.value) in
     end_left (done (subdivide_reply s x cs) y)
     (next_left (is_covered line_tester whole (joined_parts (child_parts cs))) (covered_rest s x cs)
-    (cover_left s x cs whole t v u z named some (parts_here x s c.in_ok-place.place whole c.in_ok-place.ensures.lot c.form_at-whole.ensures) room inside counted apart) covered) refl
+    (cover_left s x cs whole t v u z named some (parts_here x s c.in_ok-place.place whole (c.in_ok-place.ensures.lot c.args.register.now c.history-history.ensures.value) c.form_at-whole.ensures) room inside counted apart) covered) refl
     ∙ ap (λ (d : Change (Unit {0})). done (accepted d) y) (sym (c.in_ok-replaced.ensures ∙ ap (lots_replaced (x ∷ [])) born))

@@ -12,7 +12,9 @@ use Rattle.rp_history.specs.Lots.{lots_in}
 use Rattle.rp_nearby.specs.declared.near.Reach.TheVariants.{Touch}
 use Rattle.rp_nearby.specs.Near.{lots_at, AreWithin}
 use Rattle.rp_parcels.specs.Judged.{with_all_lines, telling_all, IsPairWithin}
+use Rattle.rp_parcels.specs.Faults.{fault_of_names}
 use Rattle.rp_parcels.specs.Rows.{cause_of}
+use Rattle.rp_parcels.proofs.Checked.{names_fail}
 use Rattle.rp_parcels.specs.Touching.{lists_at, places_among, AreRising, IsPairOf, AreBelow, placed, links_that_meet}
 use Rattle.rp_parcels.specs.Behind.{live_places, tests_behind, ArePairsBehind}
 use Rattle.rp_parcels.proofs.Walked.{cut_as, step_fails}
@@ -25,7 +27,7 @@ use Rattle.rp_parcels.proofs.parcels.Parcels.access.Goals as goal
 pub returns-in_err-layer : goal.returns-in_err-layer
 returns-in_err-layer g c =
     let p = err_from_is_err_and c.from_residual.result c.from_residual.ensures.1 in
-    record { row = rw (p.1, p.2) (access_fails c.args.self.now c.args.from c.args.to (cause_of c.in_err-layer.field-0.0) c.args.work.now c.in_err-layer.ensures.checks) }
+    record { row = rw (p.1, p.2) (access_fails c.args.self.now c.args.from c.args.to (cause_of (fault_of_names c.in_err-layer.field-0.0)) c.args.work.now (names_fail c.in_err-layer.field-0.0 _ (c.in_err-layer.ensures.checks (lots_in [] c.args.self.now) c.history.ensures.value))) }
 
 pub returns-in_err-places : goal.returns-in_err-places
 returns-in_err-places g c =
@@ -50,7 +52,7 @@ returns-in_err-near g c =
     record {
       row = rw (p.1, p.2)
           (step_fails (count_tests n) (λ _. links_told lots c.args.from c.args.to (lots_at lots places) (lists_at lots places)) (λ _. links_told_tells lots c.args.from c.args.to (lots_at lots places) (lists_at lots places))
-          (access_begins lots c.args.from c.args.to y places c.in_ok-layer.ensures.checks c.in_ok-layer.ensures.layer (layer_there lots y 0 lots refl) (places_within lots (Some y)) n w tests)
+          (access_begins lots c.args.from c.args.to y places (c.in_ok-layer.ensures.checks (lots_in [] c.args.self.now) c.history.ensures.value) (c.in_ok-layer.ensures.layer (lots_in [] c.args.self.now) c.history.ensures.value) (layer_there lots y 0 lots refl) (places_within lots (Some y)) n w tests)
           c.in_err-near.field-0.0 w (counted_fault c.in_err-near.field-0.0 n w c.in_err-near.ensures.tests));
     }
 
@@ -71,7 +73,7 @@ returns-in_err-all g c =
     record {
       row = rw (p.1, p.2)
           (step_fails (count_tests c.in_ok-near.near.tests) (λ _. links_told lots c.args.from c.args.to (lots_at lots places) (lists_at lots places)) (λ _. links_told_tells lots c.args.from c.args.to (lots_at lots places) (lists_at lots places))
-          (access_begins lots c.args.from c.args.to y places c.in_ok-layer.ensures.checks c.in_ok-layer.ensures.layer (layer_there lots y 0 lots refl) (places_within lots (Some y)) c.in_ok-near.near.tests c.args.work.now tests)
+          (access_begins lots c.args.from c.args.to y places (c.in_ok-layer.ensures.checks (lots_in [] c.args.self.now) c.history.ensures.value) (c.in_ok-layer.ensures.layer (lots_in [] c.args.self.now) c.history.ensures.value) (layer_there lots y 0 lots refl) (places_within lots (Some y)) c.in_ok-near.near.tests c.args.work.now tests)
           c.in_err-all.field-0.0 c.judge_counted.new.work c.in_err-all.ensures.counted);
     }
 
@@ -85,7 +87,7 @@ returns-in_err-numbers g c =
     record {
       row = rw (p.1, p.2)
           (given_up (links_told lots c.args.from c.args.to (lots_at lots places) (lists_at lots places)) (links_told_tells lots c.args.from c.args.to (lots_at lots places) (lists_at lots places))
-          (access_goes_on lots c.args.from c.args.to y places c.in_ok-layer.ensures.checks c.in_ok-layer.ensures.layer (layer_there lots y 0 lots refl) (places_within lots (Some y)) c.in_ok-near.near.tests c.args.work.now c.judge_counted.new.work tests c.in_ok-all.ensures.counted));
+          (access_goes_on lots c.args.from c.args.to y places (c.in_ok-layer.ensures.checks (lots_in [] c.args.self.now) c.history.ensures.value) (c.in_ok-layer.ensures.layer (lots_in [] c.args.self.now) c.history.ensures.value) (layer_there lots y 0 lots refl) (places_within lots (Some y)) c.in_ok-near.near.tests c.args.work.now c.judge_counted.new.work tests c.in_ok-all.ensures.counted));
     }
 
 pub returns-in_err-links : goal.returns-in_err-links
@@ -98,7 +100,7 @@ returns-in_err-links g c =
     record {
       row = rw (p.1, p.2)
           (given_up (links_told lots c.args.from c.args.to (lots_at lots places) (lists_at lots places)) (links_told_tells lots c.args.from c.args.to (lots_at lots places) (lists_at lots places))
-          (access_goes_on lots c.args.from c.args.to y places c.in_ok-layer.ensures.checks c.in_ok-layer.ensures.layer (layer_there lots y 0 lots refl) (places_within lots (Some y)) c.in_ok-near.near.tests c.args.work.now c.judge_counted.new.work tests c.in_ok-all.ensures.counted));
+          (access_goes_on lots c.args.from c.args.to y places (c.in_ok-layer.ensures.checks (lots_in [] c.args.self.now) c.history.ensures.value) (c.in_ok-layer.ensures.layer (lots_in [] c.args.self.now) c.history.ensures.value) (layer_there lots y 0 lots refl) (places_within lots (Some y)) c.in_ok-near.near.tests c.args.work.now c.judge_counted.new.work tests c.in_ok-all.ensures.counted));
     }
 
 pub returns-in_err-told : goal.returns-in_err-told
@@ -111,7 +113,7 @@ returns-in_err-told g c =
     record {
       row = rw (p.1, p.2)
           (given_up (links_told lots c.args.from c.args.to (lots_at lots places) (lists_at lots places)) (links_told_tells lots c.args.from c.args.to (lots_at lots places) (lists_at lots places))
-          (access_goes_on lots c.args.from c.args.to y places c.in_ok-layer.ensures.checks c.in_ok-layer.ensures.layer (layer_there lots y 0 lots refl) (places_within lots (Some y)) c.in_ok-near.near.tests c.args.work.now c.judge_counted.new.work tests c.in_ok-all.ensures.counted));
+          (access_goes_on lots c.args.from c.args.to y places (c.in_ok-layer.ensures.checks (lots_in [] c.args.self.now) c.history.ensures.value) (c.in_ok-layer.ensures.layer (lots_in [] c.args.self.now) c.history.ensures.value) (layer_there lots y 0 lots refl) (places_within lots (Some y)) c.in_ok-near.near.tests c.args.work.now c.judge_counted.new.work tests c.in_ok-all.ensures.counted));
     }
 
 pub returns-in_err-append_all : goal.returns-in_err-append_all
@@ -129,7 +131,7 @@ returns-in_err-append_all g c =
     record {
       row = rw (p.1, p.2)
           (cut_left walk (told_links lots c.args.from c.args.to (lots_at lots places)) (λ links. pass_tells (reply_lines (access_by_links (ids_of (lots_at lots places)) links c.args.from c.args.to)))
-          (access_goes_on lots c.args.from c.args.to y places c.in_ok-layer.ensures.checks c.in_ok-layer.ensures.layer (layer_there lots y 0 lots refl) (places_within lots (Some y)) c.in_ok-near.near.tests c.args.work.now v tests c.in_ok-all.ensures.counted) u
+          (access_goes_on lots c.args.from c.args.to y places (c.in_ok-layer.ensures.checks (lots_in [] c.args.self.now) c.history.ensures.value) (c.in_ok-layer.ensures.layer (lots_in [] c.args.self.now) c.history.ensures.value) (layer_there lots y 0 lots refl) (places_within lots (Some y)) c.in_ok-near.near.tests c.args.work.now v tests c.in_ok-all.ensures.counted) u
           (cut_as v u (telling_all c.in_ok-all.all.items v) (walk v) (ap (with_all_lines v) all ∙ sym (ap work_after (among_shown lots 0 places [] v))) c.in_err-append_all.ensures));
     }
 
@@ -163,14 +165,14 @@ pub told_access-requires-clause-from_there : goal.told_access-requires-clause-fr
 told_access-requires-clause-from_there g c =
     let lots = c.args.self.now in
     let y = c.in_ok-layer.layer in
-    let there = numbers_there lots c.args.from c.args.to y (live_places (Some y) 0 lots) c.in_ok-layer.ensures.checks c.in_ok-layer.ensures.layer (layer_there lots y 0 lots refl) (places_within lots (Some y)) in
+    let there = numbers_there lots c.args.from c.args.to y (live_places (Some y) 0 lots) (c.in_ok-layer.ensures.checks (lots_in [] c.args.self.now) c.history.ensures.value) (c.in_ok-layer.ensures.layer (lots_in [] c.args.self.now) c.history.ensures.value) (layer_there lots y 0 lots refl) (places_within lots (Some y)) in
     subst (λ ks. place_among c.args.from (ids_of (lots_at lots ks)) < length ks) (sym (c.deref-6.ensures.value ∙ c.in_ok-places.ensures.places)) there.0
 
 pub told_access-requires-clause-to_there : goal.told_access-requires-clause-to_there
 told_access-requires-clause-to_there g c =
     let lots = c.args.self.now in
     let y = c.in_ok-layer.layer in
-    let there = numbers_there lots c.args.from c.args.to y (live_places (Some y) 0 lots) c.in_ok-layer.ensures.checks c.in_ok-layer.ensures.layer (layer_there lots y 0 lots refl) (places_within lots (Some y)) in
+    let there = numbers_there lots c.args.from c.args.to y (live_places (Some y) 0 lots) (c.in_ok-layer.ensures.checks (lots_in [] c.args.self.now) c.history.ensures.value) (c.in_ok-layer.ensures.layer (lots_in [] c.args.self.now) c.history.ensures.value) (layer_there lots y 0 lots refl) (places_within lots (Some y)) in
     subst (λ ks. place_among c.args.to (ids_of (lots_at lots ks)) < length ks) (sym (c.deref-6.ensures.value ∙ c.in_ok-places.ensures.places)) there.1
 
 pub returns : goal.returns
@@ -192,6 +194,6 @@ returns g c =
     let told = c.in_ok-told.ensures (links_that_meet c.deref-4.result.now c.deref-5.result.now) c.in_ok-links.ensures.links
     ∙ ap₂ (λ ks (ls : List (ℕ × ℕ)). access_by_links (ids_of (lots_at lots ks)) ls c.args.from c.args.to) (c.deref-6.ensures.value ∙ c.in_ok-places.ensures.places) links in
     record {
-      row = row_walked lots c.args.from c.args.to y places c.in_ok-layer.ensures.checks c.in_ok-layer.ensures.layer (layer_there lots y 0 lots refl) (places_within lots (Some y)) c.in_ok-near.near.tests c.args.work.now v tests c.in_ok-all.ensures.counted
+      row = row_walked lots c.args.from c.args.to y places (c.in_ok-layer.ensures.checks (lots_in [] c.args.self.now) c.history.ensures.value) (c.in_ok-layer.ensures.layer (lots_in [] c.args.self.now) c.history.ensures.value) (layer_there lots y 0 lots refl) (places_within lots (Some y)) c.in_ok-near.near.tests c.args.work.now v tests c.in_ok-all.ensures.counted
           ∙ ap₂ (λ (vs : List Verdict) (u : Work). done (reply_lines vs) u) (sym told) (ap (with_all_lines v) (sym all) ∙ ap work_after c.in_ok-append_all.ensures);
     }

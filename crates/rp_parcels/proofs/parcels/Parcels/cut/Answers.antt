@@ -9,8 +9,11 @@ use Rattle.rp_region.specs.Makes.{IsFaultOf}
 use Rattle.rp_region.proofs.Grows.{pass_tells}
 use Rattle.rp_region.proofs.Left.{IsLeft, given_up}
 use Rattle.rp_history.specs.Lots.{lots_in}
+use Rattle.rp_history.proofs.Checked.{passes_first}
 use Rattle.rp_parcels.specs.Register.{IsFitChange, parts_divided}
+use Rattle.rp_parcels.specs.Faults.{fault_of_names}
 use Rattle.rp_parcels.specs.Rows.{cause_of}
+use Rattle.rp_parcels.proofs.Checked.{names_fail, names_untold}
 use Rattle.rp_parcels.proofs.Rows.{cut_is_fit, room_is}
 use Rattle.rp_parcels.proofs.Walked.{step_fails}
 use Rattle.rp_parcels.proofs.Composed.{parts_here, cut_lots, cutting, with_inner, with_inner_tells, with_outer, with_outer_tells, cut_fails, cut_begins, cut_inner, cut_outer, cut_roomy, inner_empty, outer_empty, divided_changes}
@@ -19,7 +22,7 @@ use Rattle.rp_parcels.proofs.parcels.Parcels.cut.Goals as goal
 pub returns-in_err-place-clause-row : goal.returns-in_err-place-clause-row
 returns-in_err-place-clause-row c =
     let p = err_from_is_err_and c.from_residual.result c.from_residual.ensures.1 in
-    rw (p.1, p.2) (cut_fails c.args.self.now c.args.id c.args.first c.args.second c.args.by.now (cause_of c.in_err-place.field-0.0) c.args.work.now c.in_err-place.ensures.checks, refl)
+    rw (p.1, p.2) (cut_fails c.args.self.now c.args.id c.args.first c.args.second c.args.by.now (cause_of (fault_of_names c.in_err-place.field-0.0)) c.args.work.now (names_fail c.in_err-place.field-0.0 _ (c.in_err-place.ensures.checks (lots_in [] c.args.self.now) c.history.ensures.value)), refl)
 
 pub returns-in_err-inner-clause-row : goal.returns-in_err-inner-clause-row
 returns-in_err-inner-clause-row c =
@@ -29,8 +32,8 @@ returns-in_err-inner-clause-row c =
     let x = c.args.id in
     let ps = c.args.by.now in
     let whole = c.region_at-whole.result.now in
-    let checked = c.in_ok-place.ensures.checks in
-    let parts = parts_here x lots c.in_ok-place.place whole c.in_ok-place.ensures.lot c.region_at-whole.ensures in
+    let checked = (c.in_ok-place.ensures.checks (lots_in [] c.args.self.now) c.history.ensures.value) in
+    let parts = parts_here x lots c.in_ok-place.place whole (c.in_ok-place.ensures.lot (lots_in [] c.args.self.now) c.history.ensures.value) c.region_at-whole.ensures in
     rw (p.1, p.2) (
       step_fails (join first_tester whole ps) (with_inner lots x c.args.first c.args.second ps whole) (with_inner_tells lots x c.args.first c.args.second ps whole) (cut_begins lots x c.args.first c.args.second ps whole w checked parts) c.in_err-inner.field-0.0 c.both.new.work c.in_err-inner.ensures.makes,
       refl,
@@ -43,8 +46,8 @@ returns-then-is_empty-clause-row c =
     let x = c.args.id in
     let ps = c.args.by.now in
     let whole = c.region_at-whole.result.now in
-    let checked = c.in_ok-place.ensures.checks in
-    let parts = parts_here x lots c.in_ok-place.place whole c.in_ok-place.ensures.lot c.region_at-whole.ensures in
+    let checked = (c.in_ok-place.ensures.checks (lots_in [] c.args.self.now) c.history.ensures.value) in
+    let parts = parts_here x lots c.in_ok-place.place whole (c.in_ok-place.ensures.lot (lots_in [] c.args.self.now) c.history.ensures.value) c.region_at-whole.ensures in
     let inner = c.in_ok-inner.inner in
     let u = c.both.new.work in
     let joined = c.in_ok-inner.ensures.makes in
@@ -59,8 +62,8 @@ returns-in_err-outer-clause-row c =
     let x = c.args.id in
     let ps = c.args.by.now in
     let whole = c.region_at-whole.result.now in
-    let checked = c.in_ok-place.ensures.checks in
-    let parts = parts_here x lots c.in_ok-place.place whole c.in_ok-place.ensures.lot c.region_at-whole.ensures in
+    let checked = (c.in_ok-place.ensures.checks (lots_in [] c.args.self.now) c.history.ensures.value) in
+    let parts = parts_here x lots c.in_ok-place.place whole (c.in_ok-place.ensures.lot (lots_in [] c.args.self.now) c.history.ensures.value) c.region_at-whole.ensures in
     let inner = c.in_ok-inner.inner in
     let u = c.both.new.work in
     let joined = c.in_ok-inner.ensures.makes in
@@ -77,8 +80,8 @@ returns-then-is_empty-2-clause-row c =
     let x = c.args.id in
     let ps = c.args.by.now in
     let whole = c.region_at-whole.result.now in
-    let checked = c.in_ok-place.ensures.checks in
-    let parts = parts_here x lots c.in_ok-place.place whole c.in_ok-place.ensures.lot c.region_at-whole.ensures in
+    let checked = (c.in_ok-place.ensures.checks (lots_in [] c.args.self.now) c.history.ensures.value) in
+    let parts = parts_here x lots c.in_ok-place.place whole (c.in_ok-place.ensures.lot (lots_in [] c.args.self.now) c.history.ensures.value) c.region_at-whole.ensures in
     let inner = c.in_ok-inner.inner in
     let u = c.both.new.work in
     let joined = c.in_ok-inner.ensures.makes in
@@ -97,8 +100,8 @@ returns-in_err-check_room-clause-row c =
     let x = c.args.id in
     let ps = c.args.by.now in
     let whole = c.region_at-whole.result.now in
-    let checked = c.in_ok-place.ensures.checks in
-    let parts = parts_here x lots c.in_ok-place.place whole c.in_ok-place.ensures.lot c.region_at-whole.ensures in
+    let checked = (c.in_ok-place.ensures.checks (lots_in [] c.args.self.now) c.history.ensures.value) in
+    let parts = parts_here x lots c.in_ok-place.place whole (c.in_ok-place.ensures.lot (lots_in [] c.args.self.now) c.history.ensures.value) c.region_at-whole.ensures in
     let inner = c.in_ok-inner.inner in
     let u = c.both.new.work in
     let joined = c.in_ok-inner.ensures.makes in
@@ -124,8 +127,8 @@ returns-in_err-pair-clause-row c =
     let x = c.args.id in
     let ps = c.args.by.now in
     let whole = c.region_at-whole.result.now in
-    let checked = c.in_ok-place.ensures.checks in
-    let parts = parts_here x lots c.in_ok-place.place whole c.in_ok-place.ensures.lot c.region_at-whole.ensures in
+    let checked = (c.in_ok-place.ensures.checks (lots_in [] c.args.self.now) c.history.ensures.value) in
+    let parts = parts_here x lots c.in_ok-place.place whole (c.in_ok-place.ensures.lot (lots_in [] c.args.self.now) c.history.ensures.value) c.region_at-whole.ensures in
     let inner = c.in_ok-inner.inner in
     let u = c.both.new.work in
     let joined = c.in_ok-inner.ensures.makes in
@@ -150,7 +153,7 @@ divide-requires-clause-fit c =
     let size = ap₂ (λ (qs rs : List Part). parts_under_lots lots + (length qs + length rs)) c.parts-3.ensures.value c.parts-4.ensures.value in
     let room = subst (λ (n : ℕ). check_size n most_kept_parts v ≡ done tt v) size (c.in_ok-check_room.ensures.walk v) in
     subst (λ (lists : List (List Part)). IsFitChange c.args.line lots (c.args.id ∷ []) (parts_divided (layer_with_id (lots_in [] lots) c.args.id) c.args.id (c.args.first ∷ c.args.second ∷ []) lists)) (sym c.in_ok-pair.ensures)
-    (cut_is_fit c.args.line lots c.args.id c.args.first c.args.second c.in_ok-place.place c.region_at-whole.result.now c.args.by.now inner outer c.in_ok-check_room.ensures.sound c.requires c.in_ok-place.ensures.checks c.in_ok-place.ensures.lot c.region_at-whole.ensures
+    (cut_is_fit c.args.line lots c.args.id c.args.first c.args.second c.in_ok-place.place c.region_at-whole.result.now c.args.by.now inner outer c.in_ok-check_room.ensures.sound c.requires (c.in_ok-place.ensures.checks (lots_in [] c.args.self.now) c.history.ensures.value) (c.in_ok-place.ensures.lot (lots_in [] c.args.self.now) c.history.ensures.value) c.region_at-whole.ensures
     c.parts.ensures.kept c.in_ok-inner.ensures.members some c.parts-2.ensures.kept c.in_ok-outer.ensures.members more (room_is _ most_kept_parts v v room))
 
 pub returns-clause-row : goal.returns-clause-row
@@ -160,8 +163,8 @@ returns-clause-row c =
     let x = c.args.id in
     let ps = c.args.by.now in
     let whole = c.region_at-whole.result.now in
-    let checked = c.in_ok-place.ensures.checks in
-    let parts = parts_here x lots c.in_ok-place.place whole c.in_ok-place.ensures.lot c.region_at-whole.ensures in
+    let checked = (c.in_ok-place.ensures.checks (lots_in [] c.args.self.now) c.history.ensures.value) in
+    let parts = parts_here x lots c.in_ok-place.place whole (c.in_ok-place.ensures.lot (lots_in [] c.args.self.now) c.history.ensures.value) c.region_at-whole.ensures in
     let inner = c.in_ok-inner.inner in
     let u = c.both.new.work in
     let joined = c.in_ok-inner.ensures.makes in
@@ -176,3 +179,9 @@ returns-clause-row c =
     divided_changes c.divide.result c.args.line w v lots c.divide.new.self (cutting lots x c.args.first c.args.second ps) (x ∷ []) _ c.divide.ensures.ok c.divide.ensures.err
     (subst (λ (lists : List (List Part)). IsLeft w (cutting lots x c.args.first c.args.second ps) v (pass (accepted (lots_replaced (x ∷ []) (parts_divided (layer_with_id (lots_in [] lots) x) x (c.args.first ∷ c.args.second ∷ []) lists))))) made
     (cut_roomy lots x c.args.first c.args.second ps whole w checked parts inner u joined some outer v subtracted more room))
+
+pub region_at-whole-requires : goal.region_at-whole-requires
+region_at-whole-requires c = c.in_ok-place.ensures.within (lots_in [] c.args.self.now) c.history.ensures.value
+
+pub divide-requires-clause-live : goal.divide-requires-clause-live
+divide-requires-clause-live c = passes_first _ _ (c.in_ok-place.ensures.checks (lots_in [] c.args.self.now) c.history.ensures.value)

@@ -1,19 +1,19 @@
-use Rattle.rp_parcels.proofs.Checked.{is_live_here, is_not_live, within_lots}
-use Rattle.rp_parcels.proofs.Found.{live_here, none_live_here}
+use Rattle.std.proofs.Common.{[]}
+use Rattle.std.proofs.lemmas.Result.{err_from_is_err_and}
+use Rattle.rp_history.specs.Lots.{lots_in}
+use Rattle.rp_parcels.proofs.Checked.{names_fail}
 use Rattle.rp_parcels.proofs.parcels.Parcels.live_place.Goals as goal
 
-pub returns-in-Some-clause-checks : goal.returns-in-Some-clause-checks
-returns-in-Some-clause-checks c =
-    let within = within_lots c.args.self.now c.history.result.now c.history.ensures.value c.in-Some.place c.in-Some.ensures.within in
-    is_live_here c.args.id c.args.self.now c.in-Some.place within (live_here c.args.id c.args.self.now c.history.result.now c.history.ensures.sound c.history.ensures.value c.in-Some.place within c.in-Some.ensures.lot)
+pub returns-in_err-check_live-clause-checks : goal.returns-in_err-check_live-clause-checks
+returns-in_err-check_live-clause-checks c =
+    let p = err_from_is_err_and c.from_residual.result c.from_residual.ensures.1 in
+    rw (p.1, p.2) (names_fail c.in_err-check_live.field-0.0 _ (c.in_err-check_live.ensures.checks (lots_in [] c.args.self.now) c.history.ensures.value))
 
-pub returns-in-Some-clause-lot : goal.returns-in-Some-clause-lot
-returns-in-Some-clause-lot c =
-    live_here c.args.id c.args.self.now c.history.result.now c.history.ensures.sound c.history.ensures.value c.in-Some.place
-    (within_lots c.args.self.now c.history.result.now c.history.ensures.value c.in-Some.place c.in-Some.ensures.within) c.in-Some.ensures.lot
+pub returns-clause-checks : goal.returns-clause-checks
+returns-clause-checks c = c.in_ok-check_live.ensures.checks (lots_in [] c.args.self.now) c.history.ensures.value
 
-pub returns-in-Some-clause-within : goal.returns-in-Some-clause-within
-returns-in-Some-clause-within c = within_lots c.args.self.now c.history.result.now c.history.ensures.value c.in-Some.place c.in-Some.ensures.within
+pub returns-clause-lot : goal.returns-clause-lot
+returns-clause-lot c = c.in_ok-check_live.ensures.lot (lots_in [] c.args.self.now) c.history.ensures.value
 
-pub returns-in-None-clause-checks : goal.returns-in-None-clause-checks
-returns-in-None-clause-checks c = is_not_live c.args.id c.args.self.now (none_live_here c.args.id c.args.self.now c.history.result.now c.history.ensures.value c.in-None.ensures.lot)
+pub returns-clause-within : goal.returns-clause-within
+returns-clause-within c = c.in_ok-check_live.ensures.within (lots_in [] c.args.self.now) c.history.ensures.value

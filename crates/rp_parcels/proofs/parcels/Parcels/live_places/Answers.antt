@@ -4,7 +4,7 @@ use Rattle.rp_model.specs.states.State.{Lot, bare_lot}
 use Rattle.rp_history.specs.Lots.{lot_of}
 use Rattle.rp_nearby.proofs.Behind.{left_at}
 use Rattle.rp_parcels.specs.Behind.{is_live_in, live_places}
-use Rattle.rp_parcels.proofs.Found.{line_at}
+use Rattle.rp_history.proofs.Bare.{line_at}
 use Rattle.rp_parcels.proofs.Paired.{place_taken, place_passed, places_ended}
 use Rattle.rp_parcels.proofs.parcels.Parcels.live_places.Goals as goal
 use Rattle.rp_parcels.proofs.parcels.Parcels.live_places.Goals.{then-is_live_in+in_ok-push, else-is_live_in}

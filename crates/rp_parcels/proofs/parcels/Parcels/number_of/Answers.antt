@@ -4,7 +4,8 @@ use Rattle.rp_model.specs.states.State.{ids_of, place_among}
 use Rattle.rp_history.specs.declared.lot.LotLine.{LotLine}
 use Rattle.rp_nearby.specs.Near.{lots_at}
 use Rattle.rp_parcels.specs.Judged.{id_at}
-use Rattle.rp_parcels.proofs.Numbers.{within_at, ids_left, line_id, number_here, number_later}
+use Rattle.rp_parcels.proofs.Numbers.{within_at, ids_left, line_id}
+use Rattle.rp_history.proofs.Numbers.{number_here, number_later}
 use Rattle.rp_parcels.proofs.parcels.Parcels.number_of.Goals as goal
 
 pub returns-then-eq : goal.returns-then-eq

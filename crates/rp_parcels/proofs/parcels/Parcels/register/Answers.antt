@@ -9,7 +9,8 @@ use Rattle.rp_model.specs.commands.Row.{check_size, new_lot}
 use Rattle.rp_region.specs.Makes.{IsFaultOf}
 use Rattle.rp_region.proofs.Left.{given_up}
 use Rattle.rp_history.specs.Lots.{lots_in, lots_after}
-use Rattle.rp_parcels.specs.Register.{IsFitChange, new_lots}
+use Rattle.rp_parcels.specs.Register.{IsFitChange}
+use Rattle.rp_history.specs.Parts.{new_lots}
 use Rattle.rp_parcels.specs.Rows.{cause_of}
 use Rattle.rp_parcels.specs.Walks.{overlap_counted}
 use Rattle.rp_parcels.proofs.Rows.{register_is_fit, room_is}

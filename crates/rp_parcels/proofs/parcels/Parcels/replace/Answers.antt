@@ -7,9 +7,11 @@ use Rattle.rp_history.specs.Lots.{lots_after, AreNew}
 use Rattle.rp_boxindex.specs.Boxes.{Boxes}
 use Rattle.rp_nearby.specs.Indexed.{boxes_in, hull_of_parts, ArePut}
 use Rattle.rp_nearby.proofs.Put.{none_behind_put}
-use Rattle.rp_parcels.specs.Kept.{lots_with_parts, AreSound, IsRegister}
-use Rattle.rp_parcels.specs.Register.{IsLater, IsFitChange, new_lots}
-use Rattle.rp_parcels.proofs.Together.{born_before, new_to_history, after_with_parts, register_after, lots_counted, lots_sound, lots_parts, new_parts}
+use Rattle.rp_parcels.specs.Kept.{AreSound, IsRegister}
+use Rattle.rp_history.specs.Parts.{lots_with_parts, new_lots}
+use Rattle.rp_parcels.specs.Register.{IsLater, IsFitChange}
+use Rattle.rp_parcels.proofs.Together.{born_before, register_after, lots_counted, lots_sound, lots_parts}
+use Rattle.rp_history.proofs.Together.{new_to_history, after_with_parts, new_parts}
 use Rattle.rp_parcels.proofs.Sizes.{few_lots, few_parts}
 use Rattle.rp_parcels.proofs.Later.{later_after}
 use Rattle.rp_parcels.proofs.Moved.{hulls_counted, free_live, free_ever, indexed_replaced, register_stays, register_restored, room_for}

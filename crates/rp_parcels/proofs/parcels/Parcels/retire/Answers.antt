@@ -3,7 +3,8 @@ use Rattle.rp_walks.specs.Walk.{no_work}
 use Rattle.rp_model.specs.states.State.{lots_replaced}
 use Rattle.rp_history.specs.Lots.{lots_after}
 use Rattle.rp_nearby.specs.Indexed.{IsIndexed}
-use Rattle.rp_parcels.specs.Kept.{lots_with_parts, AreSound}
+use Rattle.rp_parcels.specs.Kept.{AreSound}
+use Rattle.rp_history.specs.Parts.{lots_with_parts}
 use Rattle.rp_parcels.specs.Register.{IsLater}
 use Rattle.rp_parcels.proofs.Together.{born_before, register_ended, ended_together, lots_counted, lots_sound}
 use Rattle.rp_parcels.proofs.Moved.{indexed_retired}

@@ -13,13 +13,15 @@ use Rattle.rp_model.specs.commands.Row.{FormedChild, accepted, check_size, parts
 use Rattle.rp_region.specs.Makes.{IsFaultOf}
 use Rattle.rp_region.proofs.Left.{IsLeft, given_up, not_begun}
 use Rattle.rp_history.specs.Lots.{lots_in}
+use Rattle.rp_history.proofs.Checked.{divided_is_live}
 use Rattle.rp_parcels.specs.Register.{IsFitChange, child_of, parts_divided}
+use Rattle.rp_parcels.specs.Faults.{fault_of_names}
 use Rattle.rp_parcels.specs.Rows.{cause_of}
-use Rattle.rp_parcels.proofs.Checked.{fails_first as first_fails, fails_later, fails_as as same_fails}
+use Rattle.rp_parcels.proofs.Checked.{fails_first as first_fails, fails_later, fails_as as same_fails, names_fail, names_untold}
 use Rattle.rp_parcels.proofs.Walked.{step_fails, refusal_ends}
 use Rattle.rp_parcels.proofs.Rows.{room_is}
 use Rattle.rp_parcels.proofs.Composed.{parts_here, divided_changes}
-use Rattle.rp_parcels.proofs.Untold.{untold, subdivide_never, empty_never}
+use Rattle.rp_parcels.proofs.Untold.{untold, empty_never}
 use Rattle.rp_parcels.proofs.Subdivided.{subdividing, child_lots, first_checks, after_cover, after_cover_tells, before_cover, before_cover_tells, before_pairs, before_pairs_tells, before_count, before_count_tells, before_inside, before_inside_tells, size_first, subdivide_tells, subdivide_fails, sized, roomy, within_whole, pairs_counted, children_apart, cover_walked}
 use Rattle.rp_parcels.proofs.Children.{subdivide_is_fit, divided_children, children_kept, children_distinct}
 use Rattle.rp_parcels.proofs.parcels.Parcels.subdivide.Goals as goal
@@ -40,13 +42,13 @@ returns-in_err-place-clause-row c =
     let cs = map child_of children in
     let w = c.args.work.now in
     let names = c.items.ensures ∙ c.in_ok-ids.ensures ∙ sym (images_twice child_of (λ (f : FormedChild). f.id) children) in
-    let cause = cause_of c.in_err-place.field-0.0 in
-    rw (p.1, p.2) (subdivide_fails lots x cs cause w (first_fails cause _ _ (same_fails cause _ _ (ap (check_subdivide (lots_in [] lots) x) names) c.in_err-place.ensures.checks)), refl)
+    let cause = cause_of (fault_of_names c.in_err-place.field-0.0) in
+    rw (p.1, p.2) (subdivide_fails lots x cs cause w (first_fails cause _ _ (same_fails cause _ _ (ap (check_subdivide (lots_in [] lots) x) names) (names_fail c.in_err-place.field-0.0 _ (c.in_err-place.ensures.checks (lots_in [] c.args.self.now) c.history.ensures.value)))), refl)
 
 pub returns-in_err-place-clause-told : goal.returns-in_err-place-clause-told
 returns-in_err-place-clause-told c =
     let p = err_from_is_err_and c.from_residual-in_err-place.result c.from_residual-in_err-place.ensures.1 in
-    rw (p.1, p.2) (untold c.in_err-place.field-0.0 _ c.args.work.now.proofs (subdivide_never (lots_in [] c.args.self.now) c.args.id c.items.result.now) c.in_err-place.ensures.checks)
+    rw (p.1, p.2) (names_untold c.in_err-place.field-0.0 c.args.work.now.proofs)
 
 pub returns-in_err-check_some-clause-row : goal.returns-in_err-check_some-clause-row
 returns-in_err-check_some-clause-row c =
@@ -57,7 +59,7 @@ returns-in_err-check_some-clause-row c =
     let cs = map child_of children in
     let w = c.args.work.now in
     let names = c.items.ensures ∙ c.in_ok-ids.ensures ∙ sym (images_twice child_of (λ (f : FormedChild). f.id) children) in
-    let first : check_subdivide (lots_in [] lots) x (map (λ f. f.id) cs) ≡ None = sym (ap (check_subdivide (lots_in [] lots) x) names) ∙ c.in_ok-place.ensures.checks in
+    let first : check_subdivide (lots_in [] lots) x (map (λ f. f.id) cs) ≡ None = sym (ap (check_subdivide (lots_in [] lots) x) names) ∙ (c.in_ok-place.ensures.checks (lots_in [] c.args.self.now) c.history.ensures.value) in
     let cause = cause_of c.in_err-check_some.field-0.0 in
     rw (p.1, p.2) (subdivide_fails lots x cs cause w (fails_later cause _ _ first c.in_err-check_some.ensures), refl)
 
@@ -75,7 +77,7 @@ returns-in_err-check_room-clause-row c =
     let cs = map child_of children in
     let w = c.args.work.now in
     let names = c.items.ensures ∙ c.in_ok-ids.ensures ∙ sym (images_twice child_of (λ (f : FormedChild). f.id) children) in
-    let first : check_subdivide (lots_in [] lots) x (map (λ f. f.id) cs) ≡ None = sym (ap (check_subdivide (lots_in [] lots) x) names) ∙ c.in_ok-place.ensures.checks in
+    let first : check_subdivide (lots_in [] lots) x (map (λ f. f.id) cs) ≡ None = sym (ap (check_subdivide (lots_in [] lots) x) names) ∙ (c.in_ok-place.ensures.checks (lots_in [] c.args.self.now) c.history.ensures.value) in
     let checked : first_checks lots x cs ≡ None = ap₂ and_then first c.in_ok-check_some.ensures in
     let size = ap (λ (n : ℕ). parts_under_lots lots + n) c.count_parts.ensures.value in
     let whole = parts_with_id (lots_in [] lots) x in
@@ -95,12 +97,12 @@ returns-in_err-check_inside-clause-row c =
     let cs = map child_of children in
     let w = c.args.work.now in
     let names = c.items.ensures ∙ c.in_ok-ids.ensures ∙ sym (images_twice child_of (λ (f : FormedChild). f.id) children) in
-    let first : check_subdivide (lots_in [] lots) x (map (λ f. f.id) cs) ≡ None = sym (ap (check_subdivide (lots_in [] lots) x) names) ∙ c.in_ok-place.ensures.checks in
+    let first : check_subdivide (lots_in [] lots) x (map (λ f. f.id) cs) ≡ None = sym (ap (check_subdivide (lots_in [] lots) x) names) ∙ (c.in_ok-place.ensures.checks (lots_in [] c.args.self.now) c.history.ensures.value) in
     let checked : first_checks lots x cs ≡ None = ap₂ and_then first c.in_ok-check_some.ensures in
     let size = ap (λ (n : ℕ). parts_under_lots lots + n) c.count_parts.ensures.value in
     let room = subst (λ (n : ℕ). check_size n most_kept_parts w ≡ done tt w) size (c.in_ok-check_room.ensures.walk w) in
     let whole = c.region_at-whole.result.now in
-    let parts = parts_here x lots c.in_ok-place.place whole c.in_ok-place.ensures.lot c.region_at-whole.ensures in
+    let parts = parts_here x lots c.in_ok-place.place whole (c.in_ok-place.ensures.lot (lots_in [] c.args.self.now) c.history.ensures.value) c.region_at-whole.ensures in
     let cause = cause_of c.in_err-check_inside.field-0.0 in
     rw (p.1, p.2) (
       refusal_ends cause (first_outside_child first_tester whole 1 cs) (before_count lots x cs whole) (before_count_tells lots x cs whole) (roomy lots x cs whole w checked parts room) c.check_inside.new.work c.in_err-check_inside.ensures.walk,
@@ -116,12 +118,12 @@ returns-in_err-count_tests-clause-row c =
     let cs = map child_of children in
     let w = c.args.work.now in
     let names = c.items.ensures ∙ c.in_ok-ids.ensures ∙ sym (images_twice child_of (λ (f : FormedChild). f.id) children) in
-    let first : check_subdivide (lots_in [] lots) x (map (λ f. f.id) cs) ≡ None = sym (ap (check_subdivide (lots_in [] lots) x) names) ∙ c.in_ok-place.ensures.checks in
+    let first : check_subdivide (lots_in [] lots) x (map (λ f. f.id) cs) ≡ None = sym (ap (check_subdivide (lots_in [] lots) x) names) ∙ (c.in_ok-place.ensures.checks (lots_in [] c.args.self.now) c.history.ensures.value) in
     let checked : first_checks lots x cs ≡ None = ap₂ and_then first c.in_ok-check_some.ensures in
     let size = ap (λ (n : ℕ). parts_under_lots lots + n) c.count_parts.ensures.value in
     let room = subst (λ (n : ℕ). check_size n most_kept_parts w ≡ done tt w) size (c.in_ok-check_room.ensures.walk w) in
     let whole = c.region_at-whole.result.now in
-    let parts = parts_here x lots c.in_ok-place.place whole c.in_ok-place.ensures.lot c.region_at-whole.ensures in
+    let parts = parts_here x lots c.in_ok-place.place whole (c.in_ok-place.ensures.lot (lots_in [] c.args.self.now) c.history.ensures.value) c.region_at-whole.ensures in
     let v = c.check_inside.new.work in
     let inside = c.in_ok-check_inside.ensures.walk in
     let e = c.in_err-count_tests.field-0.0 in
@@ -140,12 +142,12 @@ returns-in_err-check_apart-clause-row c =
     let cs = map child_of children in
     let w = c.args.work.now in
     let names = c.items.ensures ∙ c.in_ok-ids.ensures ∙ sym (images_twice child_of (λ (f : FormedChild). f.id) children) in
-    let first : check_subdivide (lots_in [] lots) x (map (λ f. f.id) cs) ≡ None = sym (ap (check_subdivide (lots_in [] lots) x) names) ∙ c.in_ok-place.ensures.checks in
+    let first : check_subdivide (lots_in [] lots) x (map (λ f. f.id) cs) ≡ None = sym (ap (check_subdivide (lots_in [] lots) x) names) ∙ (c.in_ok-place.ensures.checks (lots_in [] c.args.self.now) c.history.ensures.value) in
     let checked : first_checks lots x cs ≡ None = ap₂ and_then first c.in_ok-check_some.ensures in
     let size = ap (λ (n : ℕ). parts_under_lots lots + n) c.count_parts.ensures.value in
     let room = subst (λ (n : ℕ). check_size n most_kept_parts w ≡ done tt w) size (c.in_ok-check_room.ensures.walk w) in
     let whole = c.region_at-whole.result.now in
-    let parts = parts_here x lots c.in_ok-place.place whole c.in_ok-place.ensures.lot c.region_at-whole.ensures in
+    let parts = parts_here x lots c.in_ok-place.place whole (c.in_ok-place.ensures.lot (lots_in [] c.args.self.now) c.history.ensures.value) c.region_at-whole.ensures in
     let v = c.check_inside.new.work in
     let inside = c.in_ok-check_inside.ensures.walk in
     let u = c.count_tests.new.work in
@@ -165,12 +167,12 @@ returns-in_err-points-clause-row c =
     let cs = map child_of children in
     let w = c.args.work.now in
     let names = c.items.ensures ∙ c.in_ok-ids.ensures ∙ sym (images_twice child_of (λ (f : FormedChild). f.id) children) in
-    let first : check_subdivide (lots_in [] lots) x (map (λ f. f.id) cs) ≡ None = sym (ap (check_subdivide (lots_in [] lots) x) names) ∙ c.in_ok-place.ensures.checks in
+    let first : check_subdivide (lots_in [] lots) x (map (λ f. f.id) cs) ≡ None = sym (ap (check_subdivide (lots_in [] lots) x) names) ∙ (c.in_ok-place.ensures.checks (lots_in [] c.args.self.now) c.history.ensures.value) in
     let checked : first_checks lots x cs ≡ None = ap₂ and_then first c.in_ok-check_some.ensures in
     let size = ap (λ (n : ℕ). parts_under_lots lots + n) c.count_parts.ensures.value in
     let room = subst (λ (n : ℕ). check_size n most_kept_parts w ≡ done tt w) size (c.in_ok-check_room.ensures.walk w) in
     let whole = c.region_at-whole.result.now in
-    let parts = parts_here x lots c.in_ok-place.place whole c.in_ok-place.ensures.lot c.region_at-whole.ensures in
+    let parts = parts_here x lots c.in_ok-place.place whole (c.in_ok-place.ensures.lot (lots_in [] c.args.self.now) c.history.ensures.value) c.region_at-whole.ensures in
     let v = c.check_inside.new.work in
     let inside = c.in_ok-check_inside.ensures.walk in
     let u = c.count_tests.new.work in
@@ -190,12 +192,12 @@ returns-in-Some-clause-row c =
     let cs = map child_of children in
     let w = c.args.work.now in
     let names = c.items.ensures ∙ c.in_ok-ids.ensures ∙ sym (images_twice child_of (λ (f : FormedChild). f.id) children) in
-    let first : check_subdivide (lots_in [] lots) x (map (λ f. f.id) cs) ≡ None = sym (ap (check_subdivide (lots_in [] lots) x) names) ∙ c.in_ok-place.ensures.checks in
+    let first : check_subdivide (lots_in [] lots) x (map (λ f. f.id) cs) ≡ None = sym (ap (check_subdivide (lots_in [] lots) x) names) ∙ (c.in_ok-place.ensures.checks (lots_in [] c.args.self.now) c.history.ensures.value) in
     let checked : first_checks lots x cs ≡ None = ap₂ and_then first c.in_ok-check_some.ensures in
     let size = ap (λ (n : ℕ). parts_under_lots lots + n) c.count_parts.ensures.value in
     let room = subst (λ (n : ℕ). check_size n most_kept_parts w ≡ done tt w) size (c.in_ok-check_room.ensures.walk w) in
     let whole = c.region_at-whole.result.now in
-    let parts = parts_here x lots c.in_ok-place.place whole c.in_ok-place.ensures.lot c.region_at-whole.ensures in
+    let parts = parts_here x lots c.in_ok-place.place whole (c.in_ok-place.ensures.lot (lots_in [] c.args.self.now) c.history.ensures.value) c.region_at-whole.ensures in
     let v = c.check_inside.new.work in
     let inside = c.in_ok-check_inside.ensures.walk in
     let u = c.count_tests.new.work in
@@ -214,12 +216,12 @@ returns-in_err-regions-clause-row c =
     let cs = map child_of children in
     let w = c.args.work.now in
     let names = c.items.ensures ∙ c.in_ok-ids.ensures ∙ sym (images_twice child_of (λ (f : FormedChild). f.id) children) in
-    let first : check_subdivide (lots_in [] lots) x (map (λ f. f.id) cs) ≡ None = sym (ap (check_subdivide (lots_in [] lots) x) names) ∙ c.in_ok-place.ensures.checks in
+    let first : check_subdivide (lots_in [] lots) x (map (λ f. f.id) cs) ≡ None = sym (ap (check_subdivide (lots_in [] lots) x) names) ∙ (c.in_ok-place.ensures.checks (lots_in [] c.args.self.now) c.history.ensures.value) in
     let checked : first_checks lots x cs ≡ None = ap₂ and_then first c.in_ok-check_some.ensures in
     let size = ap (λ (n : ℕ). parts_under_lots lots + n) c.count_parts.ensures.value in
     let room = subst (λ (n : ℕ). check_size n most_kept_parts w ≡ done tt w) size (c.in_ok-check_room.ensures.walk w) in
     let whole = c.region_at-whole.result.now in
-    let parts = parts_here x lots c.in_ok-place.place whole c.in_ok-place.ensures.lot c.region_at-whole.ensures in
+    let parts = parts_here x lots c.in_ok-place.place whole (c.in_ok-place.ensures.lot (lots_in [] c.args.self.now) c.history.ensures.value) c.region_at-whole.ensures in
     let v = c.check_inside.new.work in
     let inside = c.in_ok-check_inside.ensures.walk in
     let u = c.count_tests.new.work in
@@ -238,12 +240,12 @@ divide-requires-clause-fit c =
     let cs = map child_of children in
     let w = c.args.work.now in
     let names = c.items.ensures ∙ c.in_ok-ids.ensures ∙ sym (images_twice child_of (λ (f : FormedChild). f.id) children) in
-    let first : check_subdivide (lots_in [] lots) x (map (λ f. f.id) cs) ≡ None = sym (ap (check_subdivide (lots_in [] lots) x) names) ∙ c.in_ok-place.ensures.checks in
+    let first : check_subdivide (lots_in [] lots) x (map (λ f. f.id) cs) ≡ None = sym (ap (check_subdivide (lots_in [] lots) x) names) ∙ (c.in_ok-place.ensures.checks (lots_in [] c.args.self.now) c.history.ensures.value) in
     let checked : first_checks lots x cs ≡ None = ap₂ and_then first c.in_ok-check_some.ensures in
     let size = ap (λ (n : ℕ). parts_under_lots lots + n) c.count_parts.ensures.value in
     let room = subst (λ (n : ℕ). check_size n most_kept_parts w ≡ done tt w) size (c.in_ok-check_room.ensures.walk w) in
     let whole = c.region_at-whole.result.now in
-    let parts = parts_here x lots c.in_ok-place.place whole c.in_ok-place.ensures.lot c.region_at-whole.ensures in
+    let parts = parts_here x lots c.in_ok-place.place whole (c.in_ok-place.ensures.lot (lots_in [] c.args.self.now) c.history.ensures.value) c.region_at-whole.ensures in
     let v = c.check_inside.new.work in
     let inside = c.in_ok-check_inside.ensures.walk in
     let u = c.count_tests.new.work in
@@ -266,12 +268,12 @@ returns-clause-row c =
     let cs = map child_of children in
     let w = c.args.work.now in
     let names = c.items.ensures ∙ c.in_ok-ids.ensures ∙ sym (images_twice child_of (λ (f : FormedChild). f.id) children) in
-    let first : check_subdivide (lots_in [] lots) x (map (λ f. f.id) cs) ≡ None = sym (ap (check_subdivide (lots_in [] lots) x) names) ∙ c.in_ok-place.ensures.checks in
+    let first : check_subdivide (lots_in [] lots) x (map (λ f. f.id) cs) ≡ None = sym (ap (check_subdivide (lots_in [] lots) x) names) ∙ (c.in_ok-place.ensures.checks (lots_in [] c.args.self.now) c.history.ensures.value) in
     let checked : first_checks lots x cs ≡ None = ap₂ and_then first c.in_ok-check_some.ensures in
     let size = ap (λ (n : ℕ). parts_under_lots lots + n) c.count_parts.ensures.value in
     let room = subst (λ (n : ℕ). check_size n most_kept_parts w ≡ done tt w) size (c.in_ok-check_room.ensures.walk w) in
     let whole = c.region_at-whole.result.now in
-    let parts = parts_here x lots c.in_ok-place.place whole c.in_ok-place.ensures.lot c.region_at-whole.ensures in
+    let parts = parts_here x lots c.in_ok-place.place whole (c.in_ok-place.ensures.lot (lots_in [] c.args.self.now) c.history.ensures.value) c.region_at-whole.ensures in
     let v = c.check_inside.new.work in
     let inside = c.in_ok-check_inside.ensures.walk in
     let u = c.count_tests.new.work in
@@ -283,3 +285,9 @@ returns-clause-row c =
     let made = sym (ap₂ (λ (ids : List Label) (lists : List (List Part)). parts_divided (layer_with_id (lots_in [] lots) x) x ids lists) (c.items-2.ensures ∙ c.in_ok-ids.ensures) c.in_ok-regions.ensures ∙ divided_children (layer_with_id (lots_in [] lots) x) x children) in
     divided_changes c.divide.result c.args.line w z lots c.divide.new.self (subdividing lots x cs) (x ∷ []) _ c.divide.ensures.ok c.divide.ensures.err
     (subst (λ (new : List (NewLot (Unit {0}))). IsLeft w (subdividing lots x cs) z (pass (accepted (lots_replaced (x ∷ []) new)))) made (cover_walked lots x cs whole w checked parts room v inside u counted t apart true z covered))
+
+pub region_at-whole-requires : goal.region_at-whole-requires
+region_at-whole-requires c = c.in_ok-place.ensures.within (lots_in [] c.args.self.now) c.history.ensures.value
+
+pub divide-requires-clause-live : goal.divide-requires-clause-live
+divide-requires-clause-live c = divided_is_live (lots_in [] c.args.self.now) c.args.id c.items.result.now (c.in_ok-place.ensures.checks (lots_in [] c.args.self.now) c.history.ensures.value)

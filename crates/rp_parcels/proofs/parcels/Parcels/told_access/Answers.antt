@@ -8,7 +8,8 @@ use Rattle.rp_access.specs.Chain.{HasNoChain, IsRoute}
 use Rattle.rp_nearby.specs.Near.{lots_at}
 use Rattle.rp_parcels.specs.Access.{told_chain, told_levels}
 use Rattle.rp_parcels.proofs.Linked.{ids_counted}
-use Rattle.rp_parcels.proofs.Accessed.{route_below, chain_told, both_told}
+use Rattle.rp_parcels.proofs.Accessed.{chain_told, both_told}
+use Rattle.rp_access.proofs.Routes.{route_below}
 use Rattle.rp_parcels.proofs.parcels.Parcels.told_access.Goals as goal
 use Rattle.rp_parcels.proofs.parcels.Parcels.told_access.Goals.{in-None, in-Some+in_ok-named_chain-in-Some}
 

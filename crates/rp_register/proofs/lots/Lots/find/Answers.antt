@@ -3,7 +3,7 @@ use Rattle.std.specs.Prelude.{option_copied, option_map}
 use Rattle.rp_geometry.specs.sets.Shape.{Part}
 use Rattle.rp_space.specs.Listed.{Listed}
 use Rattle.rp_model.specs.states.State.{parts_of_lot}
-use Rattle.rp_register.proofs.Placed.{none_live_here, live_parts_at, within_lots}
+use Rattle.rp_history.proofs.Bare.{none_live_here, live_parts_at, within_lots}
 use Rattle.rp_register.proofs.lots.Lots.find.Goals as goal
 
 pub returns-in_err-place : goal.returns-in_err-place

@@ -2,7 +2,7 @@ use Rattle.std.proofs.Common.{ap, sym, ◌∙◌}
 use Rattle.std.specs.Prelude.{option_map}
 use Rattle.rp_register.specs.There.{lot_here}
 use Rattle.rp_register.proofs.Applied.{sound_ids}
-use Rattle.rp_register.proofs.Placed.{none_live_here, within_lots}
+use Rattle.rp_history.proofs.Bare.{none_live_here, within_lots}
 use Rattle.rp_register.proofs.Present.{live_lot_at}
 use Rattle.rp_register.proofs.register.Register.live_parcel.Goals as goal
 

@@ -1,0 +1,171 @@
+//! The checks on names that come before the rest of a command. A contract speaks of each state whose lots have the history.
+ghost use Rattle.std.specs.Prelude.{◌≡◌, ◌<◌, [], None, length, slice_get, option_map, IfOk, IfErr};
+ghost use Rattle.rp_model.specs.states.State.{live_lot, layer_with_id, layer_of_first};
+ghost use Rattle.rp_model.specs.commands.Verdict.{repeated};
+ghost use Rattle.rp_model.specs.commands.Checks.{check_new, check_live, check_each, check_repeated, check_cut, check_subdivide, check_layer, check_consolidate, check_access};
+ghost use Rattle.rp_history.specs.Checks.{InEach, ChecksNames};
+ghost use Rattle.rp_history.specs.declared.fault.NameFault.TheVariants.{Unknown};
+
+use crate::fault::NameFault;
+use crate::history::History;
+use indexmap::IndexSet;
+use rp_space::Name;
+use std::alloc::{AllocError, Global};
+
+impl History {
+    /// `Known(id)` exactly where the id was ever registered.
+    pub fn check_new(&self, id: Name) -> Result<(), NameFault>
+        ensures { InEach self.now (λ s. ChecksNames result (check_new s id)) }
+    {
+        match self.place_of(&id) {
+            Some(_) => Err(NameFault::Known(id)),
+            None => Ok(()),
+        }
+    }
+
+    /// `Known` with the first of the ids that was ever registered.
+    fn check_all_new(&self, ids: &[Name]) -> Result<(), NameFault>
+        ensures { InEach self.now (λ s. ChecksNames result (check_each (check_new s) ids.now)) }
+    {
+        for id in ids {
+            self.check_new(*id)?;
+        }
+        Ok(())
+    }
+
+    /// The place of a live lot. `Unknown(id)` exactly where the id isn't live.
+    pub fn check_live(&self, id: Name) -> Result<usize, NameFault>
+        ensures checks { InEach self.now (λ s. ChecksNames result (check_live s id)) }
+        ensures lot { InEach self.now (λ s. IfOk result (λ k. slice_get s.lots k ≡ live_lot id s.lots)) }
+        ensures within { InEach self.now (λ s. IfOk result (λ k. k < length s.lots)) }
+        ensures fault { IfErr result (λ e. e ≡ Unknown id) }
+    {
+        match self.live_place(&id) {
+            Some(place) => Ok(place),
+            None => Err(NameFault::Unknown(id)),
+        }
+    }
+
+    /// `Unknown` with the first of the ids that isn't live.
+    fn check_all_live(&self, ids: &[Name]) -> Result<(), NameFault>
+        ensures { InEach self.now (λ s. ChecksNames result (check_each (check_live s) ids.now)) }
+    {
+        for id in ids {
+            self.check_live(*id)?;
+        }
+        Ok(())
+    }
+
+    /// The checks on names of a cut, in order, and the place of the lot that is cut.
+    pub fn check_cut(&self, id: Name, first: Name, second: Name) -> Result<usize, NameFault>
+        ensures checks { InEach self.now (λ s. ChecksNames result (check_cut s id first second)) }
+        ensures lot { InEach self.now (λ s. IfOk result (λ k. slice_get s.lots k ≡ live_lot id s.lots)) }
+        ensures within { InEach self.now (λ s. IfOk result (λ k. k < length s.lots)) }
+    {
+        let place = self.check_live(id)?;
+        self.check_new(first)?;
+        self.check_new(second)?;
+        if first == second {
+            return Err(NameFault::Same);
+        }
+        Ok(place)
+    }
+
+    /// The checks on names of a subdivision, in order, and the place of the lot that is divided.
+    pub fn check_subdivide(&self, alloc: Global, id: Name, ids: &[Name]) -> Result<usize, NameFault>
+        ensures checks { InEach self.now (λ s. ChecksNames result (check_subdivide s id ids.now)) }
+        ensures lot { InEach self.now (λ s. IfOk result (λ k. slice_get s.lots k ≡ live_lot id s.lots)) }
+        ensures within { InEach self.now (λ s. IfOk result (λ k. k < length s.lots)) }
+    {
+        if ids.len() < 2 {
+            return Err(NameFault::Few);
+        }
+        let place = self.check_live(id)?;
+        self.check_all_new(ids)?;
+        check_repeated(alloc, ids)?;
+        Ok(place)
+    }
+
+    /// The checks on names of a consolidation, in order, and the layer of the lots that become one.
+    pub fn check_consolidate(
+        &self,
+        alloc: Global,
+        new: Name,
+        ids: &[Name],
+    ) -> Result<Name, NameFault>
+        ensures checks { InEach self.now (λ s. ChecksNames result (check_consolidate s new ids.now)) }
+        ensures layer { InEach self.now (λ s. IfOk result (λ y. y ≡ layer_of_first s ids.now)) }
+    {
+        if ids.len() < 2 {
+            return Err(NameFault::Few);
+        }
+        self.check_all_live(ids)?;
+        check_repeated(alloc, ids)?;
+        let layer = self.layer_of(&ids[0]);
+        self.check_layers(ids, &layer)?;
+        self.check_new(new)?;
+        Ok(layer)
+    }
+
+    /// The checks on ids of access, in order, and the layer of both lots.
+    pub fn check_access(&self, from: Name, to: Name) -> Result<Name, NameFault>
+        ensures checks { InEach self.now (λ s. ChecksNames result (check_access s from to)) }
+        ensures layer { InEach self.now (λ s. IfOk result (λ y. y ≡ layer_with_id s from)) }
+    {
+        self.check_live(from)?;
+        self.check_live(to)?;
+        let layer = self.layer_of(&from);
+        if self.layer_of(&to) != layer {
+            return Err(NameFault::Layers(to));
+        }
+        Ok(layer)
+    }
+
+    /// The layer of a live lot.
+    pub fn layer_of(&self, id: &Name) -> Name
+        requires { InEach self.now (λ s. check_live s id.now ≡ None) }
+        ensures { InEach self.now (λ s. result ≡ layer_with_id s id.now) }
+    {
+        let lots = self.lots();
+        match self.live_place(id) {
+            Some(place) => lots[place].layer,
+            None => unreachable!(),
+        }
+    }
+
+    /// `Layers` with the first of some live ids whose layer is another one.
+    fn check_layers(&self, ids: &[Name], layer: &Name) -> Result<(), NameFault>
+        requires { InEach self.now (λ s. check_each (check_live s) ids.now ≡ None) }
+        ensures { InEach self.now (λ s. ChecksNames result (check_each (check_layer s layer.now) ids.now)) }
+    {
+        for id in ids {
+            if self.layer_of(id) != *layer {
+                return Err(NameFault::Layers(*id));
+            }
+        }
+        Ok(())
+    }
+}
+
+/// `Repeated` with the first of the ids that stood before.
+fn check_repeated(alloc: Global, ids: &[Name]) -> Result<(), NameFault>
+    ensures { ChecksNames result (check_repeated [] ids.now) }
+{
+    match first_repeated(alloc, ids)? {
+        Some(id) => Err(NameFault::Repeated(id)),
+        None => Ok(()),
+    }
+}
+
+/// The first of the ids that stood before. Answers `AllocError` only for want of memory.
+fn first_repeated(alloc: Global, ids: &[Name]) -> Result<Option<Name>, AllocError>
+    ensures { IfOk result (λ o. option_map repeated o ≡ check_repeated [] ids.now) }
+{
+    let mut before = IndexSet::new(alloc);
+    for id in ids {
+        if !before.insert(*id)? {
+            return Ok(Some(*id));
+        }
+    }
+    Ok(None)
+}
