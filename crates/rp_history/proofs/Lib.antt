@@ -12,3 +12,4 @@ pub mod Bare
 pub mod Together
 pub mod Numbers
 pub mod Sizes
+pub mod Stepped

@@ -5,6 +5,5 @@ mod Formed
 mod LaterLemmas
 mod LotLemmas
 mod Names
-mod ReadChildren
 mod RowLemmas
 mod Told
