@@ -4,31 +4,23 @@ use Rattle.std.proofs.lemmas.List.{length-map}
 use Rattle.rp_algebra.proofs.Lists.{images_twice}
 use Rattle.rp_language.specs.Name.{Label, is_among}
 use Rattle.rp_walks.specs.Walk.{Outcome, done, stopped, Walk, pass}
-use Rattle.rp_model.specs.states.State.{Lot, PlainState, Traced, trace, lineage, bare_lot, is_live, live_lots, ids_of}
+use Rattle.rp_model.specs.states.State.{Lot, PlainState, Traced, trace, lineage, bare_lot, live_lots, ids_of}
 use Rattle.rp_model.specs.commands.Verdict.{Verdict, unknown, entry_of, lot_lines}
 use Rattle.rp_model.specs.commands.Checks.{refuse_if}
 use Rattle.rp_model.specs.commands.Row.{Reply, reply_lines, check, row_history}
-use Rattle.rp_states.proofs.Plain.{kept_images}
 use Rattle.rp_history.specs.Lots.{lots_in}
 use Rattle.rp_space.specs.Listed.{Listed}
 use Rattle.rp_report.specs.declared.answer.Verdict.{Verdict as CodeVerdict}
 use Rattle.rp_tests.specs.declared.stopped.Stopped.TheVariants.{Wrong, TakenWrong, Told, Limit, Memory}
+use Rattle.rp_history.proofs.Bare.{bare_ids, bare_live}
 use Rattle.rp_asked.specs.declared.reply.RowEnd.{RowEnd}
 use Rattle.rp_asked.specs.declared.reply.RowEnd.TheVariants.{Refused, Stopped as StoppedEnd}
 use Rattle.rp_asked.specs.Lots.{list_lines, TellsHistory}
 use Rattle.rp_asked.specs.Replies.{Tells}
 
--- they have the ids of the lots
-pub bare_ids : (lots : List (Lot (Unit {0}))) → ids_of (map bare_lot lots) ≡ ids_of lots
-bare_ids lots = images_twice bare_lot (λ (l : Lot (Unit {0})). l.id) lots
-
 -- and their lines
 pub bare_lines : (lots : List (Lot (Unit {0}))) → lot_lines (map bare_lot lots) ≡ lot_lines lots
 bare_lines lots = images_twice bare_lot (λ (l : Lot (Unit {0})). Verdict.lot (entry_of l)) lots
-
--- as many are live
-pub bare_live : (lots : List (Lot (Unit {0}))) → live_lots (map bare_lot lots) ≡ map bare_lot (live_lots lots)
-bare_live lots = kept_images bare_lot is_live lots
 
 -- one step of a trace
 abbrev traced_on : Lot (Unit {0}) → Traced (Unit {0}) → Traced (Unit {0})

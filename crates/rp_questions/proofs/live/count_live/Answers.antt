@@ -2,7 +2,7 @@ use Rattle.std.proofs.Common.{List, length, ap, ◌∙◌, arith}
 use Rattle.std.proofs.lemmas.List.{length-map}
 use Rattle.rp_history.specs.Lots.{lot_of}
 use Rattle.rp_model.specs.states.State.{Lot, bare_lot, live_lots}
-use Rattle.rp_asked.proofs.BareLots.{bare_live}
+use Rattle.rp_history.proofs.Bare.{bare_live}
 use Rattle.rp_questions.proofs.live.count_live.Goals as goal
 
 pub overflow_cast-result : goal.overflow_cast-result
