@@ -47,7 +47,7 @@ pub fn slice_lines(alloc: Global, slices: Listed<Slice>) -> Result<Verdicts, All
 {
     let mut lines = one_line(alloc, Verdict::Sections(slices.items().len() as u32))?;
     for slice in slices.into_items() {
-        lines.push(Verdict::Slice(slice))?;
+        lines.push(Verdict::Slice(Box::new(alloc, slice)?))?;
     }
     Ok(lines)
 }

@@ -3,13 +3,14 @@ ghost use Rattle.std.specs.Prelude.{◌≡◌, ◌<◌, ◌*◌, ◌^◌, ◌&&�
 ghost use Rattle.std.specs.List.{list_all, list_any, AllByRecursion};
 ghost use Rattle.rp_algebra.specs.Integer.{is_zero, is_positive, is_nonnegative};
 ghost use Rattle.rp_algebra.specs.Within.{IsWithin};
+ghost use Rattle.rp_geometry.specs.Geometry.{side_value};
 ghost use Rattle.rp_geometry.specs.sections.Trace.{IsHeight, IsAtHeight, has_trace, trace_at, trace_eq, trace_value, holds_level, with_sides};
 ghost use Rattle.rp_geometry.specs.sections.Ring.{turn_of, turns_of, cross, is_upper, is_before_by, is_angle_before, angles_rise, is_step, is_turn, is_trace_of, all_traces_hold, all_levels_hold, is_ring};
 ghost use Rattle.rp_geometry.specs.laws.SectionLaws.{IsSmallTrace};
 ghost use Rattle.rp_cert.specs.Section.{turn_from};
 
 use crate::edge::{Edge, RingStep};
-use crate::trace::{has_trace, holds_level, trace_at};
+use crate::trace::{has_trace, holds_level, offset_at, trace_at};
 use rp_space::{Half, Point, cube, keep_bounds};
 
 /// Whether the steps are a ring of the cell at the height: at least three, whose edges are traces of the cell or the
@@ -123,7 +124,8 @@ fn turn_from(edge: &Edge, half: &Half) -> i128
 
 /// Whether no trace of the cell or of an upright side of the domain cube is negative at a point of the height.
 fn all_hold_with_sides(cell: &[Half], z: i32, p: &Point) -> bool
-    requires { IsAtHeight z p.now }
+    requires height { IsHeight z }
+    requires there { IsAtHeight z p.now }
     ensures { result ≡ all_traces_hold z (with_sides cell.now) p.now }
 {
     all_traces_hold(cell, z, p) && all_traces_hold(&cube()[..4], z, p)
@@ -131,7 +133,8 @@ fn all_hold_with_sides(cell: &[Half], z: i32, p: &Point) -> bool
 
 /// Whether no trace of the list is negative at a point of the height.
 fn all_traces_hold(halves: &[Half], z: i32, p: &Point) -> bool
-    requires { IsAtHeight z p.now }
+    requires height { IsHeight z }
+    requires there { IsAtHeight z p.now }
     ensures { result ≡ all_traces_hold z halves.now p.now }
 {
     halves.iter().all(|half| is_above(half, z, p))
@@ -139,10 +142,23 @@ fn all_traces_hold(halves: &[Half], z: i32, p: &Point) -> bool
 
 /// Whether a half-space has no trace, or its trace is not negative at a point of the height.
 fn is_above(half: &Half, z: i32, p: &Point) -> bool
-    requires { IsAtHeight z p.now }
+    requires height { IsHeight z }
+    requires there { IsAtHeight z p.now }
     ensures { result ≡ (not (has_trace half.now) || is_nonnegative (trace_value (trace_at z half.now) p.now)) }
 {
-    !has_trace(half) || half.side(p) >= 0
+    !has_trace(half) || value_at(half, z, p) >= 0
+}
+
+/// The side value of a half-space at a point of the height, by the offset that it has there: a product fewer than at other
+/// points. Its size is below 2^127.
+fn value_at(half: &Half, z: i32, p: &Point) -> i128
+    requires height { IsHeight z }
+    requires there { IsAtHeight z p.now }
+    ensures { result ≡ side_value half.now p.now }
+{
+    let (a, b, _, _) = half.numbers();
+    let (x, y, _, w) = p.numbers();
+    a as i128 * x + b as i128 * y + offset_at(half, z) as i128 * w
 }
 
 /// Whether each half-space without a trace holds the points of the height.

@@ -5,6 +5,7 @@ use rp_history::LotLine;
 use rp_space::{Halves, Listed, Name, Numbers};
 use rp_syntax::Why;
 use std::alloc::{AllocError, Global};
+use std::boxed::Box;
 
 /// Why a line is refused.
 #[derive(Clone, Copy, Debug, PartialEq, Eq)]
@@ -92,8 +93,8 @@ pub enum Verdict {
     Lot(LotLine),
     /// How many parts a slice is shown of; a line for each follows.
     Sections(u32),
-    /// What is shown of a part at a height.
-    Slice(Slice),
+    /// What is shown of a part at a height: in a box, since a slice is large beside all others.
+    Slice(Box<Slice>),
     /// How many steps a chain has; a line for each of its parcels follows.
     Access(u32),
     /// There is no chain.

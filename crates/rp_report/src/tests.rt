@@ -520,7 +520,7 @@ fn echoes_give_number_and_place(rt: HostRuntime) -> Result<(), Fail> {
 fn expect_slice(rt: &impl Abort, alloc: Global, line: &[u8]) -> Result<(), Fail> {
     let slice = read_slice(line).ok_or("no slice")?;
     let mut out = Vec::new(alloc);
-    write_verdict(&Verdict::Slice(slice), &mut out)?;
+    write_verdict(&Verdict::Slice(Box::new(alloc, slice)?), &mut out)?;
     assert_eq!(rt; out.as_slice(), line);
     Ok(())
 }

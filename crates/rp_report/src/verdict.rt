@@ -97,7 +97,7 @@ impl WriteText for Verdict {
             Verdict::Lots(count) => write_operand(b"= lots", count, out),
             Verdict::Lot(lot) => write_operand(b"=", lot, out),
             Verdict::Sections(count) => write_operand(b"= sections", count, out),
-            Verdict::Slice(slice) => write_operand(b"=", slice, out),
+            Verdict::Slice(slice) => write_operand(b"=", &**slice, out),
             Verdict::Access(steps) => write_operand(b"= access", steps, out),
             Verdict::NoAccess => append(b"= noaccess", out),
             Verdict::Level(steps, name) => write_level(*steps, name, out),

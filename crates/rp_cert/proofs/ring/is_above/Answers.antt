@@ -9,8 +9,8 @@ use Rattle.rp_cert.proofs.ring.is_above.Goals as goal
 
 pub returns-else-not-has_trace : goal.returns-else-not-has_trace
 returns-else-not-has_trace c =
-    let fits : FitsSigned w128 c.side.result = search rules in
+    let fits : FitsSigned w128 c.value_at.result = search rules in
     let has = sym c.if-not-has_trace.false ∙ c.has_trace.ensures in
-    ap is_nonnegative (to_z-of_z w128 c.side.result fits ∙ c.side.ensures)
-    ∙ side_sign c.args.z c.args.half.now c.args.p.now (sym has) c.requires
+    ap is_nonnegative (to_z-of_z w128 c.value_at.result fits ∙ c.value_at.ensures)
+    ∙ side_sign c.args.z c.args.half.now c.args.p.now (sym has) c.requires.there
     ∙ (λ i. not (has i) || is_nonnegative (trace_value (trace_at c.args.z c.args.half.now) c.args.p.now))
