@@ -1,5 +1,5 @@
 -- The chain that is computed has no more numbers than there are.
-use Rattle.std.proofs.Common.{ℕ, zero, suc, ◌≡◌, ◌+◌, ◌<◌, ◌≤◌, Bool, true, false, List, [], ◌∷◌, map, length, Option, Some, None, arith}
+use Rattle.std.proofs.Common.{ℕ, zero, suc, ◌+◌, ◌<◌, ◌≤◌, Bool, true, false, List, [], ◌∷◌, map, length, Option, Some, None, arith}
 use Rattle.std.specs.Prelude.{IfSome, option_map, slice_index_or}
 use Rattle.rp_geometry.specs.sets.Chain.{level_of}
 use Rattle.rp_geometry.specs.parts.Levels.{numbers_below, is_within_steps, steps_from, levels_along, next_down, way_down, chain_along}

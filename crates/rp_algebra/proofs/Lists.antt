@@ -1,7 +1,7 @@
 -- Items of lists by their places, fronts and rests, ranges of numbers, and facts that are true of all items.
 use Rattle.std.proofs.Common.{◌≡◌, ℕ, zero, suc, List, [], ◌∷◌, map, refl, ◌<◌, ◌++◌, length, arith, ◌+◌, get_or, drop, sym, ap, ◌∙◌, ◌≤◌, take, true, eqb, false, ⊎_elim, subst, Bool}
-use Rattle.std.specs.Prelude.{option_map, Some, filter, cond}
-use Rattle.std.specs.List.{slice_get, range_with_len, AllByRecursion}
+use Rattle.std.specs.Prelude.{option_map, Some, filter, cond, Option}
+use Rattle.std.specs.List.{slice_get, range_with_len, AllByRecursion, filter_map}
 use Rattle.std.proofs.lemmas.List.{drop_more, nil_from_length}
 use Rattle.std.proofs.lemmas.Bool.Decides.{nat_tests}
 use Rattle.std.proofs.lemmas.Bool.{cases_order}
@@ -30,9 +30,13 @@ get_some [] i h = absurd (omega (arith, h))
 get_some (x ∷ xs) zero h = (x, refl)
 get_some (x ∷ xs) (suc i) h = get_some xs i (omega (arith, h))
 
+-- what is left of a list begins with the entry that is read at the place
+pub entry_left : {A : Type 0} (xs : List A) (k : ℕ) (d x : A) → k < length xs → get_or xs k d ≡ x → drop k xs ≡ x ∷ drop (k + 1) xs
+entry_left xs k d x h e = drop_more xs k d h ∙ ap (λ y. y ∷ drop (k + 1) xs) e
+
 -- what is left of a list at an item
 pub drop_item : {X : Type 0} (xs : List X) (i : ℕ) (x : X) → i < length xs → x ≡ get_or xs i x → drop i xs ≡ x ∷ drop (i + 1) xs
-drop_item xs i x h e = drop_more xs i x h ∙ ap (λ y. y ∷ drop (i + 1) xs) (sym e)
+drop_item xs i x h e = entry_left xs i x x h (sym e)
 
 -- the front of a list that is as long as the list
 pub take_all : {A : Type 0} (xs : List A) (i : ℕ) → length xs ≤ i → take i xs ≡ xs
@@ -78,3 +82,7 @@ all_filter Q test (x ∷ xs) h = by_test (test x) (all_filter Q test xs h.1)
 pub all_both : {A : Type 0} (P Q R : A → Type 0) → ((x : A) → P x → Q x → R x) → (xs : List A) → AllByRecursion P xs → AllByRecursion Q xs → AllByRecursion R xs
 all_both P Q R each [] h k = tt
 all_both P Q R each (x ∷ xs) h k = (each x h.0 k.0, all_both P Q R each xs h.1 k.1)
+
+-- an item of which a value is given comes first, as that value
+pub filter_kept : {A B : Type 0} (f : A → Option B) (x : A) (xs : List A) (y : B) → f x ≡ Some y → filter_map f (x ∷ xs) ≡ y ∷ filter_map f xs
+filter_kept f x xs y e = rw e

@@ -2,7 +2,7 @@
 use Rattle.std.proofs.Common.{◌≡◌, ℕ, ℤ, Bool, true, false, cond, not, ◌&&◌, int_le, List, ◌∷◌, ◌++◌, refl, arith}
 use Rattle.std.specs.Int.{int_min, int_max}
 use Rattle.std.proofs.lemmas.Int.{ints}
-use Rattle.rp_algebra.proofs.Tests.{false_of_not, both_follow}
+use Rattle.rp_algebra.proofs.Tests.{false_of_not, both_follow, false_not_true}
 use Rattle.rp_geometry.specs.Geometry.{IntegerBox}
 use Rattle.rp_geometry.specs.parts.LeastBox.{box_union}
 use Rattle.rp_space.specs.Boxes.{integer_box}
@@ -14,7 +14,7 @@ use Rattle.rp_boxindex.proofs.Changes.{is_not}
 use Rattle.rp_boxindex.proofs.Counts.{count-none, count-round, when}
 use Rattle.rp_boxindex.proofs.Ints.{le_then_le}
 use Rattle.rp_boxindex.proofs.Order.{and_parts}
-use Rattle.rp_boxindex.proofs.Pruned.{below_farther, below_nearer, contradict}
+use Rattle.rp_boxindex.proofs.Pruned.{below_farther, below_nearer}
 
 -- what the six tests of a box that lies in another say
 record AreSides (hull b : IntegerBox) : Type 0 where
@@ -71,7 +71,7 @@ within_further a b c h k =
     })
 
 pub are_within_further : (a b : IntegerBox) (es : List Entry) → is_within a b ≡ true → AreWithin b es → AreWithin a es
-are_within_further a b es h = count-none (λ (e : Entry). not (is_within a (integer_box e.1))) (λ (e : Entry). not (is_within b (integer_box e.1))) (λ e m. is_not (is_within b (integer_box e.1)) (λ k. absurd (contradict (false_of_not (is_within a (integer_box e.1)) m) (within_further a b (integer_box e.1) h k)))) es
+are_within_further a b es h = count-none (λ (e : Entry). not (is_within a (integer_box e.1))) (λ (e : Entry). not (is_within b (integer_box e.1))) (λ e m. is_not (is_within b (integer_box e.1)) (λ k. absurd (false_not_true _ (within_further a b (integer_box e.1) h k) (false_of_not (is_within a (integer_box e.1)) m)))) es
 
 -- the hull of a node from the boxes around its own and each of its sides: s holds the node's box and the left side
 pub hull_of_node : (s hull : IntegerBox) (left : List Entry) (e : Entry) (right : List Entry) → is_within s (integer_box e.1) ≡ true → AreWithin s left → is_within hull s ≡ true → AreWithin hull right → AreWithin hull (left ++ e ∷ right)
@@ -102,4 +102,4 @@ meets_further false b hull f h m = six_further false b hull f (sides hull f h) m
 
 -- no box meets where the hull does not
 pub none_in_hull : (c : Bool) (b hull : IntegerBox) (es : List Entry) → AreWithin hull es → do_meet c b hull ≡ false → count (meets c b) es ≡ 0
-none_in_hull c b hull es within apart = count-none (meets c b) (λ (e : Entry). not (is_within hull (integer_box e.1))) (λ e m. is_not (is_within hull (integer_box e.1)) (λ k. absurd (contradict apart (meets_further c b hull (integer_box e.1) k m)))) es within
+none_in_hull c b hull es within apart = count-none (meets c b) (λ (e : Entry). not (is_within hull (integer_box e.1))) (λ e m. is_not (is_within hull (integer_box e.1)) (λ k. absurd (false_not_true _ (meets_further c b hull (integer_box e.1) k m) apart))) es within

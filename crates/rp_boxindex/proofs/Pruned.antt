@@ -1,5 +1,5 @@
 -- What need not be visited, and what is found.
-use Rattle.std.proofs.Common.{◌≡◌, ◌≤◌, ℤ, Bool, true, false, not, ◌&&◌, ◌||◌, int_lt, int_le, List, [], ◌∷◌, ◌++◌, map, refl, sym, ap, ◌∙◌, arith, subst, inl, inr}
+use Rattle.std.proofs.Common.{◌≡◌, ◌≤◌, ℤ, Bool, true, false, not, ◌&&◌, ◌||◌, int_lt, int_le, List, [], ◌∷◌, ◌++◌, map, refl, ap, ◌∙◌, arith, subst, inl, inr}
 use Rattle.std.specs.List.{filter}
 use Rattle.std.proofs.lemmas.List.{map-append}
 use Rattle.std.proofs.lemmas.List.Elements.{filter-append}
@@ -12,11 +12,11 @@ use Rattle.rp_boxindex.specs.Meeting.{is_below, meets, ids_that_meet}
 use Rattle.rp_boxindex.specs.tree.Cost.{AllLow}
 use Rattle.rp_boxindex.specs.tree.Nodes.{high, IsTop}
 use Rattle.rp_boxindex.specs.tree.Order.{low, is_before, AllBefore, AllAfter}
-use Rattle.rp_boxindex.proofs.Counts.{count-none, count-cover, false_not_true, not_counted}
+use Rattle.rp_boxindex.proofs.Counts.{count-none, count-cover, not_counted}
 use Rattle.rp_boxindex.proofs.Changes.{is_not}
 use Rattle.rp_boxindex.proofs.Ints.{le_self, le_then_le, le_then_lt, lt_then_le, lt_is_le, lt_or_le}
 use Rattle.std.proofs.lemmas.Bool.{or_right}
-use Rattle.rp_algebra.proofs.Tests.{false_of_not}
+use Rattle.rp_algebra.proofs.Tests.{false_of_not, false_not_true}
 use Rattle.rp_boxindex.proofs.Order.{or_cases, and_parts, int_eq_is}
 
 -- bounds farther apart
@@ -28,12 +28,9 @@ pub below_nearer : (c : Bool) (s a b : ℤ) → int_le s a ≡ true → is_below
 below_nearer true s a b k h = le_then_le s a b k h
 below_nearer false s a b k h = le_then_lt s a b k h
 
-pub contradict : {b : Bool} → b ≡ false → b ≡ true → ⊥
-contradict f t = false_not_true (sym f ∙ t)
-
 higher : (a t h : ℤ) (c : Bool) → is_below c a t ≡ false → is_below c a h ≡ true → (b : Bool) → int_lt t h ≡ b → b ≡ true
 higher a t h c f k true e = refl
-higher a t h c f k false e = absurd (contradict f (below_farther c a h t k (lt_or_le t h e)))
+higher a t h c f k false e = absurd (false_not_true _ (below_farther c a h t k (lt_or_le t h e)) f)
 
 -- no box meets on the x axis where none reaches far enough
 pub none_reaches : (c : Bool) (b : IntegerBox) (top : ℤ) (es : List Entry) → IsTop top es → is_below c b.x1 top ≡ false → count (meets_on_x c b) es ≡ 0
@@ -49,11 +46,11 @@ before_is_lower x y h =
 
 -- no box after one that begins too late meets on the x axis
 pub none_after : (c : Bool) (b : IntegerBox) (e : Entry) (es : List Entry) → AllAfter e es → is_below c (low e) b.x2 ≡ false → count (meets_on_x c b) es ≡ 0
-none_after c b e es after f = count-none (meets_on_x c b) (λ (x : Entry). not (is_before e x)) (λ x m. is_not (is_before e x) (λ k. absurd (contradict f (below_nearer c (low e) (low x) b.x2 (before_is_lower e x k) (and_parts (is_below c b.x1 (high x)) (is_below c (low x) b.x2) m).1)))) es after
+none_after c b e es after f = count-none (meets_on_x c b) (λ (x : Entry). not (is_before e x)) (λ x m. is_not (is_before e x) (λ k. absurd (false_not_true _ (below_nearer c (low e) (low x) b.x2 (before_is_lower e x k) (and_parts (is_below c b.x1 (high x)) (is_below c (low x) b.x2) m).1) f))) es after
 
 -- all boxes before one that begins early enough do so too
 pub low_before : (c : Bool) (b : IntegerBox) (e : Entry) (es : List Entry) → AllBefore es e → is_below c (low e) b.x2 ≡ true → AllLow c b es
-low_before c b e es before t = count-none (λ (x : Entry). not (is_below c (low x) b.x2)) (λ (x : Entry). not (is_before x e)) (λ x m. is_not (is_before x e) (λ k. absurd (contradict (false_of_not (is_below c (low x) b.x2) m) (below_nearer c (low x) (low e) b.x2 (before_is_lower x e k) t)))) es before
+low_before c b e es before t = count-none (λ (x : Entry). not (is_below c (low x) b.x2)) (λ (x : Entry). not (is_before x e)) (λ x m. is_not (is_before x e) (λ k. absurd (false_not_true _ (below_nearer c (low x) (low e) b.x2 (before_is_lower x e k) t) (false_of_not (is_below c (low x) b.x2) m)))) es before
 
 -- where all boxes are low, and one reaches far enough, one meets on the x axis
 some_covered : (c : Bool) (b : IntegerBox) (top : ℤ) (e : Entry) → is_below c b.x1 top ≡ true → int_le top (high e) ≡ true → (t : Bool) → is_below c (low e) b.x2 ≡ t → ((is_below c b.x1 (high e) && t) || not t) ≡ true
@@ -69,8 +66,8 @@ some_meets c b top es is low_all h =
 -- what meets does so on the x axis
 six : (a b c d e f : Bool) → (a && b && c && d && e && f) ≡ true → (a && b) ≡ true
 six true true c d e f h = refl
-six true false c d e f h = absurd (false_not_true h)
-six false b c d e f h = absurd (false_not_true h)
+six true false c d e f h = absurd (false_not_true false h refl)
+six false b c d e f h = absurd (false_not_true false h refl)
 
 meets_is_on_x : (c : Bool) (b : IntegerBox) (e : Entry) → meets c b e ≡ true → meets_on_x c b e ≡ true
 meets_is_on_x true b e h = let f = integer_box e.1 in six (int_le b.x1 f.x2) (int_le f.x1 b.x2) (int_le b.y1 f.y2) (int_le f.y1 b.y2) (int_le b.z1 f.z2) (int_le f.z1 b.z2) h

@@ -1,7 +1,7 @@
 -- What shows that a half-space adds nothing to the others of a cell, or that it does.
 use Rattle.std.proofs.Common.{◌≡◌, ℕ, zero, suc, ◌+◌, ◌<◌, ◌≤◌, pos, ◌<ℤ◌, ⊎_elim, Bool, true, false, List, [], ◌∷◌, ◌++◌, length, take, drop, refl, sym, ap, ◌∙◌, subst, arith, append-nil}
 use Rattle.std.specs.Prelude.{Option, Some, None, IsNone, is_some, unwrap_or, ◌↔◌}
-use Rattle.rp_algebra.proofs.Listed.{Listed, first, later, all_of, of_all, pass_all, listed_left, listed_right, listed_cases}
+use Rattle.rp_algebra.proofs.Listed.{Listed, first, later, all_of, of_all, pass_all, listed_left, listed_right, listed_cases, listed_at}
 use Rattle.std.proofs.lemmas.List.{length-drop}
 use Rattle.std.proofs.lemmas.Option.{slice_get_within}
 use Rattle.rp_algebra.specs.Integer.{is_positive}
@@ -19,7 +19,6 @@ use Rattle.rp_geometry.proofs.Complement.{complement_is_half_space}
 use Rattle.rp_convex.proofs.Inside.{member_moves_inside_spec}
 use Rattle.rp_convex.proofs.InsideFound.{strict_of, inside_some, inside_is_found_spec}
 use Rattle.rp_corners.proofs.Standing.{listed_contains, contains_listed}
-use Rattle.rp_corners.proofs.LeastPlace.{at_listed}
 use Rattle.rp_clip.specs.Faces.{HasSide}
 use Rattle.rp_cell.specs.Slimming.{tested, IsTested, IsDropProof}
 use Rattle.rp_cell.proofs.Across.{across, across_point, complement_across, positive_across}
@@ -59,7 +58,7 @@ tested_bounds cell place kept h rest b k = of_all IsHalfSpace (tested kept h res
     (listed_cases g (kept ++ rest) (complement h ∷ []) l))
   where
     is_complement : (g : HalfSpace) → Listed g (complement h ∷ []) → IsHalfSpace g
-    is_complement g first = complement_is_half_space h (all_of IsHalfSpace cell b h (at_listed cell place h k.at))
+    is_complement g first = complement_is_half_space h (all_of IsHalfSpace cell b h (listed_at h cell place k.at))
     is_complement g (later l) = elim l [ ]
 
 -- ---- a side of its own
@@ -70,7 +69,7 @@ unfolding has_member
 side_has_member cell place kept h rest b c k s = inside_some (tested kept h rest) (across h s.point) (record { point = across_point h s.point s.is_point; sides = sides })
   where
     half : IsHalfSpace h
-    half = all_of IsHalfSpace cell b h (at_listed cell place h k.at)
+    half = all_of IsHalfSpace cell b h (listed_at h cell place k.at)
 
     on : side_value h s.point ≡ pos 0
     on = subst (λ (g : HalfSpace). side_value g s.point ≡ pos 0) (same_some s.half h (sym s.at ∙ k.at)) s.on

@@ -1,13 +1,12 @@
 -- Traces as the code makes them, and the signs of half-spaces at a height.
 use Rattle.std.proofs.Math.IntN.{*ℤ-zero}
-use Rattle.std.proofs.Common.{◌≡◌, ℕ, ◌^◌, ◌≤◌, ◌<◌, ℤ, pos, ◌≤ℤ◌, ◌<ℤ◌, nat_abs, ◌-ℤ◌, ◌+ℤ◌, ◌*ℤ◌, Bool, true, false, ◌&&◌, ◌||◌, not, List, [], ◌∷◌, ◌++◌, Option, Some, None, ⊎_elim, refl, sym, ap, ◌∙◌, subst, arith, to_z, of_z}
-use Rattle.std.specs.Prelude.{unsigned_abs}
+use Rattle.std.proofs.Common.{◌≡◌, ◌^◌, ◌<◌, ℤ, pos, ◌≤ℤ◌, ◌<ℤ◌, nat_abs, ◌-ℤ◌, ◌*ℤ◌, Bool, true, false, ◌&&◌, ◌||◌, not, List, [], ◌∷◌, Some, None, ⊎_elim, refl, sym, ap, ◌∙◌, subst, arith, to_z, of_z}
 use Rattle.std.specs.Int.RustNames.{FitsSigned}
 use mir.Syntax.{w32}
-use Rattle.std.specs.List.{list_all, list_any, AllByRecursion}
+use Rattle.std.specs.List.{list_all, AllByRecursion}
 use Rattle.std.proofs.lemmas.Int.{ints, to_z-of_z}
 use Rattle.std.proofs.lemmas.Bool.Decides.{Decides-int_eq}
-use Rattle.std.proofs.lemmas.List.Folds.{list_all-append, list_any-append}
+use Rattle.std.proofs.lemmas.List.Folds.{list_all-append}
 use Rattle.rp_algebra.specs.Integer.{int_eq, is_zero, is_positive, is_nonnegative, gcd, gcd_of}
 use Rattle.rp_algebra.specs.Within.{IsWithin}
 use Rattle.rp_algebra.proofs.IntLaws.{linear, le_of_mul_le_left_ℤ, mul_nonneg_ℤ, nonneg_of_pos_ℤ}
@@ -16,14 +15,13 @@ use Rattle.rp_algebra.proofs.Numbers.{zero_or_not}
 use Rattle.rp_algebra.proofs.Options.{none_not_some, same_some}
 use Rattle.rp_algebra.proofs.Reify.{by_ring_at, reify}
 use Rattle.rp_algebra.proofs.Tests.{and_first, and_second, and_true, zero_is, is_zero_true, nonnegative_is, is_nonnegative_true, false_not_true, false_unless, same_test}
-use Rattle.rp_algebra.proofs.Listed.{Listed, all_pass, of_all, all_of, all_append}
-use Rattle.rp_geometry.specs.Geometry.{RationalPoint, HalfSpace, IsHalfSpace, half_space_of, side_value, owns_boundary, IsPoint, IsKeptPoint, reduced_point, point_eq}
+use Rattle.rp_algebra.proofs.Listed.{all_pass, of_all, all_of, all_append}
+use Rattle.rp_geometry.specs.Geometry.{RationalPoint, HalfSpace, IsHalfSpace, half_space_of, side_value, IsPoint, IsKeptPoint, point_eq}
 use Rattle.rp_geometry.specs.laws.CellLaws.{AreHalfSpaces}
 use Rattle.rp_geometry.specs.laws.SectionLaws.{IsSmallTrace}
-use Rattle.rp_geometry.specs.sections.Trace.{IsHeight, IsAtHeight, Trace, has_trace, trace_at, trace_eq, trace_value, is_at_height, holds_level, cube_sides, with_sides, traces}
+use Rattle.rp_geometry.specs.sections.Trace.{IsHeight, IsAtHeight, Trace, has_trace, trace_at, trace_eq, trace_value, is_at_height, holds_level, cube_sides, with_sides}
 use Rattle.rp_geometry.specs.sections.Ring.{RingStep, is_step, is_trace_of, is_lowest_point, all_traces_hold, all_levels_hold}
-use Rattle.rp_convex.proofs.Signs.{same_sign}
-use Rattle.rp_ring.proofs.Traces.{IsDirection, direction_of, trace_at-is, side_of_trace, trace_from, trace_eq-to, is_trace_of-to}
+use Rattle.rp_ring.proofs.Traces.{direction_of, trace_at-is, side_of_trace, trace_from, trace_eq-to, is_trace_of-to}
 use Rattle.rp_ring.proofs.Small.{trace_is_small_spec}
 use Rattle.rp_cert.specs.Section.{trace_if, turn_from}
 

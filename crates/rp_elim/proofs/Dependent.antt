@@ -10,6 +10,7 @@ use Rattle.rp_geometry.specs.Geometry.{HalfSpace}
 use Rattle.rp_geometry.specs.searches.Certificate.{Multiple, is_balanced, is_contradiction}
 use Rattle.rp_geometry.specs.searches.Vertex.{det2, meeting_weight}
 use Rattle.rp_geometry.specs.searches.Elimination.{multiple_of, half_spaces_of, minors_of_two, minors_of_three, normal_terms, is_refutation, terms_if, refutation_of_one, refutation_of_two, refutation_of_three}
+use Rattle.rp_geometry.proofs.Weights.{weight_exchanged, weight_turned}
 use Rattle.rp_alternative.proofs.Lowest.{half_spaces_of-normal}
 use Rattle.rp_alternative.proofs.Tests.{Balanced, balanced-to}
 use Rattle.rp_elim.specs.declared.placed.Placed.{Placed}
@@ -139,14 +140,7 @@ three_independent strict f g h n =
     let us = normal_terms (minors_of_three f g h) in
     not_given strict us (λ e. n (dependent_of strict us f g h (half_spaces_of-normal (minors_of_three f g h) ∙ sym (ap half_spaces_of (three_minors f g h))) e))
 
--- ---- the determinant in another order
--- the first two exchanged
-pub weight_exchanged : (f g h : HalfSpace) → meeting_weight g f h ≡ neg_ℤ (meeting_weight f g h)
-weight_exchanged f g h = by_ring_at (f.a ∷ f.b ∷ f.c ∷ g.a ∷ g.b ∷ g.c ∷ h.a ∷ h.b ∷ h.c ∷ []) (search reify depth 40 fits 100000) tt
-
--- the first one put last
-pub weight_turned : (f g h : HalfSpace) → meeting_weight g h f ≡ meeting_weight f g h
-weight_turned f g h = by_ring_at (f.a ∷ f.b ∷ f.c ∷ g.a ∷ g.b ∷ g.c ∷ h.a ∷ h.b ∷ h.c ∷ []) (search reify depth 40 fits 100000) tt
+-- ---- in any order
 
 -- the number is 0 where its negative is
 opposite_zero : (v w : ℤ) → w ≡ neg_ℤ v → w ≡ pos 0 → v ≡ pos 0

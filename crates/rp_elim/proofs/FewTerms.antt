@@ -1,6 +1,6 @@
 -- A refutation by at most two half-spaces is the first of all.
 use Rattle.std.proofs.Common.{◌≡◌, Bool, false, List, Option, Some, None, refl, sym, ap}
-use Rattle.std.specs.Prelude.{IsTrue, IfSome, is_some}
+use Rattle.std.specs.Prelude.{IsTrue, is_some}
 use Rattle.rp_algebra.proofs.Tests.{false_not_true}
 use Rattle.rp_geometry.specs.Geometry.{RationalPoint, HalfSpace, with_cube}
 use Rattle.rp_geometry.specs.searches.Search.{first_of, first_of_pairs, first_of_triples, first_of_quadruples}
@@ -9,11 +9,6 @@ use Rattle.rp_geometry.specs.searches.Elimination.{refutation_of_one, refutation
 use Rattle.rp_geometry.specs.laws.CellLaws.{AreHalfSpaces, IsSolution}
 use Rattle.rp_elim.specs.FewTerms.{first_of_two}
 use Rattle.rp_elim.proofs.Found.{found_passes, none_where_solution}
-
--- what is known of each value that there may be
-pub if_some : {A : Type 0} (o : Option A) (P : A → Type 0) → ((x : A) → o ≡ Some x → P x) → IfSome o P
-if_some (Some x) P f = f x refl
-if_some None P f = tt
 
 -- the first of two searches that finds something is the first of three that does
 first_of_three : {A : Type 0} (one two more : Option A) (x : A) → elim one [ Some y ↦ Some y | None ↦ two ] ≡ Some x

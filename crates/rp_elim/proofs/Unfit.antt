@@ -8,11 +8,11 @@ use Rattle.rp_geometry.specs.Geometry.{HalfSpace}
 use Rattle.rp_geometry.specs.searches.Search.{first_of}
 use Rattle.rp_geometry.specs.searches.Vertex.{meeting_weight}
 use Rattle.rp_geometry.specs.searches.Elimination.{multiple_of, refutation_of_four}
+use Rattle.rp_geometry.proofs.Weights.{weight_exchanged, weight_turned}
 use Rattle.rp_elim.specs.declared.placed.Placed.{Placed}
 use Rattle.rp_elim.specs.Sides.{has_sign, AreUnfit, HaveMixedMinors}
 use Rattle.rp_elim.specs.HeldFast.{two_in_order, three_in_order, four_in_order}
 use Rattle.rp_elim.proofs.Signs.{mixed_refutation}
-use Rattle.rp_elim.proofs.Dependent.{weight_exchanged, weight_turned}
 
 -- ---- two causes
 -- the last one is 0

@@ -10,6 +10,7 @@ use Rattle.rp_geometry.specs.parts.Trapezoid.{trapezoid}
 use Rattle.rp_walks.specs.Walk.{Tester}
 use Rattle.rp_walks.specs.Form.{subtract, exchange, exchange_edge, exchange_edges, prism_form}
 use Rattle.rp_walks.specs.FormLaws.{IfDone, IsMadeOf, AnswersRightly, PrismIsRight}
+use Rattle.rp_walks.proofs.Outcomes.{weaker_done, then_done}
 use Rattle.rp_algebra.proofs.Listed.{all_append}
 use Rattle.rp_geometry.proofs.Members.{cell_passes_as}
 use Rattle.rp_prism.proofs.Parity.{differ, differ_false, parity}
@@ -17,7 +18,7 @@ use Rattle.rp_prism.proofs.Ends.{IsNearby, AreNear, ends_of, edges_near}
 use Rattle.rp_prism.proofs.Trapezoids.{trapezoid_kept}
 use Rattle.rp_prism.proofs.Together.{in_trapezoid, trapezoids_together}
 use Rattle.rp_forms.proofs.Alike.{parts_append}
-use Rattle.rp_forms.proofs.Walks.{if_done_map, then_done, few_done}
+use Rattle.rp_forms.proofs.Walks.{few_done}
 use Rattle.rp_forms.proofs.Made.{AreMade, made_as, are_of, made_of, made_alone}
 use Rattle.rp_forms.proofs.Difference.{difference_is_right_spec}
 
@@ -99,20 +100,18 @@ module _ {W : Type 0} (P : Part → Type 0) (t : Tester W) (right : AnswersRight
         d.1,
       )
   exchange_draws s cell current (Some part) d m w =
-      then_done (AreOf P (Shape.difference (shape_of_parts current) (shape_of_parts (part ∷ [])))) _ _
-      (λ outside a v. then_done (AreOf P (Shape.difference (shape_of_parts (part ∷ [])) (shape_of_parts current))) _ _
-      (λ added b u. few_done (Drawn (exchanged s (shape_of_cell cell))) most_parts (outside ++ added)
+      then_done (AreOf P (Shape.difference (shape_of_parts current) (shape_of_parts (part ∷ [])))) _ (subtract t current (part ∷ []) w) _
+      (difference_is_right_spec P t right current (part ∷ []) (are_parts s current d) new w)
+      (λ outside v a. then_done (AreOf P (Shape.difference (shape_of_parts (part ∷ [])) (shape_of_parts current))) _ (subtract t (part ∷ []) current v) _
+      (difference_is_right_spec P t right (part ∷ []) current new (are_parts s current d) v)
+      (λ added u b. few_done (Drawn (exchanged s (shape_of_cell cell))) most_parts (outside ++ added)
       (λ few. (
         made_as P (exchanged (shape_of_parts current) (shape_of_parts (part ∷ []))) (exchanged s (shape_of_cell cell)) (outside ++ added)
             (λ p x i. λ j. (d.0.alike p x i j && not (one.alike p x i j)) || (one.alike p x i j && not (d.0.alike p x i j)))
             (both_made (Shape.difference (shape_of_parts current) (shape_of_parts (part ∷ []))) (Shape.difference (shape_of_parts (part ∷ [])) (shape_of_parts current)) outside added (made_of P _ outside a) (made_of P _ added b)),
         few,
       ))
-      u)
-      (subtract t (part ∷ []) current v)
-      (difference_is_right_spec P t right (part ∷ []) current new (are_parts s current d) v))
-      (subtract t current (part ∷ []) w)
-      (difference_is_right_spec P t right current (part ∷ []) (are_parts s current d) new w)
+      u))
     where
       one : AreMade P (shape_of_cell cell) (part ∷ [])
       one = made_alone P cell (Some part) m
@@ -124,19 +123,17 @@ module _ {W : Type 0} (P : Part → Type 0) (t : Tester W) (right : AnswersRight
   edge_draws : (s : Prism) → IsPrism s → (shape : Shape) (current : List Part) (e : Edge) → AreNear e → Drawn shape current → (u : Bool) → is_upright e ≡ u → (w : W) → IfDone (exchange_edge t s u current e w) (Drawn (with_edge s u shape e))
   edge_draws s k shape current e n d true f w = d
   edge_draws s k shape current e n d false f w =
-      then_done (IsMadeOf P (trapezoid s e)) _ _
-      (λ o m v. exchange_draws shape (trapezoid s e) current o d m v)
-      (t.part (trapezoid s e) w)
+      then_done (IsMadeOf P (trapezoid s e)) _ (t.part (trapezoid s e) w) _
       (right.part (trapezoid s e) (trapezoid_kept s e k (ends_of IsNearby e n.0 n.1 f)) w)
+      (λ o v m. exchange_draws shape (trapezoid s e) current o d m v)
 
   -- the trapezoids of edges in order
   edges_draw : (s : Prism) → IsPrism s → (shape : Shape) (current : List Part) (es : List Edge) → AllByRecursion AreNear es → Drawn shape current → (w : W) → IfDone (exchange_edges t s current es w) (Drawn (with_edges s shape es))
   edges_draw s k shape current [] n d w = d
   edges_draw s k shape current (e ∷ es) n d w =
-      then_done (Drawn (with_edge s (is_upright e) shape e)) _ _
-      (λ next m v. edges_draw s k (with_edge s (is_upright e) shape e) next es n.1 m v)
-      (exchange_edge t s (is_upright e) current e w)
+      then_done (Drawn (with_edge s (is_upright e) shape e)) _ (exchange_edge t s (is_upright e) current e w) _
       (edge_draws s k shape current e n.0 d (is_upright e) refl w)
+      (λ next v m. edges_draw s k (with_edge s (is_upright e) shape e) next es n.1 m v)
 
   -- the parts have exactly the members of the prism
   drawn_of : (s : Prism) → IsPrism s → (parts : List Part) → Drawn (with_edges s Shape.nothing (edges_of s.corners)) parts → AreOf P (Shape.prism s) parts
@@ -152,7 +149,7 @@ module _ {W : Type 0} (P : Part → Type 0) (t : Tester W) (right : AnswersRight
   -- the law
   pub prism_is_right_spec : PrismIsRight P t
   prism_is_right_spec s k w =
-      if_done_map (Drawn (with_edges s Shape.nothing (edges_of s.corners))) (AreOf P (Shape.prism s))
-      (λ parts d. drawn_of s k parts d)
+      weaker_done (Drawn (with_edges s Shape.nothing (edges_of s.corners))) (AreOf P (Shape.prism s))
       (prism_form t s w)
       (edges_draw s k Shape.nothing [] (edges_of s.corners) (edges_near s k) no_parts w)
+      (λ parts d. drawn_of s k parts d)

@@ -9,11 +9,12 @@ use Rattle.rp_language.specs.Name.{Label, label_eq, is_among}
 use Rattle.rp_walks.specs.Walk.{Outcome, Walk, Work, pass, first_tester, ◌>>=◌, ◌>>◌}
 use Rattle.rp_walks.specs.Form.{touching_pair}
 use Rattle.rp_walks.specs.FormLaws.{IfDone}
+use Rattle.rp_walks.proofs.Outcomes.{after_done}
 use Rattle.rp_model.specs.states.State.{Lot, PlainState, is_live, live_lots, live_lot, lots_of_layer, layer_of_lot, layer_with_id, layer_lots, ids_of, place_among, most_kept_parts}
 use Rattle.rp_model.specs.commands.Verdict.{Verdict, unknown, layers, level_lines, chain_lines}
 use Rattle.rp_model.specs.commands.Checks.{refuse_if, and_then, check_access}
 use Rattle.rp_model.specs.commands.Row.{Reply, reply_lines, check, lot_parts, numbered_lists, links_among_lists, count_among, access_by_links, row_access}
-use Rattle.rp_states.proofs.Walks.{if_then, if_checked}
+use Rattle.rp_states.proofs.Walks.{if_checked}
 use Rattle.rp_history.specs.Lots.{lots_in}
 use Rattle.rp_access.proofs.Short.{chain_is_short}
 use Rattle.rp_space.specs.Listed.{Listed}
@@ -75,7 +76,7 @@ lines_few lots x z w =
     let s = lots_in [] lots in
     let Q : Reply → Type 0 = λ r. length r.verdicts ≤ 1 + 2 * length lots in
     if_checked Q (check_access s x z) _ w (λ r. let one : 1 ≤ 1 + 2 * length lots = omega arith in one)
-    (if_then Q _ _ (λ u v. if_then Q _ (links_among_lists first_tester [] (numbered_lists 0 (lot_parts (layer_lots s x))) v) (λ links u. told links)))
+    (after_done Q _ _ (λ u v. after_done Q (links_among_lists first_tester [] (numbered_lists 0 (lot_parts (layer_lots s x))) v) _ (λ links u. told links)))
   where
     near_few : length (ids_of (layer_lots (lots_in [] lots) x)) ≤ length lots
     near_few =

@@ -8,11 +8,12 @@ use Rattle.rp_language.specs.Expression.{Command}
 use Rattle.rp_walks.specs.Walk.{Outcome, done, stopped, Work, first_tester}
 use Rattle.rp_walks.specs.Form.{touch_nearby}
 use Rattle.rp_walks.specs.FormLaws.{IfDone}
+use Rattle.rp_walks.proofs.Outcomes.{after_done, then_done}
 use Rattle.rp_model.specs.states.State.{Lot, PlainState, is_live, live_lots, lots_of_layer, layer_with_id, near_lots}
 use Rattle.rp_model.specs.commands.Verdict.{Verdict, neighbour_lines}
 use Rattle.rp_model.specs.commands.Checks.{check_live}
 use Rattle.rp_model.specs.commands.Row.{Reply, reply_lines, row, row_neighbours, touched_lot, touched_lots, parts_with_id}
-use Rattle.rp_states.proofs.Walks.{if_then, if_known, if_checked}
+use Rattle.rp_states.proofs.Walks.{if_checked}
 use Rattle.rp_history.specs.Lots.{lots_in}
 use Rattle.rp_space.specs.Listed.{Listed}
 use Rattle.rp_report.specs.declared.answer.Verdict.{Verdict as CodeVerdict}
@@ -38,7 +39,7 @@ question_run r asked n old new s c d e is h =
 
 -- one lot adds one id at most
 touched_one : (found : List Label) (ps : List Part) (l : Lot (Unit {0})) (w : Work) → IfDone (touched_lot first_tester found ps l w) (λ ids. length ids ≤ length found + 1)
-touched_one found ps l w = if_then (λ (ids : List Label). length ids ≤ length found + 1) _ (touch_nearby first_tester ps l.parts w) (λ touches v. by touches)
+touched_one found ps l w = after_done (λ (ids : List Label). length ids ≤ length found + 1) (touch_nearby first_tester ps l.parts w) _ (λ touches v. by touches)
   where
     by : (b : Bool) → length (elim b as (λ _. List Label) [ true ↦ found ++ l.id ∷ [] | false ↦ found ]) ≤ length found + 1
     by true = omega (arith, length-append found (l.id ∷ []))
@@ -53,7 +54,7 @@ if_weaker P Q turn (stopped e w) h = tt
 touched_few : (found : List Label) (ps : List Part) (ls : List (Lot (Unit {0}))) (w : Work) → IfDone (touched_lots first_tester found ps ls w) (λ ids. length ids ≤ length found + length ls)
 touched_few found ps [] w = omega arith
 touched_few found ps (l ∷ ls) w =
-    if_known (λ (more : List Label). length more ≤ length found + 1) (λ (ids : List Label). length ids ≤ length found + suc (length ls)) (λ more. touched_lots first_tester more ps ls) (touched_lot first_tester found ps l w) (touched_one found ps l w)
+    then_done (λ (more : List Label). length more ≤ length found + 1) (λ (ids : List Label). length ids ≤ length found + suc (length ls)) (touched_lot first_tester found ps l w) (λ more. touched_lots first_tester more ps ls) (touched_one found ps l w)
     (λ more v few. if_weaker (λ (ids : List Label). length ids ≤ length more + length ls) (λ (ids : List Label). length ids ≤ length found + suc (length ls)) (λ ids h. omega arith) (touched_lots first_tester more ps ls v) (touched_few more ps ls v))
 
 -- the lines of a row of neighbours
@@ -63,7 +64,7 @@ lines_few lots x w =
     let Q : Reply → Type 0 = λ r. length r.verdicts ≤ 1 + length lots in
     let near : length (near_lots s x) ≤ length lots = near_few in
     if_checked Q (check_live s x) _ w (λ r. let one : 1 ≤ 1 + length lots = omega arith in one)
-    (if_then Q _ _ (λ u v. if_known (λ (ids : List Label). length ids ≤ length lots) Q _ (touched_lots first_tester [] (parts_with_id s x) (near_lots s x) v)
+    (after_done Q _ _ (λ u v. then_done (λ (ids : List Label). length ids ≤ length lots) Q (touched_lots first_tester [] (parts_with_id s x) (near_lots s x) v) _
     (if_weaker (λ (ids : List Label). length ids ≤ 0 + length (near_lots s x)) (λ (ids : List Label). length ids ≤ length lots) (λ ids h. omega arith) _ (touched_few [] (parts_with_id s x) (near_lots s x) v))
     (λ ids u h. let e : length (map Verdict.parcel ids) ≡ length ids = length-map ids Verdict.parcel in let few : suc (length (map Verdict.parcel ids)) ≤ 1 + length lots = omega arith in few)))
   where

@@ -9,6 +9,7 @@ use Rattle.std.proofs.lemmas.Bool.{cases_lt, or_cases, or_left, or_right, eq-eqb
 use Rattle.std.proofs.lemmas.Bool.Decides.{nat_tests, Decides-eqb}
 use Rattle.std.proofs.lemmas.List.Kept.{IsStrictlySortedBy-filter}
 use Rattle.std.proofs.lemmas.List.Sums.{sum_by-cons}
+use Rattle.rp_algebra.proofs.Filter.{keeps}
 use Rattle.rp_algebra.proofs.Listed.{Listed, first, later, of_all}
 use Rattle.rp_geometry.specs.Geometry.{IntegerBox}
 use Rattle.rp_geometry.specs.sets.Shape.{Part}
@@ -38,16 +39,6 @@ listed_number : (n : ℕ) (xs : List ℕ) → Listed n xs → list_any (λ i. i 
 listed_number n [] l = elim l [ ]
 listed_number n (x ∷ xs) first = or_left (n == n) (list_any (λ i. i == n) xs) (eq-eqb n n refl)
 listed_number n (x ∷ xs) (later l) = or_right (x == n) (list_any (λ i. i == n) xs) (listed_number n xs l)
-
--- an item that passes stays
-stays_listed : {A : Type 0} (test : A → Bool) (x : A) (xs : List A) → test x ≡ true → Listed x xs → Listed x (filter test xs)
-stays_listed test x [] e l = elim l [ ]
-stays_listed test x (y ∷ xs) e first = subst (λ (b : Bool). Listed x (cond b (x ∷ filter test xs) (filter test xs))) (sym e) first
-stays_listed test x (y ∷ xs) e (later l) = by (test y) (stays_listed test x xs e l)
-  where
-    by : (b : Bool) → Listed x (filter test xs) → Listed x (cond b (y ∷ filter test xs) (filter test xs))
-    by true k = later k
-    by false k = k
 
 -- what stays of one item more, by the test of that item
 stayed_by : {A : Type 0} (test : A → Bool) (x y : A) (xs : List A) → (Listed x (filter test xs) → Listed x xs × (test x ≡ true)) → (b : Bool) → test y ≡ b → Listed x (cond b (y ∷ filter test xs) (filter test xs)) → Listed x (y ∷ xs) × (test x ≡ true)
@@ -157,7 +148,7 @@ places_near r ps lots live from h none = record {
   within = places_within (is_closed r) (hull_of_parts ps) live from lots none;
   all = λ k l f at lives near.
       let box : box_at live k ≡ Some (hull_of_parts l.parts) = h k ∙ ap (hull_if is_live) at ∙ ap (λ (b : Bool). cond b (Some (hull_of_parts l.parts)) None) lives in
-      stays_listed (λ c. leb from c) k ids (le-leb from k f) (box_reached (is_closed r) (hull_of_parts ps) (hull_of_parts l.parts) live k box (hulls_meet r ps l near));
+      keeps (λ c. leb from c) ids k (box_reached (is_closed r) (hull_of_parts ps) (hull_of_parts l.parts) live k box (hulls_meet r ps l near)) (le-leb from k f);
 }
   where
     ids : List ℕ

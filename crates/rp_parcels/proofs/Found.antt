@@ -1,5 +1,5 @@
 -- Sound lots at their places.
-use Rattle.std.proofs.Common.{◌≡◌, ℕ, List, Option, Some, slice_get, sym, ap, ◌∙◌, subst}
+use Rattle.std.proofs.Common.{◌≡◌, ℕ, List, Some, slice_get, sym, ap, ◌∙◌, subst}
 use Rattle.std.specs.Prelude.{IsTrue, option_map}
 use Rattle.rp_algebra.proofs.Lists.{images_twice}
 use Rattle.rp_geometry.specs.sets.Shape.{Shape, Part}

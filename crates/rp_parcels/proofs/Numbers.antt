@@ -2,14 +2,13 @@
 use Rattle.std.proofs.Common.{◌≡◌, ℕ, zero, suc, ◌+◌, ◌<◌, Bool, true, false, cond, List, [], ◌∷◌, ◌++◌, map, length, drop, take, get_or, slice_get, Option, Some, None, refl, sym, ap, ap₂, ◌∙◌, arith, append_assoc, append-nil}
 use Rattle.std.specs.List.{filter_map}
 use Rattle.std.proofs.lemmas.List.{drop_more, take_more, map-append}
-use Rattle.rp_algebra.proofs.Lists.{get_some}
+use Rattle.rp_algebra.proofs.Lists.{get_some, filter_kept}
 use Rattle.rp_language.specs.Name.{Label, label_eq}
 use Rattle.rp_model.specs.states.State.{Lot, bare_lot, ids_of, place_among}
 use Rattle.rp_model.specs.commands.Verdict.{Verdict, level_lines}
 use Rattle.rp_history.specs.declared.lot.LotLine.{LotLine}
 use Rattle.rp_history.specs.Lots.{lot_of}
 use Rattle.rp_nearby.specs.Near.{lots_at, AreWithin}
-use Rattle.rp_history.proofs.Stepped.{filter_kept}
 use Rattle.rp_parcels.specs.declared.pairs.Pair.{Pair}
 use Rattle.rp_parcels.specs.declared.pairs.Judged.{Judged}
 use Rattle.rp_parcels.specs.Judged.{id_at}

@@ -1,11 +1,9 @@
 -- Sound lots are not many, since each has a part.
 use Rattle.std.proofs.Common.{◌≡◌, ℕ, zero, suc, ◌≤◌, List, [], ◌∷◌, length, Some, slice_get, subst, arith}
 use Rattle.std.specs.List.{AllByRecursion}
-use Rattle.std.proofs.lemmas.List.Sums.{sum_by-cons}
-use Rattle.rp_geometry.specs.sets.Shape.{Shape, Part, shape_of_parts}
+use Rattle.rp_geometry.specs.sets.Shape.{Shape, shape_of_parts}
 use Rattle.rp_geometry.specs.sets.Sets.{IsNonempty}
 use Rattle.rp_geometry.specs.parts.Parts.{AreOf, IsPart, IsRegion}
-use Rattle.rp_geometry.proofs.Members.{not_in_nothing}
 use Rattle.rp_model.specs.states.State.{Lot, lot_of_parts, parts_under_lots, most_kept_parts}
 use Rattle.rp_states.proofs.Listing.{all_unmapped}
 use Rattle.rp_states.proofs.Plain.{image_sums}

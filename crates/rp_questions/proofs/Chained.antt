@@ -3,6 +3,7 @@ use Rattle.std.proofs.Common.{◌≡◌, ℕ, zero, suc, ◌+◌, ◌-◌, ◌<�
 use Rattle.std.specs.Prelude.{filter_map, option_map, MatchOption, IfSome}
 use Rattle.std.specs.List.{AllByRecursion}
 use Rattle.std.proofs.lemmas.List.{drop_more, map-append, get_or_default}
+use Rattle.rp_algebra.proofs.Lists.{filter_kept}
 use Rattle.rp_geometry.specs.sets.Chain.{IsLevelBy, IsChosenBy}
 use Rattle.rp_geometry.specs.parts.Levels.{levels_along, chain_along}
 use Rattle.rp_language.specs.Name.{Label}
@@ -14,7 +15,6 @@ use Rattle.rp_access.specs.Chain.{IsLinked, AreLevels, HasNoChain, IsRoute}
 use Rattle.rp_access.specs.Route.{Numbers}
 use Rattle.rp_access.specs.Laws.{AreLinksOf}
 use Rattle.rp_access.proofs.Routes.{route_below}
-use Rattle.rp_history.proofs.Stepped.{filter_kept}
 use Rattle.rp_access.proofs.Computed.{levels_are_computed_spec, chain_is_computed_spec}
 use Rattle.rp_register.specs.declared.parcel.Parcel.{Parcel}
 use Rattle.rp_questions.proofs.LayerLots.{ids_here, ids_left}

@@ -7,7 +7,7 @@ use Rattle.std.proofs.lemmas.List.{length-map, length_push, map-append}
 use Rattle.std.proofs.lemmas.List.Sums.{sum_by_push}
 use Rattle.rp_algebra.proofs.Tests.{and_first, and_second, false_not_true, false_unless}
 use Rattle.rp_algebra.proofs.Lists.{images_twice}
-use Rattle.rp_geometry.specs.sets.Shape.{Shape, Part, shape_of_parts}
+use Rattle.rp_geometry.specs.sets.Shape.{Shape, Part}
 use Rattle.rp_geometry.specs.sets.Sets.{IsNonempty}
 use Rattle.rp_geometry.specs.parts.Parts.{AreOf, IsCheckedPart, most_parts}
 use Rattle.rp_language.specs.Name.{Label, label_eq, is_among}

@@ -1,5 +1,5 @@
 -- A history and the forms of its lots, together.
-use Rattle.std.proofs.Common.{◌≡◌, ℕ, ◌+◌, Bool, true, false, List, [], ◌∷◌, ◌++◌, map, length, Option, Some, None, slice_get, sum_by, refl, sym, ap, ap₂, ◌∙◌, subst}
+use Rattle.std.proofs.Common.{◌≡◌, ℕ, ◌+◌, Bool, false, List, [], ◌∷◌, ◌++◌, map, length, Option, Some, None, slice_get, sum_by, refl, sym, ap, ap₂, ◌∙◌, subst}
 use Rattle.std.specs.Prelude.{IsTrue, option_map}
 use Rattle.std.proofs.lemmas.List.{length-append, length-map, map-append}
 use Rattle.std.proofs.lemmas.Option.{slice_get-map}
@@ -10,7 +10,6 @@ use Rattle.rp_model.specs.states.State.{Lot, NewLot, ids_of, bare_lot, ended_at,
 use Rattle.rp_model.specs.states.Sound.{are_distinct}
 use Rattle.rp_model.specs.commands.Row.{is_in_parts}
 use Rattle.rp_states.proofs.Plain.{image_sums}
-use Rattle.rp_history.specs.declared.lot.Birth.{Birth}
 use Rattle.rp_history.specs.Lots.{lots_after, AreBornBefore, AreNew, new_lot_of as bare_new_lot}
 use Rattle.rp_history.specs.Parts.{lots_with_parts, new_lots}
 use Rattle.rp_history.proofs.Together.{length-with_parts, bare-with_parts, ids-with_parts, parts_at, after_with_parts, still_bare, born_before as born_in_history, new_to_history as new_in_history, parts_after, new_parts as parts_of_new}

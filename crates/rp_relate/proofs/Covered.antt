@@ -14,9 +14,9 @@ use Rattle.rp_geometry.proofs.Kept.{part_is_checked}
 use Rattle.rp_walks.specs.Walk.{Outcome, done, Walk, Work, pass, first_tester}
 use Rattle.rp_walks.specs.Compare.{show_then_no, is_covered, relation_of_parts}
 use Rattle.rp_walks.specs.FormLaws.{IfDone}
+use Rattle.rp_walks.proofs.Outcomes.{weaker_done, then_done}
 use Rattle.rp_forms.proofs.First.{first_tester_is_right_spec}
 use Rattle.rp_forms.proofs.Relations.{relation_is_right_spec}
-use Rattle.rp_forms.proofs.Walks.{if_done_map, then_done}
 use Rattle.rp_region.specs.Makes.{Makes}
 use Rattle.rp_relate.specs.Relations.{fault_of_relation, cover_each_other, TellsEmpty}
 
@@ -73,7 +73,7 @@ within_right ps qs w hp hq = cover_is_right_spec IsPart first_tester first_teste
 -- whether two lists have the same members
 pub equal_right : (ps qs : List Part) (w : Work) → IsRegion ps → IsRegion qs → IfDone (cover_each_other ps qs w) (λ is_so. IsTrue is_so ↔ SameMembers (shape_of_parts ps) (shape_of_parts qs))
 equal_right ps qs w hp hq =
-    then_done (λ is_so. IsTrue is_so ↔ IsWithin s t) (λ is_so. IsTrue is_so ↔ SameMembers s t) second by_there (is_covered first_tester ps qs w) (within_right ps qs w hp hq)
+    then_done (λ is_so. IsTrue is_so ↔ IsWithin s t) (λ is_so. IsTrue is_so ↔ SameMembers s t) (is_covered first_tester ps qs w) second (within_right ps qs w hp hq) by_there
   where
     s : Shape
     s = shape_of_parts ps
@@ -84,7 +84,7 @@ equal_right ps qs w hp hq =
     second : Bool → Walk Work Bool
     second there = elim there as (λ _. Walk Work Bool) [ false ↦ pass false | true ↦ is_covered first_tester qs ps ]
 
-    by_there : (there : Bool) → (IsTrue there ↔ IsWithin s t) → (v : Work) → IfDone (second there v) (λ is_so. IsTrue is_so ↔ SameMembers s t)
-    by_there false h v = (λ e. absurd (cc), λ same. h.1 same.0)
-    by_there true h v =
-        if_done_map (λ is_so. IsTrue is_so ↔ IsWithin t s) (λ is_so. IsTrue is_so ↔ SameMembers s t) (λ is_so g. (λ e. (h.0 refl, g.0 e), λ same. g.1 same.1)) (is_covered first_tester qs ps v) (within_right qs ps v hq hp)
+    by_there : (there : Bool) (v : Work) → (IsTrue there ↔ IsWithin s t) → IfDone (second there v) (λ is_so. IsTrue is_so ↔ SameMembers s t)
+    by_there false v h = (λ e. absurd (cc), λ same. h.1 same.0)
+    by_there true v h =
+        weaker_done (λ is_so. IsTrue is_so ↔ IsWithin t s) (λ is_so. IsTrue is_so ↔ SameMembers s t) (is_covered first_tester qs ps v) (within_right qs ps v hq hp) (λ is_so g. (λ e. (h.0 refl, g.0 e), λ same. g.1 same.1))

@@ -1,5 +1,5 @@
 -- A line is read as one that shows a slice exactly where it is the text of a slice that keeps its bounds.
-use Rattle.std.proofs.Common.{◌≡◌, ℕ, ◌≤◌, Bool, true, ◌&&◌, nat_le, ℤ, pos, List, [], ◌∷◌, ◌++◌, length, Option, Some, None, refl, sym, ap, ◌∙◌, subst, arith, append_assoc, append-nil}
+use Rattle.std.proofs.Common.{◌≡◌, ℕ, ◌≤◌, true, ◌&&◌, ℤ, List, [], ◌∷◌, ◌++◌, length, Option, Some, None, refl, sym, ap, ◌∙◌, subst, arith, append_assoc}
 use Rattle.std.specs.Prelude.{codes, option_map, option_and_then}
 use Rattle.std.specs.List.{list_all}
 use Rattle.std.specs.Fmt.{signed_decimal}
@@ -15,11 +15,11 @@ use Rattle.rp_geometry.specs.sections.Slice.{Slice, ring, flat}
 use Rattle.rp_language.specs.Name.{label_eq}
 use Rattle.rp_language.specs.Grammar.{space}
 use Rattle.rp_model.specs.commands.Verdict.{Verdict}
-use Rattle.rp_reports.specs.Text.{in_parentheses, point_text, term_text, items_text, trace_text, step_text, slice_text, verdict_text}
+use Rattle.rp_reports.specs.Text.{in_parentheses, point_text, term_text, trace_text, step_text, verdict_text}
 use Rattle.rp_reports.specs.ProofText.{is_written_point, is_written_multiple, loose_words}
 use Rattle.rp_reports.specs.SliceText.{trace_bound, is_written_trace, is_written_step, is_three_to_36, is_written_slice, slice_of_words, slice_if_spelled, slice_read}
 use Rattle.rp_accepted.proofs.SlicesAgain.{slice_again}
-use Rattle.rp_report.specs.Readers.{Taker, ◌>>=◌, gives, gives_some, behind, the_word, number_before, point, term, spaced_item, items, few_items, behind_or}
+use Rattle.rp_report.specs.Readers.{Taker, ◌>>=◌, gives, gives_some, the_word, number_before, point, term, spaced_item, items, few_items}
 use Rattle.rp_report.specs.SliceReaders.{three_numbers, written_edge, edge, step_of, step, if_ring, ring_steps, if_flat, flat_terms, slice}
 use Rattle.rp_report.proofs.ReaderLaws.{ReadsExactly, IsShort, steps, onward, kept_true, led, made, word_sound, number_sound, number_complete, within_short, point_reads, term_reads, spaced_reads, items_sound, items_complete, few_sound, few_complete}
 use Rattle.rp_report.proofs.ProofLaws.{word_or}

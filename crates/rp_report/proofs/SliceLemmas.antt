@@ -7,9 +7,8 @@ use mir.Syntax.{w128}
 use Rattle.rp_algebra.proofs.Options.{same_some, some_not_none}
 use Rattle.rp_algebra.proofs.Tests.{and_true}
 use Rattle.rp_geometry.specs.Geometry.{is_within_bound, cube_bound}
-use Rattle.rp_geometry.specs.sections.Trace.{Trace, trace_of}
+use Rattle.rp_geometry.specs.sections.Trace.{trace_of}
 use Rattle.rp_geometry.specs.sections.Slice.{Slice, ring, flat}
-use Rattle.rp_language.specs.Grammar.{Word}
 use Rattle.rp_reports.specs.SliceText.{trace_bound, is_written_trace}
 use Rattle.rp_report.specs.Readers.{behind, kept_if, behind_or}
 use Rattle.rp_report.specs.SliceReaders.{written_edge, ring_steps, flat_terms, slice}

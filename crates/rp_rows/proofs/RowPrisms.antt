@@ -1,9 +1,9 @@
 -- Prisms, by computation.
-use Rattle.std.specs.Prelude.{◌≡◌, ℕ, true, false, List, [], ◌∷◌, codes, refl}
+use Rattle.std.specs.Prelude.{◌≡◌, true, false, [], ◌∷◌, codes, refl}
 use Rattle.rp_rows.proofs.Opened.{opened}
 use Rattle.rp_reports.specs.Text.{text_of_lines}
 use Rattle.rp_reports.specs.Machine.{report}
-use Rattle.rp_reports.specs.Check.{finding, all_accepted, wrong_at}
+use Rattle.rp_reports.specs.Check.{finding, all_accepted}
 
 square : report true (text_of_lines (codes "show prism 0 10 4 0 0 10 0 10 10 0 10" ∷ codes "show prism 0 10 2 0 0 1 1" ∷ []))
     ≡ (codes "> 1 show prism 0 10 4 0 0 10 0 10 10 0 10" ∷ codes "= parts 1" ∷ codes "= part (1 0 0 0) (-1 0 0 10) (0 1 0 0) (0 -1 0 10) (0 0 1 0) (0 0 -1 10)" ∷ codes "> 2 show prism 0 10 2 0 0 1 1" ∷ codes "= refused range" ∷ [])

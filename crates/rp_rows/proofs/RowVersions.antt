@@ -1,5 +1,5 @@
 -- Scripts of the second version, by computation.
-use Rattle.std.specs.Prelude.{◌≡◌, ℕ, true, false, List, [], ◌∷◌, codes, refl}
+use Rattle.std.specs.Prelude.{◌≡◌, true, false, [], ◌∷◌, codes, refl}
 use Rattle.rp_rows.proofs.Opened.{opened}
 use Rattle.rp_reports.specs.Text.{text_of_lines}
 use Rattle.rp_reports.specs.Machine.{report}

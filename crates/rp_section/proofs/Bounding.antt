@@ -1,28 +1,28 @@
 -- Which sides bound a section: where a cell has a ring, those whose traces are its edges.
-use Rattle.std.proofs.Common.{◌≡◌, ℤ, pos, neg_ℤ, ◌+ℤ◌, ◌*ℤ◌, ◌≤ℤ◌, ◌<ℤ◌, Bool, true, false, ◌&&◌, ◌||◌, not, List, [], ◌∷◌, ◌++◌, map, ◌⊎◌, inl, inr, ⊎_elim, Option, Some, None, refl, sym, ap, ◌∙◌, subst, arith}
+use Rattle.std.proofs.Common.{◌≡◌, ℤ, pos, neg_ℤ, ◌+ℤ◌, ◌*ℤ◌, ◌≤ℤ◌, ◌<ℤ◌, Bool, true, false, ◌&&◌, ◌||◌, not, List, [], ◌∷◌, map, ◌⊎◌, inl, inr, ⊎_elim, Option, Some, None, refl, sym, ap, ◌∙◌, subst, arith}
 use Rattle.std.specs.Prelude.{is_some, option_map}
-use Rattle.std.specs.List.{list_all, list_any}
+use Rattle.std.specs.List.{list_any}
 use Rattle.std.proofs.lemmas.Int.{ints}
 use Rattle.rp_algebra.specs.Integer.{is_zero, is_positive, is_nonnegative}
 use Rattle.rp_algebra.proofs.IntLaws.{linear, trichotomy_ℤ, cancel_mul_left_ℤ, cancel_mul_ne_ℤ}
 use Rattle.rp_algebra.proofs.Numbers.{zero_or_not, above_not_zero, below_not_zero, nonpos_of_neg, neg_positive}
-use Rattle.rp_algebra.proofs.Options.{none_not_some, some_not_none, same_some}
+use Rattle.rp_algebra.proofs.Options.{none_not_some, same_some}
 use Rattle.rp_algebra.proofs.Reify.{by_ring_at, reify}
-use Rattle.rp_algebra.proofs.Tests.{and_first, and_second, and_true, zero_is, is_zero_true, is_zero_false, is_positive_true, is_positive_false, positive_is, not_positive_is, nonnegative_is, is_nonnegative_true, false_not_true, false_unless, same_test}
+use Rattle.rp_algebra.proofs.Tests.{and_first, and_second, and_true, zero_is, is_zero_true, is_zero_false, is_positive_true, is_positive_false, nonnegative_is, is_nonnegative_true, false_not_true, same_test}
 use Rattle.rp_algebra.proofs.Listed.{Listed, first, later, all_pass, pass_all}
 use Rattle.rp_algebra.proofs.Filter.{passes_some, some_passes, SomePasses}
 use Rattle.rp_geometry.specs.Geometry.{RationalPoint, HalfSpace, IsPoint, side_value, reduced_point}
 use Rattle.rp_geometry.specs.searches.Search.{first_of}
 use Rattle.rp_geometry.specs.searches.Vertex.{cramer_point, negated_point, meeting_point}
-use Rattle.rp_geometry.specs.sections.Trace.{IsAtHeight, IsHeight, Trace, has_trace, trace_at, trace_value, with_sides, traces, trace_before}
-use Rattle.rp_geometry.specs.sections.Ring.{RingStep, Turn, turn_of, turns_of, cross, crossing, trace_meeting, is_edge_of, corners, edges_among, insert_edge, is_angle_before}
+use Rattle.rp_geometry.specs.sections.Trace.{IsAtHeight, Trace, has_trace, trace_at, trace_value, with_sides, traces, trace_before}
+use Rattle.rp_geometry.specs.sections.Ring.{RingStep, turn_of, cross, crossing, trace_meeting, is_edge_of, corners, edges_among, insert_edge, is_angle_before}
 use Rattle.rp_geometry.specs.laws.SectionLaws.{level_plane}
 use Rattle.rp_convex.proofs.Lowest.{reduced_is}
 use Rattle.rp_convex.proofs.Reduced.{same_sign_reduced}
 use Rattle.rp_convex.proofs.Signs.{HaveSameSign}
 use Rattle.rp_ring.proofs.Traces.{direction_of, trace_at-is, side_of_trace, trace_from, trace_listed}
 use Rattle.rp_ring.proofs.Turns.{onward, backward, joins}
-use Rattle.rp_ring.proofs.Rings.{IsLowestPoint, IsRingOf, on_edge}
+use Rattle.rp_ring.proofs.Rings.{IsRingOf}
 use Rattle.rp_ring.proofs.Unique.{HasEdge, edge_at_two, end_spot}
 use Rattle.rp_ring.proofs.Spots.{IsSpot, cross_turned}
 use Rattle.rp_slice.proofs.RingFound.{meeting_is, meeting_plain, normal_above, normal_below, normal_zero, edge_is, is_edge, crossing_first, crossing_second, negated_value}

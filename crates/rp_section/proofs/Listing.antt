@@ -1,12 +1,12 @@
 -- Lists of sides, one side after the other.
-use Rattle.std.proofs.Common.{◌≡◌, ℕ, zero, suc, ◌+◌, ◌-◌, ◌<◌, ◌≤◌, ℤ, Bool, true, false, List, [], ◌∷◌, ◌++◌, length, get_or, take, drop, refl, sym, ap, ◌∙◌, subst, arith}
+use Rattle.std.proofs.Common.{◌≡◌, ℕ, zero, suc, ◌+◌, ◌-◌, ◌<◌, ◌≤◌, ℤ, Bool, true, false, List, [], ◌∷◌, ◌++◌, length, get_or, take, drop, refl, sym, ap, ◌∙◌, arith}
 use Rattle.std.specs.List.{insert}
 use Rattle.std.proofs.lemmas.List.{take_more, drop_more, take-append-drop}
 use Rattle.rp_geometry.specs.Geometry.{RationalPoint, HalfSpace}
-use Rattle.rp_geometry.specs.sections.Trace.{has_trace, trace_at}
+use Rattle.rp_geometry.specs.sections.Trace.{has_trace}
 use Rattle.rp_geometry.specs.sections.Ring.{RingStep, is_angle_before}
 use Rattle.rp_section.specs.declared.side.Side.{Side}
-use Rattle.rp_section.specs.Sides.{side_of, sides_of, is_bound, insert_side, bounds_of, side_step, side_steps_to, side_steps}
+use Rattle.rp_section.specs.Sides.{side_of, sides_of, insert_side, side_step, side_steps_to, side_steps}
 
 -- ---- lists
 

@@ -1,17 +1,16 @@
 -- The steps along the sides that bound a section are its ring, where the cell has one.
-use Rattle.std.proofs.Common.{◌≡◌, ℤ, pos, ◌<ℤ◌, true, List, [], ◌∷◌, Some, None, refl, sym, ap, ◌∙◌, subst, arith}
+use Rattle.std.proofs.Common.{◌≡◌, ℤ, pos, ◌<ℤ◌, List, [], ◌∷◌, Some, None, refl, sym, ap, ◌∙◌, subst, arith}
 use Rattle.rp_algebra.proofs.IntLaws.{linear}
 use Rattle.rp_algebra.proofs.Listed.{Listed, first, later}
 use Rattle.rp_geometry.specs.Geometry.{RationalPoint, HalfSpace}
-use Rattle.rp_geometry.specs.searches.Vertex.{meeting_point}
 use Rattle.rp_geometry.specs.sections.Trace.{Trace, with_sides, traces}
 use Rattle.rp_geometry.specs.sections.Ring.{RingStep, Turn, turn_of, turns_to, turns_of, cross, trace_meeting, corners, edges_among}
 use Rattle.rp_geometry.specs.laws.SectionLaws.{IsRing, level_plane}
 use Rattle.rp_ring.proofs.Rings.{IsRingOf, ring_to}
-use Rattle.rp_ring.proofs.Unique.{HasEdge, SameEdges, same_edges, EndsAt, ends_at, have_directions}
+use Rattle.rp_ring.proofs.Unique.{SameEdges, same_edges, EndsAt, ends_at, have_directions}
 use Rattle.rp_slice.proofs.RingFound.{meeting_is, as_steps, as_edge, edge_as, as_rising, edge_direction, edges_found}
 use Rattle.rp_section.specs.declared.side.Side.{Side}
-use Rattle.rp_section.specs.Sides.{insert_side, is_bound, bounds_of, side_step, side_steps_to, side_steps, sides_of}
+use Rattle.rp_section.specs.Sides.{bounds_of, side_step, side_steps_to, side_steps, sides_of}
 use Rattle.rp_section.proofs.Bounding.{edges_on, meeting_same, bounds_are_edges, bounds_listed}
 
 -- the edges of sides are those of steps

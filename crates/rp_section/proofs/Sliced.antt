@@ -1,13 +1,13 @@
 -- What follows for a slice that is the one to be shown.
-use Rattle.std.proofs.Common.{◌≡◌, ℤ, true, List, Option, Some, None, refl, sym, ap, ◌∙◌, subst}
-use Rattle.std.specs.Prelude.{◌↔◌, IsTrue}
+use Rattle.std.proofs.Common.{◌≡◌, ℤ, true, List, Some, None, refl, sym, ap, ◌∙◌, subst}
+use Rattle.std.specs.Prelude.{◌↔◌}
 use Rattle.rp_geometry.specs.Geometry.{HalfSpace}
 use Rattle.rp_geometry.specs.searches.Certificate.{Multiple}
 use Rattle.rp_geometry.specs.laws.CellLaws.{AreHalfSpaces}
 use Rattle.rp_geometry.specs.laws.SectionLaws.{HasMemberAt, IsRing, IsSliceOf}
 use Rattle.rp_geometry.specs.sections.Trace.{IsHeight}
 use Rattle.rp_geometry.specs.sections.Ring.{RingStep, is_ring, ring_of}
-use Rattle.rp_geometry.specs.sections.Flat.{is_flat, first_flat}
+use Rattle.rp_geometry.specs.sections.Flat.{first_flat}
 use Rattle.rp_geometry.specs.sections.Slice as model
 use Rattle.rp_ring.proofs.Center.{ring_shows_member_spec}
 use Rattle.rp_ring.proofs.Never.{never_flat}

@@ -1,19 +1,15 @@
 -- Sizes: the numbers of traces and of ends keep the program's bounds, and a ring is short.
 use Rattle.std.proofs.Common.{◌≡◌, suc, ◌+◌, ◌≤◌, ◌<◌, ℤ, pos, neg_ℤ, ◌+ℤ◌, ◌-ℤ◌, ◌*ℤ◌, ◌<ℤ◌, Bool, true, false, List, [], ◌∷◌, length, ⊎_elim, Some, None, refl, sym, ap, ◌∙◌, subst, arith}
 use Rattle.std.proofs.lemmas.Int.{ints}
-use Rattle.rp_algebra.specs.Within.{IsWithin}
-use Rattle.rp_algebra.specs.Integer.{gcd_of}
 use Rattle.rp_algebra.proofs.IntLaws.{linear, trichotomy_ℤ, cancel_mul_left_ℤ, mul_pos_ℤ}
-use Rattle.rp_algebra.proofs.Machine.{code, within_by}
-use Rattle.rp_algebra.proofs.LowestTerms.{quotient_within}
 use Rattle.rp_algebra.proofs.Numbers.{zero_or_not, neg_positive}
 use Rattle.rp_algebra.proofs.Reify.{by_ring_at, reify}
 use Rattle.rp_algebra.proofs.Options.{same_some, of_some}
 use Rattle.rp_algebra.proofs.Listed.{Listed, first, later, all_of, of_all}
-use Rattle.rp_geometry.specs.Geometry.{RationalPoint, HalfSpace, IsHalfSpace, IsSmallPoint, IsKeptPoint, half_edge, greatest_offset, side_value}
+use Rattle.rp_geometry.specs.Geometry.{RationalPoint, HalfSpace, IsHalfSpace, IsSmallPoint, IsKeptPoint, side_value}
 use Rattle.rp_geometry.specs.searches.Vertex.{meeting_weight, cramer_point, negated_point, meeting_point}
 use Rattle.rp_geometry.specs.laws.CellLaws.{AreHalfSpaces}
-use Rattle.rp_geometry.specs.sections.Trace.{IsHeight, IsAtHeight, Trace, has_trace, offset_at, trace_at, trace_value, traces, trace_before, with_sides}
+use Rattle.rp_geometry.specs.sections.Trace.{IsHeight, IsAtHeight, Trace, has_trace, trace_at, trace_value, traces, trace_before, with_sides}
 use Rattle.rp_geometry.specs.laws.SectionLaws.{IsSmallTrace, level_plane, TracesMeetWherePlanesDo, RingIsKept, RingIsShort}
 use Rattle.rp_geometry.specs.sections.Ring.{RingStep, turn_of, cross, crossing, trace_meeting, is_angle_before, angles_rise}
 use Rattle.rp_convex.proofs.Meeting.{meets}

@@ -1,13 +1,13 @@
 -- The binary method for greatest common divisors: factors 2 are taken out, and the less of two odd numbers away from the other.
-use Rattle.std.proofs.Common.{◌≡◌, ℕ, ℤ, zero, suc, ◌+◌, ◌-◌, ◌*◌, ◌/◌, ◌%◌, ◌^◌, ◌<◌, ◌≤◌, refl, sym, ap, ◌∙◌, subst, arith}
+use Rattle.std.proofs.Common.{◌≡◌, ℕ, ℤ, zero, suc, ◌+◌, ◌-◌, ◌*◌, ◌/◌, ◌%◌, ◌^◌, ◌<◌, ◌≤◌, sym, ap, ◌∙◌, subst, arith}
 use Rattle.std.specs.Int.{◌∣◌, Width, bit_at, trailing_zeros}
-use Rattle.std.proofs.Math.Nat.{dvd-add, dvd-add_iff_right, dvd-mul_left_of_dvd, dvd-mul_right_of_dvd, mul-dvd-mul_left}
+use Rattle.std.proofs.Math.Nat.{dvd-add, dvd-add_iff_right, dvd-mul_left_of_dvd, mul-dvd-mul_left}
 use Rattle.std.proofs.lemmas.Int.{ints}
 use Rattle.std.proofs.lemmas.Nat.{shr-shr}
 use Rattle.std.proofs.lemmas.Nat.Bits.{bit_at_lowest, bit_at-suc, bit_at-trailing_zeros}
 use mir.Val.{bits}
 use Rattle.rp_algebra.specs.Integer.{gcd, reduced_by}
-use Rattle.rp_algebra.proofs.Divisors.{gcd-is, gcd-unique, gcd-comm, gcd-mod, gcd-zero, gcd-times, gcd-greatest, gcd-divides_right}
+use Rattle.rp_algebra.proofs.Divisors.{gcd-is, gcd-unique, gcd-comm, gcd-mod, gcd-zero, gcd-times, gcd-greatest}
 
 -- ---- one number less the other
 

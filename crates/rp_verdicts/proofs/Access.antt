@@ -18,6 +18,7 @@ use Rattle.rp_geometry.specs.parts.Parts.{AreOf}
 use Rattle.rp_walks.specs.Walk.{Outcome, done, stopped, Tester, pass, after_first}
 use Rattle.rp_walks.specs.Form.{touch_nearby, touching_pair}
 use Rattle.rp_walks.specs.FormLaws.{IfDone, WalksAreRight}
+use Rattle.rp_walks.proofs.Outcomes.{then_done, after_done, weaker_done}
 use Rattle.rp_model.specs.states.State.{Lot, StateOf, State, live_lots, lots_of_layer, layer_of_lot, layer_with_id, layer_lots, lot_with_id, ids_of, place_among}
 use Rattle.rp_model.specs.states.Sound.{IsSoundWith}
 use Rattle.rp_model.specs.commands.Verdict.{Refusal, access_lines}
@@ -31,7 +32,7 @@ use Rattle.rp_model.proofs.Refusals.{neither}
 use Rattle.rp_chains.proofs.Related.{AreStepsOf, levels_there, chosen_there}
 use Rattle.rp_chains.proofs.Levels.{levels_are_found_spec}
 use Rattle.rp_chains.proofs.Down.{chain_is_found_spec}
-use Rattle.rp_verdicts.proofs.Outcomes.{then_done, after_done, weaker_done, names_done}
+use Rattle.rp_verdicts.proofs.Outcomes.{names_done}
 use Rattle.rp_verdicts.proofs.Neighbours.{live_of_layer_are_of}
 
 -- ---- the items of a list that is numbered from some number

@@ -19,6 +19,7 @@ use Rattle.rp_walks.specs.Walk.{Outcome, done, stopped, limit_told, line_wrong, 
 use Rattle.rp_geometry.specs.parts.Parts.{most_half_spaces, AreKeptHalfSpaces, IsCheckedPart, AreParts}
 use Rattle.rp_reports.specs.Check.{Trail, tells_limit, nothing_due, next_proof, taken, taken_if, strict_by_line, follow_strict, weak_by_line, follow_weak, without, dropped_by, follow_drops, if_few, box_by_line, is_proper_box, side_by_line, follow_side, follow_sides, follow_made, part_if, follow_part, next_slice, slice_told, slices_told, follow_slices}
 use Rattle.rp_walks.specs.FormLaws.{IfDone, IsMadeOf, ArePassingSlices}
+use Rattle.rp_walks.proofs.Outcomes.{weaker_done, then_done}
 use Rattle.rp_geometry.specs.sections.Trace.{IsHeight}
 use Rattle.rp_geometry.specs.sections.Slice.{Slice, is_slice, slice_of}
 use Rattle.rp_slice.proofs.RingFound.{slice_is_found_spec}
@@ -31,7 +32,6 @@ use Rattle.rp_alternative.proofs.Tests.{listed-to}
 use Rattle.rp_geometry.proofs.Members.{member_in_cube, member_passes}
 use Rattle.rp_geometry.proofs.Kept.{are_half_spaces, kept_box, part_is_checked}
 use Rattle.rp_forms.proofs.Alike.{Alike, same_of_alike, one_part}
-use Rattle.rp_forms.proofs.Walks.{if_done_map, then_done}
 use Rattle.rp_forms.proofs.First.{none_made}
 use Rattle.rp_forms.proofs.Whole.{whole_is_part}
 use Rattle.rp_verdicts.proofs.Written.{next_is_written, written_point, written_box}
@@ -185,10 +185,9 @@ follow_side_told kept side k ks t = by_test (is_listed side kept || is_listed si
 follow_sides_told : (kept sides : List HalfSpace) → AreKeptHalfSpaces kept → AreKeptHalfSpaces sides → (t : Trail) → IfDone (follow_sides kept sides t) (λ _. AllByRecursion (Holds kept) sides)
 follow_sides_told kept [] k ks t = tt
 follow_sides_told kept (side ∷ sides) k ks t =
-    then_done (λ _. Holds kept side) _ _
-    (λ _ h v. if_done_map (λ _. AllByRecursion (Holds kept) sides) _ (λ _ j. (h, j)) (follow_sides kept sides v) (follow_sides_told kept sides k ks.1 v))
-    (follow_side kept side t)
+    then_done (λ _. Holds kept side) _ (follow_side kept side t) _
     (follow_side_told kept side k ks.0 t)
+    (λ _ v h. weaker_done (λ _. AllByRecursion (Holds kept) sides) _ (follow_sides kept sides v) (follow_sides_told kept sides k ks.1 v) (λ _ j. (h, j)))
 
 -- a point that the six sides hold is in the box
 in_box : (b : IntegerBox) (p : RationalPoint) → all_hold (box_half_spaces b) p ≡ true → IsInBox b p
@@ -233,19 +232,15 @@ part_made cell kept b (p, m) s few sides = record {
 -- what follows the strict test of a cell with a member
 follow_made_told : (cell : List HalfSpace) → AreKeptHalfSpaces cell → IsNonempty (shape_of_cell cell) → (t : Trail) → IfDone (follow_made cell t) (λ o. IsMadeOf IsCheckedPart cell o)
 follow_made_told cell k n t =
-    then_done (IsSlimOf cell) _ _
-    (λ kept s t₁. then_done (λ _. length kept ≤ most_half_spaces) _ _
-    (λ _ few t₂. then_done (λ b. is_box_in_bounds b ≡ true) _ _
-    (λ b bounds t₃. then_done (λ _. AllByRecursion (Holds kept) (box_half_spaces b)) _ _
-    (λ _ sides t₄. part_made cell kept b n s few sides)
-    (follow_sides kept (box_half_spaces b) t₃)
-    (follow_sides_told kept (box_half_spaces b) s.half_spaces (kept_box b bounds) t₃))
-    (box_by_line (next_proof t₂.lines) t₂)
-    (box_told t₂ (next_proof t₂.lines) refl))
-    (if_few kept t₁)
-    (if_few_told kept t₁))
-    (follow_drops t.lines cell t)
+    then_done (IsSlimOf cell) _ (follow_drops t.lines cell t) _
     (follow_drops_told cell t.lines cell t (record { half_spaces = k; alike = λ p w c. refl }))
+    (λ kept t₁ s. then_done (λ _. length kept ≤ most_half_spaces) _ (if_few kept t₁) _
+    (if_few_told kept t₁)
+    (λ _ t₂ few. then_done (λ b. is_box_in_bounds b ≡ true) _ (box_by_line (next_proof t₂.lines) t₂) _
+    (box_told t₂ (next_proof t₂.lines) refl)
+    (λ b t₃ bounds. then_done (λ _. AllByRecursion (Holds kept) (box_half_spaces b)) _ (follow_sides kept (box_half_spaces b) t₃) _
+    (follow_sides_told kept (box_half_spaces b) s.half_spaces (kept_box b bounds) t₃)
+    (λ _ t₄ sides. part_made cell kept b n s few sides))))
 
 -- a part, where the strict test found a member
 part_if_told : (cell : List HalfSpace) → AreKeptHalfSpaces cell → (found : Bool) → IsTrue found ↔ IsNonempty (shape_of_cell cell) → (t : Trail) → IfDone (part_if found cell t) (λ o. IsMadeOf IsCheckedPart cell o)
@@ -256,10 +251,9 @@ part_if_told cell k false e t = none_made IsCheckedPart cell (λ n. false_not_tr
 follow_part_told : (cell : List HalfSpace) → AreKeptHalfSpaces cell → (t : Trail) → IfDone (follow_part cell t) (λ o. IsMadeOf IsCheckedPart cell o)
 unfolding follow_part
 follow_part_told cell k t =
-    then_done (λ found. IsTrue found ↔ IsNonempty (shape_of_cell cell)) _ _
-    (λ found e v. part_if_told cell k found e v)
-    (follow_strict cell t)
+    then_done (λ found. IsTrue found ↔ IsNonempty (shape_of_cell cell)) _ (follow_strict cell t) _
     (follow_strict_told cell k t)
+    (λ found v e. part_if_told cell k found e v)
 
 -- ---- slices
 

@@ -3,7 +3,7 @@ use Rattle.std.proofs.Common.{◌≡◌, ℤ, pos, neg_ℤ, ◌+ℤ◌, ◌-ℤ�
 use Rattle.std.specs.List.{Contains}
 use Rattle.std.proofs.lemmas.Int.{ints}
 use Rattle.rp_algebra.proofs.IntLaws.{linear, signs, le_or_lt_ℤ, pos_of_mul_pos_ℤ, mul_eq_zero_ℤ}
-use Rattle.rp_algebra.proofs.Numbers.{above_not_zero, nonneg_of_zero, nonneg_over, not_both, zero_over}
+use Rattle.rp_algebra.proofs.Numbers.{above_not_zero, nonneg_of_zero, nonneg_over, not_both, zero_over, opposite_multiples, less_exchanged}
 use Rattle.rp_algebra.proofs.Reify.{by_ring_at, eq_by_ring, le_by_ring, le_by_multiple, lt_by_ring, zeros, reify}
 use Rattle.rp_geometry.specs.Geometry.{RationalPoint, HalfSpace, IsPoint, SamePlace, complement, half_space_of, side_value, reduced_point}
 use Rattle.rp_geometry.specs.searches.Vertex.{meeting_weight}
@@ -155,10 +155,6 @@ weight_between s t v w ht hs hv hw =
     let n : pos 0 <ℤ neg_ℤ t = omega (arith, ints) in
     search signs
 
--- a multiple less itself
-own_less : (t u : ℤ) → neg_ℤ t *ℤ u +ℤ u *ℤ t ≡ pos 0
-own_less t u = by_ring_at (t ∷ u ∷ []) (search reify depth 40 fits 100000) tt
-
 -- the two products of the second part in the other order
 turned_part : (s t u v : ℤ) → neg_ℤ t *ℤ v +ℤ s *ℤ u ≡ neg_ℤ t *ℤ v +ℤ u *ℤ s
 turned_part s t u v = by_ring_at (s ∷ t ∷ u ∷ v ∷ []) (search reify depth 40 fits 100000) tt
@@ -195,7 +191,7 @@ cut_one system pair span h end c k l g at =
         let m = neg_ℤ (side_value h span.one) in
         let n = side_value u span.one in
         let hm : pos 0 <ℤ m = omega (arith, ints) in
-        let first = subst (λ (t : ℤ). pos 0 ≤ℤ t) (sym (side_sum m n u h span.one)) (nonneg_of_zero (m *ℤ side_value u span.one +ℤ n *ℤ side_value h span.one) (own_less (side_value h span.one) (side_value u span.one))) in
+        let first = subst (λ (t : ℤ). pos 0 ≤ℤ t) (sym (side_sum m n u h span.one)) (nonneg_of_zero (m *ℤ side_value u span.one +ℤ n *ℤ side_value h span.one) (opposite_multiples (side_value u span.one) (side_value h span.one))) in
         let second = subst (λ (t : ℤ). pos 0 ≤ℤ t) (sym (side_sum m n u h span.two)) (subst (λ (t : ℤ). pos 0 ≤ℤ t) (turned_part (side_value h span.two) (side_value h span.one) (side_value u span.one) (side_value u span.two)) (there e u n1)) in
         let v = subst (λ (t : ℤ). pos 0 ≤ℤ t) (side_sum m n u h p) (k.holds (sum_of m u n h) first second p left) in
         lifted m n (side_value u p) (side_value h p) hm b (left.sides h c) v
@@ -240,10 +236,6 @@ weight_parallel f g s k v = by_ring_at (k ∷ f.a ∷ f.b ∷ f.c ∷ g.a ∷ g.
 -- a product of numbers other than 0
 product_not_zero : (k v : ℤ) → pos 0 <ℤ k → (v ≡ pos 0 → ⊥) → k *ℤ v ≡ pos 0 → ⊥
 product_not_zero k v hk n e = ⊎_elim (λ (z : k ≡ pos 0). above_not_zero k hk z) n (mul_eq_zero_ℤ k v e)
-
--- a number times another less the same the other way round
-own_parallel : (k v : ℤ) → k *ℤ v -ℤ v *ℤ k ≡ pos 0
-own_parallel k v = by_ring_at (k ∷ v ∷ []) (search reify depth 40 fits 100000) tt
 
 -- the weight of the point of the segment at which both values are as at the point
 weight_mixed : (s t v w : ℤ) → pos 0 <ℤ (s +ℤ t) → pos 0 <ℤ v → pos 0 <ℤ w → pos 0 <ℤ ((t *ℤ w) *ℤ v +ℤ (s *ℤ v) *ℤ w)
@@ -302,7 +294,7 @@ between_sides system pair a b c m span hm cs ct k =
         let s2 : side_value s span.two ≡ (m +ℤ m) *ℤ w = sum_zero (side_value s span.two) (side_value t span.two) _ (opposite_sum a b c m span.two.x span.two.y span.two.z w) two.third in
         let l = meets pair.first pair.second h (λ e. product_not_zero p.w (meeting_weight pair.first pair.second s) hp one.independent (sym (weight_parallel pair.first pair.second s p.w sp) ∙ e)) in
         let at = l.only.0.point in
-        let p_same = l.only.1 p (record { point = hp; on_first = left.on.first; on_second = left.on.second; on_third = side_parallel s p.w sp p ∙ own_parallel p.w sp }) in
+        let p_same = l.only.1 p (record { point = hp; on_first = left.on.first; on_second = left.on.second; on_third = side_parallel s p.w sp p ∙ less_exchanged p.w sp }) in
         let q_same = l.only.1 q (record {
           point = hq;
           on_first = side_mixed pair.first (tp *ℤ w) (sp *ℤ v) span.one span.two ∙ no_part (tp *ℤ w) (sp *ℤ v) (side_value pair.first span.one) (side_value pair.first span.two) one.first two.first;

@@ -1,4 +1,4 @@
-use Rattle.std.proofs.Common.{◌≡◌, ◌+◌, ◌&&◌, sym, ◌∙◌, arith}
+use Rattle.std.proofs.Common.{◌+◌, ◌&&◌, sym, ◌∙◌, arith}
 use Rattle.std.specs.List.{list_all}
 use Rattle.rp_geometry.specs.sections.Ring.{is_turn}
 use Rattle.rp_cert.proofs.Walks.{turns_left, turns_more}

@@ -1,4 +1,4 @@
-use Rattle.std.proofs.Common.{◌≡◌, drop}
+use Rattle.std.proofs.Common.{◌≡◌}
 use Rattle.std.specs.List.{list_all}
 use Rattle.rp_geometry.specs.sections.Ring.{turns_of, is_turn}
 use Rattle.rp_cert.proofs.Walks.{turns_left}

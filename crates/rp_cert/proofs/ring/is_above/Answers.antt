@@ -1,4 +1,4 @@
-use Rattle.std.proofs.Common.{◌≡◌, Bool, ◌||◌, not, ap, sym, ◌∙◌, rules}
+use Rattle.std.proofs.Common.{◌||◌, not, ap, sym, ◌∙◌, rules}
 use Rattle.std.specs.Int.RustNames.{FitsSigned}
 use Rattle.std.proofs.lemmas.Int.{to_z-of_z}
 use mir.Syntax.{w128}

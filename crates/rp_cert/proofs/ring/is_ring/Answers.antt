@@ -1,5 +1,4 @@
-use Rattle.std.proofs.Common.{◌≡◌, ◌≤◌, ℤ, true, ◌&&◌, ◌||◌, length, sym, ap, ◌∙◌, arith}
-use Rattle.std.specs.Prelude.{nat_le}
+use Rattle.std.proofs.Common.{ℤ, ◌&&◌, ◌||◌, length, sym, ap, ◌∙◌, arith}
 use Rattle.std.specs.List.{list_all}
 use mir.Syntax.{w32}
 use Rattle.rp_algebra.proofs.Machine.{read_is}

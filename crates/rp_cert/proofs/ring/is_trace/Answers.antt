@@ -1,4 +1,4 @@
-use Rattle.std.proofs.Common.{◌≡◌, ℤ, ◌&&◌, sym, ap, ◌∙◌}
+use Rattle.std.proofs.Common.{ℤ, ◌&&◌, sym, ap, ◌∙◌}
 use mir.Syntax.{w32}
 use Rattle.rp_algebra.proofs.Machine.{read_is}
 use Rattle.rp_geometry.specs.sections.Trace.{trace_eq, trace_at}

@@ -1,4 +1,4 @@
-use Rattle.std.proofs.Common.{◌≡◌, ℤ, ◌&&◌, ◌||◌, take, sym, ap, ◌∙◌}
+use Rattle.std.proofs.Common.{ℤ, ◌&&◌, ◌||◌, take, sym, ap, ◌∙◌}
 use mir.Syntax.{w32}
 use Rattle.std.proofs.lemmas.List.Folds.{list_any-append}
 use Rattle.rp_algebra.proofs.Machine.{read_is}

@@ -1,4 +1,4 @@
-use Rattle.std.proofs.Common.{◌≡◌, ◌^◌, ◌∙◌, sym, subst}
+use Rattle.std.proofs.Common.{◌^◌, ◌∙◌, sym, subst}
 use Rattle.rp_algebra.specs.Within.{IsWithin}
 use Rattle.rp_algebra.proofs.Machine.{code, fits_by, is_by}
 use Rattle.rp_geometry.specs.sections.Trace.{trace_value}

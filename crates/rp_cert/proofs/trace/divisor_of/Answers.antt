@@ -1,6 +1,6 @@
-use Rattle.std.proofs.Common.{◌≡◌, ℕ, ◌<◌, ◌^◌, [], ◌∷◌, sym, subst, ◌∙◌}
+use Rattle.std.proofs.Common.{ℕ, ◌<◌, ◌^◌, sym, subst, ◌∙◌}
 use mir.Syntax.{w64}
-use Rattle.rp_algebra.specs.Integer.{gcd, gcd_of}
+use Rattle.rp_algebra.specs.Integer.{gcd}
 use Rattle.rp_algebra.proofs.Machine.{machine_size_is}
 use Rattle.rp_cert.proofs.Traced.{three_numbers, divisor_above, divisor_small}
 use Rattle.rp_cert.proofs.trace.divisor_of.Goals as goal

@@ -1,4 +1,4 @@
-use Rattle.std.proofs.Common.{◌≡◌, ℤ, ◌^◌, [], ◌∷◌, sym, subst, ◌∙◌}
+use Rattle.std.proofs.Common.{◌≡◌, ◌^◌, [], ◌∷◌, sym, subst, ◌∙◌}
 use mir.Syntax.{w32, w64, w128}
 use Rattle.rp_algebra.specs.Integer.{gcd_of, reduced_by}
 use Rattle.rp_algebra.specs.Within.{IsWithin}

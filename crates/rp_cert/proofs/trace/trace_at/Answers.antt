@@ -1,10 +1,10 @@
-use Rattle.std.proofs.Common.{◌≡◌, ℤ, ◌^◌, [], ◌∷◌, true, Some, sym, ap, subst, ◌∙◌}
+use Rattle.std.proofs.Common.{◌≡◌, ℤ, ◌^◌, [], ◌∷◌, Some, sym, ap, subst, ◌∙◌}
 use mir.Syntax.{w32, w64}
 use Rattle.rp_algebra.specs.Integer.{gcd_of, reduced_by}
 use Rattle.rp_algebra.specs.Within.{IsWithin}
 use Rattle.rp_algebra.proofs.Machine.{read_is}
 use Rattle.rp_geometry.specs.Geometry.{HalfSpace}
-use Rattle.rp_geometry.specs.sections.Trace.{Trace, trace_of, trace_at, has_trace, offset_at}
+use Rattle.rp_geometry.specs.sections.Trace.{Trace, trace_of, trace_at, offset_at}
 use Rattle.rp_geometry.specs.laws.SectionLaws.{IsSmallTrace}
 use Rattle.rp_ring.proofs.Small.{height_within, trace_is_small_spec}
 use Rattle.rp_cert.proofs.Traced.{traced}

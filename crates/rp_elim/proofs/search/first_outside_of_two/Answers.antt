@@ -1,11 +1,12 @@
 use Rattle.std.proofs.Common.{◌≡◌, List, Some, ap, sym, ◌∙◌}
 use Rattle.std.specs.Prelude.{IsTrue}
+use Rattle.rp_algebra.proofs.Options.{if_some}
 use Rattle.rp_geometry.specs.Geometry.{RationalPoint, HalfSpace}
 use Rattle.rp_geometry.specs.searches.Certificate.{Multiple, is_outside_certificate}
 use Rattle.rp_geometry.specs.searches.Elimination.{first_outside}
 use Rattle.rp_geometry.specs.laws.CellLaws.{IsSolution}
 use Rattle.rp_elim.specs.FewTerms.{first_of_two}
-use Rattle.rp_elim.proofs.FewTerms.{if_some, few_are_first, few_pass, few_leave_none}
+use Rattle.rp_elim.proofs.FewTerms.{few_are_first, few_pass, few_leave_none}
 use Rattle.rp_elim.proofs.search.first_outside_of_two.Goals as goal
 
 pub returns-clause-found : goal.returns-clause-found
@@ -17,16 +18,16 @@ first : (c : goal.After-first_of_two) (terms : List Multiple) → c.first_of_two
 first c terms e = few_are_first c.args.strict c.args.cell.now terms (sym (returns-clause-found c) ∙ e)
 
 pub returns-clause-first : goal.returns-clause-first
-returns-clause-first c = if_some c.first_of_two.result (λ terms. first_outside c.args.strict c.args.cell.now ≡ Some terms) (first c)
+returns-clause-first c = if_some (λ terms. first_outside c.args.strict c.args.cell.now ≡ Some terms) c.first_of_two.result (first c)
 
 pub returns-clause-passes : goal.returns-clause-passes
 returns-clause-passes c =
-    if_some c.first_of_two.result (λ terms. IsTrue (is_outside_certificate c.args.strict c.args.cell.now terms)) (
+    if_some (λ terms. IsTrue (is_outside_certificate c.args.strict c.args.cell.now terms)) c.first_of_two.result (
     λ terms e. few_pass c.args.strict c.args.cell.now c.with_cube-system.ensures.bounds terms (first c terms e)
     )
 
 pub returns-clause-none : goal.returns-clause-none
 returns-clause-none c =
-    if_some c.first_of_two.result (λ terms. (p : RationalPoint) → ¬ IsSolution c.args.strict c.args.cell.now p) (
+    if_some (λ terms. (p : RationalPoint) → ¬ IsSolution c.args.strict c.args.cell.now p) c.first_of_two.result (
     λ terms e. few_leave_none c.args.strict c.args.cell.now c.with_cube-system.ensures.bounds terms (first c terms e)
     )

@@ -1,11 +1,11 @@
 use Rattle.std.proofs.Common.{◌+◌, ◌<◌, ◌++◌, ◌∷◌, [], length, drop, sym, ap, ◌∙◌, refl, arith}
 use Rattle.std.specs.Prelude.{Some, None}
+use Rattle.rp_algebra.proofs.Lists.{entry_left}
 use Rattle.rp_report.specs.declared.answer.Verdict.TheVariants.{Level}
 use Rattle.rp_register.specs.declared.parcel.Parcel.{Parcel}
 use Rattle.rp_register.specs.There.{lot_here}
 use Rattle.rp_questions.proofs.LayerLots.{ids_here, ids_left}
 use Rattle.rp_questions.proofs.Chained.{level_told, level_passed_over}
-use Rattle.rp_history.proofs.Stepped.{entry_left}
 use Rattle.rp_questions.proofs.route_lines.add_levels.Goals as goal
 use Rattle.rp_questions.proofs.route_lines.add_levels.Goals.{in-Some+in_ok-push, in_default}
 

@@ -1,4 +1,4 @@
-use Rattle.std.proofs.Common.{◌≡◌, ◌++◌, take, ◌∙◌}
+use Rattle.std.proofs.Common.{◌++◌, take, ◌∙◌}
 use mir.Syntax.{w32}
 use Rattle.rp_algebra.proofs.Machine.{read_is}
 use Rattle.rp_geometry.specs.sections.Flat.{first_flat}

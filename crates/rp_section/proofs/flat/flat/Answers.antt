@@ -1,4 +1,4 @@
-use Rattle.std.proofs.Common.{◌≡◌, ℤ, sym, ap, ◌∙◌, List}
+use Rattle.std.proofs.Common.{sym, ap, ◌∙◌, List}
 use Rattle.std.specs.List.{list_all}
 use mir.Syntax.{w32}
 use Rattle.rp_algebra.proofs.Machine.{read_is}

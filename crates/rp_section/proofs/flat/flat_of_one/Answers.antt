@@ -1,4 +1,4 @@
-use Rattle.std.proofs.Common.{◌≡◌, ℤ, pos, ◌∷◌, [], ap, ◌∙◌}
+use Rattle.std.proofs.Common.{ℤ, pos, ◌∷◌, [], ap, ◌∙◌}
 use mir.Syntax.{w32}
 use Rattle.rp_algebra.specs.Integer.{gcd, gcd_of}
 use Rattle.rp_algebra.proofs.Machine.{read_is}

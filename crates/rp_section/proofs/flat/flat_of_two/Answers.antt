@@ -1,4 +1,4 @@
-use Rattle.std.proofs.Common.{◌≡◌, ◌∙◌}
+use Rattle.std.proofs.Common.{◌∙◌}
 use mir.Syntax.{w32}
 use Rattle.rp_algebra.proofs.Machine.{read_is}
 use Rattle.rp_geometry.specs.searches.Elimination.{normal_terms}

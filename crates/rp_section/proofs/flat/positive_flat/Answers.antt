@@ -1,4 +1,4 @@
-use Rattle.std.proofs.Common.{◌≡◌, ℤ, Some, sym, ap, ◌∙◌}
+use Rattle.std.proofs.Common.{ℤ, Some, sym, ap, ◌∙◌}
 use mir.Syntax.{w32}
 use Rattle.rp_algebra.proofs.Machine.{read_is}
 use Rattle.rp_ring.proofs.Small.{height_within}

@@ -1,8 +1,6 @@
-use Rattle.std.proofs.Common.{◌^◌, rules, arith, sym, subst, to_z, of_z}
+use Rattle.std.proofs.Common.{rules}
 use Rattle.std.specs.Int.RustNames.{FitsSigned}
-use Rattle.std.proofs.lemmas.Int.{ints, to_z-of_z}
 use mir.Syntax.{w64}
-use Rattle.rp_algebra.specs.Within.{IsWithin}
 use Rattle.rp_algebra.proofs.Machine.{code, fits_by}
 use Rattle.rp_section.proofs.Offsets.{offset_within}
 use Rattle.rp_section.proofs.guess.by_depth.Goals as goal

@@ -1,4 +1,4 @@
-use Rattle.std.proofs.Common.{◌≡◌, ◌≤◌, List, sym, ap, ◌∙◌, arith}
+use Rattle.std.proofs.Common.{List, sym, ap, ◌∙◌, arith}
 use Rattle.rp_section.specs.declared.side.Side.{Side}
 use Rattle.rp_section.specs.Sides.{add_bound, bounds_of}
 use Rattle.rp_section.proofs.Listing.{more_behind}

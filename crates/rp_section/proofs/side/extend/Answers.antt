@@ -1,4 +1,4 @@
-use Rattle.std.proofs.Common.{◌≡◌, ◌+◌, ◌≤◌, ◌∷◌, [], ◌++◌, List, take, ℤ, to_z, of_z, sym, ap, ◌∙◌, arith, append_assoc}
+use Rattle.std.proofs.Common.{◌∷◌, [], ◌++◌, List, take, ℤ, to_z, of_z, sym, ap, ◌∙◌, arith, append_assoc}
 use mir.Syntax.{w32}
 use Rattle.rp_section.specs.declared.side.Side.{Side}
 use Rattle.rp_section.specs.Sides.{sides_of}

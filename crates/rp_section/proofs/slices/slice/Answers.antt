@@ -1,9 +1,8 @@
-use Rattle.std.proofs.Common.{◌≡◌, ℤ, true, List, Some, None, sym, ap, ◌∙◌}
+use Rattle.std.proofs.Common.{ℤ, sym, ap, ◌∙◌}
 use mir.Syntax.{w32}
 use Rattle.rp_algebra.proofs.Machine.{read_is}
-use Rattle.rp_geometry.specs.sections.Ring.{RingStep, is_ring}
+use Rattle.rp_geometry.specs.sections.Ring.{is_ring}
 use Rattle.rp_geometry.specs.sections.Flat.{first_flat}
-use Rattle.rp_geometry.specs.laws.SectionLaws.{IsRing}
 use Rattle.rp_ring.proofs.Small.{height_within}
 use Rattle.rp_cert.specs.declared.slice.Slice.TheVariants.{Ring, Flat}
 use Rattle.rp_section.proofs.Sliced.{ring_value, flat_value, none_value, slice_right, slice_shows, slice_flat}

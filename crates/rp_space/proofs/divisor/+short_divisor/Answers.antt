@@ -1,4 +1,4 @@
-use Rattle.std.proofs.Common.{◌*◌, ◌/◌, ap, sym, ◌∙◌, arith, rules}
+use Rattle.std.proofs.Common.{◌*◌, ap, sym, ◌∙◌, arith}
 use Rattle.rp_algebra.specs.Integer.{gcd}
 use Rattle.rp_algebra.proofs.Divisors.{gcd-comm, gcd-zero, gcd-at_most_right}
 use Rattle.rp_space.proofs.BinaryDivisor.{gcd-both_even}

@@ -13,7 +13,7 @@ use Rattle.rp_history.proofs.Checked.{passes_first}
 use Rattle.rp_parcels.specs.Register.{IsFitChange, parts_divided}
 use Rattle.rp_parcels.specs.Faults.{fault_of_names}
 use Rattle.rp_parcels.specs.Rows.{cause_of}
-use Rattle.rp_parcels.proofs.Checked.{names_fail, names_untold}
+use Rattle.rp_parcels.proofs.Checked.{names_fail}
 use Rattle.rp_parcels.proofs.Rows.{cut_is_fit, room_is}
 use Rattle.rp_parcels.proofs.Walked.{step_fails}
 use Rattle.rp_parcels.proofs.Composed.{parts_here, cut_lots, cutting, with_inner, with_inner_tells, with_outer, with_outer_tells, cut_fails, cut_begins, cut_inner, cut_outer, cut_roomy, inner_empty, outer_empty, divided_changes}

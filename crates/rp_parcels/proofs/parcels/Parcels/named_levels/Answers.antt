@@ -1,12 +1,12 @@
 use Rattle.std.proofs.Common.{◌<◌, ◌+◌, ◌∷◌, [], ◌++◌, length, drop, get_or, sym, ap, ◌∙◌, arith}
 use Rattle.std.specs.Prelude.{Some, None}
+use Rattle.rp_algebra.proofs.Lists.{entry_left}
 use Rattle.rp_language.specs.Name.{Label}
 use Rattle.rp_model.specs.states.State.{ids_of}
 use Rattle.rp_history.specs.declared.lot.LotLine.{LotLine}
 use Rattle.rp_nearby.specs.Near.{lots_at}
 use Rattle.rp_parcels.specs.Judged.{id_at}
 use Rattle.rp_parcels.proofs.Numbers.{within_at, ids_left, line_id, level_told, level_passed}
-use Rattle.rp_history.proofs.Stepped.{entry_left}
 use Rattle.rp_parcels.proofs.parcels.Parcels.named_levels.Goals as goal
 use Rattle.rp_parcels.proofs.parcels.Parcels.named_levels.Goals.{in-Some+in_ok-push, in_default}
 
