@@ -39,12 +39,6 @@ pub all_meanings : {X Y : Type 0} (f : X → Y) (d : X) (xs : List X) → meanin
 all_meanings f d [] = refl
 all_meanings f d (x ∷ xs) = ap (λ ys. f x ∷ ys) (later_meanings f d x xs zero (length xs) ∙ all_meanings f d xs)
 
--- what is true of all items is true of each
-pub each_of : {X : Type 0} (P : X → Type 0) (d : X) (xs : List X) → AllByRecursion P xs → (i : ℕ) → i < length xs → P (get_or xs i d)
-each_of P d [] h i f = absurd (omega arith)
-each_of P d (x ∷ xs) h zero f = h.0
-each_of P d (x ∷ xs) h (suc i) f = each_of P d xs h.1 i (omega arith)
-
 -- ---- one pair
 
 -- the parts at a place
