@@ -1,5 +1,5 @@
 -- The walk over each two lots of a layer, lot by lot, and the pairs that it finds.
-use Rattle.std.proofs.Common.{◌≡◌, ℕ, ◌+◌, ◌<◌, List, ◌∷◌, length, get_or, drop, ap, ◌∙◌, arith}
+use Rattle.std.proofs.Common.{◌≡◌, ℕ, ◌+◌, ◌<◌, List, ◌∷◌, length, get_or, drop, sym, ap, ◌∙◌, arith}
 use Rattle.rp_algebra.proofs.Lists.{drop_item}
 use Rattle.rp_geometry.specs.sets.Shape.{Part}
 use Rattle.rp_walks.specs.Walk.{Walk, ◌>>=◌}
