@@ -16,7 +16,7 @@ loop-i-preserved c =
     let is : p ≡ get_or ps i p = get_or_default ps i (pair_of 0 0) p here in
     elim c.if-all-i.branch [
       | then-all-i+in_ok-push w ↦
-          meet_taken ps js i p c.index-all-i.result c.loop-i.met.items _ _ here c.requires.each is c.index-all-i.is (ap (λ (j : Judged). j.meets) c.index-all-i.is ∙ w.if-all-i.true) (ap (λ v. v.items) w.met-is ∙ ?) c.loop-i.invariant
+          meet_taken ps js i p c.index-all-i.result c.loop-i.met.items _ _ here c.requires.each is c.index-all-i.is (ap (λ (j : Judged). j.meets) c.index-all-i.is ∙ w.if-all-i.true) (ap (λ v. v.items) w.met-is ∙ w.in_ok-push.ensures.items) c.loop-i.invariant
       | else-all-i w ↦
           meet_passed ps js i p c.index-all-i.result c.loop-i.met.items _ _ here c.requires.each is c.index-all-i.is (ap (λ (j : Judged). j.meets) c.index-all-i.is ∙ w.if-all-i.false) (ap (λ v. v.items) w.met-is) c.loop-i.invariant
     ]

@@ -96,7 +96,7 @@ returns-in_err-numbers g c =
 
 pub met_pairs-requires-clause-below : goal.met_pairs-requires-clause-below
 met_pairs-requires-clause-below g c =
-    let few : length c.deref-2.result.now ≤ most_kept_parts = ? in
+    let few : length c.deref-2.result.now ≤ most_kept_parts = omega (arith, ap length c.deref-2.ensures.value, c.in_ok-places.ensures.few) in
     subst (AllByRecursion (AreBelow most_kept_parts)) (sym c.deref-4.ensures.value)
     (all_map (AreBelow (length c.deref-2.result.now)) (AreBelow most_kept_parts) (λ q h. (omega (arith, h.0, few), omega (arith, h.1, few))) c.in_ok-numbers.numbers.items c.in_ok-numbers.ensures.below)
 
@@ -123,6 +123,37 @@ returns-in_err-ids g c =
           (c.in_ok-near.ensures.tests.0 ∙ ap (tests_behind Touch lots) (c.deref.ensures.value ∙ c.in_ok-places.ensures.places)) c.in_ok-all.ensures.counted);
     }
 
+pub along-requires-clause-few : goal.along-requires-clause-few
+along-requires-clause-few g c =
+    let lots = c.args.self.now in
+    let y = c.in_ok-layer.layer in
+    let places = live_places (Some y) 0 lots in
+    let ids = c.items.ensures ∙ c.in_ok-ids.ensures ∙ ap (λ (ks : List ℕ). ids_of (lots_at lots ks)) (c.deref-6.ensures.value ∙ c.in_ok-places.ensures.places) in
+    omega (arith, ap length ids, ids_counted lots places (places_within lots (Some y)), ap length c.in_ok-places.ensures.places, c.in_ok-places.ensures.few)
+
+pub along-requires-clause-below : goal.along-requires-clause-below
+along-requires-clause-below g c =
+    let lots = c.args.self.now in
+    let y = c.in_ok-layer.layer in
+    let places = live_places (Some y) 0 lots in
+    let ids = c.items.ensures ∙ c.in_ok-ids.ensures ∙ ap (λ (ks : List ℕ). ids_of (lots_at lots ks)) (c.deref-6.ensures.value ∙ c.in_ok-places.ensures.places) in
+    let many : length c.deref-2.result.now ≡ length c.items.result.now = ap length (c.deref-2.ensures.value ∙ c.in_ok-places.ensures.places) ∙ sym (ap length ids ∙ ids_counted lots places (places_within lots (Some y))) in
+    subst (λ n. AllByRecursion (IsBelow n) c.deref-7.result.now) many
+    (subst (AllByRecursion (IsBelow (length c.deref-2.result.now))) (sym (c.deref-7.ensures.value ∙ c.in_ok-met.ensures))
+    (meeting_below (length c.deref-2.result.now) c.deref-4.result.now c.deref-5.result.now (subst (AllByRecursion (AreBelow (length c.deref-2.result.now))) (sym c.deref-4.ensures.value) c.in_ok-numbers.ensures.below)))
+
+pub along-requires-clause-from_there : goal.along-requires-clause-from_there
+along-requires-clause-from_there g c =
+    let lots = c.args.self.now in
+    let ids = c.items.ensures ∙ c.in_ok-ids.ensures ∙ ap (λ (ks : List ℕ). ids_of (lots_at lots ks)) (c.deref-6.ensures.value ∙ c.in_ok-places.ensures.places) in
+    subst (λ (xs : List Label). place_among c.args.from xs < length xs) (sym ids) (numbers_there lots c.args.from c.args.to c.in_ok-layer.layer (c.in_ok-layer.ensures.checks (lots_in [] lots) c.history.ensures.value) (c.in_ok-layer.ensures.layer (lots_in [] lots) c.history.ensures.value)).0
+
+pub along-requires-clause-to_there : goal.along-requires-clause-to_there
+along-requires-clause-to_there g c =
+    let lots = c.args.self.now in
+    let ids = c.items.ensures ∙ c.in_ok-ids.ensures ∙ ap (λ (ks : List ℕ). ids_of (lots_at lots ks)) (c.deref-6.ensures.value ∙ c.in_ok-places.ensures.places) in
+    subst (λ (xs : List Label). place_among c.args.to xs < length xs) (sym ids) (numbers_there lots c.args.from c.args.to c.in_ok-layer.layer (c.in_ok-layer.ensures.checks (lots_in [] lots) c.history.ensures.value) (c.in_ok-layer.ensures.layer (lots_in [] lots) c.history.ensures.value)).1
+
 pub returns-in_err-told : goal.returns-in_err-told
 returns-in_err-told g c =
     let p = err_from_is_err_and c.from_residual-in_err-told.result c.from_residual-in_err-told.ensures.1 in
@@ -143,4 +174,26 @@ returns-in_err-append_all g c =
           (lines_cut lots c.args.from c.args.to c.in_ok-layer.layer (c.in_ok-layer.ensures.checks (lots_in [] lots) c.history.ensures.value) (c.in_ok-layer.ensures.layer (lots_in [] lots) c.history.ensures.value) c.in_ok-near.near.tests c.args.work.now c.judge_counted.new.work
           (c.in_ok-near.ensures.tests.0 ∙ ap (tests_behind Touch lots) (c.deref.ensures.value ∙ c.in_ok-places.ensures.places)) c.in_ok-all.ensures.counted c.in_ok-all.all.items c.append_all.new.work
           (c.in_ok-all.ensures.shown ∙ ap (judged_places lots) (layer_paired lots c.in_ok-layer.layer c.live_places.ensures.sound 0 lots refl c.in_ok-near.near.pairs.items behind)) c.in_err-append_all.ensures);
+    }
+
+pub returns : goal.returns
+returns g c =
+    let lots = c.args.self.now in
+    let y = c.in_ok-layer.layer in
+    let places = live_places (Some y) 0 lots in
+    let behind = subst (λ (ks : List ℕ). ArePairsBehind Touch lots ks c.in_ok-near.near.pairs.items) (c.deref.ensures.value ∙ c.in_ok-places.ensures.places) c.in_ok-near.ensures.pairs in
+    let pairs = layer_paired lots y c.live_places.ensures.sound 0 lots refl c.in_ok-near.near.pairs.items behind in
+    let all : c.in_ok-all.all.items ≡ judged_places lots (places_among lots places) = c.in_ok-all.ensures.shown ∙ ap (judged_places lots) pairs in
+    let ns = c.in_ok-numbers.numbers.items in
+    let here = c.deref-2.ensures.value ∙ c.in_ok-places.ensures.places in
+    let below = subst (λ ks. AllByRecursion (AreBelow (length ks)) ns) here c.in_ok-numbers.ensures.below in
+    let same = subst (λ ks. map (placed ks) ns ≡ places_among lots places) here (c.in_ok-numbers.ensures.placed ∙ c.deref-3.ensures.value ∙ pairs) in
+    let numbers = numbers_are lots places (all_rise lots (Some y)) ns below same in
+    let met = c.deref-7.ensures.value ∙ c.in_ok-met.ensures ∙ ap₂ links_that_meet (c.deref-4.ensures.value ∙ numbers) (c.deref-5.ensures.value ∙ all) in
+    let ids = c.items.ensures ∙ c.in_ok-ids.ensures ∙ ap (λ (ks : List ℕ). ids_of (lots_at lots ks)) (c.deref-6.ensures.value ∙ c.in_ok-places.ensures.places) in
+    let told = c.in_ok-told.ensures ∙ ap₂ (λ (xs : List Label) (ls : List (ℕ × ℕ)). access_by_links xs ls c.args.from c.args.to) ids met in
+    record {
+      row = row_walked lots c.args.from c.args.to y (c.in_ok-layer.ensures.checks (lots_in [] lots) c.history.ensures.value) (c.in_ok-layer.ensures.layer (lots_in [] lots) c.history.ensures.value) c.in_ok-near.near.tests c.args.work.now c.judge_counted.new.work
+          (c.in_ok-near.ensures.tests.0 ∙ ap (tests_behind Touch lots) (c.deref.ensures.value ∙ c.in_ok-places.ensures.places)) c.in_ok-all.ensures.counted
+          ∙ ap₂ (λ (vs : List Verdict) (u : Work). done (reply_lines vs) u) (sym told) (ap (with_all_lines c.judge_counted.new.work) (sym all) ∙ ap work_after c.in_ok-append_all.ensures);
     }
