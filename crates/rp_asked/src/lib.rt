@@ -3,7 +3,8 @@
 //! those of the questions that a history of lots answers alone.
 //!
 //! Each comes to the verdict lines, the refusal or the stop that its definition has for it, and makes exactly the tests of
-//! that. Nothing is changed. Beside them stand the verdict lines of slices, of neighbours, of access, of lots by their ids and of an owner.
+//! that. Nothing is changed. Beside them stand the verdict lines of slices, of neighbours, of access, of lots by their ids
+//! and of an owner.
 
 mod access;
 mod form;

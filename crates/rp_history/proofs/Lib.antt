@@ -12,4 +12,3 @@ pub mod Bare
 pub mod Together
 pub mod Numbers
 pub mod Sizes
-pub mod Stepped

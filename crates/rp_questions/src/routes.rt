@@ -1,14 +1,13 @@
 //! The row of access between two lots.
-ghost use Rattle.std.specs.Prelude.{◌≡◌, ◌≤◌, ◌&&◌, None, Some, IfOk, IfErr, length};
+ghost use Rattle.std.specs.Prelude.{◌≡◌, None, Some, IfOk, IfErr};
 ghost use Rattle.rp_language.specs.Expression.{ask_access};
-ghost use Rattle.rp_model.specs.states.State.{live_lots, lots_of_layer, layer_with_id, ids_of, most_kept_parts, is_live};
+ghost use Rattle.rp_model.specs.states.State.{ids_of, layer_with_id};
 ghost use Rattle.rp_model.specs.commands.Checks.{check_access};
 ghost use Rattle.rp_model.specs.commands.Row.{row};
-ghost use Rattle.rp_language.specs.Name.{label_eq};
 ghost use Rattle.rp_reports.specs.Check.{line_tester};
 ghost use Rattle.rp_report.specs.Views.{refusal_of};
 ghost use Rattle.rp_asked.specs.Replies.{Tells};
-ghost use Rattle.rp_register.specs.There.{lot_here, lots_here};
+ghost use Rattle.rp_register.specs.There.{lots_here};
 
 use crate::layer::{later_in_layer, lots_in_layer};
 use crate::links::{Pairs, links_among};

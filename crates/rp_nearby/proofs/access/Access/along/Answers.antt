@@ -1,4 +1,4 @@
-use Rattle.std.proofs.Common.{◌≡◌, ℕ, ◌<◌, length, ap, ap₂, ◌∙◌, arith}
+use Rattle.std.proofs.Common.{ℕ, ◌<◌, length, ap, ap₂, ◌∙◌, arith}
 use Rattle.rp_geometry.specs.parts.Levels.{levels_along, chain_along}
 use Rattle.rp_model.specs.states.State.{most_kept_parts}
 use Rattle.rp_model.specs.commands.Verdict.{access_lines, level_lines}

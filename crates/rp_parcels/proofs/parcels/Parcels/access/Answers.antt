@@ -13,11 +13,10 @@ use Rattle.rp_region.proofs.Left.{not_begun}
 use Rattle.rp_history.specs.Lots.{lots_in}
 use Rattle.rp_nearby.specs.declared.near.Reach.TheVariants.{Touch}
 use Rattle.rp_nearby.specs.Near.{lots_at, AreWithin}
-use Rattle.rp_parcels.specs.declared.pairs.Pair.{Pair}
 use Rattle.rp_parcels.specs.Judged.{with_all_lines, IsPairWithin}
 use Rattle.rp_parcels.specs.Faults.{fault_of_names}
 use Rattle.rp_parcels.specs.Rows.{cause_of}
-use Rattle.rp_parcels.specs.Touching.{lists_at, places_among, AreRising, IsPairOf, AreBelow, placed, links_that_meet}
+use Rattle.rp_parcels.specs.Touching.{places_among, AreRising, IsPairOf, AreBelow, placed, links_that_meet}
 use Rattle.rp_parcels.specs.Behind.{live_places, tests_behind, ArePairsBehind}
 use Rattle.rp_parcels.proofs.Checked.{names_fail}
 use Rattle.rp_parcels.proofs.Counted.{counted_fault}

@@ -1,4 +1,4 @@
-use Rattle.std.proofs.Common.{◌≡◌, ℕ, ◌∷◌, [], ◌++◌, List, map, get_or, refl, sym, ap, ◌∙◌, arith}
+use Rattle.std.proofs.Common.{ℕ, ◌∷◌, [], ◌++◌, List, map, get_or, refl, sym, ap, ◌∙◌, arith}
 use Rattle.std.proofs.lemmas.List.{map_more, take_all}
 use Rattle.rp_language.specs.Name.{Label}
 use Rattle.rp_history.specs.declared.lot.LotLine.{LotLine}
