@@ -1,7 +1,9 @@
 -- Lists of links that link the same numbers as pairs do: levels and chains along them are those that are computed from the pairs.
-use Rattle.std.proofs.Common.{◌≡◌, ℕ, ◌<◌, Bool, true, false, ◌&&◌, ◌||◌, ◌⊎◌, inl, inr, ⊎_elim, List, [], ◌∷◌, ◌++◌, length, sym, arith}
+use Rattle.std.proofs.Common.{◌≡◌, ℕ, zero, suc, ◌+◌, ◌<◌, Bool, true, false, ◌&&◌, ◌||◌, ◌⊎◌, inl, inr, ⊎_elim, List, [], ◌∷◌, ◌++◌, length, get_or, take, sym, ap, ◌∙◌, subst, arith}
 use Rattle.std.specs.Prelude.{◌==◌}
+use Rattle.std.specs.List.{AllByRecursion}
 use Rattle.std.proofs.lemmas.Bool.{or_cases, or_left, or_right, eqb-true, eq-eqb}
+use Rattle.std.proofs.lemmas.List.{take_more, get_or_default}
 use Rattle.rp_algebra.proofs.Tests.{and_first, and_second, and_true}
 use Rattle.rp_geometry.specs.parts.Groups.{is_linked}
 use Rattle.rp_geometry.specs.parts.Levels.{levels_along, chain_along}
@@ -10,7 +12,7 @@ use Rattle.rp_chains.proofs.One.{levels_are_one_by_spec, chain_is_one_by_spec}
 use Rattle.rp_chains.proofs.Related.{AreStepsOf, levels_there, chosen_there}
 use Rattle.rp_chains.proofs.Levels.{levels_are_found_spec}
 use Rattle.rp_chains.proofs.Down.{chain_is_found_spec}
-use Rattle.rp_access.specs.Chain.{IsLinked, AreJoined}
+use Rattle.rp_access.specs.Chain.{IsLinked, AreJoined, IsBelow}
 use Rattle.rp_access.specs.Laws.{AreLinksOf, LevelsAreComputed, ChainIsComputed}
 
 -- the steps are the same
@@ -88,3 +90,18 @@ links_go_on old new links a b a_below b_below joined same i j = (there, back)
 
     back : AreLinkedBelow (links ++ (a, b) ∷ []) (length new) i j → IsLinked new i j
     back r = (joined.links i j).1 (⊎_elim (λ (t : is_linked links i j ≡ true). inl ((same i j).1 (in_old i r.0, in_old j r.1, t))) (λ (t : are_ends (a, b) i j ≡ true). inr (ends_are a b i j t)) (more_linked links a b i j r.2))
+
+-- one more pair is joined
+pub pair_joined : (old new : List (List ℕ)) (pairs : List (ℕ × ℕ)) (i : ℕ) (p : ℕ × ℕ) (n : ℕ) → i < length pairs → p ≡ get_or pairs i p → length old ≡ n → p.0 < n → p.1 < n → AreJoined old new p.0 p.1 → AreLinksOf old (take i pairs) → AreLinksOf new (take (i + 1) pairs)
+pair_joined old new pairs i p n h e many a b joined same =
+    subst (AreLinksOf new) (sym (take_more pairs i p h ∙ ap (λ (q : ℕ × ℕ). take i pairs ++ q ∷ []) (sym e)))
+    (links_go_on old new (take i pairs) p.0 p.1 (subst (λ m. p.0 < m) (sym many) a) (subst (λ m. p.1 < m) (sym many) b) joined same)
+
+-- a pair of a list of pairs below a count is below it
+pub below_at : (n : ℕ) (pairs : List (ℕ × ℕ)) → AllByRecursion (IsBelow n) pairs → (i : ℕ) → i < length pairs → (get_or pairs i (0, 0) ≡ get_or pairs i (get_or pairs i (0, 0))) × IsBelow n (get_or pairs i (0, 0))
+below_at n pairs all i h = (get_or_default pairs i (0, 0) (get_or pairs i (0, 0)) h, each pairs all i h)
+  where
+    each : (ps : List (ℕ × ℕ)) → AllByRecursion (IsBelow n) ps → (k : ℕ) → k < length ps → IsBelow n (get_or ps k (0, 0))
+    each [] a k l = absurd (omega (arith, l))
+    each (p ∷ ps) a zero l = a.0
+    each (p ∷ ps) a (suc k) l = each ps a.1 k (omega (arith, l))

@@ -19,6 +19,10 @@ pub record AreLinks (g : List (List ℕ)) : Type 0 where
   pub both_ways : (i j : ℕ) → IsLinked g i j → IsLinked g j i
   pub few : length g < 2 ^ 32
 
+-- both numbers of a pair are below a count
+abbrev pub IsBelow : ℕ → ℕ × ℕ → Type 0
+IsBelow n p = (p.0 < n) × (p.1 < n)
+
 -- two numbers are linked to each other, and all other links are as before
 pub record AreJoined (old new : List (List ℕ)) (a b : ℕ) : Type 0 where
   pub as_many : length new ≡ length old

@@ -1,7 +1,9 @@
 //! Links between numbers, as a list for each number.
 ghost use Rattle.std.specs.Prelude.{◌≡◌, ◌<◌, length, IfOk, OnOk, OnErr, List, ℕ, []};
 ghost use Rattle.std.specs.Prelude.{replicate};
-ghost use Rattle.rp_access.specs.Chain.{AreJoined, AreLinks, linked_to};
+ghost use Rattle.std.specs.List.{AllByRecursion};
+ghost use Rattle.rp_access.specs.Chain.{AreJoined, AreLinks, IsBelow, linked_to};
+ghost use Rattle.rp_access.specs.Laws.{AreLinksOf};
 
 use crate::neighbours::Neighbours;
 use std::alloc::{AllocError, Global};
@@ -34,6 +36,19 @@ impl Links {
             lists.push(Neighbours::new(alloc))?;
         }
         Ok(Links { lists })
+    }
+
+    /// So many numbers, where the two of each pair are linked to each other. Answers `AllocError` only for want of memory.
+    pub fn from_pairs(alloc: Global, n: u32, pairs: &[(u32, u32)]) -> Result<Links, AllocError>
+        requires { AllByRecursion (IsBelow n) pairs.now }
+        ensures count { IfOk result (λ g. length g ≡ n) }
+        ensures links { IfOk result (λ g. AreLinksOf g pairs.now) }
+    {
+        let mut links = Links::new(alloc, n)?;
+        for (first, second) in pairs {
+            links.join(alloc, *first, *second)?;
+        }
+        Ok(links)
     }
 
     /// Links two numbers to each other. After `AllocError` all links are as they were.

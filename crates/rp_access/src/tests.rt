@@ -47,6 +47,15 @@ fn levels_are_least(rt: HostRuntime) -> Result<(), Fail> {
 }
 
 #[test]
+fn numbers_of_pairs_are_linked(rt: HostRuntime) -> Result<(), Fail> {
+    let g = Links::from_pairs(rt.alloc(), 4, &[(0, 1), (3, 1)])?;
+    let found = levels(rt.alloc(), &g, 3)?;
+    let expected = [Some(2), Some(1), None, Some(0)];
+    assert_eq!(rt; found.as_slice(), expected.as_slice());
+    Ok(())
+}
+
+#[test]
 fn first_chain_is_taken(rt: HostRuntime) -> Result<(), Fail> {
     let route = chain_to_four(rt.alloc(), 0)?.ok_or("no chain")?;
     assert_eq!(rt; route.items(), [0, 1, 2, 4].as_slice());

@@ -3,8 +3,10 @@
 //! those of the questions that a history of lots answers alone.
 //!
 //! Each comes to the verdict lines, the refusal or the stop that its definition has for it, and makes exactly the tests of
-//! that. Nothing is changed. Beside them stand the verdict lines of slices, of neighbours, of lots by their ids and of an owner.
+//! that. Nothing is changed. Beside them stand the verdict lines of slices, of neighbours, of access, of lots by their ids
+//! and of an owner.
 
+mod access;
 mod form;
 mod lines;
 mod live;
@@ -15,10 +17,11 @@ mod questions;
 mod relation;
 mod reply;
 
+pub use access::access_lines;
 pub use form::{row_form, short_form};
 pub use lines::slice_lines;
 pub use live::live_count;
-pub use lot_lines::{neighbour_lines, owner_verdict, parcel_lines};
+pub use lot_lines::{neighbour_lines, owner_verdict};
 pub use lots::{lineage, list};
 pub use operand::row_operands;
 pub use questions::{comparison, emptiness, membership, piece_numbers, related, shown_parts};

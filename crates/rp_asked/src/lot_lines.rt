@@ -32,7 +32,11 @@ pub fn neighbour_lines(alloc: Global, ids: &[Name]) -> Result<Verdicts, AllocErr
 }
 
 /// A verdict line, and one for each of some ids. Answers `AllocError` only for want of memory.
-pub fn parcel_lines(alloc: Global, first: Verdict, ids: &[Name]) -> Result<Verdicts, AllocError>
+pub(crate) fn parcel_lines(
+    alloc: Global,
+    first: Verdict,
+    ids: &[Name],
+) -> Result<Verdicts, AllocError>
     ensures { IfOk result (λ lines. map verdict_of lines.items ≡ verdict_of first ∷ map ModelVerdict.parcel ids.now) }
 {
     let mut lines = one_line(alloc, first)?;

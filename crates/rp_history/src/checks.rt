@@ -1,10 +1,10 @@
 //! The checks on names that come before the rest of a command. A contract speaks of each state whose lots have the history.
-ghost use Rattle.std.specs.Prelude.{◌≡◌, ◌<◌, [], None, length, slice_get, option_map, IfOk, IfErr};
+ghost use Rattle.std.specs.Prelude.{◌≡◌, ◌<◌, [], None, length, slice_get, option_map, IfOk, IfErr, IsSome};
 ghost use Rattle.rp_model.specs.states.State.{live_lot, layer_with_id, layer_of_first};
 ghost use Rattle.rp_model.specs.commands.Verdict.{repeated};
 ghost use Rattle.rp_model.specs.commands.Checks.{check_new, check_live, check_each, check_repeated, check_cut, check_subdivide, check_layer, check_consolidate, check_access};
-ghost use Rattle.rp_history.specs.Checks.{InEach, ChecksNames};
-ghost use Rattle.rp_history.specs.declared.fault.NameFault.TheVariants.{Unknown};
+ghost use Rattle.rp_history.specs.Checks.{InEach, ChecksNames, refusal_of_names};
+ghost use Rattle.rp_history.specs.declared.fault.NameFault.TheVariants.{Known, Unknown};
 
 use crate::fault::NameFault;
 use crate::history::History;
@@ -15,7 +15,8 @@ use std::alloc::{AllocError, Global};
 impl History {
     /// `Known(id)` exactly where the id was ever registered.
     pub fn check_new(&self, id: Name) -> Result<(), NameFault>
-        ensures { InEach self.now (λ s. ChecksNames result (check_new s id)) }
+        ensures checks { InEach self.now (λ s. ChecksNames result (check_new s id)) }
+        ensures fault { IfErr result (λ e. e ≡ Known id) }
     {
         match self.place_of(&id) {
             Some(_) => Err(NameFault::Known(id)),
@@ -56,11 +57,12 @@ impl History {
         Ok(())
     }
 
-    /// The checks on names of a cut, in order, and the place of the lot that is cut.
+    /// The checks on names of a cut, in order, and the place of the lot that is cut. Takes no memory.
     pub fn check_cut(&self, id: Name, first: Name, second: Name) -> Result<usize, NameFault>
         ensures checks { InEach self.now (λ s. ChecksNames result (check_cut s id first second)) }
         ensures lot { InEach self.now (λ s. IfOk result (λ k. slice_get s.lots k ≡ live_lot id s.lots)) }
         ensures within { InEach self.now (λ s. IfOk result (λ k. k < length s.lots)) }
+        ensures fault { IfErr result (λ e. IsSome (refusal_of_names e)) }
     {
         let place = self.check_live(id)?;
         self.check_new(first)?;
@@ -107,10 +109,11 @@ impl History {
         Ok(layer)
     }
 
-    /// The checks on ids of access, in order, and the layer of both lots.
+    /// The checks on ids of access, in order, and the layer of both lots. Takes no memory.
     pub fn check_access(&self, from: Name, to: Name) -> Result<Name, NameFault>
         ensures checks { InEach self.now (λ s. ChecksNames result (check_access s from to)) }
         ensures layer { InEach self.now (λ s. IfOk result (λ y. y ≡ layer_with_id s from)) }
+        ensures fault { IfErr result (λ e. IsSome (refusal_of_names e)) }
     {
         self.check_live(from)?;
         self.check_live(to)?;

@@ -1,49 +1,23 @@
 //! Commands that ask something about lots.
-ghost use Rattle.std.specs.Prelude.{◌≡◌, ◌≤◌, ◌*◌, ◌++◌, IfOk, IfSome, OnOk, length, map, option_copied};
+ghost use Rattle.std.specs.Prelude.{◌≡◌, length};
 ghost use Rattle.rp_language.specs.Expression.{ask_neighbours, ask_history, ask_at, ask_as_of, ask_audit, ask_list, ask_access};
 ghost use Rattle.rp_walks.specs.Walk.{Work, first_tester};
-ghost use Rattle.rp_model.specs.states.State.{live_lots, most_kept_parts};
+ghost use Rattle.rp_model.specs.states.State.{live_lots};
 ghost use Rattle.rp_model.specs.commands.Row.{row};
-ghost use Rattle.rp_parcels.specs.Access.{told_chain, told_levels};
-ghost use Rattle.rp_report.specs.Views.{verdict_of};
 ghost use Rattle.rp_asked.specs.Replies.{Tells};
 
 use crate::fault::row_end;
 use crate::state::State;
-use rp_asked::{RowEnd, lineage, list, neighbour_lines, one_line, owner_verdict, parcel_lines};
+use rp_asked::{RowEnd, access_lines, lineage, list, neighbour_lines, one_line, owner_verdict};
 use rp_boxindex::Quiet;
 use rp_region::Work;
 use rp_report::{Verdict, Verdicts};
-use rp_space::{Name, Names, Point};
-use std::alloc::{AllocError, Global};
+use rp_space::{Name, Point};
+use std::alloc::Global;
 use std::thread::Threads;
 
 /// A run of at most so many parcels, or pairs of parcels, is not split.
 const GRAIN: usize = 16;
-
-/// The verdict lines of a chain, if there is one. Answers `AllocError` only for want of memory.
-fn chain_lines(alloc: Global, chain: Option<&Names>) -> Result<Verdicts, AllocError>
-    requires { IfSome (option_copied chain) (λ ids. length ids.items ≤ 2 * most_kept_parts) }
-    ensures { IfOk result (λ lines. map verdict_of lines.items ≡ told_chain (option_copied chain.entry)) }
-{
-    match chain {
-        None => one_line(alloc, Verdict::NoAccess),
-        Some(ids) => {
-            let steps = ids.items().len().saturating_sub(1);
-            parcel_lines(alloc, Verdict::Access(steps as u32), ids.items())
-        }
-    }
-}
-
-/// Appends the verdict lines of levels. Answers `AllocError` only for want of memory.
-fn add_levels(levels: &[(u32, Name)], lines: &mut Verdicts) -> Result<(), AllocError>
-    ensures { OnOk result (map verdict_of lines.new.items ≡ map verdict_of lines.old.items ++ told_levels levels.now) }
-{
-    for (steps, id) in levels {
-        lines.push(Verdict::Level(*steps, *id))?;
-    }
-    Ok(())
-}
 
 impl State {
     /// How many lots of all layers are live.
@@ -140,14 +114,9 @@ impl State {
         let found = self
             .parcels()
             .access(rt, alloc, &Quiet, GRAIN, from, to, work);
-        let access = match found {
-            Ok(access) => access,
-            Err(fault) => return Err(row_end(fault)),
-        };
-        // Only so that it is known that there are few lots.
-        let _ = self.parcels().history();
-        let mut lines = chain_lines(alloc, access.chain.as_ref())?;
-        add_levels(access.levels.items(), &mut lines)?;
-        Ok(lines)
+        match found {
+            Ok(access) => Ok(access_lines(alloc, &access)?),
+            Err(fault) => Err(row_end(fault)),
+        }
     }
 }

@@ -9,3 +9,4 @@ pub mod Skipped
 pub mod Behind
 pub mod Owned
 pub mod Floored
+pub mod AccessLines

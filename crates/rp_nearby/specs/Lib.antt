@@ -1,3 +1,4 @@
 pub mod Indexed
 pub mod Near
 pub mod Owner
+pub mod Access

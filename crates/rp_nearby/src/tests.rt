@@ -2,7 +2,7 @@ ghost use Rattle.std.specs.Prelude.{◌≡◌, length, true, IfOk};
 ghost use Rattle.rp_history.specs.Lots.{AreBornBefore};
 ghost use Rattle.rp_nearby.specs.Indexed.{NoneBehind};
 
-use crate::{Holder, LotBoxes, Moment, Reach};
+use crate::{Access, Holder, LotBoxes, Moment, Reach};
 use rp_boxindex::Quiet;
 use rp_history::{Birth, History};
 use rp_space::{IntBox, Name, Names, Point};
@@ -133,5 +133,17 @@ fn boxes_behind_a_place_are_taken_out(rt: HostRuntime) -> Result<(), Fail> {
         count_near(alloc, &history, &boxes, 15, b"other", Reach::Touch)?,
         0
     );
+    Ok(())
+}
+
+#[test]
+fn access_is_told_along_pairs(rt: HostRuntime) -> Result<(), Fail> {
+    let alloc = rt.alloc();
+    let first = name(b"a")?;
+    let second = name(b"b")?;
+    let access = Access::along(alloc, &[first, second], &[(0, 1)], &first, &second)?;
+    let chain = access.chain.as_ref().ok_or("no chain")?;
+    assert_eq!(rt; chain.items(), [first, second].as_slice());
+    assert_eq!(rt; access.levels.items(), [(1, first), (0, second)].as_slice());
     Ok(())
 }

@@ -1,5 +1,5 @@
 -- What the tests of pairs show by themselves, put together, is what the walks over the lots show.
-use Rattle.std.proofs.Common.{◌≡◌, ℕ, zero, suc, ◌<◌, Bool, true, false, cond, List, [], ◌∷◌, ◌++◌, map, filter, length, get_or, Option, Some, None, slice_get, refl, sym, ap, ◌∙◌, subst, arith, append_assoc, append-nil}
+use Rattle.std.proofs.Common.{◌≡◌, ℕ, zero, suc, ◌<◌, Bool, true, false, cond, List, [], ◌∷◌, ◌++◌, map, filter, length, get_or, Option, Some, None, slice_get, refl, sym, ap, ◌∙◌, subst, append_assoc, append-nil}
 use Rattle.std.specs.Prelude.{IsTrue, ◌↔◌, option_map}
 use Rattle.std.specs.List.{AllByRecursion}
 use Rattle.std.specs.Option.{option_to_list}
@@ -38,12 +38,6 @@ later_meanings f d x xs k (suc n) = ap (λ ys. f (get_or xs k d) ∷ ys) (later_
 pub all_meanings : {X Y : Type 0} (f : X → Y) (d : X) (xs : List X) → meanings_of (λ i. f (get_or xs i d)) (length xs) ≡ map f xs
 all_meanings f d [] = refl
 all_meanings f d (x ∷ xs) = ap (λ ys. f x ∷ ys) (later_meanings f d x xs zero (length xs) ∙ all_meanings f d xs)
-
--- what is true of all items is true of each
-pub each_of : {X : Type 0} (P : X → Type 0) (d : X) (xs : List X) → AllByRecursion P xs → (i : ℕ) → i < length xs → P (get_or xs i d)
-each_of P d [] h i f = absurd (omega arith)
-each_of P d (x ∷ xs) h zero f = h.0
-each_of P d (x ∷ xs) h (suc i) f = each_of P d xs h.1 i (omega arith)
 
 -- ---- one pair
 

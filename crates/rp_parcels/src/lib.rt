@@ -26,10 +26,10 @@ mod register;
 mod reshape;
 mod subdivide;
 
-pub use access::{Access, Levels};
 pub use child::Child;
 pub use fault::ParcelFault;
 pub use parcels::Parcels;
+pub use rp_nearby::{Access, Levels};
 
 #[cfg(test)]
 mod tests;

@@ -1,12 +1,10 @@
-//! Pairs of parcels as links between the numbers of their places.
-ghost use Rattle.std.specs.Prelude.{◌≡◌, ◌<◌, ◌≤◌, get_or, length, map, IfOk};
+//! Pairs of parcels as pairs of the numbers of their places.
+ghost use Rattle.std.specs.Prelude.{◌≡◌, ◌<◌, get_or, length, map, IfOk};
 ghost use Rattle.std.specs.List.{AllByRecursion};
 ghost use Rattle.rp_model.specs.states.State.{most_kept_parts};
-ghost use Rattle.rp_access.specs.Laws.{AreLinksOf};
 ghost use Rattle.rp_parcels.specs.Touching.{AreRising, IsOneOf, IsPairOf, AreBelow, placed, links_that_meet};
 
 use crate::pairs::{Judged, Pair};
-use rp_access::Links;
 use std::alloc::{AllocError, Global};
 
 /// Pairs of some rising places, as pairs of the numbers of these places. Answers `AllocError` only for want of memory.
@@ -43,24 +41,21 @@ fn number_in(places: &[usize], place: usize) -> usize
     }
 }
 
-/// The links of those pairs of numbers below a count that meet. Answers `AllocError` only for want of memory.
-pub(crate) fn met_links(
+/// Those pairs of numbers that meet. Answers `AllocError` only for want of memory.
+pub(crate) fn met_pairs(
     alloc: Global,
-    count: usize,
     pairs: &[Pair],
     all: &[Judged],
-) -> Result<Links, AllocError>
-    requires few { count ≤ most_kept_parts }
-    requires below { AllByRecursion (AreBelow count) pairs.now }
+) -> Result<Vec<(u32, u32)>, AllocError>
+    requires below { AllByRecursion (AreBelow most_kept_parts) pairs.now }
     requires each { length pairs.now ≡ length all.now }
-    ensures count { IfOk result (λ g. length g ≡ count) }
-    ensures links { IfOk result (λ g. AreLinksOf g (links_that_meet pairs.now all.now)) }
+    ensures { IfOk result (λ met. met.items ≡ links_that_meet pairs.now all.now) }
 {
-    let mut links = Links::new(alloc, count as u32)?;
+    let mut met = Vec::new(alloc);
     for i in 0..pairs.len() {
         if all[i].meets {
-            links.join(alloc, pairs[i].first as u32, pairs[i].second as u32)?;
+            met.push((pairs[i].first as u32, pairs[i].second as u32))?;
         }
     }
-    Ok(links)
+    Ok(met)
 }

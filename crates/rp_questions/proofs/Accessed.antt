@@ -1,6 +1,5 @@
 -- The row of access, step by step.
 use Rattle.std.proofs.Common.{◌≡◌, ℕ, ◌<◌, Bool, not, List, [], length, Option, Some, None, is_some, sym, ap, ◌∙◌, subst}
-use Rattle.std.proofs.lemmas.List.{length-map}
 use Rattle.rp_language.specs.Name.{Label, label_eq}
 use Rattle.rp_walks.specs.Walk.{done, Walk, pass, ◌>>=◌}
 use Rattle.rp_walks.specs.Form.{touching_pair}
@@ -14,7 +13,7 @@ use Rattle.rp_tests.specs.declared.stopped.Stopped.{Stopped}
 use Rattle.rp_tests.specs.Comes.{StopsBy}
 use Rattle.rp_tests.proofs.Left.{IsLeft, next_left, stop_left, end_left}
 use Rattle.rp_register.specs.declared.parcel.Parcel.{Parcel}
-use Rattle.rp_register.specs.There.{lot_here, lots_here}
+use Rattle.rp_register.specs.There.{lots_here}
 use Rattle.rp_asked.proofs.Ancestors.{among_found}
 
 -- ---- the checks
@@ -101,10 +100,9 @@ module _ (s : PlainState) (x z : Label) where
           (ap (λ (vs : List Verdict). done (reply_lines vs) v) (sym e))
 
     -- both ids have a number
-    pub numbers_there : (place_among x (ids_of (lots_here lots)) < length lots) × (place_among z (ids_of (lots_here lots)) < length lots)
+    pub numbers_there : (place_among x (ids_of (lots_here lots)) < length (ids_of (lots_here lots))) × (place_among z (ids_of (lots_here lots)) < length (ids_of (lots_here lots)))
     numbers_there =
-        let below = places_below s x z checked in
-        let many : length (ids_of (lots_here lots)) ≡ length lots = length-map (lots_here lots) (λ (l : Lot (Unit {0})). l.id) ∙ length-map lots lot_here in (
-          subst (λ n. place_among x (ids_of (lots_here lots)) < n) many (subst (λ (ls : List (Lot (Unit {0}))). place_among x (ids_of ls) < length (ids_of ls)) (sym lots_there) below.0),
-          subst (λ n. place_among z (ids_of (lots_here lots)) < n) many (subst (λ (ls : List (Lot (Unit {0}))). place_among z (ids_of ls) < length (ids_of ls)) (sym lots_there) below.1),
+        let below = places_below s x z checked in (
+          subst (λ (ls : List (Lot (Unit {0}))). place_among x (ids_of ls) < length (ids_of ls)) (sym lots_there) below.0,
+          subst (λ (ls : List (Lot (Unit {0}))). place_among z (ids_of ls) < length (ids_of ls)) (sym lots_there) below.1,
         )

@@ -1,9 +1,8 @@
--- The live lots of a layer, one after the other, and their ids.
-use Rattle.std.proofs.Common.{◌≡◌, ℕ, zero, suc, ◌+◌, ◌<◌, Bool, true, false, ◌&&◌, cond, List, [], ◌∷◌, ◌++◌, length, get_or, drop, Some, slice_get, refl, sym, ap, ◌∙◌, append_assoc, arith}
+-- The live lots of a layer, one after the other.
+use Rattle.std.proofs.Common.{◌≡◌, ℕ, ◌+◌, ◌<◌, Bool, true, false, ◌&&◌, cond, List, [], ◌∷◌, ◌++◌, length, drop, Some, slice_get, refl, sym, ap, ◌∙◌, append_assoc}
 use Rattle.std.proofs.lemmas.List.{map-append}
-use Rattle.rp_algebra.proofs.Lists.{drop_item}
 use Rattle.rp_language.specs.Name.{Label, label_eq}
-use Rattle.rp_model.specs.states.State.{Lot, is_live, live_lots, lots_of_layer, ids_of, place_among}
+use Rattle.rp_model.specs.states.State.{Lot, is_live, live_lots, lots_of_layer}
 use Rattle.rp_nearby.proofs.Behind.{left_at}
 use Rattle.rp_register.specs.declared.parcel.Parcel.{Parcel}
 use Rattle.rp_register.specs.There.{lot_here, lots_here}
@@ -42,19 +41,3 @@ layer_passed y lots k p found more all within at e same left =
     ap (λ (ps : List Parcel). lots_here ps ++ layer_live y (drop (k + 1) lots)) same
     ∙ sym (ap (λ (ls : List (Lot (Unit {0}))). lots_here found ++ ls) (layer_left y lots k (lot_here p) false within at e))
     ∙ left
-
--- ---- ids
-
--- the ids of lots
-abbrev pub ids_here : List Parcel → List Label
-ids_here ls = ids_of (lots_here ls)
-
--- the id at a place comes first of those that are left
-pub ids_left : (ls : List Parcel) (i : ℕ) (l : Parcel) → i < length ls → l ≡ get_or ls i l → ids_here (drop i ls) ≡ (lot_here l).id ∷ ids_here (drop (i + 1) ls)
-ids_left ls i l h e = ap ids_here (drop_item ls i l h e)
-
--- the id at a number
-pub id_there : (ls : List Parcel) (k : ℕ) (l : Parcel) → k < length ls → l ≡ get_or ls k l → slice_get (ids_here ls) k ≡ Some (lot_here l).id
-id_there [] k l h e = absurd (omega (arith, h))
-id_there (m ∷ ls) zero l h e = ap (λ (x : Parcel). Some (lot_here x).id) (sym e)
-id_there (m ∷ ls) (suc k) l h e = id_there ls k l (omega (arith, h)) e

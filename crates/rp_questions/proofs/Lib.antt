@@ -5,5 +5,4 @@ pub mod Sliced
 pub mod LotLinks
 pub mod LaterLots
 pub mod LayerLots
-pub mod Chained
 pub mod Accessed

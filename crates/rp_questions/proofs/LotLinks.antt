@@ -1,19 +1,13 @@
--- The walk over each two lots of a layer, lot by lot, and the links that it finds.
-use Rattle.std.proofs.Common.{◌≡◌, ℕ, zero, suc, ◌+◌, ◌<◌, List, [], ◌∷◌, ◌++◌, length, get_or, drop, take, sym, ap, ◌∙◌, subst, arith}
-use Rattle.std.specs.List.{AllByRecursion}
-use Rattle.std.proofs.lemmas.List.{take_more, get_or_default}
+-- The walk over each two lots of a layer, lot by lot, and the pairs that it finds.
+use Rattle.std.proofs.Common.{◌≡◌, ℕ, ◌+◌, ◌<◌, List, ◌∷◌, length, get_or, drop, sym, ap, ◌∙◌, arith}
 use Rattle.rp_algebra.proofs.Lists.{drop_item}
 use Rattle.rp_geometry.specs.sets.Shape.{Part}
 use Rattle.rp_walks.specs.Walk.{Walk, ◌>>=◌}
 use Rattle.rp_model.specs.commands.Row.{numbered_lists, link_lists, links_with_list, links_among_lists, lot_parts}
 use Rattle.rp_reports.specs.Check.{Trail, line_tester}
-use Rattle.rp_access.specs.Chain.{AreJoined}
-use Rattle.rp_access.specs.Laws.{AreLinksOf}
-use Rattle.rp_access.proofs.Computed.{links_go_on}
 use Rattle.rp_tests.proofs.Left.{IsLeft, left_as}
 use Rattle.rp_register.specs.declared.parcel.Parcel.{Parcel}
 use Rattle.rp_register.specs.There.{lot_here, lots_here}
-use Rattle.rp_questions.specs.Access.{IsBelow}
 
 -- pairs of numbers
 abbrev pub Pairs : Type 0
@@ -45,20 +39,3 @@ lot_left found ls i l later r h e left =
     let rest = numbered_lists (i + 1) (parts_here (drop (i + 1) ls)) in
     left_as (ap (λ (ms : List Parcel). links_among_lists line_tester found (numbered_lists i (parts_here ms))) (drop_item ls i l h e)
     ∙ ap (λ (ms : List Parcel). links_with_list line_tester found (i, (lot_here l).parts) (numbered_lists (i + 1) (parts_here ms)) >>= (λ more. links_among_lists line_tester more rest)) (sym r)) left
-
--- ---- links
-
--- one more pair is joined
-pub pair_joined : (old new : List (List ℕ)) (pairs : Pairs) (i : ℕ) (p : ℕ × ℕ) (n : ℕ) → i < length pairs → p ≡ get_or pairs i p → length old ≡ n → p.0 < n → p.1 < n → AreJoined old new p.0 p.1 → AreLinksOf old (take i pairs) → AreLinksOf new (take (i + 1) pairs)
-pair_joined old new pairs i p n h e many a b joined same =
-    subst (AreLinksOf new) (sym (take_more pairs i p h ∙ ap (λ (q : ℕ × ℕ). take i pairs ++ q ∷ []) (sym e)))
-    (links_go_on old new (take i pairs) p.0 p.1 (subst (λ m. p.0 < m) (sym many) a) (subst (λ m. p.1 < m) (sym many) b) joined same)
-
--- a pair of a list of pairs below a count is below it
-pub below_at : (n : ℕ) (pairs : Pairs) → AllByRecursion (IsBelow n) pairs → (i : ℕ) → i < length pairs → (get_or pairs i (0, 0) ≡ get_or pairs i (get_or pairs i (0, 0))) × IsBelow n (get_or pairs i (0, 0))
-below_at n pairs all i h = (get_or_default pairs i (0, 0) (get_or pairs i (0, 0)) h, each pairs all i h)
-  where
-    each : (ps : Pairs) → AllByRecursion (IsBelow n) ps → (k : ℕ) → k < length ps → IsBelow n (get_or ps k (0, 0))
-    each [] a k l = absurd (omega (arith, l))
-    each (p ∷ ps) a zero l = a.0
-    each (p ∷ ps) a (suc k) l = each ps a.1 k (omega (arith, l))

@@ -1,13 +1,9 @@
--- Numbers of lots that are linked, and how many later lots each one may touch.
-use Rattle.std.specs.Prelude.{ℕ, ◌<◌, List, [], ◌∷◌, filter, length}
+-- How many later lots each lot may touch.
+use Rattle.std.specs.Prelude.{ℕ, List, [], ◌∷◌, filter, length}
 use Rattle.rp_geometry.specs.sets.Shape.{Part}
 use Rattle.rp_model.specs.states.State.{Lot}
 use Rattle.rp_nearby.specs.declared.near.Reach.TheVariants.{Touch}
 use Rattle.rp_nearby.specs.Near.{is_near}
-
--- both numbers are below a count
-abbrev pub IsBelow : ℕ → ℕ × ℕ → Type 0
-IsBelow n p = (p.0 < n) × (p.1 < n)
 
 -- how many lots have a part that may touch one of a list
 abbrev pub count_near : {S : Type 0} → List Part → List (Lot S) → ℕ

@@ -10,7 +10,6 @@ mod behind;
 mod layer;
 mod links;
 mod live;
-mod route_lines;
 mod routes;
 mod slices;
 mod touched;

@@ -1,23 +1,21 @@
-//! Which of some lots are in contact, on the next lines of a report, as links between their numbers.
-ghost use Rattle.std.specs.Prelude.{◌≡◌, ℕ, ◌+◌, ◌≤◌, IfOk, OnOk, length};
+//! Which of some lots are in contact, on the next lines of a report, as pairs of their numbers.
+ghost use Rattle.std.specs.Prelude.{◌≡◌, ℕ, ◌+◌, ◌≤◌, OnOk, length};
 ghost use Rattle.std.specs.List.{AllByRecursion};
 ghost use Rattle.rp_model.specs.states.State.{most_kept_parts};
 ghost use Rattle.rp_model.specs.commands.Row.{numbered_lists, link_lists, links_with_list, links_among_lists, lot_parts};
 ghost use Rattle.rp_reports.specs.Check.{line_tester};
-ghost use Rattle.rp_access.specs.Laws.{AreLinksOf};
+ghost use Rattle.rp_access.specs.Chain.{IsBelow};
 ghost use Rattle.rp_tests.specs.Comes.{Comes};
 ghost use Rattle.rp_nearby.specs.declared.near.Reach.TheVariants.{Touch};
 ghost use Rattle.rp_nearby.specs.Near.{is_near};
 ghost use Rattle.rp_register.specs.There.{lot_here, lots_here};
-ghost use Rattle.rp_questions.specs.Access.{IsBelow, count_near, later_counts};
+ghost use Rattle.rp_questions.specs.Access.{count_near, later_counts};
 
-use rp_access::Links;
 use rp_follow::{Trail, touching};
 use rp_nearby::Reach;
 use rp_register::{Parcel, count_pairs};
 use rp_space::Listed;
 use rp_tests::Stopped;
-use std::alloc::{AllocError, Global};
 
 /// Pairs of numbers of lots that are in contact.
 pub(crate) type Pairs = Listed<(u32, u32)>;
@@ -103,18 +101,4 @@ fn link_lots(
         pairs.push((number, other_number))?;
     }
     Ok(())
-}
-
-/// The links of pairs of numbers below a count. Answers `AllocError` only for want of memory.
-pub(crate) fn joined(alloc: Global, count: usize, pairs: &[(u32, u32)]) -> Result<Links, AllocError>
-    requires few { count ≤ most_kept_parts }
-    requires below { AllByRecursion (IsBelow count) pairs.now }
-    ensures count { IfOk result (λ g. length g ≡ count) }
-    ensures links { IfOk result (λ g. AreLinksOf g pairs.now) }
-{
-    let mut links = Links::new(alloc, count as u32)?;
-    for (first, second) in pairs {
-        links.join(alloc, *first, *second)?;
-    }
-    Ok(links)
 }

@@ -1,24 +1,23 @@
 //! The row of access between two lots.
-ghost use Rattle.std.specs.Prelude.{◌≡◌, ◌≤◌, ◌&&◌, None, Some, IfOk, IfErr, length};
+ghost use Rattle.std.specs.Prelude.{◌≡◌, None, Some, IfOk, IfErr};
 ghost use Rattle.rp_language.specs.Expression.{ask_access};
-ghost use Rattle.rp_model.specs.states.State.{live_lots, lots_of_layer, layer_with_id, most_kept_parts, is_live};
+ghost use Rattle.rp_model.specs.states.State.{ids_of, layer_with_id};
 ghost use Rattle.rp_model.specs.commands.Checks.{check_access};
 ghost use Rattle.rp_model.specs.commands.Row.{row};
-ghost use Rattle.rp_language.specs.Name.{label_eq};
 ghost use Rattle.rp_reports.specs.Check.{line_tester};
 ghost use Rattle.rp_report.specs.Views.{refusal_of};
 ghost use Rattle.rp_asked.specs.Replies.{Tells};
-ghost use Rattle.rp_register.specs.There.{lot_here, lots_here};
+ghost use Rattle.rp_register.specs.There.{lots_here};
 
 use crate::layer::{later_in_layer, lots_in_layer};
-use crate::links::{Pairs, joined, links_among};
-use crate::route_lines::access_lines;
-use rp_asked::RowEnd;
+use crate::links::{Pairs, links_among};
+use rp_asked::{RowEnd, access_lines};
 use rp_follow::Trail;
-use rp_register::{Register, count_tests};
+use rp_nearby::Access;
+use rp_register::{Parcel, Register, count_tests};
 use rp_report::{Refusal, Verdicts};
-use rp_space::Name;
-use std::alloc::Global;
+use rp_space::{Name, Names};
+use std::alloc::{AllocError, Global};
 
 /// `access`: a shortest chain of live lots of one layer from one to another, each in contact with the next, and the level of
 /// each lot of the layer that has one.
@@ -40,8 +39,20 @@ pub fn access(
     count_tests(trail, later.pairs)?;
     let mut pairs = Pairs::new(alloc);
     links_among(&mut pairs, lots.items(), later.counts.items(), trail)?;
-    let links = joined(alloc, lots.items().len(), pairs.items())?;
-    Ok(access_lines(alloc, lots.items(), &links, &from, &to)?)
+    let ids = ids_of(alloc, lots.items())?;
+    let access = Access::along(alloc, ids.items(), pairs.items(), &from, &to)?;
+    Ok(access_lines(alloc, &access)?)
+}
+
+/// The ids of some lots. Answers `AllocError` only for want of memory.
+fn ids_of(alloc: Global, lots: &[Parcel<'_>]) -> Result<Names, AllocError>
+    ensures { IfOk result (λ ids. ids.items ≡ ids_of (lots_here lots.now)) }
+{
+    let mut ids = Names::new(alloc);
+    for lot in lots {
+        ids.push(lot.line.id)?;
+    }
+    Ok(ids)
 }
 
 /// The layer of two live lots; or why there is none.

@@ -4,10 +4,11 @@ use Rattle.std.proofs.lemmas.Result.{err_from_is_err_and}
 use Rattle.std.specs.List.{AllByRecursion}
 use Rattle.rp_model.specs.commands.Row.{numbered_lists, links_with_list, links_among_lists}
 use Rattle.rp_reports.specs.Check.{line_tester}
+use Rattle.rp_access.specs.Chain.{IsBelow}
 use Rattle.rp_tests.proofs.Left.{next_left, stop_left}
 use Rattle.rp_register.specs.declared.parcel.Parcel.{Parcel}
 use Rattle.rp_register.specs.There.{lot_here, lots_here}
-use Rattle.rp_questions.specs.Access.{IsBelow, count_near, later_counts}
+use Rattle.rp_questions.specs.Access.{count_near, later_counts}
 use Rattle.rp_questions.proofs.LaterLots.{counts_here, count_at}
 use Rattle.rp_questions.proofs.LotLinks.{parts_here, lot_left}
 use Rattle.rp_questions.proofs.links.links_among.Goals as goal

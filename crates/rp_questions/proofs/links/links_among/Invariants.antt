@@ -2,8 +2,8 @@ use Rattle.std.proofs.Common.{length, drop}
 use Rattle.std.specs.List.{AllByRecursion}
 use Rattle.rp_model.specs.commands.Row.{numbered_lists, links_among_lists}
 use Rattle.rp_reports.specs.Check.{line_tester}
+use Rattle.rp_access.specs.Chain.{IsBelow}
 use Rattle.rp_tests.proofs.Left.{IsLeft}
-use Rattle.rp_questions.specs.Access.{IsBelow}
 use Rattle.rp_questions.proofs.LotLinks.{parts_here}
 use Rattle.rp_questions.proofs.links.links_among.Given as goal
 

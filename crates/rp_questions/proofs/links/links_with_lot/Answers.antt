@@ -2,9 +2,9 @@ use Rattle.std.proofs.Common.{ℕ, ◌+◌, length, drop, arith, List, sym, ap, 
 use Rattle.std.specs.List.{AllByRecursion}
 use Rattle.rp_geometry.specs.sets.Shape.{Part}
 use Rattle.rp_walks.specs.Walk.{done}
+use Rattle.rp_access.specs.Chain.{IsBelow}
 use Rattle.rp_tests.proofs.Left.{end_left}
 use Rattle.rp_register.specs.There.{lot_here}
-use Rattle.rp_questions.specs.Access.{IsBelow}
 use Rattle.rp_questions.proofs.LaterLots.{near_first, none_left, link_taken, link_passed}
 use Rattle.rp_questions.proofs.links.links_with_lot.Goals as goal
 use Rattle.rp_questions.proofs.links.links_with_lot.Goals.{then-may_touch+in_ok-link_lots, else-may_touch}

@@ -2,9 +2,10 @@ use Rattle.std.proofs.Common.{◌≡◌, ◌+◌, length, drop}
 use Rattle.std.specs.List.{AllByRecursion}
 use Rattle.rp_model.specs.commands.Row.{numbered_lists, links_with_list}
 use Rattle.rp_reports.specs.Check.{line_tester}
+use Rattle.rp_access.specs.Chain.{IsBelow}
 use Rattle.rp_tests.proofs.Left.{IsLeft}
 use Rattle.rp_register.specs.There.{lot_here, lots_here}
-use Rattle.rp_questions.specs.Access.{IsBelow, count_near}
+use Rattle.rp_questions.specs.Access.{count_near}
 use Rattle.rp_questions.proofs.LotLinks.{parts_here}
 use Rattle.rp_questions.proofs.links.links_with_lot.Given as goal
 

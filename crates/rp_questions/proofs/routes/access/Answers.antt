@@ -1,5 +1,6 @@
-use Rattle.std.proofs.Common.{◌≡◌, ℕ, ◌<◌, List, map, length, sym, ap, ◌∙◌, subst}
+use Rattle.std.proofs.Common.{◌≡◌, ℕ, ◌<◌, List, map, length, sym, ap, ap₂, ◌∙◌, subst}
 use Rattle.std.proofs.lemmas.Result.{err_from_is_err_and}
+use Rattle.rp_language.specs.Name.{Label}
 use Rattle.rp_walks.specs.Walk.{done}
 use Rattle.rp_walks.specs.Form.{touching_pair}
 use Rattle.rp_model.specs.states.State.{Lot, ids_of, place_among}
@@ -28,18 +29,15 @@ returns-in_err-links_among c =
     (subst (λ (found : List (ℕ × ℕ)). StopsBy e v (links_among_lists line_tester found (numbered_lists 0 (lot_parts (lots_here lots))) u)) c.new-pairs.ensures
     (subst (λ (ls : List Parcel). StopsBy e v (links_among_lists line_tester c.new-pairs.result.items (numbered_lists 0 (lot_parts (lots_here ls))) u)) c.items.ensures c.in_err-links_among.ensures.comes)))
 
-pub access_lines-requires-clause-linked : goal.access_lines-requires-clause-linked
-access_lines-requires-clause-linked c i j l = ((c.in_ok-links.ensures.links i j).0 l).1
+pub along-requires-clause-from_there : goal.along-requires-clause-from_there
+along-requires-clause-from_there c =
+    let ids = c.items-4.ensures ∙ c.in_ok-ids.ensures ∙ ap (λ (ls : List Parcel). ids_of (lots_here ls)) c.items-3.ensures in
+    subst (λ (xs : List Label). place_among c.args.from xs < length xs) (sym ids) (numbers_there c.args.register.now c.args.from c.args.to c.in-Ok.layer c.in_ok-lots.lots.items c.args.trail.now c.in-Ok.ensures.passes c.in-Ok.ensures.layer c.in_ok-lots.ensures.value).0
 
-pub access_lines-requires-clause-from_there : goal.access_lines-requires-clause-from_there
-access_lines-requires-clause-from_there c =
-    subst (λ (ls : List Parcel). place_among c.args.from (ids_of (lots_here ls)) < length ls) (sym c.items-5.ensures)
-    (numbers_there c.args.register.now c.args.from c.args.to c.in-Ok.layer c.in_ok-lots.lots.items c.args.trail.now c.in-Ok.ensures.passes c.in-Ok.ensures.layer c.in_ok-lots.ensures.value).0
-
-pub access_lines-requires-clause-to_there : goal.access_lines-requires-clause-to_there
-access_lines-requires-clause-to_there c =
-    subst (λ (ls : List Parcel). place_among c.args.to (ids_of (lots_here ls)) < length ls) (sym c.items-5.ensures)
-    (numbers_there c.args.register.now c.args.from c.args.to c.in-Ok.layer c.in_ok-lots.lots.items c.args.trail.now c.in-Ok.ensures.passes c.in-Ok.ensures.layer c.in_ok-lots.ensures.value).1
+pub along-requires-clause-to_there : goal.along-requires-clause-to_there
+along-requires-clause-to_there c =
+    let ids = c.items-4.ensures ∙ c.in_ok-ids.ensures ∙ ap (λ (ls : List Parcel). ids_of (lots_here ls)) c.items-3.ensures in
+    subst (λ (xs : List Label). place_among c.args.to xs < length xs) (sym ids) (numbers_there c.args.register.now c.args.from c.args.to c.in-Ok.layer c.in_ok-lots.lots.items c.args.trail.now c.in-Ok.ensures.passes c.in-Ok.ensures.layer c.in_ok-lots.ensures.value).1
 
 pub returns : goal.returns
 returns c =
@@ -54,7 +52,6 @@ returns c =
     let linked =
     subst (λ (found : List (ℕ × ℕ)). links_among_lists line_tester found (numbered_lists 0 (lot_parts (lots_here lots))) u ≡ done pairs v) c.new-pairs.ensures
     (subst (λ (ls : List Parcel). links_among_lists line_tester c.new-pairs.result.items (numbered_lists 0 (lot_parts (lots_here ls))) u ≡ done pairs v) c.items.ensures c.in_ok-links_among.ensures.comes) in
+    let ids = c.items-4.ensures ∙ c.in_ok-ids.ensures ∙ ap (λ (ls : List Parcel). ids_of (lots_here ls)) c.items-3.ensures in
     access_told s c.args.from c.args.to c.in-Ok.layer lots t c.in-Ok.ensures.passes c.in-Ok.ensures.layer c.in_ok-lots.ensures.value u counted pairs v (map verdict_of c.in_ok-access_lines.field-0.items) linked
-    (c.in_ok-access_lines.ensures c.items-4.result.now c.in_ok-links.ensures.links
-    ∙ ap (λ (ls : List Parcel). access_by_links (ids_of (lots_here ls)) c.items-4.result.now c.args.from c.args.to) c.items-5.ensures
-    ∙ ap (λ (ps : List (ℕ × ℕ)). access_by_links (ids_of (lots_here lots)) ps c.args.from c.args.to) c.items-4.ensures)
+    (c.in_ok-access_lines.ensures ∙ c.in_ok-access.ensures ∙ ap₂ (λ (xs : List Label) (ps : List (ℕ × ℕ)). access_by_links xs ps c.args.from c.args.to) ids c.items-5.ensures)

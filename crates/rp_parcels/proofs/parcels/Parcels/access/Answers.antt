@@ -1,27 +1,29 @@
-use Rattle.std.proofs.Common.{◌≡◌, ℕ, ◌<◌, List, [], map, length, Some, refl, sym, ap, ap₂, ◌∙◌, subst, arith}
+use Rattle.std.proofs.Common.{◌≡◌, ℕ, ◌<◌, ◌≤◌, List, [], map, length, Some, refl, sym, ap, ap₂, ◌∙◌, subst, arith}
 use Rattle.std.specs.List.{AllByRecursion}
 use Rattle.std.proofs.lemmas.Result.{err_from_is_err_and}
-use Rattle.rp_walks.specs.Walk.{done, Work, count_tests, first_tester}
-use Rattle.rp_model.specs.states.State.{ids_of, place_among}
+use Rattle.rp_algebra.proofs.Listed.{all_map}
+use Rattle.rp_language.specs.Name.{Label}
+use Rattle.rp_walks.specs.Walk.{done, Work, first_tester}
+use Rattle.rp_model.specs.states.State.{ids_of, place_among, most_kept_parts}
 use Rattle.rp_model.specs.commands.Verdict.{Verdict}
-use Rattle.rp_model.specs.commands.Row.{access_by_links, reply_lines, numbered_lists, links_among_lists, row_access}
+use Rattle.rp_model.specs.commands.Row.{access_by_links, reply_lines, row_access}
+use Rattle.rp_access.specs.Chain.{IsBelow}
 use Rattle.rp_region.specs.Makes.{work_after}
-use Rattle.rp_region.proofs.Grows.{pass_tells}
-use Rattle.rp_region.proofs.Left.{cut_left, given_up, not_begun}
+use Rattle.rp_region.proofs.Left.{not_begun}
 use Rattle.rp_history.specs.Lots.{lots_in}
 use Rattle.rp_nearby.specs.declared.near.Reach.TheVariants.{Touch}
 use Rattle.rp_nearby.specs.Near.{lots_at, AreWithin}
-use Rattle.rp_parcels.specs.Judged.{with_all_lines, telling_all, IsPairWithin}
+use Rattle.rp_parcels.specs.Judged.{with_all_lines, IsPairWithin}
 use Rattle.rp_parcels.specs.Faults.{fault_of_names}
 use Rattle.rp_parcels.specs.Rows.{cause_of}
-use Rattle.rp_parcels.proofs.Checked.{names_fail}
-use Rattle.rp_parcels.specs.Touching.{lists_at, places_among, AreRising, IsPairOf, AreBelow, placed, links_that_meet}
+use Rattle.rp_parcels.specs.Touching.{places_among, AreRising, IsPairOf, AreBelow, placed, links_that_meet}
 use Rattle.rp_parcels.specs.Behind.{live_places, tests_behind, ArePairsBehind}
-use Rattle.rp_parcels.proofs.Walked.{cut_as, step_fails}
+use Rattle.rp_parcels.proofs.Checked.{names_fail}
 use Rattle.rp_parcels.proofs.Counted.{counted_fault}
-use Rattle.rp_parcels.proofs.Linked.{judged_places, among_shown, among_within, among_there, numbers_are}
-use Rattle.rp_parcels.proofs.Paired.{places_within, all_rise, layer_there, layer_counted, layer_paired}
-use Rattle.rp_parcels.proofs.Accessed.{links_told, links_told_tells, told_links, access_tells, access_fails, access_begins, access_goes_on, row_walked, numbers_there}
+use Rattle.rp_parcels.proofs.Linked.{judged_places, ids_counted, among_within, among_there, numbers_are}
+use Rattle.rp_parcels.proofs.Paired.{places_within, all_rise, layer_paired}
+use Rattle.rp_parcels.proofs.Numbers.{meeting_below}
+use Rattle.rp_parcels.proofs.Accessed.{access_tells, access_fails, count_fails, access_given_up, lines_cut, row_walked, numbers_there}
 use Rattle.rp_parcels.proofs.parcels.Parcels.access.Goals as goal
 
 pub returns-in_err-layer : goal.returns-in_err-layer
@@ -44,16 +46,12 @@ pub returns-in_err-near : goal.returns-in_err-near
 returns-in_err-near g c =
     let p = err_from_is_err_and c.from_residual-in_err-near.result c.from_residual-in_err-near.ensures.1 in
     let lots = c.args.self.now in
-    let y = c.in_ok-layer.layer in
-    let places = live_places (Some y) 0 lots in
     let w = c.args.work.now in
     let n = tests_behind Touch lots c.deref.result.now in
-    let tests = ap (tests_behind Touch lots) (c.deref.ensures.value ∙ c.in_ok-places.ensures.places) ∙ layer_counted lots y 0 lots refl in
     record {
       row = rw (p.1, p.2)
-          (step_fails (count_tests n) (λ _. links_told lots c.args.from c.args.to (lots_at lots places) (lists_at lots places)) (λ _. links_told_tells lots c.args.from c.args.to (lots_at lots places) (lists_at lots places))
-          (access_begins lots c.args.from c.args.to y places (c.in_ok-layer.ensures.checks (lots_in [] c.args.self.now) c.history.ensures.value) (c.in_ok-layer.ensures.layer (lots_in [] c.args.self.now) c.history.ensures.value) (layer_there lots y 0 lots refl) (places_within lots (Some y)) n w tests)
-          c.in_err-near.field-0.0 w (counted_fault c.in_err-near.field-0.0 n w c.in_err-near.ensures.tests));
+          (count_fails lots c.args.from c.args.to c.in_ok-layer.layer (c.in_ok-layer.ensures.checks (lots_in [] lots) c.history.ensures.value) (c.in_ok-layer.ensures.layer (lots_in [] lots) c.history.ensures.value) n w
+          (ap (tests_behind Touch lots) (c.deref.ensures.value ∙ c.in_ok-places.ensures.places)) c.in_err-near.field-0.0 w (counted_fault c.in_err-near.field-0.0 n w c.in_err-near.ensures.tests));
     }
 
 pub judge_counted-requires-clause-within : goal.judge_counted-requires-clause-within
@@ -67,72 +65,10 @@ pub returns-in_err-all : goal.returns-in_err-all
 returns-in_err-all g c =
     let p = err_from_is_err_and c.from_residual-in_err-all.result c.from_residual-in_err-all.ensures.1 in
     let lots = c.args.self.now in
-    let y = c.in_ok-layer.layer in
-    let places = live_places (Some y) 0 lots in
-    let tests = c.in_ok-near.ensures.tests.0 ∙ ap (tests_behind Touch lots) (c.deref.ensures.value ∙ c.in_ok-places.ensures.places) ∙ layer_counted lots y 0 lots refl in
     record {
       row = rw (p.1, p.2)
-          (step_fails (count_tests c.in_ok-near.near.tests) (λ _. links_told lots c.args.from c.args.to (lots_at lots places) (lists_at lots places)) (λ _. links_told_tells lots c.args.from c.args.to (lots_at lots places) (lists_at lots places))
-          (access_begins lots c.args.from c.args.to y places (c.in_ok-layer.ensures.checks (lots_in [] c.args.self.now) c.history.ensures.value) (c.in_ok-layer.ensures.layer (lots_in [] c.args.self.now) c.history.ensures.value) (layer_there lots y 0 lots refl) (places_within lots (Some y)) c.in_ok-near.near.tests c.args.work.now tests)
-          c.in_err-all.field-0.0 c.judge_counted.new.work c.in_err-all.ensures.counted);
-    }
-
-pub returns-in_err-numbers : goal.returns-in_err-numbers
-returns-in_err-numbers g c =
-    let p = err_from_is_err_and c.from_residual-in_err-numbers.result c.from_residual-in_err-numbers.ensures.1 in
-    let lots = c.args.self.now in
-    let y = c.in_ok-layer.layer in
-    let places = live_places (Some y) 0 lots in
-    let tests = c.in_ok-near.ensures.tests.0 ∙ ap (tests_behind Touch lots) (c.deref.ensures.value ∙ c.in_ok-places.ensures.places) ∙ layer_counted lots y 0 lots refl in
-    record {
-      row = rw (p.1, p.2)
-          (given_up (links_told lots c.args.from c.args.to (lots_at lots places) (lists_at lots places)) (links_told_tells lots c.args.from c.args.to (lots_at lots places) (lists_at lots places))
-          (access_goes_on lots c.args.from c.args.to y places (c.in_ok-layer.ensures.checks (lots_in [] c.args.self.now) c.history.ensures.value) (c.in_ok-layer.ensures.layer (lots_in [] c.args.self.now) c.history.ensures.value) (layer_there lots y 0 lots refl) (places_within lots (Some y)) c.in_ok-near.near.tests c.args.work.now c.judge_counted.new.work tests c.in_ok-all.ensures.counted));
-    }
-
-pub returns-in_err-links : goal.returns-in_err-links
-returns-in_err-links g c =
-    let p = err_from_is_err_and c.from_residual-in_err-links.result c.from_residual-in_err-links.ensures.1 in
-    let lots = c.args.self.now in
-    let y = c.in_ok-layer.layer in
-    let places = live_places (Some y) 0 lots in
-    let tests = c.in_ok-near.ensures.tests.0 ∙ ap (tests_behind Touch lots) (c.deref.ensures.value ∙ c.in_ok-places.ensures.places) ∙ layer_counted lots y 0 lots refl in
-    record {
-      row = rw (p.1, p.2)
-          (given_up (links_told lots c.args.from c.args.to (lots_at lots places) (lists_at lots places)) (links_told_tells lots c.args.from c.args.to (lots_at lots places) (lists_at lots places))
-          (access_goes_on lots c.args.from c.args.to y places (c.in_ok-layer.ensures.checks (lots_in [] c.args.self.now) c.history.ensures.value) (c.in_ok-layer.ensures.layer (lots_in [] c.args.self.now) c.history.ensures.value) (layer_there lots y 0 lots refl) (places_within lots (Some y)) c.in_ok-near.near.tests c.args.work.now c.judge_counted.new.work tests c.in_ok-all.ensures.counted));
-    }
-
-pub returns-in_err-told : goal.returns-in_err-told
-returns-in_err-told g c =
-    let p = err_from_is_err_and c.from_residual-in_err-told.result c.from_residual-in_err-told.ensures.1 in
-    let lots = c.args.self.now in
-    let y = c.in_ok-layer.layer in
-    let places = live_places (Some y) 0 lots in
-    let tests = c.in_ok-near.ensures.tests.0 ∙ ap (tests_behind Touch lots) (c.deref.ensures.value ∙ c.in_ok-places.ensures.places) ∙ layer_counted lots y 0 lots refl in
-    record {
-      row = rw (p.1, p.2)
-          (given_up (links_told lots c.args.from c.args.to (lots_at lots places) (lists_at lots places)) (links_told_tells lots c.args.from c.args.to (lots_at lots places) (lists_at lots places))
-          (access_goes_on lots c.args.from c.args.to y places (c.in_ok-layer.ensures.checks (lots_in [] c.args.self.now) c.history.ensures.value) (c.in_ok-layer.ensures.layer (lots_in [] c.args.self.now) c.history.ensures.value) (layer_there lots y 0 lots refl) (places_within lots (Some y)) c.in_ok-near.near.tests c.args.work.now c.judge_counted.new.work tests c.in_ok-all.ensures.counted));
-    }
-
-pub returns-in_err-append_all : goal.returns-in_err-append_all
-returns-in_err-append_all g c =
-    let p = err_from_is_err_and c.from_residual-in_err-append_all.result c.from_residual-in_err-append_all.ensures.1 in
-    let lots = c.args.self.now in
-    let y = c.in_ok-layer.layer in
-    let places = live_places (Some y) 0 lots in
-    let tests = c.in_ok-near.ensures.tests.0 ∙ ap (tests_behind Touch lots) (c.deref.ensures.value ∙ c.in_ok-places.ensures.places) ∙ layer_counted lots y 0 lots refl in
-    let v = c.judge_counted.new.work in
-    let u = c.append_all.new.work in
-    let behind = subst (λ (ks : List ℕ). ArePairsBehind Touch lots ks c.in_ok-near.near.pairs.items) (c.deref.ensures.value ∙ c.in_ok-places.ensures.places) c.in_ok-near.ensures.pairs in
-    let all : c.in_ok-all.all.items ≡ judged_places lots (places_among lots places) = c.in_ok-all.ensures.shown ∙ ap (judged_places lots) (layer_paired lots y c.live_places.ensures.sound 0 lots refl c.in_ok-near.near.pairs.items behind) in
-    let walk = links_among_lists first_tester [] (numbered_lists 0 (lists_at lots places)) in
-    record {
-      row = rw (p.1, p.2)
-          (cut_left walk (told_links lots c.args.from c.args.to (lots_at lots places)) (λ links. pass_tells (reply_lines (access_by_links (ids_of (lots_at lots places)) links c.args.from c.args.to)))
-          (access_goes_on lots c.args.from c.args.to y places (c.in_ok-layer.ensures.checks (lots_in [] c.args.self.now) c.history.ensures.value) (c.in_ok-layer.ensures.layer (lots_in [] c.args.self.now) c.history.ensures.value) (layer_there lots y 0 lots refl) (places_within lots (Some y)) c.in_ok-near.near.tests c.args.work.now v tests c.in_ok-all.ensures.counted) u
-          (cut_as v u (telling_all c.in_ok-all.all.items v) (walk v) (ap (with_all_lines v) all ∙ sym (ap work_after (among_shown lots 0 places [] v))) c.in_err-append_all.ensures));
+          (count_fails lots c.args.from c.args.to c.in_ok-layer.layer (c.in_ok-layer.ensures.checks (lots_in [] lots) c.history.ensures.value) (c.in_ok-layer.ensures.layer (lots_in [] lots) c.history.ensures.value) c.in_ok-near.near.tests c.args.work.now
+          (c.in_ok-near.ensures.tests.0 ∙ ap (tests_behind Touch lots) (c.deref.ensures.value ∙ c.in_ok-places.ensures.places)) c.in_err-all.field-0.0 c.judge_counted.new.work c.in_err-all.ensures.counted);
     }
 
 pub numbered_pairs-requires-clause-rising : goal.numbered_pairs-requires-clause-rising
@@ -147,41 +83,103 @@ numbered_pairs-requires-clause-there g c =
     let pairs = c.deref-3.ensures.value ∙ layer_paired lots y c.live_places.ensures.sound 0 lots refl c.in_ok-near.near.pairs.items behind in
     subst (λ ks. AllByRecursion (IsPairOf ks) c.deref-3.result.now) (sym (c.deref-2.ensures.value ∙ c.in_ok-places.ensures.places)) (subst (AllByRecursion (IsPairOf places)) (sym pairs) (among_there lots places))
 
-pub met_links-requires-clause-below : goal.met_links-requires-clause-below
-met_links-requires-clause-below g c =
-    let len = c.len.ensures in
-    let view = c.deref-2.ensures.len in
-    let same = ap length c.deref-2.ensures.value in
-    let many : length c.deref-2.result.now ≡ c.len.result = omega (arith, len, view, same) in
-    subst (λ n. AllByRecursion (AreBelow n) c.deref-4.result.now) many (subst (AllByRecursion (AreBelow (length c.deref-2.result.now))) (sym c.deref-4.ensures.value) c.in_ok-numbers.ensures.below)
+pub returns-in_err-numbers : goal.returns-in_err-numbers
+returns-in_err-numbers g c =
+    let p = err_from_is_err_and c.from_residual-in_err-numbers.result c.from_residual-in_err-numbers.ensures.1 in
+    let lots = c.args.self.now in
+    record {
+      row = rw (p.1, p.2)
+          (access_given_up lots c.args.from c.args.to c.in_ok-layer.layer (c.in_ok-layer.ensures.checks (lots_in [] lots) c.history.ensures.value) (c.in_ok-layer.ensures.layer (lots_in [] lots) c.history.ensures.value) c.in_ok-near.near.tests c.args.work.now c.judge_counted.new.work
+          (c.in_ok-near.ensures.tests.0 ∙ ap (tests_behind Touch lots) (c.deref.ensures.value ∙ c.in_ok-places.ensures.places)) c.in_ok-all.ensures.counted);
+    }
 
-pub told_access-requires-clause-within : goal.told_access-requires-clause-within
-told_access-requires-clause-within g c = subst (AreWithin c.args.self.now) (sym (c.deref-6.ensures.value ∙ c.in_ok-places.ensures.places)) (places_within c.args.self.now (Some c.in_ok-layer.layer))
+pub met_pairs-requires-clause-below : goal.met_pairs-requires-clause-below
+met_pairs-requires-clause-below g c =
+    let few : length c.deref-2.result.now ≤ most_kept_parts = omega (arith, ap length c.deref-2.ensures.value, c.in_ok-places.ensures.few) in
+    subst (AllByRecursion (AreBelow most_kept_parts)) (sym c.deref-4.ensures.value)
+    (all_map (AreBelow (length c.deref-2.result.now)) (AreBelow most_kept_parts) (λ q h. (omega (arith, h.0, few), omega (arith, h.1, few))) c.in_ok-numbers.numbers.items c.in_ok-numbers.ensures.below)
 
-pub told_access-requires-clause-linked : goal.told_access-requires-clause-linked
-told_access-requires-clause-linked g c = λ i j l. ((c.in_ok-links.ensures.links i j).0 l).1
+pub returns-in_err-met : goal.returns-in_err-met
+returns-in_err-met g c =
+    let p = err_from_is_err_and c.from_residual-in_err-met.result c.from_residual-in_err-met.ensures.1 in
+    let lots = c.args.self.now in
+    record {
+      row = rw (p.1, p.2)
+          (access_given_up lots c.args.from c.args.to c.in_ok-layer.layer (c.in_ok-layer.ensures.checks (lots_in [] lots) c.history.ensures.value) (c.in_ok-layer.ensures.layer (lots_in [] lots) c.history.ensures.value) c.in_ok-near.near.tests c.args.work.now c.judge_counted.new.work
+          (c.in_ok-near.ensures.tests.0 ∙ ap (tests_behind Touch lots) (c.deref.ensures.value ∙ c.in_ok-places.ensures.places)) c.in_ok-all.ensures.counted);
+    }
 
-pub told_access-requires-clause-from_there : goal.told_access-requires-clause-from_there
-told_access-requires-clause-from_there g c =
+pub ids_at-requires : goal.ids_at-requires
+ids_at-requires g c = subst (AreWithin c.args.self.now) (sym (c.deref-6.ensures.value ∙ c.in_ok-places.ensures.places)) (places_within c.args.self.now (Some c.in_ok-layer.layer))
+
+pub returns-in_err-ids : goal.returns-in_err-ids
+returns-in_err-ids g c =
+    let p = err_from_is_err_and c.from_residual-in_err-ids.result c.from_residual-in_err-ids.ensures.1 in
+    let lots = c.args.self.now in
+    record {
+      row = rw (p.1, p.2)
+          (access_given_up lots c.args.from c.args.to c.in_ok-layer.layer (c.in_ok-layer.ensures.checks (lots_in [] lots) c.history.ensures.value) (c.in_ok-layer.ensures.layer (lots_in [] lots) c.history.ensures.value) c.in_ok-near.near.tests c.args.work.now c.judge_counted.new.work
+          (c.in_ok-near.ensures.tests.0 ∙ ap (tests_behind Touch lots) (c.deref.ensures.value ∙ c.in_ok-places.ensures.places)) c.in_ok-all.ensures.counted);
+    }
+
+pub along-requires-clause-few : goal.along-requires-clause-few
+along-requires-clause-few g c =
     let lots = c.args.self.now in
     let y = c.in_ok-layer.layer in
-    let there = numbers_there lots c.args.from c.args.to y (live_places (Some y) 0 lots) (c.in_ok-layer.ensures.checks (lots_in [] c.args.self.now) c.history.ensures.value) (c.in_ok-layer.ensures.layer (lots_in [] c.args.self.now) c.history.ensures.value) (layer_there lots y 0 lots refl) (places_within lots (Some y)) in
-    subst (λ ks. place_among c.args.from (ids_of (lots_at lots ks)) < length ks) (sym (c.deref-6.ensures.value ∙ c.in_ok-places.ensures.places)) there.0
+    let places = live_places (Some y) 0 lots in
+    let ids = c.items.ensures ∙ c.in_ok-ids.ensures ∙ ap (λ (ks : List ℕ). ids_of (lots_at lots ks)) (c.deref-6.ensures.value ∙ c.in_ok-places.ensures.places) in
+    omega (arith, ap length ids, ids_counted lots places (places_within lots (Some y)), ap length c.in_ok-places.ensures.places, c.in_ok-places.ensures.few)
 
-pub told_access-requires-clause-to_there : goal.told_access-requires-clause-to_there
-told_access-requires-clause-to_there g c =
+pub along-requires-clause-below : goal.along-requires-clause-below
+along-requires-clause-below g c =
     let lots = c.args.self.now in
     let y = c.in_ok-layer.layer in
-    let there = numbers_there lots c.args.from c.args.to y (live_places (Some y) 0 lots) (c.in_ok-layer.ensures.checks (lots_in [] c.args.self.now) c.history.ensures.value) (c.in_ok-layer.ensures.layer (lots_in [] c.args.self.now) c.history.ensures.value) (layer_there lots y 0 lots refl) (places_within lots (Some y)) in
-    subst (λ ks. place_among c.args.to (ids_of (lots_at lots ks)) < length ks) (sym (c.deref-6.ensures.value ∙ c.in_ok-places.ensures.places)) there.1
+    let places = live_places (Some y) 0 lots in
+    let ids = c.items.ensures ∙ c.in_ok-ids.ensures ∙ ap (λ (ks : List ℕ). ids_of (lots_at lots ks)) (c.deref-6.ensures.value ∙ c.in_ok-places.ensures.places) in
+    let many : length c.deref-2.result.now ≡ length c.items.result.now = ap length (c.deref-2.ensures.value ∙ c.in_ok-places.ensures.places) ∙ sym (ap length ids ∙ ids_counted lots places (places_within lots (Some y))) in
+    subst (λ n. AllByRecursion (IsBelow n) c.deref-7.result.now) many
+    (subst (AllByRecursion (IsBelow (length c.deref-2.result.now))) (sym (c.deref-7.ensures.value ∙ c.in_ok-met.ensures))
+    (meeting_below (length c.deref-2.result.now) c.deref-4.result.now c.deref-5.result.now (subst (AllByRecursion (AreBelow (length c.deref-2.result.now))) (sym c.deref-4.ensures.value) c.in_ok-numbers.ensures.below)))
+
+pub along-requires-clause-from_there : goal.along-requires-clause-from_there
+along-requires-clause-from_there g c =
+    let lots = c.args.self.now in
+    let ids = c.items.ensures ∙ c.in_ok-ids.ensures ∙ ap (λ (ks : List ℕ). ids_of (lots_at lots ks)) (c.deref-6.ensures.value ∙ c.in_ok-places.ensures.places) in
+    subst (λ (xs : List Label). place_among c.args.from xs < length xs) (sym ids) (numbers_there lots c.args.from c.args.to c.in_ok-layer.layer (c.in_ok-layer.ensures.checks (lots_in [] lots) c.history.ensures.value) (c.in_ok-layer.ensures.layer (lots_in [] lots) c.history.ensures.value)).0
+
+pub along-requires-clause-to_there : goal.along-requires-clause-to_there
+along-requires-clause-to_there g c =
+    let lots = c.args.self.now in
+    let ids = c.items.ensures ∙ c.in_ok-ids.ensures ∙ ap (λ (ks : List ℕ). ids_of (lots_at lots ks)) (c.deref-6.ensures.value ∙ c.in_ok-places.ensures.places) in
+    subst (λ (xs : List Label). place_among c.args.to xs < length xs) (sym ids) (numbers_there lots c.args.from c.args.to c.in_ok-layer.layer (c.in_ok-layer.ensures.checks (lots_in [] lots) c.history.ensures.value) (c.in_ok-layer.ensures.layer (lots_in [] lots) c.history.ensures.value)).1
+
+pub returns-in_err-told : goal.returns-in_err-told
+returns-in_err-told g c =
+    let p = err_from_is_err_and c.from_residual-in_err-told.result c.from_residual-in_err-told.ensures.1 in
+    let lots = c.args.self.now in
+    record {
+      row = rw (p.1, p.2)
+          (access_given_up lots c.args.from c.args.to c.in_ok-layer.layer (c.in_ok-layer.ensures.checks (lots_in [] lots) c.history.ensures.value) (c.in_ok-layer.ensures.layer (lots_in [] lots) c.history.ensures.value) c.in_ok-near.near.tests c.args.work.now c.judge_counted.new.work
+          (c.in_ok-near.ensures.tests.0 ∙ ap (tests_behind Touch lots) (c.deref.ensures.value ∙ c.in_ok-places.ensures.places)) c.in_ok-all.ensures.counted);
+    }
+
+pub returns-in_err-append_all : goal.returns-in_err-append_all
+returns-in_err-append_all g c =
+    let p = err_from_is_err_and c.from_residual-in_err-append_all.result c.from_residual-in_err-append_all.ensures.1 in
+    let lots = c.args.self.now in
+    let behind = subst (λ (ks : List ℕ). ArePairsBehind Touch lots ks c.in_ok-near.near.pairs.items) (c.deref.ensures.value ∙ c.in_ok-places.ensures.places) c.in_ok-near.ensures.pairs in
+    record {
+      row = rw (p.1, p.2)
+          (lines_cut lots c.args.from c.args.to c.in_ok-layer.layer (c.in_ok-layer.ensures.checks (lots_in [] lots) c.history.ensures.value) (c.in_ok-layer.ensures.layer (lots_in [] lots) c.history.ensures.value) c.in_ok-near.near.tests c.args.work.now c.judge_counted.new.work
+          (c.in_ok-near.ensures.tests.0 ∙ ap (tests_behind Touch lots) (c.deref.ensures.value ∙ c.in_ok-places.ensures.places)) c.in_ok-all.ensures.counted c.in_ok-all.all.items c.append_all.new.work
+          (c.in_ok-all.ensures.shown ∙ ap (judged_places lots) (layer_paired lots c.in_ok-layer.layer c.live_places.ensures.sound 0 lots refl c.in_ok-near.near.pairs.items behind)) c.in_err-append_all.ensures);
+    }
 
 pub returns : goal.returns
 returns g c =
     let lots = c.args.self.now in
     let y = c.in_ok-layer.layer in
     let places = live_places (Some y) 0 lots in
-    let v = c.judge_counted.new.work in
-    let tests = c.in_ok-near.ensures.tests.0 ∙ ap (tests_behind Touch lots) (c.deref.ensures.value ∙ c.in_ok-places.ensures.places) ∙ layer_counted lots y 0 lots refl in
     let behind = subst (λ (ks : List ℕ). ArePairsBehind Touch lots ks c.in_ok-near.near.pairs.items) (c.deref.ensures.value ∙ c.in_ok-places.ensures.places) c.in_ok-near.ensures.pairs in
     let pairs = layer_paired lots y c.live_places.ensures.sound 0 lots refl c.in_ok-near.near.pairs.items behind in
     let all : c.in_ok-all.all.items ≡ judged_places lots (places_among lots places) = c.in_ok-all.ensures.shown ∙ ap (judged_places lots) pairs in
@@ -190,10 +188,11 @@ returns g c =
     let below = subst (λ ks. AllByRecursion (AreBelow (length ks)) ns) here c.in_ok-numbers.ensures.below in
     let same = subst (λ ks. map (placed ks) ns ≡ places_among lots places) here (c.in_ok-numbers.ensures.placed ∙ c.deref-3.ensures.value ∙ pairs) in
     let numbers = numbers_are lots places (all_rise lots (Some y)) ns below same in
-    let links = ap₂ links_that_meet (c.deref-4.ensures.value ∙ numbers) (c.deref-5.ensures.value ∙ all) in
-    let told = c.in_ok-told.ensures (links_that_meet c.deref-4.result.now c.deref-5.result.now) c.in_ok-links.ensures.links
-    ∙ ap₂ (λ ks (ls : List (ℕ × ℕ)). access_by_links (ids_of (lots_at lots ks)) ls c.args.from c.args.to) (c.deref-6.ensures.value ∙ c.in_ok-places.ensures.places) links in
+    let met = c.deref-7.ensures.value ∙ c.in_ok-met.ensures ∙ ap₂ links_that_meet (c.deref-4.ensures.value ∙ numbers) (c.deref-5.ensures.value ∙ all) in
+    let ids = c.items.ensures ∙ c.in_ok-ids.ensures ∙ ap (λ (ks : List ℕ). ids_of (lots_at lots ks)) (c.deref-6.ensures.value ∙ c.in_ok-places.ensures.places) in
+    let told = c.in_ok-told.ensures ∙ ap₂ (λ (xs : List Label) (ls : List (ℕ × ℕ)). access_by_links xs ls c.args.from c.args.to) ids met in
     record {
-      row = row_walked lots c.args.from c.args.to y places (c.in_ok-layer.ensures.checks (lots_in [] c.args.self.now) c.history.ensures.value) (c.in_ok-layer.ensures.layer (lots_in [] c.args.self.now) c.history.ensures.value) (layer_there lots y 0 lots refl) (places_within lots (Some y)) c.in_ok-near.near.tests c.args.work.now v tests c.in_ok-all.ensures.counted
-          ∙ ap₂ (λ (vs : List Verdict) (u : Work). done (reply_lines vs) u) (sym told) (ap (with_all_lines v) (sym all) ∙ ap work_after c.in_ok-append_all.ensures);
+      row = row_walked lots c.args.from c.args.to y (c.in_ok-layer.ensures.checks (lots_in [] lots) c.history.ensures.value) (c.in_ok-layer.ensures.layer (lots_in [] lots) c.history.ensures.value) c.in_ok-near.near.tests c.args.work.now c.judge_counted.new.work
+          (c.in_ok-near.ensures.tests.0 ∙ ap (tests_behind Touch lots) (c.deref.ensures.value ∙ c.in_ok-places.ensures.places)) c.in_ok-all.ensures.counted
+          ∙ ap₂ (λ (vs : List Verdict) (u : Work). done (reply_lines vs) u) (sym told) (ap (with_all_lines c.judge_counted.new.work) (sym all) ∙ ap work_after c.in_ok-append_all.ensures);
     }
