@@ -1,6 +1,6 @@
 -- What was walked of a command, as the answer and the state that are computed.
 use Rattle.std.proofs.Common.{◌≡◌, ℕ, List, Option, Some, None, Result, Ok, Err, refl, sym, ap, ◌∙◌}
-use Rattle.std.specs.Prelude.{IfOk, IfSome, IsNone, OnOk}
+use Rattle.std.specs.Prelude.{IfSome, IsNone, OnOk}
 use Rattle.rp_language.specs.Expression.{Command}
 use Rattle.rp_language.specs.Grammar.{Version, Reading, command, reading}
 use Rattle.rp_walks.specs.Walk.{Stop, Outcome, stopped, Work, no_work, first_tester}
@@ -73,17 +73,7 @@ row_unchanged before after n (Err e) w o want h = h.1
 
 -- ---- what is true of an answer that is there
 
--- in other words
-pub in_other_words : {A E : Type 0} (r : Result A E) (P Q : A → Type 0) → ((a : A) → P a → Q a) → IfOk r P → IfOk r Q
-in_other_words (Ok a) P Q turn h = turn a h
-in_other_words (Err e) P Q turn h = tt
-
--- what is true is true where it is there
-pub where_ok : {A E : Type 0} (r : Result A E) (P : Type 0) → P → OnOk r P
-where_ok (Ok a) P h = h
-where_ok (Err e) P h = tt
-
--- the same of the machine where an answer is there
+-- the machine after a line that is read so is the one that is computed
 pub after_where_ok : {A E : Type 0} (r : Result A E) (m after : Running) (n : ℕ) (line : List ℕ) (read : Reading) → reading m.version line ≡ read → OnOk r (after ≡ record { version = m.version; state = state_read m.state n read }) → OnOk r (after ≡ after_line m n line)
 after_where_ok (Ok a) m after n line read e h = h ∙ after_as_read m n line read e
 after_where_ok (Err e) m after n line read i h = tt

@@ -1,7 +1,7 @@
 -- Lots at places, one after the other.
 use Rattle.std.proofs.Common.{◌≡◌, ℕ, zero, suc, ◌+◌, ◌<◌, Bool, false, List, [], ◌∷◌, ◌++◌, map, length, drop, get_or, Option, Some, None, slice_get, ap, ◌∙◌, subst, sym, arith}
 use Rattle.std.specs.Option.{option_to_list}
-use Rattle.std.specs.Prelude.{option_map, Result, Ok, Err, IfOk}
+use Rattle.std.specs.Prelude.{option_map}
 use Rattle.std.proofs.lemmas.List.{get_or_default, length-map}
 use Rattle.std.proofs.lemmas.Option.{slice_get-map, slice_get_read}
 use Rattle.rp_algebra.proofs.Lists.{drop_item}
@@ -10,11 +10,6 @@ use Rattle.rp_model.specs.states.State.{Lot}
 use Rattle.rp_history.specs.declared.lot.LotLine.{LotLine}
 use Rattle.rp_history.specs.Lots.{lot_of}
 use Rattle.rp_nearby.specs.Near.{is_other_in, is_other_at, lots_at, AreWithin}
-
--- what follows where a call has a result
-pub if_ok_then : {A E : Type 0} (P Q : A → Type 0) (r : Result A E) → ((x : A) → P x → Q x) → IfOk r P → IfOk r Q
-if_ok_then P Q (Ok x) f h = f x h
-if_ok_then P Q (Err e) f h = tt
 
 -- a place of a list is within
 pub place_within : {A : Type 0} (lots : List A) (places : List ℕ) → AreWithin lots places → (i k : ℕ) → i < length places → k ≡ get_or places i 0 → k < length lots

@@ -1,7 +1,7 @@
 use Rattle.std.proofs.Common.{ℕ, List, filter, ap, ◌∙◌, subst, arith}
+use Rattle.std.proofs.lemmas.Result.{IfOk-weaker}
 use Rattle.rp_model.specs.states.State.{Lot}
 use Rattle.rp_nearby.specs.Near.{is_near, pairs_with}
-use Rattle.rp_nearby.proofs.Places.{if_ok_then}
 use Rattle.rp_nearby.proofs.Behind.{others_behind}
 use Rattle.rp_register.specs.declared.there.Near.{Near}
 use Rattle.rp_register.specs.There.{lot_here, CountsUpTo}
@@ -18,7 +18,7 @@ pub returns-clause-parcels : goal.returns-clause-parcels
 returns-clause-parcels c =
     let s = c.args.register.now in
     let l = lot_here c.args.lot.now in
-    if_ok_then _ _ c.near.result
+    IfOk-weaker c.near.result _ _
     (λ near h. h ∙ ap (λ (ls : List (Lot (Unit {0}))). filter (is_near c.args.reach l.parts) ls) (others_behind s.lots (sound_ids s c.keep_sound.ensures) c.args.place l c.requires.within c.requires.at))
     c.near.ensures.parcels
 

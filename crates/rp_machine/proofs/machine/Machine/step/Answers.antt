@@ -1,5 +1,7 @@
 use Rattle.std.proofs.Common.{◌≡◌, Ok, ap, sym, ◌∙◌}
 use Rattle.std.specs.declared.alloc.AllocError.{AllocError}
+use Rattle.std.proofs.lemmas.Result.{IfOk-weaker}
+use Rattle.rp_algebra.proofs.Results.{on_ok}
 use Rattle.rp_language.specs.Grammar.{blank, bad, command, reading}
 use Rattle.rp_language.proofs.ReadBounds.{read_expressions_are_kept_spec, read_heights_are_kept_spec, read_children_are_few}
 use Rattle.rp_reports.specs.Report.{bad_answer}
@@ -7,7 +9,7 @@ use Rattle.rp_reports.specs.Machine.{answer_read, step_answer, Running}
 use Rattle.rp_report.specs.Views.{answer_of}
 use Rattle.rp_syntax.specs.Views.{line_of, command_of, fault_of}
 use Rattle.rp_machine.proofs.LaterLemmas.{next_later}
-use Rattle.rp_machine.proofs.Told.{answer_as_read, after_as_read, in_other_words, where_ok, after_where_ok}
+use Rattle.rp_machine.proofs.Told.{answer_as_read, after_as_read, after_where_ok}
 use Rattle.rp_machine.proofs.machine.Machine.step.Goals as goal
 
 pub answer-requires-clause-kept : goal.answer-requires-clause-kept
@@ -47,7 +49,7 @@ returns-in-Cmd-clause-answer g c =
     let line = c.args.line.now in
     let r = command (command_of c.in-Cmd.asked) in
     let read = ap (λ (m : Running). reading m.version line) (sym c.self.view_is) ∙ sym c.in_ok-read_line.ensures ∙ ap line_of c.in-Cmd.is in
-    in_other_words c.answer.result (λ a. answer_of a ≡ answer_read m.state n line r) (λ a. answer_of a ≡ step_answer m.version m.state n line) (λ a h. h ∙ answer_as_read m.version m.state n line r read) c.answer.ensures.answer
+    IfOk-weaker c.answer.result (λ a. answer_of a ≡ answer_read m.state n line r) (λ a. answer_of a ≡ step_answer m.version m.state n line) (λ a h. h ∙ answer_as_read m.version m.state n line r read) c.answer.ensures.answer
 
 pub returns-in-Cmd-clause-state : goal.returns-in-Cmd-clause-state
 returns-in-Cmd-clause-state g c =
@@ -69,17 +71,17 @@ returns-in-Bad-clause-answer g c =
     let line = c.args.line.now in
     let f = fault_of c.in-Bad.why in
     let read = ap (λ (m : Running). reading m.version line) (sym c.self.view_is) ∙ sym c.in_ok-read_line.ensures ∙ ap line_of c.in-Bad.is in
-    in_other_words c.bad_line.result (λ a. answer_of a ≡ bad_answer n line f) (λ a. answer_of a ≡ step_answer m.version m.state n line) (λ a h. h ∙ answer_as_read m.version m.state n line (bad f) read) c.bad_line.ensures
+    IfOk-weaker c.bad_line.result (λ a. answer_of a ≡ bad_answer n line f) (λ a. answer_of a ≡ step_answer m.version m.state n line) (λ a h. h ∙ answer_as_read m.version m.state n line (bad f) read) c.bad_line.ensures
 
 pub returns-in-Bad-clause-state : goal.returns-in-Bad-clause-state
 returns-in-Bad-clause-state g c =
     let line = c.args.line.now in
     let read = ap (λ (m : Running). reading m.version line) (sym c.self.view_is) ∙ sym c.in_ok-read_line.ensures ∙ ap line_of c.in-Bad.is in
-    where_ok c.bad_line.result _ (after_as_read c.args.self.now c.args.n line (bad (fault_of c.in-Bad.why)) read)
+    on_ok c.bad_line.result (after_as_read c.args.self.now c.args.n line (bad (fault_of c.in-Bad.why)) read)
 
 pub returns-in-Bad-clause-later : goal.returns-in-Bad-clause-later
 returns-in-Bad-clause-later g c =
     let m = c.args.self.now in
     let line = c.args.line.now in
     let read = ap (λ (m : Running). reading m.version line) (sym c.self.view_is) ∙ sym c.in_ok-read_line.ensures ∙ ap line_of c.in-Bad.is in
-    next_later c.bad_line.result m m c.args.n line c.requires (where_ok c.bad_line.result _ (after_as_read m c.args.n line (bad (fault_of c.in-Bad.why)) read))
+    next_later c.bad_line.result m m c.args.n line c.requires (on_ok c.bad_line.result (after_as_read m c.args.n line (bad (fault_of c.in-Bad.why)) read))

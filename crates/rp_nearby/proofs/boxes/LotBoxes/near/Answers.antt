@@ -2,18 +2,18 @@ use Rattle.std.proofs.Common.{◌≡◌, ◌≤◌, ℕ, Bool, List, filter, len
 use Rattle.std.specs.Prelude.{Result, IfOk, nat_le}
 use Rattle.std.specs.List.Sorted.{IsStrictlySortedBy}
 use Rattle.std.specs.Ordering.{nat_cmp}
+use Rattle.std.proofs.lemmas.Result.{IfOk-weaker}
 use Rattle.rp_space.specs.Boxes.{integer_box}
 use Rattle.rp_space.specs.Listed.{Listed}
 use Rattle.rp_boxindex.specs.Meeting.{meeting_ids}
 use Rattle.rp_nearby.specs.Near.{is_closed, is_other_at, other_places, AreWithin, AreNear}
 use Rattle.rp_nearby.proofs.Passed.{others_near, others_places}
-use Rattle.rp_nearby.proofs.Places.{if_ok_then}
 use Rattle.rp_nearby.proofs.Reached.{places_within}
 use Rattle.rp_nearby.proofs.boxes.LotBoxes.near.Goals as goal
 
 -- what is true of those that are left of what was reached is true of the answer
 answered : {E : Type 0} (P : List ℕ → Type 0) (test : ℕ → Bool) (result : Result (Listed ℕ) E) (places same reached : List ℕ) → places ≡ same → same ≡ reached → P (filter test reached) → IfOk result (λ list. list.items ≡ filter test places) → IfOk result (λ list. P list.items)
-answered P test result places same reached e f h = if_ok_then _ _ result (λ list g. subst P (sym (g ∙ ap (filter test) (e ∙ f))) h)
+answered P test result places same reached e f h = IfOk-weaker result _ _ (λ list g. subst P (sym (g ∙ ap (filter test) (e ∙ f))) h)
 
 pub others-requires : goal.others-requires
 others-requires g c =

@@ -1,8 +1,8 @@
 use Rattle.std.proofs.Common.{◌∙◌}
+use Rattle.std.proofs.lemmas.Result.{IfOk-weaker}
 use Rattle.rp_parcels.specs.Judged.{pair_of, judged}
-use Rattle.rp_nearby.proofs.Places.{if_ok_then}
 use Rattle.rp_parcels.proofs.Shown.{all_meanings}
 use Rattle.rp_parcels.proofs.parcels.Parcels.judge_pairs.Goals as goal
 
 pub returns : goal.returns
-returns g c = if_ok_then _ _ c.judge_all.result (λ all e. e ∙ all_meanings (judged c.args.reach c.args.self.now) (pair_of 0 0) c.args.pairs.now) c.judge_all.ensures
+returns g c = IfOk-weaker c.judge_all.result _ _ (λ all e. e ∙ all_meanings (judged c.args.reach c.args.self.now) (pair_of 0 0) c.args.pairs.now) c.judge_all.ensures

@@ -1,12 +1,12 @@
 use Rattle.std.proofs.Common.{◌≡◌, ℕ, ◌<◌, ◌≤◌, List, filter, drop, length, ap, sym, ◌∙◌, subst}
 use Rattle.std.specs.List.{AllByRecursion}
 use Rattle.std.proofs.lemmas.List.{length-map}
+use Rattle.std.proofs.lemmas.Result.{IfOk-weaker}
 use Rattle.rp_model.specs.states.State.{bare_lot}
 use Rattle.rp_nearby.specs.Indexed.{NoneBehind}
 use Rattle.rp_nearby.specs.Near.{others_in, is_near, lots_at, AreWithin}
 use Rattle.rp_nearby.proofs.Boxed.{none_behind_live, kept_in}
 use Rattle.rp_nearby.proofs.Passed.{pairs_same}
-use Rattle.rp_nearby.proofs.Places.{if_ok_then}
 use Rattle.rp_parcels.specs.Counted.{IsCounted}
 use Rattle.rp_parcels.proofs.parcels.Parcels.near.Goals as goal
 
@@ -42,4 +42,4 @@ returns-clause-lots g c =
     let boxes = c.boxes.result.now in
     let found : filter (is_near r ps) (lots_at lots c.items.result.now) ≡ filter (is_near r ps) (others_in c.args.layer.now c.args.id.now (drop c.args.from lots)) =
     ap (λ (ks : List ℕ). filter (is_near r ps) (lots_at lots ks)) c.items.ensures ∙ c.in_ok-places.ensures.near lots ps (kept_in lots boxes.live boxes.ever c.boxes.ensures.indexed c.history.result.now c.history.ensures.value) c.hull_of-hull.ensures in
-    if_ok_then _ _ c.count_at.result (λ near h. h ∙ found) c.count_at.ensures.lots
+    IfOk-weaker c.count_at.result _ _ (λ near h. h ∙ found) c.count_at.ensures.lots

@@ -1,8 +1,8 @@
 use Rattle.std.proofs.Common.{◌≤◌, ◌<◌, ℕ, length, ap, sym, ◌∙◌, subst, arith}
 use Rattle.std.specs.List.{AllByRecursion}
 use Rattle.std.proofs.lemmas.List.{length-map}
+use Rattle.std.proofs.lemmas.Result.{IfOk-weaker}
 use Rattle.rp_model.specs.states.State.{bare_lot}
-use Rattle.rp_nearby.proofs.Places.{if_ok_then}
 use Rattle.rp_register.proofs.KeptLots.{lots_bare, lots_few, lots_kept_in}
 use Rattle.rp_register.proofs.Boxed.{free_live}
 use Rattle.rp_register.proofs.lots.Lots.near.Goals as goal
@@ -17,14 +17,14 @@ near-requires-clause-behind c _ = free_live c.self.inside.history c.self.inside.
 
 pub returns-clause-near : goal.returns-clause-near
 returns-clause-near c =
-    if_ok_then _ _ c.near.result
+    IfOk-weaker c.near.result _ _
     (λ places h. h c.args.self.now c.args.form.now.items (lots_kept_in c.self.inside.history c.self.inside.forms.items c.self.inside.parts c.self.inside.boxes.live c.self.inside.boxes.ever c.args.self.now c.self.invariant c.self.view_is) c.hull_of-hull.ensures)
     c.near.ensures.near
 
 pub returns-clause-within : goal.returns-clause-within
 returns-clause-within c =
     let bare = lots_bare c.self.inside.history c.self.inside.forms.items c.self.inside.parts c.self.inside.boxes.live c.self.inside.boxes.ever c.args.self.now c.self.invariant c.self.view_is in
-    if_ok_then _ _ c.near.result
+    IfOk-weaker c.near.result _ _
     (λ places h. subst (λ (n : ℕ). AllByRecursion (λ k. k < n) places.items) (ap length bare ∙ length-map c.args.self.now bare_lot) h)
     c.near.ensures.within
 
@@ -32,6 +32,6 @@ pub returns-clause-few : goal.returns-clause-few
 returns-clause-few c =
     let most = (lots_few c.self.inside.history c.self.inside.forms.items c.self.inside.parts c.self.inside.boxes.live c.self.inside.boxes.ever c.args.self.now c.self.invariant c.self.view_is).few_lots in
     let bare = lots_bare c.self.inside.history c.self.inside.forms.items c.self.inside.parts c.self.inside.boxes.live c.self.inside.boxes.ever c.args.self.now c.self.invariant c.self.view_is in
-    if_ok_then _ _ c.near.result
+    IfOk-weaker c.near.result _ _
     (λ places h. let many = ap length bare ∙ length-map c.args.self.now bare_lot in omega (arith, h, many, most))
     c.near.ensures.few

@@ -1,7 +1,7 @@
 use Rattle.std.proofs.Common.{ℕ, List, filter, drop, sym, ap, ◌∙◌, subst}
+use Rattle.std.proofs.lemmas.Result.{IfOk-weaker}
 use Rattle.rp_nearby.specs.Near.{others_in, is_near, lots_at, AreWithin}
 use Rattle.rp_nearby.proofs.Passed.{pairs_same}
-use Rattle.rp_nearby.proofs.Places.{if_ok_then}
 use Rattle.rp_register.specs.declared.there.Near.{Near}
 use Rattle.rp_register.specs.There.{CountsUpTo}
 use Rattle.rp_register.proofs.register.Register.near.Goals as goal
@@ -12,7 +12,7 @@ counted-requires-clause-within c = subst (λ (ks : List ℕ). AreWithin c.args.s
 pub returns-clause-parcels : goal.returns-clause-parcels
 returns-clause-parcels c =
     let near = is_near c.args.reach c.args.form.now.items in
-    if_ok_then _ _ c.counted.result
+    IfOk-weaker c.counted.result _ _
     (λ found h. h ∙ ap (λ (ks : List ℕ). filter near (lots_at c.args.self.now.lots ks)) c.items.ensures ∙ c.in_ok-places.ensures.near)
     c.counted.ensures.parcels
 
