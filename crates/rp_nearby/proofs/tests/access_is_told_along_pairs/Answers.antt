@@ -18,7 +18,7 @@ second_number x y = by (label_eq y x) refl
     by false e = let later = number_later y x (y ∷ []) e in let here = number_here y y [] ((bytes_eq-Decides y y).1 refl) in omega (arith, later, here)
 
 pub along-requires-clause-from_there : goal.along-requires-clause-from_there
-along-requires-clause-from_there c = first_number c.in_ok-first.first c.in_ok-second.second
+along-requires-clause-from_there g c = first_number c.in_ok-first.first c.in_ok-second.second
 
 pub along-requires-clause-to_there : goal.along-requires-clause-to_there
-along-requires-clause-to_there c = second_number c.in_ok-first.first c.in_ok-second.second
+along-requires-clause-to_there g c = second_number c.in_ok-first.first c.in_ok-second.second
