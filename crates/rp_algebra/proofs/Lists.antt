@@ -1,7 +1,7 @@
 -- Items of lists by their places, fronts and rests, ranges of numbers, and facts that are true of all items.
 use Rattle.std.proofs.Common.{◌≡◌, ℕ, zero, suc, List, [], ◌∷◌, map, refl, ◌<◌, ◌++◌, length, arith, ◌+◌, get_or, drop, sym, ap, ◌∙◌, ◌≤◌, take, true, eqb, false, ⊎_elim, subst, Bool}
-use Rattle.std.specs.Prelude.{option_map, Some, filter, cond, Option}
-use Rattle.std.specs.List.{slice_get, range_with_len, AllByRecursion, filter_map}
+use Rattle.std.specs.Prelude.{option_map, Some, filter, cond}
+use Rattle.std.specs.List.{slice_get, range_with_len, AllByRecursion}
 use Rattle.std.proofs.lemmas.List.{drop_more, nil_from_length}
 use Rattle.std.proofs.lemmas.Bool.Decides.{nat_tests}
 use Rattle.std.proofs.lemmas.Bool.{cases_order}
@@ -82,7 +82,3 @@ all_filter Q test (x ∷ xs) h = by_test (test x) (all_filter Q test xs h.1)
 pub all_both : {A : Type 0} (P Q R : A → Type 0) → ((x : A) → P x → Q x → R x) → (xs : List A) → AllByRecursion P xs → AllByRecursion Q xs → AllByRecursion R xs
 all_both P Q R each [] h k = tt
 all_both P Q R each (x ∷ xs) h k = (each x h.0 k.0, all_both P Q R each xs h.1 k.1)
-
--- an item of which a value is given comes first, as that value
-pub filter_kept : {A B : Type 0} (f : A → Option B) (x : A) (xs : List A) (y : B) → f x ≡ Some y → filter_map f (x ∷ xs) ≡ y ∷ filter_map f xs
-filter_kept f x xs y e = rw e
