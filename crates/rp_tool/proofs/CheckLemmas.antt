@@ -9,9 +9,9 @@ use Rattle.rp_reports.specs.Text.{text_of_lines, line_end}
 use Rattle.rp_checker.specs.Found.{found_of, TellsRight}
 use Rattle.rp_checker.specs.declared.report.Found.{Found}
 use Rattle.rp_checker.specs.declared.report.Found.TheVariants.{Accepted, Wrong}
-use Rattle.rp_tool.specs.Output.{PutsFront, PutsOutput}
+use Rattle.rp_scripts.specs.Output.{PutsFront, PutsOutput}
 use Rattle.rp_tool.specs.Check.{found_line, is_wrong, IsWrittenReport, JudgesReport}
-use Rattle.rp_tool.proofs.SinkLemmas.{Appends-nothing, AppendsPrefix-line}
+use Rattle.rp_scripts.proofs.SinkLemmas.{Appends-nothing, AppendsPrefix-line}
 
 -- the text of one line
 one_line : (old now : Option (List ℕ)) (line : List ℕ) → Appends old now (line ++ line_end ∷ []) → Appends old now (text_of_lines (line ∷ []))

@@ -4,14 +4,15 @@ use Rattle.rp_io.specs.Bytes.{Appends, AppendsPrefix}
 use Rattle.rp_reports.specs.Output.{Task, make_script, try_script, task_of}
 use Rattle.rp_reports.specs.Made.{made_script, trial_lines}
 use Rattle.rp_reports.specs.Text.{text_of_lines}
-use Rattle.rp_tool.specs.Output.{PutsFront, PutsOutput}
-use Rattle.rp_tool.specs.declared.task.MadeTask.{MadeTask}
-use Rattle.rp_tool.specs.declared.task.MadeTask.TheVariants.{Write, Try}
-use Rattle.rp_tool.specs.declared.fault.OutputFault.{OutputFault}
-use Rattle.rp_tool.specs.declared.fault.OutputFault.TheVariants.{Put, Memory}
+use Rattle.rp_scripts.specs.Output.{PutsFront, PutsOutput}
+use Rattle.rp_scripts.specs.declared.task.MadeTask.{MadeTask}
+use Rattle.rp_scripts.specs.declared.task.MadeTask.TheVariants.{Write, Try}
+use Rattle.rp_scripts.specs.declared.fault.OutputFault.{OutputFault}
+use Rattle.rp_scripts.specs.declared.fault.OutputFault.TheVariants.{Put, Memory}
 use Rattle.rp_tool.specs.declared.status.TheConstants.{REFUSED, PUT_FAILED, OUT_OF_MEMORY}
 use Rattle.rp_io.specs.Intake.{IsWhole}
-use Rattle.rp_tool.specs.Status.{IsFrontOf, IsOutputOf, meaning_of_made, status_of_made, status_of_output}
+use Rattle.rp_scripts.specs.Task.{meaning_of_made}
+use Rattle.rp_tool.specs.Status.{IsFrontOf, IsOutputOf, status_of_made, status_of_output}
 
 -- nothing is refused in a made script that is written
 pub PutsOutput-make : (n seed : ℕ) (input : List ℕ) (old now : Option (List ℕ)) → Appends old now (text_of_lines (made_script n seed)) → PutsOutput (make_script n seed) input old now false

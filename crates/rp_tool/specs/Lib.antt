@@ -1,7 +1,2 @@
 pub mod Check
-pub mod Lines
-pub mod Made
-pub mod Output
 pub mod Status
-pub mod Trial
-pub mod TrialReport

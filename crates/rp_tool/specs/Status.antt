@@ -1,4 +1,4 @@
--- What the tool is asked to do, and what a status says of its output.
+-- Which tasks read an input, and what a status says of their output.
 use Rattle.std.specs.Prelude.{◌≡◌, ◌↔◌, ℕ, Bool, true, false, List, ◌++◌, Option, Some, None, Result, Ok, Err}
 use Rattle.rp_io.specs.Bytes.{Appends, AppendsPrefix}
 use Rattle.rp_io.specs.declared.intake.IntakeFault.{IntakeFault}
@@ -6,32 +6,8 @@ use Rattle.rp_io.specs.declared.intake.IntakeFault.TheVariants.{Failed, TooLong,
 use Rattle.rp_reports.specs.Text.{text_of_lines}
 use Rattle.rp_reports.specs.Output.{Task as ModelTask, run_script, run_brief, check_report, spell_script, upgrade_script, make_script, try_script, task_of, most_script_bytes, most_report_bytes, IsOutput, IsRefused}
 use Rattle.rp_tool.specs.declared.status.TheConstants.{DONE, REFUSED, READ_FAILED, PUT_FAILED, OUT_OF_MEMORY, TOO_LONG}
-use Rattle.rp_tool.specs.declared.fault.OutputFault.{OutputFault}
-use Rattle.rp_tool.specs.declared.fault.OutputFault.TheVariants.{Put, Memory as OutputMemory}
-use Rattle.rp_tool.specs.declared.task.Task.{Task}
-use Rattle.rp_tool.specs.declared.task.Task.TheVariants.{Given, Check, Made}
-use Rattle.rp_tool.specs.declared.task.GivenTask.{GivenTask}
-use Rattle.rp_tool.specs.declared.task.GivenTask.TheVariants.{Run, RunBrief, Spell, Upgrade}
-use Rattle.rp_tool.specs.declared.task.MadeTask.{MadeTask}
-use Rattle.rp_tool.specs.declared.task.MadeTask.TheVariants.{Write, Try}
-
--- the task of the model, with a script that is read
-abbrev pub meaning_of_given : GivenTask → ModelTask
-meaning_of_given Run = run_script
-meaning_of_given RunBrief = run_brief
-meaning_of_given Spell = spell_script
-meaning_of_given Upgrade = upgrade_script
-
--- the task of the model, with the script of a building
-abbrev pub meaning_of_made : MadeTask → ℕ → ℕ → ModelTask
-meaning_of_made Write n seed = make_script n seed
-meaning_of_made Try n seed = try_script n seed
-
--- the task of the model
-abbrev pub meaning_of : Task → ModelTask
-meaning_of (Given t) = meaning_of_given t
-meaning_of Check = check_report
-meaning_of (Made t b) = meaning_of_made t b.storeys b.seed
+use Rattle.rp_scripts.specs.declared.fault.OutputFault.{OutputFault}
+use Rattle.rp_scripts.specs.declared.fault.OutputFault.TheVariants.{Put, Memory as OutputMemory}
 
 -- the task reads its input
 abbrev pub reads_task : ModelTask → Bool

@@ -2,13 +2,12 @@ ghost use Rattle.std.specs.Prelude.{◌≡◌, ◌⊎◌, ◌≤◌, ◌∷◌, 
 ghost use Rattle.rp_io.specs.Bytes.{Appends, AppendsPrefix};
 ghost use Rattle.rp_reports.specs.Output.{check_report, most_report_bytes};
 ghost use Rattle.rp_reports.specs.Text.{line_end};
+ghost use Rattle.rp_scripts.specs.Output.{PutsFront, PutsOutput, HasOutputCause};
 ghost use Rattle.rp_tool.specs.Check.{found_line, is_wrong, JudgesReport};
-ghost use Rattle.rp_tool.specs.Output.{PutsFront, PutsOutput, HasOutputCause};
 
-use super::fault::OutputFault;
-use super::summary::write_count;
 use rp_checker::{Found, check_report};
 use rp_io::Sink;
+use rp_scripts::{OutputFault, write_count};
 use std::alloc::{AllocError, Global};
 
 /// Whether what was found refuses the report.

@@ -7,25 +7,12 @@
 //! what it had, followed by the text of the whole output on the source's bytes, as long as a sink that never fails has
 //! room for it.
 
-mod building;
 mod check;
-mod fault;
-mod lines;
-mod made;
-mod make;
-mod mark;
-mod number;
-mod output;
-mod refusal;
 mod run;
-mod spell;
 pub mod status;
 mod summary;
-mod task;
-mod text;
 mod top;
 mod trial;
-mod upgrade;
 
 pub use top::tool;
 

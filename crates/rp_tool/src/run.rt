@@ -5,16 +5,11 @@ ghost use Rattle.rp_model.specs.states.State.{state_of_parts};
 ghost use Rattle.rp_model.specs.states.Sound.{IsLaterThan};
 ghost use Rattle.rp_reports.specs.Machine.{after_line, step_answer};
 ghost use Rattle.rp_reports.specs.Text.{answer_lines, text_of_lines};
-ghost use Rattle.rp_tool.specs.Output.{PutsAnswer, PutsFront, PutsOutput, HasOutputCause, report_task};
+ghost use Rattle.rp_scripts.specs.Output.{PutsAnswer, PutsFront, PutsOutput, HasOutputCause, report_task};
 
-use super::fault::OutputFault;
-use super::lines::next_line;
-use super::mark::{put_mark, split_mark};
-use super::output::put_lines;
-use super::refusal::has_refusal;
 use rp_io::Sink;
 use rp_machine::Machine;
-use rp_report::write_answer;
+use rp_scripts::{OutputFault, next_line, put_answer, put_mark, split_mark};
 use std::alloc::Global;
 use std::thread::Threads;
 
@@ -41,10 +36,7 @@ fn run_line<R: Threads + Sync, K: Sink>(
     ensures cause { IfErr result (HasOutputCause (K.faults sink.old) (K.faults sink.new)) }
 {
     let answer = machine.step(rt, alloc, number, line)?;
-    text.clear();
-    write_answer(&answer, brief, text)?;
-    put_lines(sink, text)?;
-    Ok(has_refusal(&answer))
+    put_answer(&answer, brief, text, sink)
 }
 
 /// Puts the report of a script, answer by answer, full or without the proof lines: one machine answers the lines of its

@@ -207,55 +207,6 @@ fn refuses_too_many_nodes_and_long_lines(rt: HostRuntime) -> Result<(), Fail> {
 }
 
 #[test]
-fn spells_each_command(rt: HostRuntime) -> Result<(), Fail> {
-    let spelled = "member half 1 0 0 -2 1 2 3 1\n";
-    let rows = [
-        (
-            "member half 2 0 0 -4 2 4 6 2\n# note\nwalk\n",
-            REFUSED,
-            spelled,
-        ),
-        ("member half 2 0 0 -4 2 4 6 2\n# note\n", DONE, spelled),
-        (
-            "rp 2\nmember half 2 0 0 -4 0.002 0.004 0.006 2\n",
-            DONE,
-            "rp 2\nmember half 1 0 0 -2 0.001 0.002 0.003 1\n",
-        ),
-        ("rp 2\n", DONE, "rp 2\n"),
-    ];
-    for (script, want, spelling) in rows {
-        let (status, told) = run_on(&rt, rt.alloc(), &["script"], script.as_bytes())?;
-        assert_eq!(rt; status, want, "on {script:?}");
-        assert_eq!(rt; told.as_slice(), spelling.as_bytes(), "on {script:?}");
-    }
-    Ok(())
-}
-
-#[test]
-fn upgrades_scripts(rt: HostRuntime) -> Result<(), Fail> {
-    let rows = [
-        (
-            "member box 0 0 0 10 10 10 5 3 5 9\nwalk\n",
-            REFUSED,
-            "rp 2\nmember box 0.000 0.000 0.000 0.010 0.010 0.010 0.005 0.003 0.005 9\n\n",
-        ),
-        (
-            "rp 2\r\n# a note\r\n\nmember all 0.001 -0.002 0.000 4",
-            DONE,
-            "rp 2\n# a note\n\nmember all 0.001 -0.002 0.000 4\n",
-        ),
-        ("rp 2 \nlist\n", REFUSED, "rp 2\n\nlist\n"),
-        ("", DONE, "rp 2\n"),
-    ];
-    for (script, want, upgraded) in rows {
-        let (status, told) = run_on(&rt, rt.alloc(), &["upgrade"], script.as_bytes())?;
-        assert_eq!(rt; status, want, "on {script:?}");
-        assert_eq!(rt; told.as_slice(), upgraded.as_bytes(), "on {script:?}");
-    }
-    Ok(())
-}
-
-#[test]
 fn reports_scripts_of_version_two(rt: HostRuntime) -> Result<(), Fail> {
     let rows = [
         (
@@ -391,52 +342,14 @@ fn accepts_what_was_written(rt: HostRuntime) -> Result<(), Fail> {
 }
 
 #[test]
-fn makes_scripts_from_their_seeds(rt: HostRuntime) -> Result<(), Fail> {
-    let rows = [
-        (
-            ["make", "1", "0"],
-            "register s0 box 0 0 0 60000 40000 3000\ncut s0 half 1 6 0 -150000 s0a s0b\nneighbours s0a\naudit\nlist\n",
-        ),
-        (
-            ["make", "2", "18446744073709551615"],
-            "register s0 box 0 0 0 60000 40000 3000\ncut s0 half 6 8 0 -340000 s0a s0b\nneighbours s0a\nregister s1 box 0 0 3000 60000 40000 6000\ncut s1 half 1 1 0 -50000 s1a s1b\nneighbours s1a\naudit\nlist\n",
-        ),
-        (
-            ["trial", "1", "0"],
-            "lines 5\nrefused 0\nlive 2\nproofs 16\n",
-        ),
-    ];
+fn counts_in_the_report_of_a_made_script(rt: HostRuntime) -> Result<(), Fail> {
     // Nothing is read, so what the source has is no matter.
-    for (words, want) in rows {
-        let (status, told) = run_on(&rt, rt.alloc(), words.as_slice(), b"walk\n")?;
-        assert_eq!(rt; status, DONE, "on {words:?}");
-        assert_eq!(rt; told.as_slice(), want.as_bytes(), "on {words:?}");
-    }
-    Ok(())
-}
-
-#[test]
-fn numbers_of_words_have_one_spelling_and_bounds(rt: HostRuntime) -> Result<(), Fail> {
-    let rows = [
-        ("0", "0"),
-        ("1001", "0"),
-        ("01", "0"),
-        ("+1", "0"),
-        ("-1", "0"),
-        ("", "0"),
-        ("1", ""),
-        ("1", "00"),
-        ("1", "-0"),
-        ("1", "1a"),
-        ("1", "18446744073709551616"),
-    ];
-    for (storeys, seed) in rows {
-        for word in ["make", "trial"] {
-            let (status, told) = run_on(&rt, rt.alloc(), &[word, storeys, seed], b"")?;
-            assert_eq!(rt; status, UNLISTED, "on {word} {storeys:?} {seed:?}");
-            assert_eq!(rt; told.len(), 0);
-        }
-    }
+    let (status, told) = run_on(&rt, rt.alloc(), &["trial", "1", "0"], b"walk\n")?;
+    assert_eq!(rt; status, DONE);
+    assert_eq!(rt;
+        told.as_slice(),
+        b"lines 5\nrefused 0\nlive 2\nproofs 16\n".as_slice()
+    );
     Ok(())
 }
 

@@ -2,13 +2,11 @@ ghost use Rattle.std.specs.Prelude.{◌≤◌, IfErr, OnErr, OnOk};
 ghost use Rattle.rp_io.specs.Bytes.{Appends, AppendsPrefix};
 ghost use Rattle.rp_reports.specs.Made.{trial_lines};
 ghost use Rattle.rp_reports.specs.Text.{text_of_lines};
-ghost use Rattle.rp_tool.specs.Output.{HasOutputCause};
+ghost use Rattle.rp_scripts.specs.Output.{HasOutputCause};
 
-use super::building::Building;
-use super::fault::OutputFault;
-use super::output::put_lines;
-use super::summary::{summary_of, write_summary};
+use crate::summary::summary_of;
 use rp_io::Sink;
+use rp_scripts::{Building, OutputFault, put_lines, write_summary};
 use std::alloc::Global;
 use std::thread::Threads;
 

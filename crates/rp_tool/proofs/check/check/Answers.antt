@@ -1,5 +1,5 @@
 use Rattle.rp_tool.proofs.CheckLemmas.{PutsOutput-found, JudgesReport-found, front_found, nothing_found}
-use Rattle.rp_tool.proofs.SinkLemmas.{OnErr-holds}
+use Rattle.rp_scripts.proofs.SinkLemmas.{OnErr-holds}
 use Rattle.rp_tool.proofs.check.check.Goals as goal
 
 pub returns-clause-finding : goal.returns-clause-finding

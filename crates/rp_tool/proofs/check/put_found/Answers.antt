@@ -2,7 +2,7 @@ use Rattle.std.proofs.Common.{◌≡◌, ℕ, List, [], ◌∷◌, ◌++◌, ap,
 use Rattle.rp_io.specs.Bytes.{AppendsPrefix}
 use Rattle.rp_reports.specs.Text.{line_end}
 use Rattle.rp_tool.specs.Check.{found_line}
-use Rattle.rp_tool.proofs.SinkLemmas.{AppendsPrefix-nothing, OnErr-holds}
+use Rattle.rp_scripts.proofs.SinkLemmas.{AppendsPrefix-nothing, OnErr-holds}
 use Rattle.rp_tool.proofs.check.put_found.Goals as goal
 
 pub returns-in_err-write_found-clause-front : goal.returns-in_err-write_found-clause-front

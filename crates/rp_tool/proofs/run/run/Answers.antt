@@ -4,11 +4,11 @@ use Rattle.rp_model.specs.states.State.{state_of_parts}
 use Rattle.rp_model.specs.states.Sound.{IsLaterThan}
 use Rattle.rp_reports.specs.Machine.{Running}
 use Rattle.rp_syntax.specs.Versions.{version_of}
-use Rattle.rp_tool.specs.declared.fault.OutputFault.{OutputFault}
-use Rattle.rp_tool.specs.declared.fault.OutputFault.TheVariants.{Put, Memory}
-use Rattle.rp_tool.specs.Output.{HasOutputCause}
-use Rattle.rp_tool.proofs.SinkLemmas.{OnErr-holds}
-use Rattle.rp_tool.proofs.RunLemmas.{HasTold-start, HasTold-more, PutsFront-mark, PutsFront-nothing, PutsFront-run, PutsOutput-run}
+use Rattle.rp_scripts.specs.declared.fault.OutputFault.{OutputFault}
+use Rattle.rp_scripts.specs.declared.fault.OutputFault.TheVariants.{Put, Memory}
+use Rattle.rp_scripts.specs.Output.{HasOutputCause}
+use Rattle.rp_scripts.proofs.SinkLemmas.{OnErr-holds}
+use Rattle.rp_scripts.proofs.RunLemmas.{HasTold-start, HasTold-more, PutsFront-mark, PutsFront-nothing, PutsFront-run, PutsOutput-run}
 use Rattle.rp_tool.proofs.run.run.Goals as goal
 
 pub loop-line-init : goal.loop-line-init

@@ -2,7 +2,7 @@ use Rattle.std.proofs.Common.{◌≤◌, ◌+◌, length}
 use Rattle.rp_reports.specs.Output.{most_script_bytes}
 use Rattle.rp_model.specs.states.State.{state_of_parts}
 use Rattle.rp_model.specs.states.Sound.{IsLaterThan}
-use Rattle.rp_tool.proofs.RunLemmas.{HasTold}
+use Rattle.rp_scripts.proofs.RunLemmas.{HasTold}
 use Rattle.rp_tool.proofs.run.run.Given as goal
 
 abbrev pub invariant-loop-line : goal.invariant-loop-line

@@ -2,12 +2,13 @@ use Rattle.std.proofs.Common.{◌≡◌, ◌⊎◌, ℕ, ◌≤◌, List, [], Op
 use Rattle.rp_io.specs.Bytes.{Appends}
 use Rattle.std.specs.Option.{option_map}
 use Rattle.rp_reports.specs.Output.{check_report, task_of}
-use Rattle.rp_tool.specs.declared.task.Task.{Task}
-use Rattle.rp_tool.specs.declared.task.Task.TheVariants.{Check, Given, Made}
-use Rattle.rp_tool.specs.Status.{IsFrontOf, meaning_of, meaning_of_given, meaning_of_made}
-use Rattle.rp_tool.proofs.SinkLemmas.{Appends-nothing}
+use Rattle.rp_scripts.specs.declared.task.Task.{Task}
+use Rattle.rp_scripts.specs.declared.task.Task.TheVariants.{Check, Given, Made}
+use Rattle.rp_scripts.specs.Task.{meaning_of, meaning_of_given, meaning_of_made}
+use Rattle.rp_tool.specs.Status.{IsFrontOf}
+use Rattle.rp_scripts.proofs.SinkLemmas.{Appends-nothing}
 use Rattle.rp_tool.proofs.TaskLemmas.{IsFrontOf-made, IsFrontOf-read, IsFrontOf-whole, IsOutputOf-made, IsOutputOf-read, IsOutputOf-whole, OnErr-front}
-use Rattle.rp_tool.proofs.TrialReportLemmas.{PutsTrial-output, check_no_trial, given_no_trial}
+use Rattle.rp_tool.proofs.TrialWordLemmas.{PutsTrial-output, check_no_trial, given_no_trial}
 use Rattle.rp_tool.specs.declared.status.TheConstants.{REFUSED}
 use Rattle.rp_tool.proofs.top.tool.Goals as goal
 

@@ -2,9 +2,9 @@ use Rattle.std.proofs.Common.{◌≡◌, List, ℕ, ◌++◌, ap, ◌∙◌, sub
 use Rattle.rp_io.specs.Bytes.{Appends, AppendsPrefix}
 use Rattle.rp_reports.specs.Made.{trial_lines}
 use Rattle.rp_reports.specs.Text.{text_of_lines}
-use Rattle.rp_tool.specs.Trial.{summary_lines}
-use Rattle.rp_tool.proofs.SinkLemmas.{AppendsPrefix-nothing, OnErr-holds}
-use Rattle.rp_tool.proofs.TrialLemmas.{summary-text}
+use Rattle.rp_scripts.specs.Trial.{summary_lines}
+use Rattle.rp_scripts.proofs.SinkLemmas.{AppendsPrefix-nothing, OnErr-holds}
+use Rattle.rp_scripts.proofs.TrialLemmas.{summary-text}
 use Rattle.rp_tool.proofs.trial.trial.Goals as goal
 
 pub returns-clause-summary : goal.returns-clause-summary

@@ -1,0 +1,15 @@
+pub mod BodyLemmas
+pub mod LineLemmas
+pub mod MadeLemmas
+pub mod MadeTextLemmas
+pub mod MarkLemmas
+pub mod NumberLemmas
+pub mod RefusalLemmas
+pub mod ReportCountLemmas
+pub mod RunLemmas
+pub mod SinkLemmas
+pub mod SpellLemmas
+pub mod SpokenLemmas
+pub mod TextLemmas
+pub mod TrialLemmas
+pub mod TrialReportLemmas

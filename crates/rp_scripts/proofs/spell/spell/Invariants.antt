@@ -1,0 +1,17 @@
+use Rattle.std.proofs.Common.{◌≤◌, length}
+use Rattle.rp_reports.specs.Output.{has_bad_line, spelled_script}
+use Rattle.rp_syntax.specs.Versions.{version_of}
+use Rattle.rp_scripts.proofs.BodyLemmas.{HasPutLines}
+use Rattle.rp_scripts.proofs.SpellLemmas.{spelled_at}
+use Rattle.rp_scripts.proofs.spell.spell.Given as goal
+
+abbrev pub invariant-loop-line : goal.invariant-loop-line
+invariant-loop-line g l =
+    record {
+      counts : g.K.Sink.faults l.fn.sink ≤ g.K.Sink.faults l.sink;
+      spelled :
+          HasPutLines (spelled_at (version_of l.version)) (version_of l.version) (spelled_script l.script) (has_bad_line l.script) (g.K.Sink.said l.fn.sink) (g.K.Sink.said l.sink) l.rest l.has_bad_line;
+    }
+
+abbrev pub decreases-loop-line : goal.decreases-loop-line
+decreases-loop-line g l = length l.rest

@@ -1,0 +1,6 @@
+pub mod Lines
+pub mod Made
+pub mod Output
+pub mod Task
+pub mod Trial
+pub mod TrialReport
