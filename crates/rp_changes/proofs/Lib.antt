@@ -1,6 +1,5 @@
 pub mod Checked
 pub mod ChildLemmas
-pub mod Defined
 pub mod Divided
 pub mod Registered
 pub mod TakenAway

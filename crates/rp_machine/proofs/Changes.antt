@@ -22,7 +22,7 @@ use Rattle.rp_parcels.specs.Rows.{Cause, refuses, limited, wanting, cause_of, En
 use Rattle.rp_machine.specs.declared.reply.Reply.{Reply as CodeReply}
 use Rattle.rp_asked.specs.declared.reply.RowEnd.{RowEnd}
 use Rattle.rp_asked.specs.Replies.{EndsBy as Ends}
-use Rattle.rp_machine.specs.Named.{state_with}
+use Rattle.rp_kept.specs.Kept.{state_with}
 use Rattle.rp_machine.specs.Replies.{IsAnswered, Runs}
 
 -- ---- from the lots to the state

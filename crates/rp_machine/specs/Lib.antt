@@ -1,4 +1,3 @@
 pub mod Children
 pub mod Forms
-pub mod Named
 pub mod Replies

@@ -12,7 +12,6 @@ mod fault;
 mod form;
 mod lots;
 mod machine;
-mod named;
 mod orders;
 mod reply;
 mod rows;

@@ -1,6 +1,6 @@
 //! What a machine keeps between the lines of a script, and how each command changes it.
 ghost use Rattle.std.specs.Prelude.{◌≡◌, ◌+◌, ◌≤◌, ◌&&◌, ℕ, length, map, nat_le, option_copied, IfOk};
-ghost use Rattle.rp_geometry.specs.parts.Parts.{IsPart};
+ghost use Rattle.rp_geometry.specs.parts.Parts.{IsPart, IsRegion};
 ghost use Rattle.rp_walks.specs.FormLaws.{MeaningsAgree};
 ghost use Rattle.rp_walks.specs.Walk.{Work, first_tester};
 ghost use Rattle.rp_model.specs.states.State.{opening, base_layer, parts_in, state_of_parts, parts_under_names, most_names, most_kept_parts};
@@ -11,11 +11,11 @@ ghost use Rattle.rp_parcels.specs.Register.{child_of};
 ghost use Rattle.rp_machine.specs.Replies.{Runs, IsAnswered};
 
 use crate::fault::row_end;
-use crate::named::NamedRegions;
 use crate::reply::Reply;
 use rp_asked::RowEnd;
 use rp_boxindex::Quiet;
-use rp_parcels::{Child, ParcelFault, Parcels};
+use rp_kept::NamedForms;
+use rp_parcels::{Child, ParcelFault, Parcels, Regions};
 use rp_region::{Region, Work};
 use rp_report::Refusal;
 use rp_space::Name;
@@ -29,14 +29,14 @@ use std::marker::Model;
 #[derive(Debug, Drop)]
 pub(crate) struct State {
     layer: Name,
-    names: NamedRegions,
+    names: NamedForms<Regions>,
     parcels: Parcels,
 }
 
 impl Model for State {
     ghost use Rattle.rp_model.specs.states.State.{PlainState, state_of_parts};
     ghost use Rattle.rp_model.specs.states.Sound.{IsSound};
-    ghost use Rattle.rp_machine.specs.Named.{state_with};
+    ghost use Rattle.rp_kept.specs.Kept.{state_with};
 
     ghost Value = { PlainState };
 
@@ -69,7 +69,7 @@ impl State {
     {
         Ok(State {
             layer: base_layer(),
-            names: NamedRegions::new(alloc),
+            names: NamedForms::new(alloc),
             parcels: Parcels::new(alloc)?,
         })
     }
@@ -112,8 +112,11 @@ impl State {
 
     /// Whether one more name may stand for the region.
     pub(crate) fn has_room_for(&self, region: &Region) -> bool
-        ensures { result ≡ (nat_le (length self.now.names + 1) most_names && nat_le (parts_under_names self.now.names + length region.now) most_kept_parts) }
+        ensures region { IsRegion region.now }
+        ensures value { result ≡ (nat_le (length self.now.names + 1) most_names && nat_le (parts_under_names self.now.names + length region.now) most_kept_parts) }
     {
+        // Only so that it is known to be a region.
+        let _ = region.parts();
         self.names.have_room_for(region)
     }
 

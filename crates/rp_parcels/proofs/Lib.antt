@@ -1,16 +1,13 @@
-pub mod Together
 pub mod Sizes
 pub mod Found
 pub mod Stepped
 pub mod Checked
-pub mod Moved
 pub mod Divided
 pub mod Tells
 pub mod Walked
 pub mod Counted
 pub mod Searched
 pub mod Sieved
-pub mod Owned
 pub mod Fit
 pub mod Rows
 pub mod Composed

@@ -12,7 +12,6 @@
 mod access;
 mod audit;
 mod behind;
-mod boxes;
 mod checks;
 mod child;
 mod fault;
@@ -22,6 +21,7 @@ mod neighbours;
 mod pairs;
 mod parcels;
 mod points;
+mod regions;
 mod register;
 mod reshape;
 mod subdivide;
@@ -29,6 +29,7 @@ mod subdivide;
 pub use child::Child;
 pub use fault::ParcelFault;
 pub use parcels::Parcels;
+pub use regions::Regions;
 pub use rp_nearby::{Access, Levels};
 
 #[cfg(test)]

@@ -6,7 +6,6 @@ ghost use Rattle.rp_region.specs.Makes.{Makes};
 ghost use Rattle.rp_nearby.specs.Near.{may_meet, others_in, pairs_with, is_near, lots_at, AreWithin};
 ghost use Rattle.rp_parcels.specs.Counted.{IsCounted};
 
-use crate::boxes::hull_of;
 use crate::parcels::Parcels;
 use rp_boxindex::Watch;
 use rp_nearby::Reach;
@@ -53,17 +52,9 @@ impl Parcels {
         ensures lots { IfOk result (λ near. lots_at self.now near.places.items ≡ filter (is_near reach region.now) (others_in layer.now id.now (drop from self.now))) }
         ensures within { IfOk result (λ near. AreWithin self.now near.places.items) }
     {
-        let hull = hull_of(region);
-        let places = self.boxes().near(
-            alloc,
-            watch,
-            self.history(),
-            &hull,
-            layer,
-            id,
-            from,
-            reach,
-        )?;
+        let places = self
+            .lots()
+            .near(alloc, watch, region, layer, id, from, reach)?;
         self.count_at(alloc, region, places.items(), reach)
     }
 

@@ -185,6 +185,8 @@ pub(crate) fn append_all(alloc: Global, work: &mut Work, all: Vec<Judged>) -> Re
     requires uncounted { AllByRecursion CountsNothing all.items }
     ensures { Makes (λ x. x) (op_result result) work.old work.new (telling_all all.items) }
 {
+    // As a rule each pair has one line.
+    work.reserve(all.len())?;
     for one in all {
         work.append(alloc, one.work)?;
     }

@@ -1,53 +1,42 @@
 //! The register of parcels: what it keeps, and how it changes.
-ghost use Rattle.std.specs.Prelude.{◌≡◌, ◌+◌, ◌<◌, ◌≤◌, [], length, map, nat_le, slice_get, sum_by, option_copied, option_map, Some, IfOk, IfErr, OnOk, OnErr};
+ghost use Rattle.std.specs.Prelude.{◌≡◌, ◌+◌, ◌<◌, ◌≤◌, [], length, map, nat_le, slice_get, option_copied, option_map, Some, IfOk, IfErr, OnOk, OnErr};
 ghost use Rattle.rp_walks.specs.Walk.{no_work};
 ghost use Rattle.rp_model.specs.states.State.{Lot, live_lot, parts_of_lot, bare_lot, lots_replaced, parts_under_lots, most_kept_parts};
 ghost use Rattle.rp_model.specs.commands.Row.{row_retire};
 ghost use Rattle.rp_history.specs.Lots.{lots_in, lots_after};
-ghost use Rattle.rp_nearby.specs.Indexed.{IsIndexed};
 ghost use Rattle.rp_parcels.specs.Kept.{AreSound};
 ghost use Rattle.rp_parcels.specs.Register.{IsLater, IsFitChange};
 ghost use Rattle.rp_history.specs.Parts.{new_lots};
 ghost use Rattle.rp_parcels.specs.declared.fault.ParcelFault.TheVariants.{Unknown};
 ghost use Rattle.rp_parcels.specs.Rows.{Changes};
 
-use crate::boxes::hulls_of;
 use crate::fault::ParcelFault;
+use crate::regions::Regions;
 use rp_history::{Birth, History};
-use rp_nearby::LotBoxes;
+use rp_kept::Lots;
 use rp_region::Region;
 use rp_space::{Listed, Name};
 use std::alloc::{AllocError, Global};
 use std::marker::Model;
-
-/// The most parts under all parcels together.
-const MAX_PARTS: usize = 65536;
 
 /// All parcels that were ever registered, in the order of registration, with their regions. A contract sees them as the
 /// lots of a sound state: ids are distinct, live parcels of one layer share no point, every parcel has a point, the limits
 /// of parts are kept, every end is above its birth, and origins stand before and are of the same layer.
 #[derive(Debug, Drop)]
 pub struct Parcels {
-    history: History,
-    // The regions of the parcels in the same order, ended ones included.
-    regions: Listed<Region>,
-    // How many parts the regions have together.
-    parts: usize,
-    // A box around each parcel.
-    boxes: LotBoxes,
+    lots: Lots<Regions>,
 }
 
 impl Model for Parcels {
     ghost use Rattle.std.specs.Prelude.{List};
     ghost use Rattle.rp_model.specs.states.State.{Lot};
-    ghost use Rattle.rp_parcels.specs.Kept.{IsRegister};
-    ghost use Rattle.rp_history.specs.Parts.{lots_with_parts};
+    ghost use Rattle.rp_parcels.specs.Kept.{AreSound};
 
     ghost Value = { List (Lot (Unit {0})) };
 
-    ghost view = { λ a. lots_with_parts a.history a.regions.items };
+    ghost view = { λ a. a.lots };
 
-    ghost invariant = { λ a. IsRegister a.history a.regions.items a.parts a.boxes.live a.boxes.ever };
+    ghost invariant = { λ a. AreSound a.lots };
 }
 
 impl Parcels {
@@ -56,10 +45,7 @@ impl Parcels {
         ensures { IfOk result (λ parcels. parcels ≡ []) }
     {
         Ok(Parcels {
-            history: History::new(alloc),
-            regions: Listed::new(alloc),
-            parts: 0,
-            boxes: LotBoxes::new(alloc),
+            lots: Lots::new(alloc),
         })
     }
 
@@ -69,17 +55,14 @@ impl Parcels {
         ensures few { length self.now ≤ most_kept_parts }
         ensures sound { AreSound self.now }
     {
-        // Only so that what holds of all that is kept is known of the lots.
-        let _ = &self.regions;
-        &self.history
+        self.lots.history()
     }
 
     /// The region of a live parcel, found without a walk over all parcels. `None` exactly where the id isn't live.
     pub fn region(&self, id: Name) -> Option<&Region>
         ensures { option_copied result ≡ parts_of_lot (live_lot id self.now) }
     {
-        let place = self.history().live_place(&id)?;
-        Some(self.region_at(place))
+        self.lots.find(&id)
     }
 
     /// The region of the parcel at a place, ended or not.
@@ -87,15 +70,15 @@ impl Parcels {
         requires { place < length self.now }
         ensures { option_map (λ l. l.parts) (slice_get self.now place) ≡ Some result.now }
     {
-        &self.regions.items()[place]
+        self.lots.form_at(place)
     }
 
-    /// A box around each parcel: of the live ones in one index, and of all that ever were in another.
-    pub(crate) fn boxes(&self) -> &LotBoxes
-        ensures indexed { IsIndexed self.now result.now.live result.now.ever }
+    /// The parcels as they are kept.
+    pub(crate) fn lots(&self) -> &Lots<Regions>
+        ensures value { result.now ≡ self.now }
         ensures sound { AreSound self.now }
     {
-        &self.boxes
+        &self.lots
     }
 
     /// How many parcels there are, ended ones included: each has a part at least.
@@ -103,7 +86,7 @@ impl Parcels {
         ensures value { result ≡ length self.now }
         ensures few { result ≤ most_kept_parts }
     {
-        self.regions.items().len()
+        self.lots.count()
     }
 
     /// Whether all parcels together may keep so many more parts.
@@ -111,7 +94,7 @@ impl Parcels {
         ensures sound { AreSound self.now }
         ensures value { result ≡ nat_le (parts_under_lots self.now + parts) most_kept_parts }
     {
-        parts <= MAX_PARTS - self.parts
+        self.lots.have_room_for(parts)
     }
 
     /// Ends the parcels of the ids `ends` at the line, and lets others be born in their place, which go last, each with its
@@ -132,19 +115,7 @@ impl Parcels {
         ensures sound { OnOk result (AreSound self.new) }
         ensures later { OnOk result (IsLater (line + 1) self.new) }
     {
-        let added = regions.items();
-        let parts = count_parts(added);
-        let first = self.regions.items().len();
-        let hulls = hulls_of(alloc, added)?;
-        self.regions.reserve(added.len())?;
-        self.boxes.add_all(alloc, first, hulls.items())?;
-        if let Err(error) = self.history.note(alloc, line, births, ends) {
-            self.boxes.remove_all(first, added.len());
-            return Err(error);
-        }
-        self.boxes.end_all(&self.history, first, ends);
-        self.regions.append(regions).unwrap();
-        self.parts += parts;
+        self.lots.replace(alloc, line, ends, births, regions)?;
         Ok(())
     }
 
@@ -158,21 +129,7 @@ impl Parcels {
         ensures later { OnOk result (IsLater (line + 1) self.new) }
     {
         self.live_place(id)?;
-        self.history.end(line, id);
-        let count = self.regions.items().len();
-        self.boxes.end_all(&self.history, count, &[id]);
+        self.lots.end(line, id);
         Ok(())
     }
-}
-
-/// How many parts the regions have together.
-fn count_parts(regions: &[Region]) -> usize
-    requires { sum_by (λ ps. length ps) regions.now ≤ most_kept_parts }
-    ensures { result ≡ sum_by (λ ps. length ps) regions.now }
-{
-    let mut count = 0;
-    for region in regions {
-        count += region.parts().len();
-    }
-    count
 }

@@ -1,29 +1,14 @@
 //! Whose a point is.
-ghost use Rattle.std.specs.Prelude.{◌≡◌, false, filter, slice_get, Some, None};
+ghost use Rattle.std.specs.Prelude.{◌≡◌, filter};
 ghost use Rattle.rp_model.specs.states.State.{live_lots, lots_of_layer, alive_after};
-ghost use Rattle.rp_model.specs.commands.Row.{owner_line, is_in_parts};
+ghost use Rattle.rp_model.specs.commands.Row.{owner_line};
 ghost use Rattle.rp_nearby.specs.Owner.{is_there, owner_verdict};
 ghost use Rattle.rp_parcels.specs.Kept.{AreSound};
 ghost use Rattle.rp_parcels.specs.Points.{IsOnlyOwner};
 
 use crate::parcels::Parcels;
-use rp_nearby::{Holder, Moment};
+use rp_nearby::Moment;
 use rp_space::{Name, Point};
-
-/// The parcels, and a point.
-#[derive(Clone, Copy)]
-struct HasPoint<'a> {
-    parcels: &'a Parcels,
-    point: &'a Point,
-}
-
-impl Holder for HasPoint<'_> {
-    ghost has = { λ s k. elim (slice_get s.parcels.now k) [ None ↦ false | Some l ↦ is_in_parts l.parts s.point.now ] };
-
-    fn has(&self, place: usize) -> bool {
-        place < self.parcels.count() && self.parcels.region_at(place).holds(self.point)
-    }
-}
 
 impl Parcels {
     /// The one live parcel of the layer that has the point. `None` exactly where there is none. Takes no memory.
@@ -48,11 +33,6 @@ impl Parcels {
         ensures sound { AreSound self.now }
         ensures row { owner_verdict result ≡ owner_line (lots_of_layer layer.now (filter (is_there moment) self.now)) p.now }
     {
-        let holder = HasPoint {
-            parcels: self,
-            point: p,
-        };
-        self.boxes()
-            .owner(self.history(), layer, moment, p, &holder)
+        self.lots().owner(layer, moment, p)
     }
 }

@@ -106,6 +106,13 @@ impl Work {
         self.proofs.push(proof)
     }
 
+    /// Makes room for so many more proof lines. Answers `AllocError` only for want of memory. In any case all is as before.
+    pub fn reserve(&mut self, lines: usize) -> Result<(), AllocError>
+        ensures { self.new ≡ self.old }
+    {
+        self.proofs.reserve(lines)
+    }
+
     /// Adds what another work has counted, and appends its proof lines in order; they are moved. The two numbers of tests
     /// add up to at most 65,536. Answers `AllocError` only for want of memory; then all is as before.
     pub fn append(&mut self, _alloc: Global, other: Work) -> Result<(), AllocError>

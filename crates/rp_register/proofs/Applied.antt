@@ -9,7 +9,6 @@ use Rattle.rp_algebra.proofs.Tests.{and_first, and_second, false_not_true, false
 use Rattle.rp_algebra.proofs.Lists.{images_twice}
 use Rattle.rp_geometry.specs.sets.Shape.{Shape, Part}
 use Rattle.rp_geometry.specs.sets.Sets.{IsNonempty}
-use Rattle.rp_geometry.specs.parts.Parts.{AreOf, IsCheckedPart, most_parts}
 use Rattle.rp_language.specs.Name.{Label, label_eq, is_among}
 use Rattle.rp_model.specs.states.State.{Kept, Lot, NewLot, PlainState, kept_of_parts, lot_of_parts, state_of_parts, names_of, ids_of, changed, lots_replaced, parts_under_lots, most_names, most_kept_parts}
 use Rattle.rp_model.specs.states.Sound.{are_distinct, IsLaterThan}
@@ -19,7 +18,8 @@ use Rattle.rp_states.proofs.Plain.{image_sums}
 use Rattle.rp_states.proofs.Replaced.{ids_after}
 use Rattle.rp_history.specs.Lots.{AreBornBefore, AreNew}
 use Rattle.rp_history.proofs.Sizes.{as_many_parts}
-use Rattle.rp_register.specs.Kept.{kept_under, state_with, IsNewName, AreFew, IsSoundOnLines, ComesFromKnown}
+use Rattle.rp_kept.specs.Kept.{kept_under, IsNewName, AreFew, state_with}
+use Rattle.rp_register.specs.Kept.{IsSoundOnLines, ComesFromKnown}
 
 -- ---- labels that are distinct
 
@@ -61,17 +61,12 @@ name_is_new y ks lots x ps h =
 
 -- ---- lots
 
--- each lot of a sound state has few parts
-few_each : (lots : List (Lot (Unit {0}))) → AllByRecursion (λ l. AreOf IsCheckedPart l.set l.parts) (map lot_of_parts lots) → AllByRecursion (λ (l : Lot (Unit {0})). length l.parts ≤ most_parts) lots
-few_each [] h = tt
-few_each (l ∷ lots) h = (h.0.all.few, few_each lots h.1)
-
 -- the lots of a sound state are few, and so are their parts
 pub sound_are_few : (s : PlainState) → IsSoundOnLines s → AreFew s.lots
 sound_are_few s h =
     let few : parts_under_lots s.lots ≤ most_kept_parts = subst (λ (n : ℕ). n ≤ most_kept_parts) (image_sums lot_of_parts (λ (l : Lot Shape). length l.parts) s.lots) h.few_parts_under_lots in
     let many = as_many_parts s.lots (all_unmapped (λ (l : Lot Shape). IsNonempty l.set) lot_of_parts s.lots h.lots_nonempty) in
-    record { few_lots = omega (arith, few, many); few_parts = few; each_few = few_each s.lots h.lots_keep_parts }
+    record { few_lots = omega (arith, few, many); few_parts = few }
 
 -- their ids are distinct
 pub sound_ids : (s : PlainState) → IsSoundOnLines s → IsTrue (are_distinct (ids_of s.lots))

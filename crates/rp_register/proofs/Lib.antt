@@ -1,7 +1,5 @@
 pub mod Applied
-pub mod Boxed
+pub mod BornLots
 pub mod Counted
-pub mod KeptLots
-pub mod KeptNames
 pub mod Known
 pub mod Present

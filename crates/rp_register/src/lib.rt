@@ -6,15 +6,14 @@
 //! Names and live lots are found by their ids, and the live lots near a form, all of them and no other, by the boxes
 //! around lots, and so is the lot that has a point.
 
-mod boxes;
+mod born;
 mod count;
 mod form;
-mod lots;
-mod names;
 mod near;
 mod parcel;
 mod register;
 mod reply;
+mod shown;
 mod there;
 
 pub use count::count_tests;

@@ -8,11 +8,13 @@ ghost use Rattle.rp_nearby.specs.Owner.{is_there, owner_verdict, BoxesHold};
 ghost use Rattle.rp_register.specs.Kept.{IsSoundOnLines, ComesFromKnown};
 ghost use Rattle.rp_register.specs.Replies.{change_of};
 
-use crate::lots::Lots;
-use crate::names::NamedForms;
+use crate::born::replace;
 use crate::reply::Change;
+use crate::shown::Shown;
+use rp_boxindex::Quiet;
 use rp_follow::Form;
 use rp_history::History;
+use rp_kept::{Lots, NamedForms};
 use rp_nearby::{Moment, Reach};
 use rp_space::{Listed, Name, Point};
 use std::alloc::{AllocError, Global};
@@ -23,13 +25,14 @@ use std::marker::Model;
 #[derive(Debug, Drop)]
 pub struct Register {
     layer: Name,
-    names: NamedForms,
-    lots: Lots,
+    names: NamedForms<Shown>,
+    lots: Lots<Shown>,
 }
 
 impl Model for Register {
     ghost use Rattle.rp_model.specs.states.State.{PlainState};
-    ghost use Rattle.rp_register.specs.Kept.{state_with, IsSoundOnLines};
+    ghost use Rattle.rp_kept.specs.Kept.{state_with};
+    ghost use Rattle.rp_register.specs.Kept.{IsSoundOnLines};
 
     ghost Value = { PlainState };
 
@@ -120,7 +123,7 @@ impl Register {
         ensures within { IfOk result (λ places. AreWithin self.now.lots places.items) }
         ensures few { IfOk result (λ places. length places.items ≤ most_kept_parts) }
     {
-        self.lots.near(alloc, form, layer, id, from, reach)
+        self.lots.near(alloc, &Quiet, form, layer, id, from, reach)
     }
 
     /// The first lot of the present layer, of those that are there at a moment, that has the point.
@@ -155,7 +158,9 @@ impl Register {
     {
         match change {
             Change::Named(name, form) => self.names.keep(name, form),
-            Change::Replaced { ends, born } => self.lots.replace(alloc, n, ends.items(), born),
+            Change::Replaced { ends, born } => {
+                replace(&mut self.lots, alloc, n, ends.items(), born)
+            },
             Change::Layer(layer) => {
                 self.layer = layer;
                 Ok(())

@@ -1,15 +1,9 @@
-use Rattle.std.proofs.Common.{List, sym, subst}
-use Rattle.std.specs.FinMap.{empty}
-use Rattle.rp_geometry.specs.sets.Shape.{Part}
-use Rattle.rp_model.specs.states.State.{Lot}
-use Rattle.rp_boxindex.specs.Boxes.{Boxes}
-use Rattle.rp_parcels.specs.Kept.{IsRegister}
-use Rattle.rp_parcels.proofs.Moved.{register_none}
+use Rattle.std.proofs.Common.{[], sym, subst, rules}
+use Rattle.rp_parcels.specs.Kept.{AreSound}
 use Rattle.rp_parcels.proofs.parcels.Parcels.new.Goals as goal
 
+no_lots : AreSound []
+no_lots = search rules
+
 pub invariant_of-result : goal.invariant_of-result
-invariant_of-result c =
-    subst (λ (m : Boxes). IsRegister c.new.result c.new-2.result.items 0 m c.new-3.result.ever) (sym c.new-3.ensures.live)
-    (subst (λ (m : Boxes). IsRegister c.new.result c.new-2.result.items 0 empty m) (sym c.new-3.ensures.ever)
-    (subst (λ (lists : List (List Part)). IsRegister c.new.result lists 0 empty empty) (sym c.new-2.ensures)
-    (subst (λ (history : List (Lot (Unit {0}))). IsRegister history _ 0 empty empty) (sym c.new.ensures) register_none)))
+invariant_of-result c = subst AreSound (sym c.new.ensures) no_lots

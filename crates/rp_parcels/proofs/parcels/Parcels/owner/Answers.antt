@@ -1,8 +1,12 @@
-use Rattle.rp_parcels.proofs.Owned.{lots_know}
+use Rattle.std.proofs.Common.{List, filter, ap, sym, ◌∙◌, subst}
+use Rattle.rp_model.specs.states.State.{Lot, lots_of_layer}
+use Rattle.rp_model.specs.commands.Row.{owner_line}
+use Rattle.rp_nearby.specs.Owner.{is_there, BoxesHold}
 use Rattle.rp_nearby.proofs.Owned.{kept_boxes_hold}
 use Rattle.rp_parcels.proofs.parcels.Parcels.owner.Goals as goal
 
+pub owner-requires : goal.owner-requires
+owner-requires c = subst (λ (ls : List (Lot (Unit {0}))). BoxesHold ls) (sym c.lots.ensures.value) (kept_boxes_hold c.args.self.now c.lots.ensures.sound.lots_keep_parts)
+
 pub returns-clause-row : goal.returns-clause-row
-returns-clause-row c =
-    let lots = c.args.self.now in
-    c.owner.ensures lots c.history.ensures.value c.boxes.ensures.indexed (kept_boxes_hold lots c.boxes.ensures.sound.lots_keep_parts) (lots_know lots c.args.p.now)
+returns-clause-row c = c.owner.ensures ∙ ap (λ (ls : List (Lot (Unit {0}))). owner_line (lots_of_layer c.args.layer.now (filter (is_there c.args.moment) ls)) c.args.p.now) c.lots.ensures.value

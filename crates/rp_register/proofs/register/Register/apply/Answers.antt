@@ -4,7 +4,8 @@ use Rattle.rp_model.specs.states.State.{PlainState, changed, lots_replaced, stat
 use Rattle.rp_model.specs.states.Sound.{IsLaterThan}
 use Rattle.rp_history.specs.Lots.{lots_after}
 use Rattle.rp_register.specs.declared.reply.Change.{Change}
-use Rattle.rp_register.specs.Kept.{AreFew, state_with, IsSoundOnLines, ComesFromKnown}
+use Rattle.rp_kept.specs.Kept.{AreFew, state_with}
+use Rattle.rp_register.specs.Kept.{IsSoundOnLines, ComesFromKnown}
 use Rattle.rp_register.specs.Replies.{change_of, new_lot_of}
 use Rattle.rp_register.proofs.Applied.{name_is_new, sound_are_few, later_births, lots_are_new}
 use Rattle.rp_register.proofs.register.Register.apply.Goals as goal

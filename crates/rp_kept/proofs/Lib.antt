@@ -1,0 +1,4 @@
+pub mod Together
+pub mod Boxed
+pub mod KeptNames
+pub mod Defined

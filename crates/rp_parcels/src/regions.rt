@@ -1,0 +1,35 @@
+//! Regions are kept.
+ghost use Rattle.std.specs.Prelude.{◌≡◌};
+ghost use Rattle.rp_model.specs.commands.Row.{is_in_parts};
+
+use rp_kept::Forms;
+use rp_region::{Part, Region};
+use rp_space::{IntBox, Point};
+
+/// Regions, as they are kept under names and of lots.
+#[derive(Debug, Drop)]
+pub struct Regions;
+
+impl Forms for Regions {
+    type Part = Part;
+
+    type Form = Region;
+
+    ghost seen = { λ part. part };
+
+    ghost parts_of = { λ form. form };
+
+    fn parts(form: &Region) -> &[Part] {
+        form.parts()
+    }
+
+    fn bounds(part: &Part) -> &IntBox {
+        part.bounds()
+    }
+
+    fn holds(form: &Region, point: &Point) -> bool
+        ensures { result ≡ is_in_parts form.now point.now }
+    {
+        form.holds(point)
+    }
+}
