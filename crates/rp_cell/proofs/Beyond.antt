@@ -1,11 +1,11 @@
 -- The sides of a box that holds a cell: nothing of the cell is beyond them, and their lines are told one after the other.
-use Rattle.std.proofs.Common.{◌≡◌, ℕ, zero, suc, ◌+◌, ◌<◌, ◌≤◌, ℤ, ◌*ℤ◌, ◌≤ℤ◌, ◌<ℤ◌, Bool, true, false, not, ◌&&◌, ◌||◌, List, [], ◌∷◌, ◌++◌, append_assoc, append-nil, length, get_or, drop, map, sym, ap, ◌∙◌, subst, add-one, arith}
+use Rattle.std.proofs.Common.{◌≡◌, ℕ, zero, suc, ◌+◌, ◌<◌, ◌≤◌, ℤ, ◌*ℤ◌, ◌≤ℤ◌, ◌<ℤ◌, Bool, true, false, not, ◌&&◌, ◌||◌, List, [], ◌∷◌, ◌++◌, append_assoc, append-nil, length, get_or, drop, map, sym, ap, ◌∙◌, subst, arith}
 use Rattle.std.specs.Prelude.{int_le, int_lt}
-use Rattle.std.proofs.Math.Seq.{drop-cons}
 use Rattle.std.proofs.lemmas.Grind.{common_steps}
 use Rattle.std.proofs.lemmas.Int.{ints}
 use Rattle.std.proofs.lemmas.List.{map-append}
 use Rattle.rp_algebra.proofs.Listed.{Listed, first, later, all_of, all_pass, listed_right}
+use Rattle.rp_algebra.proofs.Lists.{drop_item}
 use Rattle.rp_algebra.proofs.Tests.{and_true, at_most_true, false_not_true}
 use Rattle.rp_geometry.specs.Geometry.{RationalPoint, HalfSpace, IntegerBox, IsHalfSpace, complement, holds, box_half_spaces, cube_half_spaces, is_between, is_box_in_bounds, is_in_box, is_listed}
 use Rattle.rp_geometry.specs.sets.Shape.{shape_of_cell}
@@ -58,14 +58,10 @@ none_beyond cell b side box small l p m =
 abbrev told_or_not : List HalfSpace → HalfSpace → List ProofLine → Bool → List ProofLine
 told_or_not cell side rest t = elim t [ true ↦ rest | false ↦ out_line (outside_terms true (cell ++ complement side ∷ [])) ∷ rest ]
 
--- the items from one place on are the item there and those behind it
-from_place : (sides : List HalfSpace) (i : ℕ) (side : HalfSpace) → i < length sides → side ≡ get_or sides i side → drop i sides ≡ side ∷ drop (i + 1) sides
-from_place sides i side h e = rw add-one (drop-cons sides i side h ∙ (λ j. sym e j ∷ drop (suc i) sides))
-
 -- the lines from one side on
 lines_from : (cell sides : List HalfSpace) (i : ℕ) (side : HalfSpace) (t : Bool) → i < length sides → side ≡ get_or sides i side → t ≡ (is_listed side cell || is_listed side cube_half_spaces)
     → side_lines cell (drop i sides) ≡ told_or_not cell side (side_lines cell (drop (i + 1) sides)) t
-lines_from cell sides i side t h e f = ap (side_lines cell) (from_place sides i side h e) ∙ ap (told_or_not cell side (side_lines cell (drop (i + 1) sides))) (sym f)
+lines_from cell sides i side t h e f = ap (side_lines cell) (drop_item sides i side h e) ∙ ap (told_or_not cell side (side_lines cell (drop (i + 1) sides))) (sym f)
 
 -- a side that is in the cell or one of the cube's is not told
 pub lines_given : (cell sides : List HalfSpace) (i : ℕ) (side : HalfSpace) (told all : List ProofLine) → i < length sides → side ≡ get_or sides i side

@@ -1,8 +1,7 @@
 -- The refutation of a cell through one of its half-spaces.
-use Rattle.std.proofs.Common.{◌≡◌, ℕ, suc, ◌+◌, ◌-◌, ◌<◌, ⊎_elim, true, false, List, [], ◌∷◌, ◌++◌, length, get_or, take, drop, sym, ap, ◌∙◌, subst, add-one, arith}
+use Rattle.std.proofs.Common.{◌≡◌, ℕ, ◌+◌, ◌-◌, ◌<◌, ⊎_elim, true, false, List, [], ◌∷◌, ◌++◌, length, get_or, take, drop, sym, ap, ◌∙◌, subst, arith}
 use Rattle.std.specs.Prelude.{Option, Some, IsNone, IsSome, IfSome, IsTrue, ◌↔◌}
 use Rattle.std.proofs.Math.ListN.{drop_of_length-le}
-use Rattle.std.proofs.Math.Seq.{drop-cons}
 use Rattle.std.proofs.lemmas.List.{take-append-drop}
 use Rattle.rp_geometry.specs.Geometry.{RationalPoint, HalfSpace, IsHalfSpace}
 use Rattle.rp_geometry.specs.sets.Shape.{shape_of_cell}
@@ -12,6 +11,7 @@ use Rattle.rp_geometry.specs.searches.Certificate.{Multiple, is_outside_certific
 use Rattle.rp_geometry.specs.searches.Elimination.{first_outside}
 use Rattle.rp_geometry.specs.searches.ProofLine.{out_line, apart_line, strict_line, weak_line}
 use Rattle.rp_algebra.proofs.Listed.{all_of, of_all, listed_cases}
+use Rattle.rp_algebra.proofs.Lists.{drop_item}
 use Rattle.rp_algebra.proofs.Options.{of_some}
 use Rattle.rp_convex.proofs.InsideFound.{inside_is_found_spec}
 use Rattle.rp_convex.proofs.WeakPoint.{weak_point_is_found_spec}
@@ -21,10 +21,7 @@ use Rattle.rp_cell.proofs.SlimSoFar.{slice_is}
 
 -- a list is what stands before a place, the item there, and what stands behind it
 split_at : (cell : List HalfSpace) (i : ℕ) (h : HalfSpace) → i < length cell → h ≡ get_or cell i h → take i cell ++ h ∷ drop (i + 1) cell ≡ cell
-split_at cell i h l e = ap (λ (hs : List HalfSpace). take i cell ++ hs) (sym from_here) ∙ take-append-drop i cell
-  where
-    from_here : drop i cell ≡ h ∷ drop (i + 1) cell
-    from_here = rw add-one (drop-cons cell i h l ∙ (λ j. sym e j ∷ drop (suc i) cell))
+split_at cell i h l e = ap (λ (hs : List HalfSpace). take i cell ++ hs) (sym (drop_item cell i h l e)) ∙ take-append-drop i cell
 
 -- the same with the slice that the code takes
 pub split_is : (cell : List HalfSpace) (i : ℕ) (h : HalfSpace) → i < length cell → h ≡ get_or cell i h → take i cell ++ h ∷ take (length cell - (i + 1)) (drop (i + 1) cell) ≡ cell

@@ -1,11 +1,11 @@
 -- Slimming of a cell, one half-space after the other.
-use Rattle.std.proofs.Common.{◌≡◌, ℕ, zero, suc, ⊎_elim, ◌+◌, ◌-◌, ◌<◌, ◌≤◌, Bool, true, false, List, [], ◌∷◌, ◌++◌, append_assoc, append-nil, length, get_or, map, take, drop, refl, sym, ap, ◌∙◌, subst, add-one, arith, length-append}
+use Rattle.std.proofs.Common.{◌≡◌, ℕ, zero, suc, ⊎_elim, ◌+◌, ◌-◌, ◌<◌, ◌≤◌, Bool, true, false, List, [], ◌∷◌, ◌++◌, append_assoc, append-nil, length, get_or, map, take, drop, refl, sym, ap, ◌∙◌, subst, arith, length-append}
 use Rattle.std.specs.Prelude.{Option, Some, None, is_some}
 use Rattle.std.specs.List.{slice_get}
-use Rattle.std.proofs.Math.Seq.{drop-cons}
 use Rattle.std.proofs.lemmas.Grind.{common_steps}
 use Rattle.std.proofs.lemmas.List.{map-append, take_more}
 use Rattle.rp_algebra.proofs.Listed.{Listed, listed_left, listed_right, listed_cases, all_append}
+use Rattle.rp_algebra.proofs.Lists.{drop_item}
 use Rattle.rp_corners.proofs.Standing.{listed_contains, contains_listed}
 use Rattle.rp_geometry.specs.Geometry.{RationalPoint, HalfSpace, IsKeptHalfSpace, complement}
 use Rattle.rp_geometry.specs.parts.Parts.{AreKeptHalfSpaces}
@@ -70,14 +70,10 @@ slim_start cell kept told e f =
     subst (λ (ks : List HalfSpace). IsSlimSoFar cell 0 ks told) (sym e)
     (subst (λ (ts : List ProofLine). IsSlimSoFar cell 0 [] ts) (sym f) (record { all_kept = refl; all_told = refl; few = omega arith; among = λ g l. elim l [ ]; in_lowest_terms = tt }))
 
--- the half-spaces from one place on are the one there and those behind it
-from_place : (cell : List HalfSpace) (i : ℕ) (h : HalfSpace) → i < length cell → h ≡ get_or cell i h → drop i cell ≡ h ∷ drop (i + 1) cell
-from_place cell i h l e = rw add-one (drop-cons cell i h l ∙ (λ j. sym e j ∷ drop (suc i) cell))
-
 -- slimming from one half-space on
 slim_next : (cell kept : List HalfSpace) (i : ℕ) (h : HalfSpace) (t : Bool) → i < length cell → h ≡ get_or cell i h → has_member (tested kept h (drop (i + 1) cell)) ≡ t
     → slim_from kept (drop i cell) ≡ stays_or_goes kept h (drop (i + 1) cell) t
-slim_next cell kept i h t l e f = ap (slim_from kept) (from_place cell i h l e) ∙ ap (stays_or_goes kept h (drop (i + 1) cell)) f
+slim_next cell kept i h t l e f = ap (slim_from kept) (drop_item cell i h l e) ∙ ap (stays_or_goes kept h (drop (i + 1) cell)) f
 
 -- one more half-space in lowest terms
 kept_more : (cell : List HalfSpace) (i : ℕ) (h : HalfSpace) → i < length cell → h ≡ get_or cell i h → IsKeptHalfSpace h → AreKeptHalfSpaces (take i cell) → AreKeptHalfSpaces (take (i + 1) cell)

@@ -1,5 +1,5 @@
 -- The parts of several lots one after the other, and the row of a consolidation.
-use Rattle.std.proofs.Common.{◌≡◌, ◌+◌, ◌<◌, ◌≤◌, Bool, true, false, List, [], ◌∷◌, ◌++◌, map, length, Option, Some, None, IfSome, refl, sym, ap, ◌∙◌, subst, append_assoc, append-nil, arith}
+use Rattle.std.proofs.Common.{◌≡◌, ◌+◌, ◌≤◌, Bool, true, false, List, [], ◌∷◌, ◌++◌, map, length, Option, Some, None, IfSome, refl, sym, ap, ◌∙◌, subst, append_assoc, append-nil, arith}
 use Rattle.std.specs.Prelude.{nat_le}
 use Rattle.std.proofs.lemmas.List.{length-append}
 use Rattle.rp_geometry.specs.sets.Shape.{Part}
@@ -36,14 +36,6 @@ short_passes xs zs e h t = by (nat_le (length xs) most_parts) refl
     by : (b : Bool) → nat_le (length xs) most_parts ≡ b → at_most_by xs b t ≡ done zs t
     by true f = ap (λ (ys : List Part). done ys t) e
     by false f = absurd (grind arith)
-
--- a long list does not
-pub long_stops : (xs : List Part) → most_parts < length xs → (t : Trail) → if_at_most most_parts xs t ≡ stopped limit_met t
-long_stops xs h t = by (nat_le (length xs) most_parts) refl
-  where
-    by : (b : Bool) → nat_le (length xs) most_parts ≡ b → at_most_by xs b t ≡ stopped limit_met t
-    by true f = absurd (grind arith)
-    by false f = refl
 
 -- a list that passes is short, and what it comes to
 pub at_most_made : (xs ys : List Part) (t : Trail) → if_at_most most_parts xs t ≡ done ys t → (length xs ≤ most_parts) × (xs ≡ ys)

@@ -1,8 +1,7 @@
 -- What is left of a walk over whole answers while it is followed step by step.
-use Rattle.std.proofs.Common.{ap, subst}
-use Rattle.rp_walks.specs.Walk.{Outcome, Walk, after_first, ◌>>=◌}
+use Rattle.std.proofs.Common.{ap}
+use Rattle.rp_walks.specs.Walk.{Outcome, Walk, after_first}
 use Rattle.rp_reports.specs.Check.{Trail}
-use Rattle.rp_tests.proofs.Left.{IsLeft}
 use Rattle.rp_checker.specs.declared.halt.Halt.{Halt}
 use Rattle.rp_checker.specs.declared.halt.Halt.TheVariants.{Wrong, Memory}
 use Rattle.rp_checker.specs.Answers.{HaltsBy}
@@ -11,8 +10,3 @@ use Rattle.rp_checker.specs.Answers.{HaltsBy}
 pub halts_on : {A B : Type 0} (next : B → Walk Trail A) (e : Halt) (o : Outcome Trail B) → HaltsBy e o → HaltsBy e (after_first next o)
 halts_on next (Wrong n) o h = record { at = h.at; stops = ap (after_first next) h.stops; number = h.number }
 halts_on next (Memory e) o h = tt
-
--- where the first step halts, so does the whole walk
-pub halt_left : {A B : Type 0} {start now : Trail} {whole : Walk Trail A} (first : Walk Trail B) (next : B → Walk Trail A)
-    → IsLeft start whole now (first >>= next) → (e : Halt) → HaltsBy e (first now) → HaltsBy e (whole start)
-halt_left {now = now} first next h e m = subst (HaltsBy e) h.same (halts_on next e (first now) m)

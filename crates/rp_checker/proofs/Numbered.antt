@@ -1,14 +1,8 @@
 -- An answer by its echo: the number and the text.
-use Rattle.std.proofs.Common.{◌≡◌, ℕ, ◌+◌, ◌<◌, ◌≤◌, Bool, true, false, nat_lt, Option, Some, None, refl, sym, ap, ◌∙◌, subst, arith}
-use Rattle.std.specs.Prelude.{IfSome, is_none}
-use Rattle.rp_algebra.proofs.Listed.{all_map}
-use Rattle.rp_geometry.specs.sets.Shape.{Shape}
-use Rattle.rp_language.specs.Expression.{first_of_two}
+use Rattle.std.proofs.Common.{◌≡◌, ℕ, ◌<◌, ◌≤◌, Bool, true, false, nat_lt, Option, Some, None, sym, ap, ◌∙◌, subst, arith}
 use Rattle.rp_language.specs.Grammar.{Version}
-use Rattle.rp_language.specs.Name.{Label}
 use Rattle.rp_walks.specs.Walk.{done, line_wrong, Walk, after_first, pass, stop}
-use Rattle.rp_model.specs.states.State.{Lot, State, PlainState}
-use Rattle.rp_model.specs.states.Sound.{IsLaterThan}
+use Rattle.rp_model.specs.states.State.{PlainState}
 use Rattle.rp_reports.specs.ProofText.{Echo}
 use Rattle.rp_reports.specs.Check.{Trail, Progress, with_no_tests, follow_echo, follow_numbered, next_echo, follow_answer}
 use Rattle.rp_checker.specs.declared.halt.Halt.{Halt}
@@ -54,33 +48,3 @@ module _ (v : Version) (q : Progress) where
       → follow_answer v q t ≡ done (record { last = e.number; state = after }) w
   echo_ends t u w e after f high begun m =
       high_echo t e f high ∙ ap (λ (x : Trail). after_first (λ s. pass (record { last = e.number; state = s })) (follow_echo v e.number q.state e.text x)) (sym begun) ∙ ap (after_first (λ s. pass (record { last = e.number; state = s }))) m
-
--- ---- numbers
-
--- births and ends before a line are before a later one
-pub later_still : (m n : ℕ) (s : State) → m < n → IsLaterThan (m + 1) s → IsLaterThan n s
-later_still m n s below late = record {
-  births = all_map (λ (l : Lot Shape). l.born < m + 1) (λ (l : Lot Shape). l.born < n) (λ l h. omega (arith, h, below)) s.lots late.births;
-  ends = all_map (λ (l : Lot Shape). IfSome l.ended (λ k. k < m + 1)) (λ (l : Lot Shape). IfSome l.ended (λ k. k < n)) (λ l. by l.ended) s.lots late.ends;
-}
-  where
-    by : (o : Option ℕ) → IfSome o (λ k. k < m + 1) → IfSome o (λ k. k < n)
-    by None h = tt
-    by (Some k) h = omega (arith, h, below)
-
--- ---- names that are missing
-
--- none is missing of an expression alone
-pub none_of_one : (o : Option Label) → is_none o ≡ is_none (first_of_two o None)
-none_of_one None = refl
-none_of_one (Some x) = refl
-
--- none is missing of the first and of the others
-pub none_of_both : (o p : Option Label) → is_none (first_of_two o None) ≡ true → is_none (first_of_two o p) ≡ is_none p
-none_of_both None p h = refl
-none_of_both (Some x) p h = absurd (cc)
-
--- one is missing of the first
-pub one_of_first : (o p : Option Label) → is_none (first_of_two o None) ≡ false → is_none (first_of_two o p) ≡ false
-one_of_first None p h = absurd (cc)
-one_of_first (Some x) p h = refl

@@ -27,6 +27,7 @@ use Rattle.rp_clip.proofs.Crossed.{listed_at, at_listed}
 use Rattle.rp_clip.proofs.FirstOfSet.{zero_unless}
 use Rattle.rp_clip.proofs.HalfAt.{place_below}
 use Rattle.rp_clip.proofs.Masks.{bits_of-small, IsThroughAt, in_mask, mask_in, in_both, both_in}
+use Rattle.rp_clip.proofs.Off.{off_true}
 use Rattle.rp_clip.proofs.Walks.{one_not_zero}
 
 -- ---- off a set
@@ -54,10 +55,6 @@ both_one a b h k e = (omega (arith, h, k, e), omega (arith, h, k, e))
 not_zero : (n : ℕ) → not (nat_eq n 0) ≡ true → 0 < n
 not_zero n e = grind (arith, nat_tests)
 
--- a number above 0 passes
-passes : (n : ℕ) → (n ≡ 0 → ⊥) → not (nat_eq n 0) ≡ true
-passes n e = grind (arith, nat_tests)
-
 -- where the test passes there is such a place
 pub off_place : (set mask : ℕ) → set < 2 ^ 128 → mask < 2 ^ 128 → is_off_mask set mask ≡ true → IsOffAt set mask
 off_place set mask hs hm e =
@@ -74,7 +71,7 @@ pub place_off : (set mask : ℕ) → mask < 2 ^ 128 → (o : IsOffAt set mask) �
 place_off set mask hm o low =
     let n = bit_and set (bit_not w128 mask) in
     let bit : bit_at n o.place ≡ 1 = bit_at_and set (bit_not w128 mask) o.place ∙ (λ k. min (o.in_set k) ((bit_at_not w128 mask o.place hm low ∙ ap (λ b. 1 - b) o.not_in_mask) k)) in
-    passes n (λ z. one_not_zero (bit_at n o.place) bit (ap (λ m. bit_at m o.place) z ∙ bit_at-zero o.place))
+    off_true n (λ z. one_not_zero (bit_at n o.place) bit (ap (λ m. bit_at m o.place) z ∙ bit_at-zero o.place))
 
 -- ---- the list and the set
 

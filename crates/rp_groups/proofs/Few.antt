@@ -1,11 +1,12 @@
 -- There are no more groups than numbers.
-use Rattle.std.proofs.Common.{◌≡◌, ℕ, suc, ◌≤◌, Bool, true, false, List, [], ◌∷◌, length, refl, sym, ap, ◌∙◌, subst, arith}
+use Rattle.std.proofs.Common.{◌≡◌, ℕ, ◌≤◌, Bool, true, false, List, [], ◌∷◌, length, sym, ap, ◌∙◌, subst, arith}
 use Rattle.std.specs.Prelude.{nat_lt}
 use Rattle.std.specs.List.{flat_map}
+use Rattle.std.proofs.lemmas.List.{length-map}
 use Rattle.std.proofs.lemmas.List.FromFn.{length-range_with_len}
 use Rattle.rp_geometry.specs.parts.Groups.{is_listed_number, group_of, groups, groups_of, numbers_to}
 use Rattle.rp_space.specs.Listed.{Listed}
-use Rattle.rp_groups.specs.Lists.{lists_of, numbers_of}
+use Rattle.rp_groups.specs.Lists.{numbers_of}
 
 -- of the numbers still to come
 few_left : (links : List (ℕ × ℕ)) (all ks : List ℕ) → length (groups links all ks) ≤ length ks
@@ -21,11 +22,6 @@ few_groups : (links : List (ℕ × ℕ)) (n : ℕ) → length (groups_of links n
 unfolding groups_of
 few_groups links n = subst (λ (m : ℕ). length (groups links (numbers_to n) (numbers_to n)) ≤ m) (length-range_with_len 1 n) (few_left links (numbers_to n) (numbers_to n))
 
--- as many lists as lists of numbers
-same_length : (lists : List (Listed ℕ)) → length (lists_of lists) ≡ length lists
-same_length [] = refl
-same_length (ns ∷ lists) = ap suc (same_length lists)
-
 -- so it is with lists that are the groups
 pub few_lists : (list : Listed (Listed ℕ)) (links : List (ℕ × ℕ)) (n : ℕ) → numbers_of list ≡ groups_of links n → length list.items ≤ n
-few_lists list links n e = subst (λ (m : ℕ). m ≤ n) (ap (λ (gs : List (List ℕ)). length gs) (sym e) ∙ same_length list.items) (few_groups links n)
+few_lists list links n e = subst (λ (m : ℕ). m ≤ n) (ap (λ (gs : List (List ℕ)). length gs) (sym e) ∙ length-map list.items (λ (group : Listed ℕ). group.items)) (few_groups links n)

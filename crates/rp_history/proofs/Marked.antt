@@ -230,14 +230,6 @@ pub trace_ends : {S : Type 0} (x : Label) (lots : List (Lot S)) (marks : List Bo
 unfolding lineage
 trace_ends x lots marks h = ap (λ (bs : List Bool). marked_lots bs lots) h.each ∙ h.are
 
--- ---- lengths
-
--- a mark more or less, they are as many
-pub length-marked_at : {S : Type 0} (x : Label) (lots : List (Lot S)) (marks : List Bool) → length (marked_at x lots marks) ≡ length marks
-length-marked_at x lots [] = refl
-length-marked_at x [] (b ∷ marks) = refl
-length-marked_at x (l ∷ lots) (b ∷ marks) = ap suc (length-marked_at x lots marks)
-
 -- ---- in the code's words
 
 -- the lot of a place is marked

@@ -6,14 +6,13 @@ use Rattle.rp_algebra.proofs.Lists.{images_twice}
 use Rattle.rp_geometry.specs.Geometry.{IntegerBox}
 use Rattle.rp_geometry.specs.sets.Shape.{Part}
 use Rattle.rp_language.specs.Name.{Label, is_among}
-use Rattle.rp_space.specs.declared.bounds.IntBox.{IntBox}
 use Rattle.rp_model.specs.states.State.{Lot, NewLot, bare_lot, ended_at, born_at, lots_replaced, most_kept_parts}
 use Rattle.rp_history.specs.declared.lot.Birth.{Birth}
 use Rattle.rp_history.specs.Lots.{new_lot_of, lots_after}
 use Rattle.rp_history.specs.Parts.{lots_with_parts, new_lots}
 use Rattle.rp_history.proofs.Together.{bare-with_parts, length-with_parts}
 use Rattle.rp_boxindex.specs.Boxes.{Boxes}
-use Rattle.rp_nearby.specs.Indexed.{boxes_in, joined, hull_of_parts, NoneBehind, ArePut, StaySame, IsIndexed, AreEmptied}
+use Rattle.rp_nearby.specs.Indexed.{joined, hull_of_parts, NoneBehind, ArePut, StaySame, IsIndexed, AreEmptied}
 use Rattle.rp_nearby.proofs.Boxed.{indexed_after, indexed_again, indexed_back, indexed_ended, indexed_none, none_behind_live, none_behind_ever}
 use Rattle.rp_kept.specs.Kept.{AreFew, AreLots}
 
@@ -36,10 +35,6 @@ hull_by_first seen (y ∷ ys) x h e = ap₂ joined (ap (λ p. (seen p).bounds) e
 -- no lots at all
 pub no_lots : AreLots [] [] 0 empty empty
 no_lots = record { each = refl; bare = refl; distinct = refl; count = refl; few = record { few_lots = omega arith; few_parts = omega arith }; indexed = indexed_none }
-
--- there are as many boxes as lists
-pub hulls_counted : (bs : List IntBox) (lists : List (List Part)) → boxes_in bs ≡ map hull_of_parts lists → length (boxes_in bs) ≡ length lists
-hulls_counted bs lists e = ap length e ∙ length-map lists hull_of_parts
 
 module _ (history : List (Lot (Unit {0}))) (lists : List (List Part)) (parts : ℕ) (live ever : Boxes) (h : AreLots history lists parts live ever) (count : ℕ) (e : count ≡ length lists) where
   -- its lots

@@ -6,7 +6,7 @@ ghost use Rattle.rp_space.specs.Boxes.{integer_box};
 
 use rp_space::{IntBox, Point};
 
-/// Forms that are kept: lists of parts, each with a box around its members.
+/// Forms that are kept: lists of parts, each with a box, which need not hold its members.
 ///
 /// A contract sees in `seen` a part and in `parts_of` a form as the model has it.
 pub trait Forms: Sized {

@@ -102,8 +102,9 @@ impl<F: Forms> Lots<F> {
         &self.forms.items()[place]
     }
 
-    /// The places, in rising order, of live lots of a layer, from a place on, that have another id: of all those that have a
-    /// part which may meet one of a form's, and maybe of others. Answers `AllocError` only for want of memory.
+    /// Places among which are, in rising order, those from a place on of all live lots of a layer that have another id and a
+    /// part which may meet one of a form's. At any further place stands a lot none of whose parts may. Answers `AllocError`
+    /// only for want of memory.
     pub fn near<W: Watch>(
         &self,
         alloc: Global,
@@ -125,7 +126,7 @@ impl<F: Forms> Lots<F> {
     }
 
     /// The first lot of a layer, of those that are there at a moment, that has the point; it is found without a walk over all
-    /// lots. `None` exactly where there is none. Takes no memory.
+    /// lots. The box of each part has to hold its members. `None` exactly where there is none. Takes no memory.
     pub fn owner(&self, layer: &Name, moment: Moment, point: &Point) -> Option<Name>
         requires { BoxesHold self.now }
         ensures { owner_verdict result ≡ owner_line (lots_of_layer layer.now (filter (is_there moment) self.now)) point.now }

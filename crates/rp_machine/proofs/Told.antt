@@ -66,11 +66,6 @@ pub row_changed : (s after : PlainState) (n : ℕ) (c : Command) (r : Result Cod
 unfolding walked
 row_changed s after n c r w there h = state_of_run n s after r w (row first_tester s c no_work) there h
 
--- where memory ran out the state is as before
-pub row_unchanged : (before after : PlainState) (n : ℕ) (r : Result CodeReply RowEnd) (w : Work) (o : Outcome Work Reply) → IsWant r → Runs r n w before after o → after ≡ before
-row_unchanged before after n (Ok r) w o want h = absurd want
-row_unchanged before after n (Err e) w o want h = h.1
-
 -- ---- what is true of an answer that is there
 
 -- the machine after a line that is read so is the one that is computed

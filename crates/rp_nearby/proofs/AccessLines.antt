@@ -1,7 +1,6 @@
 -- The verdict lines of a chain and of levels, along pairs of numbers of ids.
-use Rattle.std.proofs.Common.{◌≡◌, ℕ, ◌<◌, ◌≤◌, List, [], ◌∷◌, ◌++◌, map, length, Option, Some, None, sym, ap, ap₂, ◌∙◌, subst, arith, append_assoc}
-use Rattle.std.specs.Prelude.{◌-◌, filter_map, option_map, MatchOption, IfSome}
-use Rattle.std.specs.List.{slice_get}
+use Rattle.std.proofs.Common.{◌≡◌, ℕ, ◌<◌, ◌≤◌, List, [], ◌∷◌, ◌++◌, length, Option, Some, None, sym, ap, ap₂, ◌∙◌, subst, arith, append_assoc}
+use Rattle.std.specs.Prelude.{option_map, MatchOption, IfSome}
 use Rattle.std.proofs.lemmas.List.{map-append}
 use Rattle.rp_geometry.specs.sets.Chain.{IsChosenBy}
 use Rattle.rp_geometry.specs.parts.Levels.{levels_along, chain_along}
@@ -17,10 +16,6 @@ use Rattle.rp_nearby.specs.Near.{AreWithin}
 use Rattle.rp_nearby.specs.Access.{told_levels}
 
 -- ---- by their ids
-
--- the lines of a chain
-pub chain_told : (ids names : List Label) (route : List ℕ) → names ≡ filter_map (slice_get ids) route → length names ≡ length route → (Verdict.access (length names - 1) ∷ map Verdict.parcel names) ≡ chain_lines ids (Some route)
-chain_told ids names route e f = ap₂ (λ (k : ℕ) (xs : List Label). Verdict.access (k - 1) ∷ map Verdict.parcel xs) f e
 
 -- a level goes behind those told
 pub level_told : (told more : List (ℕ × Label)) (ids left_ids : List Label) (levels left_levels : List (Option ℕ)) (x : Label) (k : ℕ) (all : List Verdict) → left_ids ≡ x ∷ ids → left_levels ≡ Some k ∷ levels → more ≡ told ++ (k, x) ∷ [] →

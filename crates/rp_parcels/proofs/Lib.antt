@@ -1,6 +1,5 @@
 pub mod Sizes
 pub mod Found
-pub mod Stepped
 pub mod Checked
 pub mod Divided
 pub mod Tells

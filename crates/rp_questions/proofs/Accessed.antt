@@ -19,7 +19,7 @@ use Rattle.rp_asked.proofs.Ancestors.{among_found}
 -- ---- the checks
 
 -- whether a lot is live, by the lot that is found
-live_by : (s : PlainState) (x : Label) (o : Option (Lot (Unit {0}))) → live_lot x s.lots ≡ o → check_live s x ≡ refuse_if (not (is_some o)) (unknown x)
+pub live_by : (s : PlainState) (x : Label) (o : Option (Lot (Unit {0}))) → live_lot x s.lots ≡ o → check_live s x ≡ refuse_if (not (is_some o)) (unknown x)
 live_by s x o e = ap (λ (b : Bool). refuse_if (not b) (unknown x)) (sym (among_found x (live_lots s.lots)) ∙ ap is_some e)
 
 -- all checks, by those of the two ids and of the layers
@@ -47,10 +47,6 @@ both_live s x y l m e f =
 -- by whether their layers differ
 pub layers_by : (s : PlainState) (x y : Label) (l m : Lot (Unit {0})) (b : Bool) → live_lot x s.lots ≡ Some l → live_lot y s.lots ≡ Some m → not (label_eq m.layer l.layer) ≡ b → check_access s x y ≡ refuse_if b (layers y)
 layers_by s x y l m b e f g = both_live s x y l m e f ∙ ap (λ (c : Bool). refuse_if c (layers y)) g
-
--- the layer of the first one
-pub layer_found : (s : PlainState) (x : Label) (l : Lot (Unit {0})) → live_lot x s.lots ≡ Some l → l.layer ≡ layer_with_id s x
-layer_found s x l e = sym (ap (layer_of_lot s.layer) e)
 
 -- ---- the walk
 

@@ -12,9 +12,8 @@ use Rattle.rp_accepted.proofs.Shown.{told_length}
 use Rattle.rp_cert.specs.Section.{slice_shown}
 use Rattle.rp_cert.specs.declared.slice.Slice.{Slice as CodeSlice}
 use Rattle.rp_tests.specs.declared.stopped.Stopped.{Stopped}
-use Rattle.rp_tests.specs.declared.stopped.Stopped.TheVariants.{Wrong, TakenWrong, Told, Limit, Memory}
+use Rattle.rp_tests.specs.declared.stopped.Stopped.TheVariants.{Wrong}
 use Rattle.rp_tests.specs.Comes.{StopsBy, Comes}
-use Rattle.rp_follow.specs.Stops.{IsWrongOrMemory}
 use Rattle.rp_follow.specs.Slices.{follow_slice_lines}
 use Rattle.rp_tests.proofs.Left.{stops_on}
 use Rattle.rp_register.specs.Replies.{IsUnshown}
@@ -58,11 +57,3 @@ module _ (z : ℤ) (ps : List Part) (t : Trail) where
   -- all slices are told
   pub slices_told_all : (found : List CodeSlice) (lines : List Verdict) → map slice_shown found ≡ slices_told z ps (taken t).lines → lines ≡ section_lines (map slice_shown found) → row_section line_tester z ps t ≡ done (reply_lines lines) t
   slices_told_all found lines e f = told_reply z ps t ∙ ap (λ (vs : List Verdict). done (reply_lines vs) t) (sym (f ∙ ap section_lines e))
-
--- where no line is wrong, memory was wanting
-pub memory_alone : {A : Type 0} (e : Stopped) (t : Trail) (o : Outcome Trail A) → IsWrongOrMemory e → (e ≡ Wrong → ⊥) → StopsBy e t o
-memory_alone Wrong t o w h = absurd (h refl)
-memory_alone TakenWrong t o w h = absurd w
-memory_alone Told t o w h = absurd w
-memory_alone Limit t o w h = absurd w
-memory_alone (Memory e) t o w h = tt

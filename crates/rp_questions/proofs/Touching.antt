@@ -1,12 +1,11 @@
 -- The row of neighbours, step by step.
-use Rattle.std.proofs.Common.{◌≡◌, ℕ, Bool, not, List, [], filter, Option, Some, None, is_some, refl, sym, ap, ◌∙◌, subst}
+use Rattle.std.proofs.Common.{◌≡◌, ℕ, List, [], filter, Option, Some, None, refl, sym, ap, ◌∙◌, subst}
 use Rattle.rp_geometry.specs.sets.Shape.{Part}
 use Rattle.rp_language.specs.Name.{Label}
 use Rattle.rp_walks.specs.Walk.{Outcome, done, Walk, pass, ◌>>=◌}
 use Rattle.rp_walks.specs.Form.{touching_pair, parts_or_none}
 use Rattle.rp_model.specs.states.State.{Lot, PlainState, live_lots, live_lot, lots_of_layer, other_lots, layer_of_lot, parts_of_lot}
 use Rattle.rp_model.specs.commands.Verdict.{Refusal, unknown, neighbour_lines}
-use Rattle.rp_model.specs.commands.Checks.{check_live, refuse_if}
 use Rattle.rp_model.specs.commands.Row.{Reply, reply_lines, refusal, check, lot_parts, count_with_each, touched_lots, row_neighbours}
 use Rattle.rp_reports.specs.Check.{Trail, follow_count, line_tester}
 use Rattle.rp_tests.specs.declared.stopped.Stopped.{Stopped}
@@ -17,7 +16,7 @@ use Rattle.rp_nearby.specs.Near.{others_in, is_near, pairs_with}
 use Rattle.rp_nearby.proofs.Skipped.{touch_near}
 use Rattle.rp_register.specs.declared.parcel.Parcel.{Parcel}
 use Rattle.rp_register.specs.There.{lot_here, lots_here}
-use Rattle.rp_asked.proofs.Ancestors.{among_found}
+use Rattle.rp_questions.proofs.Accessed.{live_by}
 
 -- the reply that tells neighbours
 abbrev pub told_neighbours : List Label → Walk Trail Reply
@@ -35,20 +34,16 @@ count_and_touch ps near = follow_count (count_with_each touching_pair ps (lot_pa
 abbrev count_by : PlainState → Label → Option (Lot (Unit {0})) → Walk Trail Reply
 count_by s x o = count_and_touch (parts_or_none (parts_of_lot o)) (other_lots x (lots_of_layer (layer_of_lot s.layer o) (live_lots s.lots)))
 
--- the check, by whether the lot is there
-check_found : (s : PlainState) (x : Label) (o : Option (Lot (Unit {0}))) → live_lot x s.lots ≡ o → check_live s x ≡ refuse_if (not (is_some o)) (unknown x)
-check_found s x o e = ap (λ (b : Bool). refuse_if (not b) (unknown x)) (sym (among_found x (live_lots s.lots)) ∙ ap is_some e)
-
 -- an id that is not live is refused
 pub unknown_id : (s : PlainState) (x : Label) (t : Trail) → live_lot x s.lots ≡ None → row_neighbours line_tester s x t ≡ done (refusal (unknown x)) t
-unknown_id s x t e = ap (λ (o : Option Refusal). check o (count_by s x (live_lot x s.lots)) t) (check_found s x None e)
+unknown_id s x t e = ap (λ (o : Option Refusal). check o (count_by s x (live_lot x s.lots)) t) (live_by s x None e)
 
 -- the walk of a live lot
 pub count_left : (s : PlainState) (x : Label) (l : Lot (Unit {0})) (near : List (Lot (Unit {0}))) (t : Trail) → live_lot x s.lots ≡ Some l → near ≡ other_lots x (lots_of_layer l.layer (live_lots s.lots))
     → IsLeft t (row_neighbours line_tester s x) t (count_and_touch l.parts near)
 count_left s x l near t e n = record {
   same = ap (λ (ls : List (Lot (Unit {0}))). count_and_touch l.parts ls t) n
-      ∙ sym (ap (λ (o : Option Refusal). check o (count_by s x (live_lot x s.lots)) t) (check_found s x (Some l) e) ∙ ap (λ (o : Option (Lot (Unit {0}))). count_by s x o t) e);
+      ∙ sym (ap (λ (o : Option Refusal). check o (count_by s x (live_lot x s.lots)) t) (live_by s x (Some l) e) ∙ ap (λ (o : Option (Lot (Unit {0}))). count_by s x o t) e);
 }
 
 -- the other live lots of a lot's layer

@@ -21,7 +21,7 @@ fn append_spelled<I: Integer>(number: I, text: &mut Vec<u8>) -> Result<(), Alloc
 }
 
 /// Appends a piece of a text, and a number behind it. Answers `AllocError` only for want of memory.
-pub fn append_number<I: Integer>(
+pub(crate) fn append_number<I: Integer>(
     piece: &[u8],
     number: I,
     text: &mut Vec<u8>,

@@ -1,10 +1,11 @@
-use Rattle.std.proofs.Common.{sym, ap, ◌∙◌}
+use Rattle.std.proofs.Common.{◌+◌, ◌<◌, sym, ap, ◌∙◌, arith}
 use Rattle.std.specs.Prelude.{option_map}
 use Rattle.std.proofs.lemmas.Result.{err_from_is_err_and}
 use Rattle.rp_model.specs.states.State.{state_of_parts}
+use Rattle.rp_states.proofs.Added.{later_further}
 use Rattle.rp_syntax.specs.Versions.{version_of}
 use Rattle.rp_checker.specs.Answers.{echo_with}
-use Rattle.rp_checker.proofs.Numbered.{no_echo, low_echo, echo_halts, echo_ends, later_still}
+use Rattle.rp_checker.proofs.Numbered.{no_echo, low_echo, echo_halts, echo_ends}
 use Rattle.rp_checker.proofs.answer.follow_answer.Goals as goal
 
 pub returns-in_default : goal.returns-in_default
@@ -17,7 +18,7 @@ returns-then-n-last c =
     (sym c.next_echo.ensures ∙ ap (option_map echo_with) c.in-Some.is) c.if-n-last.true
 
 pub follow_echo-requires-clause-later : goal.follow_echo-requires-clause-later
-follow_echo-requires-clause-later c = later_still c.args.last c.in-Some.n (state_of_parts c.args.register.now) c.if-n-last.false c.requires
+follow_echo-requires-clause-later c = let later : c.args.last < c.in-Some.n = c.if-n-last.false in later_further (c.args.last + 1) c.in-Some.n (omega (arith, later)) (state_of_parts c.args.register.now) c.requires
 
 pub returns-in_err-follow_echo : goal.returns-in_err-follow_echo
 returns-in_err-follow_echo c =

@@ -1,4 +1,4 @@
-use Rattle.std.proofs.Common.{◌≡◌, ℕ, ◌≤◌, inl, inr, List, length, get_or, sym, ap, ◌∙◌, subst, arith}
+use Rattle.std.proofs.Common.{◌≡◌, ℕ, ◌≤◌, inl, inr, length, get_or, sym, ap, ◌∙◌, subst, arith}
 use Rattle.std.proofs.lemmas.List.{length-map}
 use Rattle.rp_space.specs.Listed.{Listed}
 use Rattle.rp_geometry.specs.parts.Groups.{groups_of}
@@ -9,15 +9,11 @@ use Rattle.std.proofs.lemmas.Result.{IfOk-weaker}
 use Rattle.rp_groups.proofs.groups.groups_of_links.Goals as goal
 use Rattle.rp_groups.proofs.groups.groups_of_links.Goals.{then-parent-number, else-parent-number}
 
--- how many lists there are
-lists_length : (lists : List (Listed ℕ)) → length (lists_of lists) ≡ length lists
-lists_length lists = length-map lists (λ list. list.items)
-
 pub put-requires : goal.put-requires
 put-requires c =
     let groups = c.loop-before.groups in
     let parents = c.in_ok-parents.parents.items in
-    let size = lists_length groups.items in
+    let size : length (lists_of groups.items) ≡ length groups.items = length-map groups.items (λ (group : Listed ℕ). group.items) in
     elim c.if-parent-number.branch [
       | then-parent-number w ↦
           let new = w.place-is ∙ w.len-place.ensures ∙ groups.ok.0 ∙ sym size in
@@ -33,7 +29,7 @@ pub loop-before-preserved : goal.loop-before-preserved
 loop-before-preserved c =
     let groups = c.loop-before.groups in
     let parents = c.in_ok-parents.parents.items in
-    let size = lists_length groups.items in
+    let size : length (lists_of groups.items) ≡ length groups.items = length-map groups.items (λ (group : Listed ℕ). group.items) in
     elim c.if-parent-number.branch [
       | then-parent-number w ↦
           let new = w.place-is ∙ w.len-place.ensures ∙ groups.ok.0 ∙ sym size in
