@@ -24,6 +24,3 @@ pub use links::Links;
 pub use route::Route;
 pub use search::levels;
 pub use way::chain;
-
-#[cfg(test)]
-mod tests;

@@ -25,6 +25,3 @@ pub use index::Index;
 pub use laws::{meeting_ids_are_exact, meeting_ids_rise};
 pub use steps::Steps;
 pub use watch::{Quiet, Watch};
-
-#[cfg(test)]
-mod tests;

@@ -48,6 +48,3 @@ pub use decide::{
 pub use held::Held;
 pub use side_proofs::SideProofs;
 pub use slimming::{Cell, Drops, Slimmed, slim};
-
-#[cfg(test)]
-mod tests;

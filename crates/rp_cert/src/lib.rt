@@ -27,6 +27,3 @@ pub use proof::{Proof, Proofs};
 pub use ring::is_angle_before;
 pub use slice::{Slice, check_slice};
 pub use trace::{has_trace, trace_at};
-
-#[cfg(test)]
-mod tests;

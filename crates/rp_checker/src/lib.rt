@@ -12,6 +12,3 @@ mod report;
 mod rows;
 
 pub use report::{Found, check_report};
-
-#[cfg(test)]
-mod tests;

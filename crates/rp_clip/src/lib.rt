@@ -40,6 +40,3 @@ mod table;
 
 pub use clip::Clip;
 pub use search::{inside_on_polygons, weak_on_polygon};
-
-#[cfg(test)]
-mod tests;

@@ -8,6 +8,3 @@ mod judge;
 
 pub use halves::judge_all;
 pub use judge::Judge;
-
-#[cfg(test)]
-mod tests;

@@ -36,6 +36,3 @@ pub use minors::{Axis, minors_of_two, minors_on_axes};
 pub use refutation::{are_multipliers, are_negated_multipliers, negated};
 pub use search::{first_outside, first_outside_of_two};
 pub use through::first_outside_through;
-
-#[cfg(test)]
-mod tests;

@@ -32,6 +32,3 @@ pub use part::made;
 pub use prism::prismed;
 pub use shown::{Slices, slices};
 pub use trail::Trail;
-
-#[cfg(test)]
-mod tests;

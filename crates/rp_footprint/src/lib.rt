@@ -9,6 +9,3 @@ mod line;
 mod prism;
 
 pub use prism::{prism_holds, trapezoid};
-
-#[cfg(test)]
-mod tests;

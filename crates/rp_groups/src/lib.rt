@@ -8,6 +8,3 @@ mod forest;
 mod groups;
 
 pub use groups::{PieceList, groups_of_links};
-
-#[cfg(test)]
-mod tests;

@@ -10,5 +10,4 @@ pub mod Repeated
 -- for other crates
 pub mod Bare
 pub mod Together
-pub mod Numbers
 pub mod Sizes

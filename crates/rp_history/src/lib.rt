@@ -17,6 +17,3 @@ mod lot;
 pub use fault::NameFault;
 pub use history::History;
 pub use lot::{Birth, LotLine};
-
-#[cfg(test)]
-mod tests;

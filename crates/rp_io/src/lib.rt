@@ -17,6 +17,3 @@ pub use intake::{IntakeFault, read_whole};
 pub use sink::{MemorySink, QuietSink, Sink};
 pub use source::{MemorySource, QuietSource, Source};
 pub use standard::{StdSink, StdSource};
-
-#[cfg(test)]
-mod tests;

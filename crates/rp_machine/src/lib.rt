@@ -20,6 +20,3 @@ mod step;
 
 pub use fault::FormFault;
 pub use machine::Machine;
-
-#[cfg(test)]
-mod tests;

@@ -22,6 +22,3 @@ pub use boxes::LotBoxes;
 pub use moment::{Moment, is_there};
 pub use near::Reach;
 pub use owner::Holder;
-
-#[cfg(test)]
-mod tests;

@@ -31,6 +31,3 @@ pub use fault::ParcelFault;
 pub use parcels::Parcels;
 pub use regions::Regions;
 pub use rp_nearby::{Access, Levels};
-
-#[cfg(test)]
-mod tests;

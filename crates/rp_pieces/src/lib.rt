@@ -8,6 +8,3 @@ mod region;
 
 pub use region::pieces;
 pub use rp_groups::PieceList;
-
-#[cfg(test)]
-mod tests;

@@ -25,6 +25,3 @@ pub use fault::OpFault;
 pub use part::Part;
 pub use region::Region;
 pub use work::Work;
-
-#[cfg(test)]
-mod tests;

@@ -13,6 +13,3 @@ pub use cover::{equal, is_empty, within};
 pub use meeting::{contact, overlap};
 pub use relation::{RccFault, rcc};
 pub use rp_once::Rcc8;
-
-#[cfg(test)]
-mod tests;

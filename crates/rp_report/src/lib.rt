@@ -25,6 +25,3 @@ pub use echo::read_echo;
 pub use proof_line::read_proof;
 pub use slice_line::read_slice;
 pub use text::{write_answer, write_verdict};
-
-#[cfg(test)]
-mod tests;

@@ -35,6 +35,3 @@ pub use mark::{put_mark, split_mark};
 pub use output::put_lines;
 pub use task::{GivenTask, MadeTask, Task, listed_task};
 pub use text::write_count;
-
-#[cfg(test)]
-mod tests;

@@ -12,7 +12,5 @@ mod ring;
 mod side;
 mod slices;
 
+pub use guess::quick_ring;
 pub use slices::{Slices, section, slice};
-
-#[cfg(test)]
-mod tests;

@@ -36,6 +36,3 @@ pub use name::Name;
 pub use outside::{Outside, Term};
 pub use point::{Point, PointFault};
 pub use system::{System, joined, keep_bounds, with_cube};
-
-#[cfg(test)]
-mod tests;

@@ -18,8 +18,6 @@ mod number;
 mod numbers;
 mod space;
 mod spelling;
-#[cfg(test)]
-mod tests;
 mod version;
 mod words;
 

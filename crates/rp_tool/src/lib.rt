@@ -15,6 +15,3 @@ mod top;
 mod trial;
 
 pub use top::tool;
-
-#[cfg(test)]
-mod tests;

@@ -17,9 +17,6 @@ ghost use Rattle.rp_upgrade.specs.Upgraded.{upgraded_text};
 use rp_syntax::{Line, Version, read_line, write_command};
 use std::alloc::{AllocError, Global};
 
-#[cfg(test)]
-mod tests;
-
 /// Whether a line is neither blank nor a command.
 fn is_bad(read: &Line) -> bool
     ensures { result ≡ is_bad_reading (line_of read.now) }

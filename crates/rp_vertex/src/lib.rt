@@ -39,6 +39,3 @@ pub use bounds::{box_of_points, box_of_vertices};
 pub use certificate::{
     first_inside, first_inside_over_triples, first_weak, inside_on_few_lines, weak_on_few_lines,
 };
-
-#[cfg(test)]
-mod tests;

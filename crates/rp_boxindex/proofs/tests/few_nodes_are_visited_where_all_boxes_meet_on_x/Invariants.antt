@@ -1,4 +1,0 @@
-use Rattle.rp_boxindex.proofs.tests.few_nodes_are_visited_where_all_boxes_meet_on_x.Given as goal
-
-abbrev pub ghosts-search : goal.ghosts-search
-ghosts-search g a = record { name = a.blank.name; parts = a.blank.parts }

@@ -1,4 +1,0 @@
-use Rattle.rp_boxindex.proofs.tests.the_first_id_is_found_by_few_visits.Given as goal
-
-abbrev pub ghosts-first : goal.ghosts-first
-ghosts-first g a = record { name = a.blank.name; parts = a.blank.parts }

@@ -1,0 +1,19 @@
+#![tactic(auto)]
+//! Tests of numbers, certificates, the searches and cells.
+//!
+//! They use what the crates give to all, and stand apart so that no program's crate is proved with tests.
+
+#[cfg(test)]
+mod cell;
+#[cfg(test)]
+mod cert;
+#[cfg(test)]
+mod clip;
+#[cfg(test)]
+mod elim;
+#[cfg(test)]
+mod footprint;
+#[cfg(test)]
+mod space;
+#[cfg(test)]
+mod vertex;

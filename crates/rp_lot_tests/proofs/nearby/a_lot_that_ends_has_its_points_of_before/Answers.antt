@@ -1,0 +1,14 @@
+use Rattle.std.proofs.Common.{◌≡◌, ℕ, ◌≤◌, List, [], ◌∷◌, map, length, ap, ◌∙◌, arith}
+use Rattle.std.proofs.lemmas.List.{length-map}
+use Rattle.rp_language.specs.Name.{Label}
+use Rattle.rp_model.specs.states.State.{Lot, ended_at}
+use Rattle.rp_lot_tests.proofs.nearby.a_lot_that_ends_has_its_points_of_before.Goals as goal
+
+-- the places behind one lot, ended or not
+behind_one : (n : ℕ) (ids : List Label) (old new : List (Lot (Unit {0}))) (k : ℕ) → length old ≡ 1 → new ≡ map (ended_at n ids) old → length new ≤ k → 1 ≤ k
+behind_one n ids old new k one is f = let many = ap length is ∙ length-map old (ended_at n ids) in omega (arith, one, many, f)
+
+pub count_near-requires : goal.count_near-requires
+count_near-requires g c k f =
+    let behind = behind_one 2 (c.in_ok-name.field-0 ∷ []) c.in_ok-history.history c.end.new.self k c.in_ok-history.ensures.one c.end.ensures.lots f in
+    c.end_all.ensures.live.rest k behind ∙ c.in_ok-boxes.ensures.live k behind

@@ -1,0 +1,186 @@
+ghost use Rattle.std.specs.Prelude.{◌≡◌, ◌<◌};
+
+use rp_boxindex::{Choice, Index, IndexFault, Quiet, Steps, Watch};
+use rp_space::IntBox;
+use std::alloc::{AllocError, Global};
+use std::marker::Brand;
+use std::sync::atomic::{AtomicU64, Ordering};
+use std::sync::ledger::{Blank, Ledger};
+use std::test::Fail;
+
+/// Shows that a type may be sent to other threads and shared with them.
+fn needs_send_sync<T: Send + Sync>() {}
+
+#[test]
+fn types_cross_threads() {
+    needs_send_sync::<Index>();
+    needs_send_sync::<IndexFault>();
+    needs_send_sync::<Quiet>();
+}
+
+/// A search with a count of its own.
+fn search<W: Watch, L: Ledger>(
+    index: &Index,
+    alloc: Global,
+    bounds: &IntBox,
+    closed: bool,
+    watch: &W,
+    blank: Blank,
+) -> Result<Vec<u32>, AllocError>
+    requires name { blank.name ≡ L.name }
+    requires parts { blank.parts ≡ L.parts }
+    requires some { 0 < L.parts }
+{
+    let mut steps = Steps::<L>::new(blank);
+    index.meeting(alloc, bounds, closed, watch, &mut steps)
+}
+
+const FIRST: IntBox = IntBox {
+    lo: [0, 0, 0],
+    hi: [10, 10, 10],
+};
+
+const SECOND: IntBox = IntBox {
+    lo: [10, 0, 0],
+    hi: [20, 10, 10],
+};
+
+const CORNER: IntBox = IntBox {
+    lo: [5, 5, 5],
+    hi: [10, 10, 10],
+};
+
+#[test]
+fn closed_boxes_also_meet_where_they_touch(rt: HostRuntime) -> Result<(), Fail> {
+    let alloc = rt.alloc();
+    let mut index = Index::new(alloc);
+    index.insert(alloc, 2, SECOND)?;
+    index.insert(alloc, 1, FIRST)?;
+    let open = search::<_, Brand>(&index, alloc, &CORNER, false, &Quiet, Blank::new(1))?;
+    assert_eq!(rt; open.as_slice(), [1].as_slice());
+    let closed = search::<_, Brand>(&index, alloc, &CORNER, true, &Quiet, Blank::new(1))?;
+    assert_eq!(rt; closed.as_slice(), [1, 2].as_slice());
+    assert_eq!(rt; index.insert(alloc, 2, FIRST), Err(IndexFault::Known));
+    assert!(rt; index.remove(1));
+    assert!(rt; !index.remove(1));
+    let left = search::<_, Brand>(&index, alloc, &CORNER, true, &Quiet, Blank::new(1))?;
+    assert_eq!(rt; left.as_slice(), [2].as_slice());
+    Ok(())
+}
+
+/// Counts the nodes that are visited.
+#[derive(Drop)]
+struct Visits(AtomicU64);
+
+impl Watch for Visits {
+    fn node(&self) {
+        self.0.fetch_add(1, Ordering::SeqCst);
+    }
+
+    fn item(&self, _i: usize) {}
+}
+
+/// The box from x to x + 1, and from 0 to 1 on the other axes.
+fn slice(x: u16) -> IntBox {
+    let x = x as i32;
+    IntBox {
+        lo: [x, 0, 0],
+        hi: [x + 1, 1, 1],
+    }
+}
+
+#[test]
+fn few_of_many_nodes_are_visited(rt: HostRuntime) -> Result<(), Fail> {
+    let alloc = rt.alloc();
+    let mut index = Index::new(alloc);
+    for i in 0..1023u16 {
+        index.insert(alloc, i as u32, slice(i))?;
+    }
+    let visits = Visits(AtomicU64::new(0));
+    let open = search::<_, Brand>(&index, alloc, &slice(500), false, &visits, Blank::new(1))?;
+    assert_eq!(rt; open.as_slice(), [500].as_slice());
+    assert!(rt; (1..=84).contains(&visits.0.load(Ordering::SeqCst)));
+    let visits = Visits(AtomicU64::new(0));
+    let closed = search::<_, Brand>(&index, alloc, &slice(500), true, &visits, Blank::new(1))?;
+    assert_eq!(rt; closed.as_slice(), [499, 500, 501].as_slice());
+    assert!(rt; (1..=168).contains(&visits.0.load(Ordering::SeqCst)));
+    Ok(())
+}
+
+/// The box from z to z + 1, and from 0 to 1 on the other axes.
+fn storey(z: u16) -> IntBox {
+    let z = z as i32;
+    IntBox {
+        lo: [0, 0, z],
+        hi: [1, 1, z + 1],
+    }
+}
+
+#[test]
+fn few_nodes_are_visited_where_all_boxes_meet_on_x(rt: HostRuntime) -> Result<(), Fail> {
+    let alloc = rt.alloc();
+    let mut index = Index::new(alloc);
+    for i in 0..1023u16 {
+        index.insert(alloc, i as u32, storey(i))?;
+    }
+    let visits = Visits(AtomicU64::new(0));
+    let open = search::<_, Brand>(&index, alloc, &storey(500), false, &visits, Blank::new(1))?;
+    assert_eq!(rt; open.as_slice(), [500].as_slice());
+    // At each of the ten levels at most two nodes.
+    assert!(rt; (1..=20).contains(&visits.0.load(Ordering::SeqCst)));
+    Ok(())
+}
+
+/// The ids from one on.
+#[derive(Clone, Copy)]
+struct AtLeast(u32);
+
+impl Choice for AtLeast {
+    ghost use Rattle.std.specs.Prelude.{nat_le};
+
+    ghost passes = { λ least id. nat_le least.0 id };
+
+    fn passes(&self, id: u32) -> bool {
+        self.0 <= id
+    }
+}
+
+/// A search for the first id with a count of its own.
+fn first<C: Choice, W: Watch, L: Ledger>(
+    index: &Index,
+    bounds: &IntBox,
+    choice: &C,
+    watch: &W,
+    blank: Blank,
+) -> Option<u32>
+    requires name { blank.name ≡ L.name }
+    requires parts { blank.parts ≡ L.parts }
+    requires some { 0 < L.parts }
+{
+    let mut steps = Steps::<L>::new(blank);
+    index.first(bounds, true, choice, watch, &mut steps)
+}
+
+#[test]
+fn the_first_id_is_found_by_few_visits(rt: HostRuntime) -> Result<(), Fail> {
+    let alloc = rt.alloc();
+    let mut index = Index::new(alloc);
+    for i in 0..1023u16 {
+        index.insert(alloc, i as u32, slice(i))?;
+    }
+    let visits = Visits(AtomicU64::new(0));
+    assert_eq!(rt;
+        first::<_, _, Brand>(&index, &slice(500), &AtLeast(0), &visits, Blank::new(1)),
+        Some(499)
+    );
+    assert_eq!(rt;
+        first::<_, _, Brand>(&index, &slice(500), &AtLeast(501), &visits, Blank::new(1)),
+        Some(501)
+    );
+    assert_eq!(rt;
+        first::<_, _, Brand>(&index, &slice(500), &AtLeast(502), &visits, Blank::new(1)),
+        None
+    );
+    assert!(rt; (3..=504).contains(&visits.0.load(Ordering::SeqCst)));
+    Ok(())
+}

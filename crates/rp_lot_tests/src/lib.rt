@@ -1,0 +1,17 @@
+#![tactic(auto)]
+//! Tests of lots: their boxes, their history, access and the register of the run.
+//!
+//! They use what the crates give to all, and stand apart so that no program's crate is proved with tests.
+
+#[cfg(test)]
+mod access;
+#[cfg(test)]
+mod boxindex;
+#[cfg(test)]
+mod crew;
+#[cfg(test)]
+mod history;
+#[cfg(test)]
+mod nearby;
+#[cfg(test)]
+mod parcels;

@@ -1,6 +1,0 @@
-use Rattle.std.proofs.Common.{[], arith}
-use Rattle.rp_nearby.proofs.Put.{none_behind_put}
-use Rattle.rp_nearby.proofs.tests.boxes_behind_a_place_are_taken_out.Goals as goal
-
-pub count_near-requires : goal.count_near-requires
-count_near-requires g c k f = none_behind_put c.in_ok-boxes.boxes.live c.remove_all.new.self.live 0 0 [] c.remove_all.ensures.live (omega arith) k (omega arith)

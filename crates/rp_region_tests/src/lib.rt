@@ -1,0 +1,15 @@
+#![tactic(auto)]
+//! Tests of regions: what combines, compares, slices and groups them.
+//!
+//! They use what the crates give to all, and stand apart so that no program's crate is proved with tests.
+
+#[cfg(test)]
+mod groups;
+#[cfg(test)]
+mod pieces;
+#[cfg(test)]
+mod region;
+#[cfg(test)]
+mod relate;
+#[cfg(test)]
+mod section;

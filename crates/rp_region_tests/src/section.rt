@@ -1,0 +1,229 @@
+ghost use Rattle.std.specs.Prelude.{◌≤◌, length};
+
+use arrayvec::ArrayVec;
+use rp_cert::{Edge, RingStep, Slice, check_slice};
+use rp_section::{quick_ring, slice};
+use rp_space::{Half, IntBox, Point, box_halves};
+use std::test::Fail;
+
+/// The numbers of a half-space.
+type Row = (i64, i64, i64, i64);
+
+/// A cell of at most 32 half-spaces.
+type Cell = ArrayVec<Half, 32>;
+
+/// The sides of a square.
+const SQUARE: [Row; 4] = [(1, 0, 0, 5), (0, 1, 0, 5), (-1, 0, 0, 5), (0, -1, 0, 5)];
+
+/// The sides of a triangle, with others beside it, through its corners and along its edges.
+const TRIANGLE: [Row; 10] = [
+    (2, 1, 0, 9),
+    (1, 0, 0, 0),
+    (1, 1, 0, 0),
+    (3, -1, 0, 5),
+    (0, 1, 0, 0),
+    (-1, 5, 0, 4),
+    (-1, -1, 0, 4),
+    (-2, -2, 0, 11),
+    (-3, -1, 0, 12),
+    (-1, -2, 0, 9),
+];
+
+/// Six sides, each of which cuts off a corner of the others.
+const HEXAGON: [Row; 6] = [
+    (1, 0, 0, 8),
+    (1, 1, 0, 9),
+    (0, 1, 0, 8),
+    (-1, 1, 0, 9),
+    (-1, 0, 0, 8),
+    (1, -1, 0, 9),
+];
+
+/// A quarter of a round cell: the upright planes touch a circle, the others lean a little.
+const QUARTER: [Row; 8] = [
+    (998, 69, 1, 1000383),
+    (965, 262, -2, 999935),
+    (895, 445, 3, 999525),
+    (791, 611, -4, 999501),
+    (657, 754, 5, 1000083),
+    (497, 868, -6, 1000217),
+    (318, 948, 7, 999914),
+    (127, 992, -8, 1000097),
+];
+
+/// The box with the corners (0, 0, 0) and (10, 10, 10).
+fn ten_box() -> [Half; 6] {
+    box_halves(&IntBox {
+        lo: [0; 3],
+        hi: [10; 3],
+    })
+}
+
+/// A step of a ring with these numbers.
+fn step(edge: (i32, i32, i64), end: (i128, i128, i128, i128)) -> Result<RingStep, Fail> {
+    let (a, b, d) = edge;
+    let (x, y, z, w) = end;
+    let end = Point::new(x, y, z, w).ok().ok_or("no point")?;
+    Ok(RingStep {
+        edge: Edge { a, b, d },
+        end,
+    })
+}
+
+#[test]
+fn a_box_leaves_a_square(rt: HostRuntime) -> Result<(), Fail> {
+    let square = slice(&ten_box(), 5);
+    assert!(rt; check_slice(&ten_box(), 5, &square));
+    let Slice::Ring(steps) = square else {
+        return Err("no ring")?;
+    };
+    let wanted = [
+        step((1, 0, 0), (0, 0, 5, 1))?,
+        step((0, 1, 0), (10, 0, 5, 1))?,
+        step((-1, 0, 10), (10, 10, 5, 1))?,
+        step((0, -1, 10), (0, 10, 5, 1))?,
+    ];
+    assert!(rt; steps.items() == wanted.as_slice());
+    Ok(())
+}
+
+#[test]
+fn a_box_leaves_nothing_at_its_upper_side(rt: HostRuntime) -> Result<(), Fail> {
+    let Slice::Flat(terms) = slice(&ten_box(), 10) else {
+        return Err("no certificate")?;
+    };
+    assert_eq!(rt; terms.items().len(), 1);
+    for term in terms.items() {
+        assert_eq!(rt; term.by, 1);
+        assert_eq!(rt; term.half.numbers(), (0, 0, -1, 10));
+    }
+    Ok(())
+}
+
+#[test]
+fn a_tetrahedron_leaves_a_triangle(rt: HostRuntime) -> Result<(), Fail> {
+    let cell = [
+        Half::new(1, 0, 0, 0).ok().ok_or("no half-space")?,
+        Half::new(0, 1, 0, 0).ok().ok_or("no half-space")?,
+        Half::new(0, 0, 1, 0).ok().ok_or("no half-space")?,
+        Half::new(-2, -3, -5, 7).ok().ok_or("no half-space")?,
+    ];
+    let Slice::Ring(steps) = slice(&cell, 1) else {
+        return Err("no ring")?;
+    };
+    let wanted = [
+        step((1, 0, 0), (0, 0, 1, 1))?,
+        step((0, 1, 0), (1, 0, 1, 1))?,
+        step((-2, -3, 2), (0, 2, 3, 3))?,
+    ];
+    assert!(rt; steps.items() == wanted.as_slice());
+    Ok(())
+}
+
+#[test]
+fn three_half_spaces_leave_nothing(rt: HostRuntime) -> Result<(), Fail> {
+    let cell = [
+        Half::new(1, 0, 0, -1).ok().ok_or("no half-space")?,
+        Half::new(0, 1, 0, -1).ok().ok_or("no half-space")?,
+        Half::new(-1, -1, 0, 2).ok().ok_or("no half-space")?,
+    ];
+    let flat = slice(&cell, 0);
+    assert!(rt; check_slice(&cell, 0, &flat));
+    let Slice::Flat(terms) = flat else {
+        return Err("no certificate")?;
+    };
+    assert_eq!(rt; terms.items().len(), 3);
+    Ok(())
+}
+
+/// Appends a half-space to a cell.
+fn add(cell: &mut Cell, row: Row) -> Result<(), Fail> {
+    let (a, b, c, d) = row;
+    let half = Half::new(a, b, c, d).ok().ok_or("no half-space")?;
+    cell.try_push(half).ok().ok_or("no room")?;
+    Ok(())
+}
+
+/// The cell of some half-spaces.
+fn cell_of(rows: &[Row]) -> Result<Cell, Fail> {
+    let mut cell = Cell::new();
+    for row in rows {
+        add(&mut cell, *row)?;
+    }
+    Ok(cell)
+}
+
+/// A round cell of 32 half-spaces: a quarter, turned three times.
+fn round_cell() -> Result<Cell, Fail> {
+    let mut cell = Cell::new();
+    for (a, b, c, d) in QUARTER {
+        add(&mut cell, (a, b, c, d))?;
+        add(&mut cell, (-a, -b, c, d))?;
+        add(&mut cell, (b, -a, c, d))?;
+        add(&mut cell, (-b, a, c, d))?;
+    }
+    Ok(cell)
+}
+
+/// How many steps the ring of a cell has, which the guess has to be.
+fn steps_guessed(cell: &[Half]) -> Result<usize, Fail>
+    requires { length cell.now ≤ 32 }
+{
+    let Slice::Ring(steps) = slice(cell, 3) else {
+        return Err("no ring")?;
+    };
+    if quick_ring(cell, 3).items() != steps.items() {
+        return Err("the guess is not the ring")?;
+    }
+    Ok(steps.items().len())
+}
+
+#[test]
+fn the_guess_is_the_ring(rt: HostRuntime) -> Result<(), Fail> {
+    let cases: [(&[Row], usize); 10] = [
+        // bounded by the cube's sides alone, or by some of them
+        (&[], 4),
+        (&[(0, 0, 1, 0), (0, 0, -1, 9)], 4),
+        (&[(1, 1, 0, 0)], 3),
+        (&[(1, -2, 0, 7), (-1, 2, 0, 7)], 4),
+        // of the sides of the same angle the last, the middle or the first one is the furthest inside
+        (&[(1, 0, 0, 5), (3, 0, 0, 7), (2, 0, 1, -7)], 4),
+        (&[(1, 0, 0, 5), (2, 0, 1, -7), (3, 0, 0, 7)], 4),
+        (&[(2, 0, 1, -7), (1, 0, 0, 5), (3, 0, 0, 7)], 4),
+        (&SQUARE, 4),
+        (&TRIANGLE, 3),
+        (&HEXAGON, 6),
+    ];
+    for (rows, count) in cases {
+        let cell = cell_of(rows)?;
+        assert_eq!(rt; steps_guessed(cell.as_slice())?, count);
+    }
+    Ok(())
+}
+
+#[test]
+fn the_guess_is_the_ring_of_a_round_cell(rt: HostRuntime) -> Result<(), Fail> {
+    let cell = round_cell()?;
+    assert_eq!(rt; cell.len(), 32);
+    assert_eq!(rt; steps_guessed(cell.as_slice())?, 32);
+    Ok(())
+}
+
+#[test]
+fn a_cell_that_touches_a_height_is_flat(rt: HostRuntime) -> Result<(), Fail> {
+    let cases: [(&[Row], usize); 4] = [
+        // in an edge, in a corner of two or of three planes, and along all of the upper side
+        (&[(1, 0, 1, -3), (-1, 0, 1, -3), (0, 1, 0, 5)], 2),
+        (&[(1, 0, -1, 3), (0, 1, 0, 0), (-1, -1, 0, 0)], 3),
+        (&[(1, 2, -1, 3), (-3, 1, -1, 3), (2, -3, -1, 3)], 3),
+        (&[(1, 0, 0, 0), (0, 0, -1, 3)], 1),
+    ];
+    for (rows, count) in cases {
+        let cell = cell_of(rows)?;
+        let Slice::Flat(terms) = slice(cell.as_slice(), 3) else {
+            return Err("no certificate")?;
+        };
+        assert_eq!(rt; terms.items().len(), count);
+    }
+    Ok(())
+}

@@ -1,0 +1,497 @@
+//! The worked rows of the report, and what the tool answers where it does not come to the end.
+ghost use Rattle.std.specs.Prelude.{◌≡◌, ◌≢◌, ◌≤◌, ◌<◌, ◌⊎◌, false, [], map, length, IsTrue, None, string_bytes};
+ghost use Rattle.rp_io.specs.Faults.{last_count};
+ghost use Rattle.rp_reports.specs.Output.{check_report, most_report_bytes, task_of};
+ghost use Rattle.rp_tool.specs.Check.{IsWrittenReport};
+ghost use Rattle.rp_tool.specs.Status.{HasWritten, most_input_bytes, reads_input};
+
+use rp_io::{MemorySink, MemorySource, QuietSink, QuietSource};
+use rp_tool::status::{DONE, OUT_OF_MEMORY, PUT_FAILED, READ_FAILED, REFUSED, TOO_LONG, UNLISTED};
+use rp_tool::tool;
+use std::alloc::{AllocError, Global};
+use std::process::Abort;
+use std::test::Fail;
+use std::thread::Threads;
+
+/// Words of a command line.
+fn words_of(alloc: Global, texts: &[&str]) -> Result<Vec<String>, AllocError> {
+    let mut words = Vec::new(alloc);
+    for text in texts {
+        words.push(String::from_str(alloc, text)?)?;
+    }
+    Ok(words)
+}
+
+/// The status of the tool over a source and a sink that never fail: neither a read nor a put is to blame. With status 0 or
+/// 1 the sink has the whole output behind what it had, as long as its room was not passed; for listed words and an input
+/// within its limit nothing but want of memory stands in the way; and `check` accepts what was written for a script.
+fn quiet_status<R: Threads + Sync>(
+    rt: &R,
+    alloc: Global,
+    words: &[String],
+    source: &mut QuietSource<'_>,
+    sink: &mut QuietSink,
+) -> u8
+    ensures status { result ≤ TOO_LONG }
+    ensures read { result ≢ READ_FAILED }
+    ensures put { result ≢ PUT_FAILED }
+    ensures whole { result ≤ REFUSED → sink.new.is_passed ≡ false
+        → HasWritten (map string_bytes words.now) source.old sink.old.bytes sink.new.bytes result }
+    ensures completes { task_of (map string_bytes words.now) ≢ None → length source.old ≤ most_input_bytes (map string_bytes words.now)
+        → (result ≤ REFUSED) ⊎ (result ≡ OUT_OF_MEMORY) }
+    ensures accepts { task_of (map string_bytes words.now) ≡ Some check_report → length source.old ≤ most_report_bytes → IsWrittenReport source.old
+        → (result ≡ DONE) ⊎ (result ≡ OUT_OF_MEMORY) }
+{
+    tool(rt, alloc, words, source, sink)
+}
+
+/// The same over a source and a sink in memory, whose faults are listed: where none came the output is whole, and the
+/// source was read to its end or not at all.
+fn memory_status<R: Threads + Sync>(
+    rt: &R,
+    alloc: Global,
+    words: &[String],
+    source: &mut MemorySource<'_>,
+    sink: &mut MemorySink<'_>,
+) -> u8
+    ensures whole { result ≤ REFUSED
+        → HasWritten (map string_bytes words.now) source.old.left sink.old.bytes sink.new.bytes result }
+    ensures at_end { result ≤ REFUSED → IsTrue (reads_input (map string_bytes words.now)) → source.new.left ≡ [] }
+    ensures unread { reads_input (map string_bytes words.now) ≡ false → source.new ≡ source.old }
+    ensures completes { task_of (map string_bytes words.now) ≢ None → length source.old.left ≤ most_input_bytes (map string_bytes words.now)
+        → source.new.faults ≡ source.old.faults → source.old.faults < last_count
+        → sink.new.faults ≡ sink.old.faults → sink.old.faults < last_count
+        → (result ≤ REFUSED) ⊎ (result ≡ OUT_OF_MEMORY) }
+{
+    tool(rt, alloc, words, source, sink)
+}
+
+/// The status and the output of the tool on an input of one piece, with room for 10,000 bytes of output.
+fn run_on<R: Threads + Sync>(
+    rt: &R,
+    alloc: Global,
+    texts: &[&str],
+    input: &[u8],
+) -> Result<(u8, Vec<u8>), AllocError> {
+    let words = words_of(alloc, texts)?;
+    let mut source = QuietSource::new(input);
+    let mut sink = QuietSink::new(alloc, 10_000)?;
+    let status = quiet_status(rt, alloc, &words, &mut source, &mut sink);
+    Ok((status, Vec::from_slice(alloc, sink.bytes())?))
+}
+
+/// The report of a script of one line.
+fn report_of(alloc: Global, line: &str, verdict: &str) -> Result<String, AllocError> {
+    format!(in alloc; "> 1 {line}\n{verdict}\n")
+}
+
+#[test]
+fn reports_the_worked_rows(rt: HostRuntime) -> Result<(), Fail> {
+    let yes = "> 1 member half 1 0 0 0 0 5 5 1\n= yes\n";
+    let rows = [
+        ("member half 1 0 0 0 0 5 5 1\n", yes),
+        ("member half 1 0 0 0 0 5 5 1", yes),
+        ("member half 1 0 0 0 0 5 5 1\r\n", yes),
+        ("", ""),
+        (
+            "member half -1 0 0 0 0 5 5 1\n",
+            "> 1 member half -1 0 0 0 0 5 5 1\n= no\n",
+        ),
+        (
+            "member half 0 -1 0 5 3 5 9 1\nmember half 0 1 0 -5 3 5 9 1\n",
+            "> 1 member half 0 -1 0 5 3 5 9 1\n= no\n> 2 member half 0 1 0 -5 3 5 9 1\n= yes\n",
+        ),
+        (
+            "empty box 0 0 0 10 10 10\n",
+            "> 1 empty box 0 0 0 10 10 10\n  in (0 0 0 1) (0 0 10 1) (0 10 0 1) (10 0 0 1)\n  box 0 0 0 10 10 10\n  in (0 0 0 1) (0 0 10 1) (0 10 0 1) (10 0 0 1)\n= no\n",
+        ),
+        (
+            "empty box 0 0 0 0 10 10\n",
+            "> 1 empty box 0 0 0 0 10 10\n  out 1*(1 0 0 0) 1*(-1 0 0 0)\n= yes\n",
+        ),
+        (
+            "empty half 0 0 0 -1\n",
+            "> 1 empty half 0 0 0 -1\n  out 1*(0 0 0 -1)\n= yes\n",
+        ),
+        // Blank lines are numbered and told nothing.
+        (
+            "# a note\n\nmember half 1 0 0 0 0 5 5 1\n",
+            "> 3 member half 1 0 0 0 0 5 5 1\n= yes\n",
+        ),
+    ];
+    for (script, report) in rows {
+        let (status, told) = run_on(&rt, rt.alloc(), &["run"], script.as_bytes())?;
+        assert_eq!(rt; status, DONE, "on {script:?}");
+        assert_eq!(rt; told.as_slice(), report.as_bytes(), "on {script:?}");
+    }
+    Ok(())
+}
+
+#[test]
+fn answers_within_the_bounds_and_refuses_past_them(rt: HostRuntime) -> Result<(), Fail> {
+    let rows = [
+        (
+            "member half 16777216 16777216 16777216 844424930131968 0 0 0 1",
+            "= yes",
+        ),
+        (
+            "member half 16777217 16777216 16777216 844424930131968 0 0 0 1",
+            "= refused range",
+        ),
+        (
+            "member half 16777216 16777216 16777216 844424930131969 0 0 0 1",
+            "= refused range",
+        ),
+        ("member half 0 0 0 0 0 0 0 1", "= refused zero"),
+        ("member all 2535301200456458802993406410751 0 0 1", "= no"),
+        (
+            "member all 2535301200456458802993406410752 0 0 1",
+            "= refused range",
+        ),
+        ("member all 0 0 0 37778931862957161709567", "= yes"),
+        (
+            "member all 0 0 0 37778931862957161709568",
+            "= refused range",
+        ),
+        ("member all -16777216 0 0 1", "= yes"),
+        ("member all 16777216 0 0 1", "= no"),
+        ("member half 1 0 0 00 0 0 0 1", "= refused syntax"),
+        ("member half 1 0 0 -0 0 0 0 1", "= refused syntax"),
+        ("member  half 1 0 0 0 0 0 0 1", "= refused syntax"),
+        ("member half 1 0 0 0 0 0 0 1 1", "= refused syntax"),
+        ("half 1 0 0 0", "= refused syntax"),
+        ("member half 16777217 0 0 x", "= refused range"),
+        ("member half 1 0 0 0 0 0 0 0", "= refused range"),
+        // The last line of a script keeps its carriage return where no line end follows.
+        ("member half 1 0 0 0 0 5 5 1\r", "= refused syntax"),
+        // No such name is there, and no lot yet.
+        (
+            "member and all or none lot b 0 0 0 1",
+            "= refused unknown b",
+        ),
+        ("member minus name a lot b 0 0 0 1", "= refused unknown a"),
+        ("empty half 0 0 0 0", "= refused zero"),
+        ("empty name a", "= refused unknown a"),
+    ];
+    for (line, verdict) in rows {
+        let report = report_of(rt.alloc(), line, verdict)?;
+        let (status, told) = run_on(&rt, rt.alloc(), &["run"], line.as_bytes())?;
+        assert_eq!(rt; told.as_slice(), report.as_bytes(), "on {line:?}");
+        assert_eq!(rt;
+            status == REFUSED,
+            verdict.starts_with("= refused"),
+            "on {line:?}"
+        );
+    }
+    Ok(())
+}
+
+#[test]
+fn refuses_too_many_nodes_and_long_lines(rt: HostRuntime) -> Result<(), Fail> {
+    let alloc = rt.alloc();
+    let mut nodes = String::from_str(alloc, "empty")?;
+    for _ in 0..1024 {
+        nodes.push_str(" not")?;
+    }
+    nodes.push_str(" all")?;
+    let report = report_of(alloc, nodes.as_str(), "= refused nodes")?;
+    let (status, told) = run_on(&rt, alloc, &["run"], nodes.as_bytes())?;
+    assert_eq!(rt; status, REFUSED);
+    assert_eq!(rt; told.as_slice(), report.as_bytes());
+
+    let long = vec![in alloc; b'a'; 65_537]?;
+    let (status, told) = run_on(&rt, alloc, &["run"], &long)?;
+    assert_eq!(rt; status, REFUSED);
+    assert_eq!(rt; told.as_slice(), b"> 1\n= refused long\n".as_slice());
+    Ok(())
+}
+
+#[test]
+fn reports_scripts_of_version_two(rt: HostRuntime) -> Result<(), Fail> {
+    let rows = [
+        (
+            "rp 2\nmember box 0.000 0.000 0.000 0.010 0.010 0.010 0.005 0.003 0.005 9\n\n",
+            DONE,
+            "> 0 rp 2\n> 1 member box 0.000 0.000 0.000 0.010 0.010 0.010 0.005 0.003 0.005 9\n= yes\n",
+        ),
+        (
+            "rp 2\nmember all 5 0.000 0.000 1\nmember all -0.000 0.000 0.000 1\n",
+            REFUSED,
+            "> 0 rp 2\n> 1 member all 5 0.000 0.000 1\n= refused syntax\n> 2 member all -0.000 0.000 0.000 1\n= refused syntax\n",
+        ),
+        (
+            "rp 2\nempty box 0.000 0.000 0.000 16777.217 0.001 0.001\n",
+            REFUSED,
+            "> 0 rp 2\n> 1 empty box 0.000 0.000 0.000 16777.217 0.001 0.001\n= refused range\n",
+        ),
+        ("rp 2", DONE, "> 0 rp 2\n"),
+        // A line like any other, where it is not the first one, or has one byte more.
+        (
+            "rp 2\nrp 2\n",
+            REFUSED,
+            "> 0 rp 2\n> 1 rp 2\n= refused syntax\n",
+        ),
+        ("\nrp 2\n", REFUSED, "> 2 rp 2\n= refused syntax\n"),
+        ("rp 2 \n", REFUSED, "> 1 rp 2 \n= refused syntax\n"),
+        ("rp 2\r", REFUSED, "> 1 rp 2\r\n= refused syntax\n"),
+    ];
+    for (script, want, report) in rows {
+        let (status, told) = run_on(&rt, rt.alloc(), &["run"], script.as_bytes())?;
+        assert_eq!(rt; status, want, "on {script:?}");
+        assert_eq!(rt; told.as_slice(), report.as_bytes(), "on {script:?}");
+    }
+    Ok(())
+}
+
+#[test]
+fn brief_reports_tell_no_proof_line(rt: HostRuntime) -> Result<(), Fail> {
+    let rows = [
+        (
+            "empty box 0 0 0 0 10 10\n",
+            DONE,
+            "> 1 empty box 0 0 0 0 10 10\n= yes\n",
+        ),
+        (
+            "empty box 0 0 0 10 10 10\n# a note\nempty name a\n",
+            REFUSED,
+            "> 1 empty box 0 0 0 10 10 10\n= no\n> 3 empty name a\n= refused unknown a\n",
+        ),
+        (
+            "rp 2\nshow box -0.001 0.000 0.000 0.001 0.002 0.003\n",
+            DONE,
+            "> 0 rp 2\n> 1 show box -0.001 0.000 0.000 0.001 0.002 0.003\n= parts 1\n= part (1 0 0 1) (-1 0 0 1) (0 1 0 0) (0 -1 0 2) (0 0 1 0) (0 0 -1 3)\n",
+        ),
+        ("", DONE, ""),
+    ];
+    for (script, want, report) in rows {
+        let (status, told) = run_on(&rt, rt.alloc(), &["run", "brief"], script.as_bytes())?;
+        assert_eq!(rt; status, want, "on {script:?}");
+        assert_eq!(rt; told.as_slice(), report.as_bytes(), "on {script:?}");
+    }
+    Ok(())
+}
+
+#[test]
+fn checks_reports(rt: HostRuntime) -> Result<(), Fail> {
+    let rows = [
+        ("", "accepted\n"),
+        (
+            "> 1 empty box 0 0 0 0 10 10\n  out 1*(1 0 0 0) 1*(-1 0 0 0)\n= yes\n",
+            "accepted\n",
+        ),
+        // Other multiples that show the same.
+        (
+            "> 1 empty box 0 0 0 0 10 10\n  out 7*(-1 0 0 0) 7*(1 0 0 0)\n= yes\n",
+            "accepted\n",
+        ),
+        (
+            "> 1 empty box 0 0 0 0 10 10\n  out 1*(1 0 0 0) 2*(-1 0 0 0)\n= yes\n",
+            "wrong 2\n",
+        ),
+        (
+            "> 1 empty box 0 0 0 0 10 10\n  out 1*(1 0 0 0) 1*(-1 0 0 0)\n= no\n",
+            "wrong 3\n",
+        ),
+        // It breaks off.
+        ("> 1 empty box 0 0 0 0 10 10\n", "wrong 2\n"),
+        // A carriage return belongs to its line.
+        ("> 1 member all 0 0 0 1\n= yes\r\n", "wrong 2\n"),
+        // What is echoed is read by the version that the first line tells.
+        (
+            "> 0 rp 2\n> 1 member all 0.000 0.000 0.000 1\n= yes\n",
+            "accepted\n",
+        ),
+        ("> 0 rp 2\n> 1 member all 0 0 0 1\n= yes\n", "wrong 3\n"),
+        ("> 1 member all 0.000 0.000 0.000 1\n= yes\n", "wrong 2\n"),
+    ];
+    for (report, want) in rows {
+        let (status, told) = run_on(&rt, rt.alloc(), &["check"], report.as_bytes())?;
+        let accepted = want == "accepted\n";
+        assert_eq!(rt;
+            status,
+            if accepted { DONE } else { REFUSED },
+            "on {report:?}"
+        );
+        assert_eq!(rt; told.as_slice(), want.as_bytes(), "on {report:?}");
+    }
+    Ok(())
+}
+
+/// Has the report of a script checked, which must be accepted.
+fn expect_accepted<R: Abort + Threads + Sync>(
+    rt: &R,
+    alloc: Global,
+    script: &[u8],
+) -> Result<(), AllocError> {
+    let (_, report) = run_on(rt, alloc, &["run"], script)?;
+    let (status, told) = run_on(rt, alloc, &["check"], &report)?;
+    assert_eq!(rt; status, DONE);
+    assert_eq!(rt; told.as_slice(), b"accepted\n".as_slice());
+    Ok(())
+}
+
+#[test]
+fn accepts_what_was_written(rt: HostRuntime) -> Result<(), Fail> {
+    let alloc = rt.alloc();
+    let script =
+        "let a = box 0 0 0 10 10 10\nshow minus name a box 0 0 0 4 10 10\nwalk\n\nregister lot-7 name a\nregister lot-8 name a\ncut lot-7 half 1 0 0 -5 east west\nneighbours east\n";
+    let (_, upgraded) = run_on(&rt, alloc, &["upgrade"], script.as_bytes())?;
+    expect_accepted(&rt, alloc, script.as_bytes())?;
+    expect_accepted(&rt, alloc, &upgraded)?;
+    Ok(())
+}
+
+#[test]
+fn counts_in_the_report_of_a_made_script(rt: HostRuntime) -> Result<(), Fail> {
+    // Nothing is read, so what the source has is no matter.
+    let (status, told) = run_on(&rt, rt.alloc(), &["trial", "1", "0"], b"walk\n")?;
+    assert_eq!(rt; status, DONE);
+    assert_eq!(rt;
+        told.as_slice(),
+        b"lines 5\nrefused 0\nlive 2\nproofs 16\n".as_slice()
+    );
+    Ok(())
+}
+
+#[test]
+fn stops_where_a_read_or_a_put_fails(rt: HostRuntime) -> Result<(), Fail> {
+    let alloc = rt.alloc();
+    let words = words_of(alloc, &["run"])?;
+    // The number of the read that fails; that of the put that fails, and the bytes that it appends. No call has number 0.
+    let rows = [
+        ([1], [(0, 0)], READ_FAILED, ""),
+        ([2], [(0, 0)], READ_FAILED, ""),
+        ([0], [(1, 0)], PUT_FAILED, ""),
+        (
+            [0],
+            [(2, 5)],
+            PUT_FAILED,
+            "> 1 empty box 0 0 0 0 10 10\n  out",
+        ),
+        (
+            [0],
+            [(3, 3)],
+            PUT_FAILED,
+            "> 1 empty box 0 0 0 0 10 10\n  out 1*(1 0 0 0) 1*(-1 0 0 0)\n= y",
+        ),
+        (
+            [0],
+            [(0, 0)],
+            DONE,
+            "> 1 empty box 0 0 0 0 10 10\n  out 1*(1 0 0 0) 1*(-1 0 0 0)\n= yes\n",
+        ),
+    ];
+    for (reads, puts, want, written) in rows {
+        let mut source = MemorySource::new(b"empty box 0 0 0 0 10 10\n", 10, &reads);
+        let mut sink = MemorySink::new(alloc, 1000, &puts)?;
+        let status = memory_status(&rt, alloc, &words, &mut source, &mut sink);
+        assert_eq!(rt; status, want, "on {reads:?} {puts:?}");
+        assert_eq!(rt; sink.bytes(), written.as_bytes(), "on {reads:?} {puts:?}");
+    }
+    Ok(())
+}
+
+/// The status of the tool over a sink whose put of this number fails, counted from 1.
+fn status_where_a_put_fails<R: Threads + Sync>(
+    rt: &R,
+    alloc: Global,
+    texts: &[&str],
+    input: &[u8],
+    number: u32,
+) -> Result<u8, AllocError> {
+    let words = words_of(alloc, texts)?;
+    let failing = [(number, 0)];
+    let mut source = MemorySource::new(input, 1000, &[]);
+    let mut sink = MemorySink::new(alloc, 10_000, &failing)?;
+    Ok(memory_status(rt, alloc, &words, &mut source, &mut sink))
+}
+
+#[test]
+fn there_is_one_put_for_each_line(rt: HostRuntime) -> Result<(), Fail> {
+    let alloc = rt.alloc();
+    let script = b"rp 2\nmember all 0.000 0.000 0.000 1\n\nempty none\nno command\n";
+    let report = b"> 1 member all 0 0 0 1\n= yes\n";
+    // With as many lines as the output has, of which each has its line feed.
+    let rows: [(&[&str], &[u8], u8); 10] = [
+        (&["run"], script, 7),
+        (&["run", "brief"], script, 7),
+        (&["run"], b"# a note\n\n", 0),
+        (&["check"], report, 1),
+        (&["script"], script, 3),
+        (&["script"], b"\n", 0),
+        (&["upgrade"], script, 5),
+        (&["upgrade"], b"", 1),
+        (&["make", "1", "0"], b"", 5),
+        (&["trial", "1", "0"], b"", 4),
+    ];
+    for (texts, input, lines) in rows {
+        let lines = u32::from(lines);
+        let whole = status_where_a_put_fails(&rt, alloc, texts, input, lines + 1)?;
+        assert!(rt; whole <= REFUSED, "one put more, on {texts:?}");
+        if lines > 0 {
+            let cut = status_where_a_put_fails(&rt, alloc, texts, input, lines)?;
+            assert_eq!(rt; cut, PUT_FAILED, "the last put, on {texts:?}");
+        }
+    }
+    Ok(())
+}
+
+#[test]
+fn puts_the_mark_by_itself(rt: HostRuntime) -> Result<(), Fail> {
+    let rows = [
+        ("run", "> 0 rp 2\n"),
+        ("script", "rp 2\n"),
+        ("upgrade", "rp 2\n"),
+    ];
+    for (word, written) in rows {
+        let words = words_of(rt.alloc(), &[word])?;
+        let mut source = MemorySource::new(b"rp 2\nempty none\n", 10, &[]);
+        let mut sink = MemorySink::new(rt.alloc(), 1000, &[(2, 0)])?;
+        let status = memory_status(&rt, rt.alloc(), &words, &mut source, &mut sink);
+        assert_eq!(rt; status, PUT_FAILED, "on {word}");
+        assert_eq!(rt; sink.bytes(), written.as_bytes(), "on {word}");
+    }
+    Ok(())
+}
+
+#[test]
+fn knows_no_other_words(rt: HostRuntime) -> Result<(), Fail> {
+    let script = b"member half 1 0 0 0 0 5 5 1\n";
+    let (unknown, first) = run_on(&rt, rt.alloc(), &["walk"], script)?;
+    let (longer, second) = run_on(&rt, rt.alloc(), &["run", "brief", "now"], script)?;
+    let (none, third) = run_on(&rt, rt.alloc(), &[], script)?;
+    assert_eq!(rt; (unknown, longer, none), (UNLISTED, UNLISTED, UNLISTED));
+    assert_eq!(rt; (first.len(), second.len(), third.len()), (0, 0, 0));
+    Ok(())
+}
+
+/// The status and the count of bytes put, on so many line ends.
+fn status_on_line_ends<R: Threads + Sync>(
+    rt: &R,
+    alloc: Global,
+    word: &str,
+    count: usize,
+) -> Result<(u8, usize), AllocError> {
+    let input = vec![in alloc; b'\n'; count]?;
+    let (status, told) = run_on(rt, alloc, &[word], &input)?;
+    Ok((status, told.len()))
+}
+
+#[test]
+fn takes_sixteen_million_bytes_and_no_more(rt: HostRuntime) -> Result<(), Fail> {
+    for (count, want) in [(16_777_216, DONE), (16_777_217, TOO_LONG)] {
+        let (status, length) = status_on_line_ends(&rt, rt.alloc(), "run", count)?;
+        assert_eq!(rt; status, want);
+        assert_eq!(rt; length, 0);
+    }
+    Ok(())
+}
+
+#[test]
+fn checks_longer_reports_than_scripts(rt: HostRuntime) -> Result<(), Fail> {
+    let (status, length) = status_on_line_ends(&rt, rt.alloc(), "check", 16_777_217)?;
+    // An empty line is no line of a report.
+    assert_eq!(rt; status, REFUSED);
+    assert_eq!(rt; length, b"wrong 1\n".len());
+    Ok(())
+}
