@@ -8,26 +8,71 @@ use rp_region::{OpFault, Region, Work};
 use rp_space::{IntBox, box_halves};
 use std::alloc::Global;
 use std::process::Abort;
-use std::test::Fail;
+
+/// The region of a box.
+fn of_box(rt: &impl Abort, alloc: Global, bounds: &IntBox, work: &mut Work) -> Region
+    requires { is_box_in_bounds (integer_box bounds.now) ≡ true }
+{
+    let made = Region::of_cell(alloc, &box_halves(bounds), work);
+    made.expect(rt, "no region of a box")
+}
+
+/// Two regions as one, the parts of the second behind those of the first.
+fn joined(rt: &impl Abort, first: Region, second: Region, work: &mut Work) -> Region {
+    let made = first.into_either(second, work);
+    made.expect(rt, "two regions are not joined")
+}
 
 /// A region and a box behind it, as one part more.
 fn with_box(
+    rt: &impl Abort,
     alloc: Global,
     region: Region,
     bounds: &IntBox,
     work: &mut Work,
-) -> Result<Region, OpFault>
+) -> Region
     requires { is_box_in_bounds (integer_box bounds.now) ≡ true }
 {
-    let part = Region::of_cell(alloc, &box_halves(bounds), work)?;
-    region.into_either(part, work)
+    let part = of_box(rt, alloc, bounds, work);
+    joined(rt, region, part, work)
+}
+
+/// The pieces of a region.
+fn found(rt: &impl Abort, alloc: Global, region: &Region, work: &mut Work) -> PieceList {
+    let list = pieces(alloc, region, work);
+    list.expect(rt, "no pieces")
 }
 
 /// Compares the numbers of pieces.
 fn expect_pieces(rt: &impl Abort, list: &PieceList, wanted: &[&[u32]]) {
     assert_eq!(rt; list.items().len(), wanted.len());
     for (piece, numbers) in list.items().iter().zip(wanted) {
-        assert!(rt; piece.items() == *numbers, "{piece:?}");
+        assert_eq!(rt; piece.items(), *numbers);
+    }
+}
+
+/// Compares the pieces of a region.
+fn expect_found(
+    rt: &impl Abort,
+    alloc: Global,
+    region: &Region,
+    work: &mut Work,
+    wanted: &[&[u32]],
+) {
+    let list = found(rt, alloc, region, work);
+    expect_pieces(rt, &list, wanted);
+}
+
+/// Whether a proof line shows that two cells are apart.
+fn is_apart(proof: &Proof) -> bool {
+    matches!(proof, Proof::Apart(_))
+}
+
+/// The point of a proof line that shows contact.
+fn contact_of(proof: &Proof) -> Option<(i128, i128, i128, i128)> {
+    match proof {
+        Proof::At(point) => Some(point.numbers()),
+        _ => None,
     }
 }
 
@@ -37,43 +82,51 @@ const FIRST: IntBox = IntBox {
     hi: [10, 10, 10],
 };
 
-#[test]
-fn boxes_that_touch_at_a_corner_are_one_piece(rt: HostRuntime) -> Result<(), Fail> {
-    let mut making = Work::new(rt.alloc());
-    let corner = IntBox {
-        lo: [10, 10, 10],
-        hi: [20, 20, 20],
-    };
-    let first = with_box(rt.alloc(), Region::none(rt.alloc()), &FIRST, &mut making)?;
-    let both = with_box(rt.alloc(), first, &corner, &mut making)?;
-    let mut work = Work::new(rt.alloc());
-    expect_pieces(&rt, &pieces(rt.alloc(), &both, &mut work)?, &[&[1, 2]]);
-    assert_eq!(rt; work.tests(), 1);
-    let [Proof::At(point)] = work.proofs() else {
-        return Err("not one point".into());
-    };
-    assert_eq!(rt; point.numbers(), (10, 10, 10, 1));
-    Ok(())
+/// The box that touches it at its upper corner alone.
+const CORNER: IntBox = IntBox {
+    lo: [10, 10, 10],
+    hi: [20, 20, 20],
+};
+
+/// The first box.
+fn first(rt: &impl Abort, alloc: Global, work: &mut Work) -> Region {
+    with_box(rt, alloc, Region::none(alloc), &FIRST, work)
+}
+
+/// The first box and another one, in two parts.
+fn with_first(rt: &impl Abort, alloc: Global, bounds: &IntBox, work: &mut Work) -> Region
+    requires { is_box_in_bounds (integer_box bounds.now) ≡ true }
+{
+    let first = first(rt, alloc, work);
+    with_box(rt, alloc, first, bounds, work)
 }
 
 #[test]
-fn boxes_apart_are_two_pieces(rt: HostRuntime) -> Result<(), Fail> {
-    let mut making = Work::new(rt.alloc());
+fn boxes_that_touch_at_a_corner_are_one_piece(rt: HostRuntime) {
+    let both = with_first(&rt, rt.alloc(), &CORNER, &mut Work::new(rt.alloc()));
+    let mut work = Work::new(rt.alloc());
+    expect_found(&rt, rt.alloc(), &both, &mut work, &[&[1, 2]]);
+    assert_eq!(rt; work.tests(), 1);
+    assert_eq!(rt; work.proofs().len(), 1);
+    assert_eq!(rt; contact_of(&work.proofs()[0]), Some((10, 10, 10, 1)));
+}
+
+#[test]
+fn boxes_apart_are_two_pieces(rt: HostRuntime) {
     let apart = IntBox {
         lo: [11, 11, 11],
         hi: [21, 21, 21],
     };
-    let first = with_box(rt.alloc(), Region::none(rt.alloc()), &FIRST, &mut making)?;
-    let both = with_box(rt.alloc(), first, &apart, &mut making)?;
+    let both = with_first(&rt, rt.alloc(), &apart, &mut Work::new(rt.alloc()));
     let mut work = Work::new(rt.alloc());
-    expect_pieces(&rt, &pieces(rt.alloc(), &both, &mut work)?, &[&[1], &[2]]);
+    expect_found(&rt, rt.alloc(), &both, &mut work, &[&[1], &[2]]);
     assert_eq!(rt; work.tests(), 1);
-    assert!(rt; matches!(work.proofs(), [Proof::Apart(_)]));
-    Ok(())
+    assert_eq!(rt; work.proofs().len(), 1);
+    assert!(rt; is_apart(&work.proofs()[0]));
 }
 
 #[test]
-fn a_row_of_boxes_is_one_piece(rt: HostRuntime) -> Result<(), Fail> {
+fn a_row_of_boxes_is_one_piece(rt: HostRuntime) {
     let mut making = Work::new(rt.alloc());
     let second = IntBox {
         lo: [10, 0, 0],
@@ -87,23 +140,17 @@ fn a_row_of_boxes_is_one_piece(rt: HostRuntime) -> Result<(), Fail> {
         lo: [40, 0, 0],
         hi: [50, 10, 10],
     };
-    let row = with_box(rt.alloc(), Region::none(rt.alloc()), &FIRST, &mut making)?;
-    let row = with_box(rt.alloc(), row, &second, &mut making)?;
-    let row = with_box(rt.alloc(), row, &third, &mut making)?;
-    let row = with_box(rt.alloc(), row, &apart, &mut making)?;
+    let row = with_first(&rt, rt.alloc(), &second, &mut making);
+    let row = with_box(&rt, rt.alloc(), row, &third, &mut making);
+    let row = with_box(&rt, rt.alloc(), row, &apart, &mut making);
     let mut work = Work::new(rt.alloc());
-    expect_pieces(
-        &rt,
-        &pieces(rt.alloc(), &row, &mut work)?,
-        &[&[1, 2, 3], &[4]],
-    );
+    expect_found(&rt, rt.alloc(), &row, &mut work, &[&[1, 2, 3], &[4]]);
     assert_eq!(rt; work.tests(), 6);
     assert_eq!(rt; work.proofs().len(), 6);
-    Ok(())
 }
 
 #[test]
-fn pieces_come_in_the_order_of_their_first_parts(rt: HostRuntime) -> Result<(), Fail> {
+fn pieces_come_in_the_order_of_their_first_parts(rt: HostRuntime) {
     let mut making = Work::new(rt.alloc());
     let second = IntBox {
         lo: [0, 0, 40],
@@ -117,52 +164,53 @@ fn pieces_come_in_the_order_of_their_first_parts(rt: HostRuntime) -> Result<(), 
         lo: [10, 10, 40],
         hi: [20, 20, 50],
     };
-    let all = with_box(rt.alloc(), Region::none(rt.alloc()), &FIRST, &mut making)?;
-    let all = with_box(rt.alloc(), all, &second, &mut making)?;
-    let all = with_box(rt.alloc(), all, &third, &mut making)?;
-    let all = with_box(rt.alloc(), all, &fourth, &mut making)?;
+    let all = with_first(&rt, rt.alloc(), &second, &mut making);
+    let all = with_box(&rt, rt.alloc(), all, &third, &mut making);
+    let all = with_box(&rt, rt.alloc(), all, &fourth, &mut making);
     let mut work = Work::new(rt.alloc());
-    expect_pieces(
-        &rt,
-        &pieces(rt.alloc(), &all, &mut work)?,
-        &[&[1, 3], &[2, 4]],
-    );
-    Ok(())
+    expect_found(&rt, rt.alloc(), &all, &mut work, &[&[1, 3], &[2, 4]]);
 }
 
 #[test]
-fn the_lines_of_pieces_stand_behind_those_before(rt: HostRuntime) -> Result<(), Fail> {
+fn the_lines_of_pieces_stand_behind_those_before(rt: HostRuntime) {
     let mut work = Work::new(rt.alloc());
-    let corner = IntBox {
-        lo: [10, 10, 10],
-        hi: [20, 20, 20],
-    };
-    let first = with_box(rt.alloc(), Region::none(rt.alloc()), &FIRST, &mut work)?;
-    let both = with_box(rt.alloc(), first, &corner, &mut work)?;
+    let both = with_first(&rt, rt.alloc(), &CORNER, &mut work);
     let made = work.proofs().len();
-    expect_pieces(&rt, &pieces(rt.alloc(), &both, &mut work)?, &[&[1, 2]]);
+    expect_found(&rt, rt.alloc(), &both, &mut work, &[&[1, 2]]);
     assert_eq!(rt; work.proofs().len(), made + 1);
-    assert!(rt; matches!(work.proofs().last(), Some(Proof::At(_))));
-    Ok(())
+    assert!(rt; contact_of(&work.proofs()[made]).is_some());
 }
 
 #[test]
-fn a_region_without_parts_has_no_piece(rt: HostRuntime) -> Result<(), Fail> {
+fn a_region_without_parts_has_no_piece(rt: HostRuntime) {
     let mut work = Work::new(rt.alloc());
     let none = Region::none(rt.alloc());
-    expect_pieces(&rt, &pieces(rt.alloc(), &none, &mut work)?, &[]);
+    expect_found(&rt, rt.alloc(), &none, &mut work, &[]);
     assert_eq!(rt; work.tests(), 0);
-    Ok(())
+}
+
+/// The whole cube.
+fn whole(rt: &impl Abort, alloc: Global) -> Region {
+    Region::all(alloc).expect(rt, "no whole cube")
+}
+
+/// Whether the pieces of a region are refused for the limit of tests.
+fn is_too_much(alloc: Global, region: &Region, work: &mut Work) -> bool {
+    matches!(pieces(alloc, region, work), Err(OpFault::Limit))
 }
 
 #[test]
-fn pairs_are_counted_up_to_the_limit_of_tests(rt: HostRuntime) -> Result<(), Fail> {
+fn pairs_are_counted_up_to_the_limit_of_tests(rt: HostRuntime) {
     let mut work = Work::new(rt.alloc());
-    let one = Region::all(rt.alloc())?;
-    let two = one.either(rt.alloc(), &one, &mut work)?;
+    let one = whole(&rt, rt.alloc());
+    let two = joined(
+        &rt,
+        whole(&rt, rt.alloc()),
+        whole(&rt, rt.alloc()),
+        &mut work,
+    );
     assert!(rt; work.count(65536));
-    expect_pieces(&rt, &pieces(rt.alloc(), &one, &mut work)?, &[&[1]]);
-    assert!(rt; matches!(pieces(rt.alloc(), &two, &mut work), Err(OpFault::Limit)));
+    expect_found(&rt, rt.alloc(), &one, &mut work, &[&[1]]);
+    assert!(rt; is_too_much(rt.alloc(), &two, &mut work));
     assert_eq!(rt; work.tests(), 65536);
-    Ok(())
 }
