@@ -1,19 +1,19 @@
 //! The form of the one expression of a command.
 ghost use Rattle.std.specs.Prelude.{◌≡◌, ◌≤◌, List, IfOk, length};
+ghost use Rattle.rp_command.specs.Views.{expression_of};
 ghost use Rattle.rp_geometry.specs.sets.Shape.{Part};
 ghost use Rattle.rp_geometry.specs.parts.Parts.{most_parts};
 ghost use Rattle.rp_language.specs.Expression.{IsKeptExpression};
 ghost use Rattle.rp_walks.specs.Walk.{Walk};
 ghost use Rattle.rp_walks.specs.Form.{form};
 ghost use Rattle.rp_model.specs.commands.Row.{Reply};
-ghost use Rattle.rp_syntax.specs.Views.{expression_of};
 ghost use Rattle.rp_tests.specs.Comes.{Comes};
 ghost use Rattle.rp_asked.specs.Replies.{GoesOn, row_of_form};
 
 use crate::reply::RowEnd;
+use rp_command::Expr;
 use rp_once::{first_unknown, formed};
 use rp_report::Refusal;
-use rp_syntax::Expr;
 use rp_tests::{Named, Stopped, Tests};
 use std::alloc::Global;
 

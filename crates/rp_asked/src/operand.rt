@@ -1,18 +1,18 @@
 //! The operands of a command that compares two forms.
 ghost use Rattle.std.specs.Prelude.{◌≡◌, ◌∷◌, [], List};
+ghost use Rattle.rp_command.specs.Views.{expression_of};
 ghost use Rattle.rp_geometry.specs.sets.Shape.{Part};
 ghost use Rattle.rp_language.specs.Expression.{IsKeptExpression, first_unknown_among};
 ghost use Rattle.rp_walks.specs.Walk.{Walk};
 ghost use Rattle.rp_model.specs.commands.Row.{Reply};
-ghost use Rattle.rp_syntax.specs.Views.{expression_of};
 ghost use Rattle.rp_asked.specs.Asked.{both_of};
 ghost use Rattle.rp_asked.specs.Replies.{GoesOn, row_of_forms};
 
 use crate::reply::RowEnd;
+use rp_command::Expr;
 use rp_once::{Operand, first_unknown, operand_of};
 use rp_report::Refusal;
 use rp_space::Name;
-use rp_syntax::Expr;
 use rp_tests::{Named, Tests};
 use std::alloc::Global;
 

@@ -1,7 +1,7 @@
 //! The rows of questions about points and forms.
+ghost use Rattle.rp_command.specs.Views.{expression_of};
 ghost use Rattle.rp_language.specs.Expression.{IsKeptExpression};
 ghost use Rattle.rp_model.specs.commands.Row.{row_empty, row_pieces, row_relation};
-ghost use Rattle.rp_syntax.specs.Views.{expression_of};
 ghost use Rattle.rp_asked.specs.Asked.{row_asking, row_of_member, row_show};
 ghost use Rattle.rp_asked.specs.Replies.{Tells, row_of_form, row_of_forms};
 
@@ -10,10 +10,10 @@ use crate::lines::{part_lines, piece_lines};
 use crate::operand::row_operands;
 use crate::relation::relation;
 use crate::reply::{RowEnd, yes_or_no};
+use rp_command::Expr;
 use rp_once::{Question, first_unknown, is_empty, is_member, pieces};
 use rp_report::{Refusal, Verdicts};
 use rp_space::Point;
-use rp_syntax::Expr;
 use rp_tests::{Named, Tests};
 use std::alloc::Global;
 

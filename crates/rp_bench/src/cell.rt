@@ -2,8 +2,9 @@
 ghost use Rattle.std.specs.Prelude.{◌≤◌, length, IfOk};
 
 use anyhow::{Context, Result, bail, ensure};
+use rp_command::{Command, Expr, Line, Version};
 use rp_space::Half;
-use rp_syntax::{Command, Expr, Line, Version, read_line};
+use rp_syntax::read_line;
 use std::alloc::{AllocError, Global};
 use std::io::{BufRead, BufReader, Read};
 

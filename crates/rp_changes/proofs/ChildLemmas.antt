@@ -11,11 +11,11 @@ use Rattle.rp_reports.specs.Check.{Trail, line_tester}
 use Rattle.rp_tests.specs.declared.stopped.Stopped.{Stopped}
 use Rattle.rp_tests.specs.Comes.{StopsBy}
 use Rattle.rp_tests.proofs.Left.{stops_on}
-use Rattle.rp_syntax.specs.declared.command.Expr.{Expr}
-use Rattle.rp_syntax.specs.Views.{child_of, shapes_of}
+use Rattle.rp_command.specs.declared.command.Expr.{Expr}
+use Rattle.rp_command.specs.Views.{child_of, shapes_of}
 use Rattle.rp_register.specs.declared.reply.Reply.{Reply}
 use Rattle.rp_asked.specs.declared.reply.RowEnd.{RowEnd}
-use Rattle.rp_syntax.proofs.Children.{same_shapes}
+use Rattle.rp_command.proofs.Children.{same_shapes}
 use Rattle.rp_register.specs.Replies.{Replies}
 
 -- the forms of the children, and what comes behind them

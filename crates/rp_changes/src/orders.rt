@@ -1,12 +1,12 @@
 //! The rows of commands that change something: first the forms of their expressions are made, then the rest is walked.
 ghost use Rattle.std.specs.Prelude.{◌≡◌, ◌≤◌, [], IfOk, length, map};
 ghost use Rattle.std.specs.List.{AllByRecursion};
+ghost use Rattle.rp_command.specs.Views.{expression_of, child_of, shapes_of};
 ghost use Rattle.rp_language.specs.Expression.{IsKeptExpression, first_unknown_among, define, register as register_lot, cut, subdivide};
 ghost use Rattle.rp_model.specs.states.State.{parts_in};
 ghost use Rattle.rp_model.specs.commands.Row.{row, form_children};
 ghost use Rattle.rp_reports.specs.Check.{Trail, line_tester};
 ghost use Rattle.rp_tests.specs.Comes.{Comes};
-ghost use Rattle.rp_syntax.specs.Views.{expression_of, child_of, shapes_of};
 ghost use Rattle.rp_changes.specs.Children.{formed_children};
 ghost use Rattle.rp_register.specs.Replies.{Replies};
 
@@ -15,11 +15,11 @@ use crate::child::Child;
 use crate::divide::{cut, subdivide};
 use crate::overlaps::make_lot;
 use rp_asked::{RowEnd, row_form, short_form};
+use rp_command::Expr;
 use rp_follow::Trail;
 use rp_register::{Register, Reply};
 use rp_report::Refusal;
 use rp_space::{Listed, Name};
-use rp_syntax::Expr;
 use rp_tests::Stopped;
 use std::alloc::Global;
 

@@ -1,6 +1,8 @@
 //! Whole answers of a report, and what each changes.
 ghost use Rattle.std.specs.Prelude.{◌≡◌, ◌+◌, ◌<◌, ◌∷◌, [], ℕ, Ok, length, map, IfOk, is_none, option_map};
 ghost use Rattle.std.specs.List.{AllByRecursion};
+ghost use Rattle.rp_command.specs.Versions.{version_of};
+ghost use Rattle.rp_command.specs.Views.{child_of, command_of, expression_of, fault_of};
 ghost use Rattle.rp_geometry.specs.sections.Trace.{IsHeight};
 ghost use Rattle.rp_language.specs.Expression.{IsKeptExpression, expressions_of, first_unknown_among, heights_of, HasFewChildren};
 ghost use Rattle.rp_language.specs.Grammar.{bad, reading};
@@ -9,8 +11,6 @@ ghost use Rattle.rp_model.specs.states.State.{PlainState, changed, parts_in, sta
 ghost use Rattle.rp_model.specs.states.Sound.{IsLaterThan};
 ghost use Rattle.rp_reports.specs.Check.{Trail as ModelTrail, limit_allowed, follow_walk, follow_command, follow_fault, follow_text, follow_echo, next_echo, follow_answer};
 ghost use Rattle.rp_walks.specs.Walk.{Outcome};
-ghost use Rattle.rp_syntax.specs.Versions.{version_of};
-ghost use Rattle.rp_syntax.specs.Views.{child_of, command_of, expression_of, fault_of};
 ghost use Rattle.rp_tests.specs.Comes.{StopsBy};
 ghost use Rattle.rp_checker.specs.Answers.{Answers, echo_with};
 ghost use Rattle.rp_register.specs.Kept.{IsSoundOnLines, ComesFromKnown};
@@ -20,11 +20,12 @@ use crate::halt::Halt;
 use crate::lines::{follow_limit, follow_verdict, follow_verdicts};
 use crate::rows::carry_out;
 use rp_asked::{RowEnd, one_line};
+use rp_command::{Command, Expr, Line, Version, Why};
 use rp_follow::Trail;
 use rp_register::{Register, Reply};
 use rp_report::{Refusal, Verdict, read_echo};
 use rp_space::Name;
-use rp_syntax::{Command, Expr, Line, Version, Why, read_line};
+use rp_syntax::read_line;
 use rp_tests::Stopped;
 use std::alloc::Global;
 

@@ -1,18 +1,18 @@
 //! Whole reports.
 ghost use Rattle.std.specs.Prelude.{◌≡◌, ◌≤◌, ℕ, List, length, IfOk};
+ghost use Rattle.rp_command.specs.Versions.{version_of};
 ghost use Rattle.rp_reports.specs.Check.{finding};
 ghost use Rattle.rp_reports.specs.Output.{most_report_bytes, most_script_bytes, report_lines};
 ghost use Rattle.rp_reports.specs.Report.{IsReport, report_mark, version_by};
 ghost use Rattle.rp_reports.specs.Text.{text_of_lines};
-ghost use Rattle.rp_syntax.specs.Versions.{version_of};
 ghost use Rattle.rp_checker.specs.Found.{found_of, TellsRight};
 ghost use Rattle.rp_checker.specs.Marks.{behind_mark};
 
 use crate::answer::follow_answer;
 use crate::halt::Halt;
+use rp_command::Version;
 use rp_follow::Trail;
 use rp_register::Register;
-use rp_syntax::Version;
 use rp_true_report::every_report_is_accepted;
 use std::alloc::{AllocError, Global};
 

@@ -1,21 +1,21 @@
 //! The row of each command, followed on the next lines of a report: its checks and tests in order.
 ghost use Rattle.std.specs.Prelude.{◌≡◌};
 ghost use Rattle.std.specs.List.{AllByRecursion};
+ghost use Rattle.rp_command.specs.Views.{command_of};
 ghost use Rattle.rp_geometry.specs.sections.Trace.{IsHeight};
 ghost use Rattle.rp_language.specs.Expression.{IsKeptExpression, expressions_of, heights_of, HasFewChildren};
 ghost use Rattle.rp_model.specs.commands.Row.{row};
 ghost use Rattle.rp_reports.specs.Check.{Trail, line_tester};
-ghost use Rattle.rp_syntax.specs.Views.{command_of};
 ghost use Rattle.rp_register.specs.Replies.{Replies, reply_told};
 
 use rp_asked::{RowEnd, comparison, emptiness, membership, piece_numbers, related, shown_parts};
 use rp_changes::{consolidate, cutting, definition, registration, retire, subdivision};
+use rp_command::Command;
 use rp_follow::Trail;
 use rp_once::Question;
 use rp_questions::{access, audit, lineage, list, neighbours, owner, owner_then, section};
 use rp_register::{Change, Register, Reply};
 use rp_report::Verdicts;
-use rp_syntax::Command;
 use std::alloc::Global;
 
 /// The reply to a question.

@@ -2,8 +2,8 @@
 use Rattle.std.specs.Prelude.{◌≡◌, ◌⊎◌, ℕ, ◌*◌, ◌/◌, ◌%◌, ◌^◌, ℤ, pos, unsigned_abs, List, [], ◌++◌, codes, if◌then◌else◌}
 use Rattle.std.specs.Int.{is_negative}
 use Rattle.std.specs.Fmt.{decimal, signed_decimal}
-use Rattle.rp_syntax.specs.declared.version.Version.{Version}
-use Rattle.rp_syntax.specs.declared.version.Version.TheVariants.{One, Two}
+use Rattle.rp_command.specs.declared.version.Version.{Version}
+use Rattle.rp_command.specs.declared.version.Version.TheVariants.{One, Two}
 
 -- so many thousandths of a metre: whole metres, a point and three digits
 abbrev pub metres_text : ℕ → List ℕ

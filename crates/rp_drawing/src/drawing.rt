@@ -12,8 +12,8 @@ use super::plan::Section;
 use super::ring::{Ring, joined};
 use super::scale::append_scale;
 use super::text::{append, append_label, append_length, append_number};
+use rp_command::Version;
 use rp_space::IntBox;
-use rp_syntax::Version;
 use std::alloc::{AllocError, Global};
 
 /// The least box with whole corners round all rings of some sections; none where there is no ring.

@@ -5,8 +5,8 @@ ghost use Rattle.rp_drawing.specs.Corners.{joined_boxes};
 ghost use Rattle.rp_drawing.specs.Rings.{box_of_corners};
 
 use super::ring::{Ring, joined};
+use rp_command::Version;
 use rp_space::{IntBox, Name};
-use rp_syntax::Version;
 use std::alloc::{AllocError, Global};
 
 /// The section of one region at a height.

@@ -5,7 +5,7 @@ ghost use Rattle.rp_drawing.specs.Lengths.{IsRound};
 use super::frame::Frame;
 use super::rounding::{SIDE, nearest};
 use super::text::{append, append_length, append_number};
-use rp_syntax::Version;
+use rp_command::Version;
 use std::alloc::AllocError;
 
 /// The greatest of 1, 2, 5, 10, 20, 50 and so on that is at most half of the span, and at least 1.

@@ -1,8 +1,8 @@
 use crate::rounding::nearest;
 use crate::{Plan, Ring, Section, write_picture};
 use rp_cert::{Edge, RingStep};
+use rp_command::Version;
 use rp_space::{Name, Point};
-use rp_syntax::Version;
 use std::alloc::Global;
 use std::process::Abort;
 use std::test::Fail;

@@ -5,8 +5,8 @@ ghost use Rattle.rp_drawing.specs.Lengths.{length_text};
 
 use super::plan::Section;
 use itoa::{Buffer, Integer};
+use rp_command::Version;
 use rp_space::Name;
-use rp_syntax::Version;
 use std::alloc::AllocError;
 
 /// Appends a piece of a text.

@@ -10,9 +10,9 @@ use Rattle.rp_model.specs.commands.Row.{Reply, refusal, check, FormedChild, form
 use Rattle.rp_tests.specs.declared.stopped.Stopped.{Stopped}
 use Rattle.rp_tests.specs.Comes.{StopsBy}
 use Rattle.rp_tests.proofs.Left.{stops_on}
-use Rattle.rp_syntax.specs.declared.command.Expr.{Expr}
-use Rattle.rp_syntax.specs.Views.{child_of, shapes_of}
-use Rattle.rp_syntax.proofs.Children.{same_shapes}
+use Rattle.rp_command.specs.declared.command.Expr.{Expr}
+use Rattle.rp_command.specs.Views.{child_of, shapes_of}
+use Rattle.rp_command.proofs.Children.{same_shapes}
 use Rattle.rp_asked.specs.declared.reply.RowEnd.{RowEnd}
 use Rattle.rp_asked.specs.declared.reply.RowEnd.TheVariants.{Stopped as StoppedEnd}
 use Rattle.rp_machine.specs.declared.reply.Reply.{Reply as CodeReply}

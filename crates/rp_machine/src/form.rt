@@ -1,5 +1,6 @@
 //! The forms of the expressions of a command.
 ghost use Rattle.std.specs.Prelude.{◌≡◌, Err, IfSome, IfOk, IsNone};
+ghost use Rattle.rp_command.specs.Views.{expression_of};
 ghost use Rattle.rp_geometry.specs.sets.Shape.{shape_of_parts};
 ghost use Rattle.rp_geometry.specs.sets.Sets.{SameMembers};
 ghost use Rattle.rp_language.specs.Expression.{IsKeptExpression, closed, first_unknown};
@@ -8,15 +9,14 @@ ghost use Rattle.rp_walks.specs.Form.{form};
 ghost use Rattle.rp_model.specs.states.State.{parts_in, state_of_parts};
 ghost use Rattle.rp_model.specs.states.Sound.{IsSound};
 ghost use Rattle.rp_model.specs.commands.Row.{shapes_of_parts};
-ghost use Rattle.rp_syntax.specs.Views.{expression_of};
 ghost use Rattle.rp_machine.specs.Forms.{MakesForm};
 
 use crate::fault::FormFault;
 use crate::state::State;
+use rp_command::Expr;
 use rp_once::{first_unknown, formed};
 use rp_region::{Region, Work};
 use rp_space::Name;
-use rp_syntax::Expr;
 use rp_tests::Named;
 use std::alloc::Global;
 

@@ -1,5 +1,7 @@
 //! One line of a script after the other.
 ghost use Rattle.std.specs.Prelude.{◌≡◌, ◌+◌, Err, IfSome, IfOk, IsNone, OnOk, OnErr, length};
+ghost use Rattle.rp_command.specs.Versions.{version_of};
+ghost use Rattle.rp_command.specs.Views.{command_of, expression_of};
 ghost use Rattle.rp_geometry.specs.sets.Shape.{shape_of_parts};
 ghost use Rattle.rp_geometry.specs.sets.Sets.{SameMembers};
 ghost use Rattle.std.specs.List.{AllByRecursion};
@@ -13,16 +15,15 @@ ghost use Rattle.rp_model.specs.states.Sound.{IsSound, IsLaterThan};
 ghost use Rattle.rp_model.specs.commands.Row.{shapes_of_parts};
 ghost use Rattle.rp_reports.specs.Machine.{step_answer, after_line, answer_read, state_read};
 ghost use Rattle.rp_report.specs.Views.{answer_of};
-ghost use Rattle.rp_syntax.specs.Versions.{version_of};
-ghost use Rattle.rp_syntax.specs.Views.{command_of, expression_of};
 ghost use Rattle.rp_machine.specs.Forms.{MakesForm};
 
 use crate::fault::FormFault;
 use crate::state::State;
 use crate::step::bad_line;
+use rp_command::{Command, Expr, Line, Version};
 use rp_region::{Region, Work};
 use rp_report::Answer;
-use rp_syntax::{Command, Expr, Line, Version, read_line};
+use rp_syntax::read_line;
 use std::alloc::{AllocError, Global};
 use std::marker::Model;
 use std::thread::Threads;
@@ -37,7 +38,7 @@ pub struct Machine {
 
 impl Model for Machine {
     ghost use Rattle.rp_reports.specs.Machine.{Running};
-    ghost use Rattle.rp_syntax.specs.Versions.{version_of};
+    ghost use Rattle.rp_command.specs.Versions.{version_of};
 
     ghost Value = { Running };
 

@@ -1,12 +1,12 @@
 //! Commands that change something: first the forms of their expressions are made, then the change.
 ghost use Rattle.std.specs.Prelude.{◌≡◌, ◌≤◌, [], ℕ, IfOk, length, map};
 ghost use Rattle.std.specs.List.{AllByRecursion};
+ghost use Rattle.rp_command.specs.Views.{expression_of, child_of, shapes_of};
 ghost use Rattle.rp_language.specs.Expression.{IsKeptExpression, first_unknown_among, define, register, cut, subdivide};
 ghost use Rattle.rp_walks.specs.Walk.{first_tester};
 ghost use Rattle.rp_model.specs.states.State.{parts_in, state_of_parts};
 ghost use Rattle.rp_model.specs.states.Sound.{IsLaterThan};
 ghost use Rattle.rp_model.specs.commands.Row.{row, form_children};
-ghost use Rattle.rp_syntax.specs.Views.{expression_of, child_of, shapes_of};
 ghost use Rattle.rp_machine.specs.Children.{formed_children};
 ghost use Rattle.rp_tests.specs.Comes.{Comes};
 ghost use Rattle.rp_machine.specs.Replies.{Runs};
@@ -14,12 +14,12 @@ ghost use Rattle.rp_machine.specs.Replies.{Runs};
 use crate::reply::Reply;
 use crate::state::State;
 use rp_asked::{RowEnd, row_form};
+use rp_command::Expr;
 use rp_once::formed;
 use rp_parcels::Child;
 use rp_region::Work;
 use rp_report::Refusal;
 use rp_space::{Listed, Name};
-use rp_syntax::Expr;
 use rp_tests::Stopped;
 use std::alloc::Global;
 

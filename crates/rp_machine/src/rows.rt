@@ -1,5 +1,6 @@
 //! The row of each command: its checks and tests in order.
 ghost use Rattle.std.specs.Prelude.{◌≡◌};
+ghost use Rattle.rp_command.specs.Views.{expression_of, command_of};
 ghost use Rattle.rp_geometry.specs.sections.Trace.{IsHeight};
 ghost use Rattle.std.specs.List.{AllByRecursion};
 ghost use Rattle.rp_language.specs.Expression.{IsKeptExpression, expressions_of, heights_of, ask_section, HasFewChildren};
@@ -7,7 +8,6 @@ ghost use Rattle.rp_walks.specs.Walk.{Work, first_tester};
 ghost use Rattle.rp_model.specs.states.State.{state_of_parts};
 ghost use Rattle.rp_model.specs.states.Sound.{IsLaterThan};
 ghost use Rattle.rp_model.specs.commands.Row.{row};
-ghost use Rattle.rp_syntax.specs.Views.{expression_of, command_of};
 ghost use Rattle.rp_asked.specs.Replies.{Tells};
 ghost use Rattle.rp_machine.specs.Replies.{Runs, reply_told};
 
@@ -17,11 +17,11 @@ use rp_asked::{
     RowEnd, comparison, emptiness, membership, piece_numbers, related, row_form, shown_parts,
     slice_lines,
 };
+use rp_command::{Command, Expr};
 use rp_once::Question;
 use rp_region::Work;
 use rp_report::Verdicts;
 use rp_section::section;
-use rp_syntax::{Command, Expr};
 use std::alloc::Global;
 use std::thread::Threads;
 

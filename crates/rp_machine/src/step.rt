@@ -1,6 +1,7 @@
 //! The answer to a line, and what it changes.
 ghost use Rattle.std.specs.Prelude.{◌≡◌, ◌<◌, ◌∷◌, ◌++◌, [], map, IfOk, OnOk, OnErr};
 ghost use Rattle.std.specs.List.{AllByRecursion};
+ghost use Rattle.rp_command.specs.Views.{command_of, fault_of};
 ghost use Rattle.rp_geometry.specs.sections.Trace.{IsHeight};
 ghost use Rattle.rp_language.specs.Expression.{IsKeptExpression, expressions_of, heights_of, HasFewChildren};
 ghost use Rattle.rp_language.specs.Grammar.{command};
@@ -10,16 +11,15 @@ ghost use Rattle.rp_reports.specs.Report.{echoed, bad_answer};
 ghost use Rattle.rp_reports.specs.Machine.{answer_read, state_read};
 ghost use Rattle.rp_cert.specs.Lines.{line_of};
 ghost use Rattle.rp_report.specs.Views.{answer_of, verdict_of};
-ghost use Rattle.rp_syntax.specs.Views.{command_of, fault_of};
 ghost use Rattle.rp_machine.specs.Replies.{verdicts_of_row, proofs_of_row, IsWant};
 
 use crate::reply::Reply;
 use crate::state::State;
 use rp_asked::RowEnd;
 use rp_cert::Proofs;
+use rp_command::{Command, Why};
 use rp_region::Work;
 use rp_report::{Answer, Echo, Refusal, Verdict, Verdicts};
-use rp_syntax::{Command, Why};
 use rp_tests::Stopped;
 use std::alloc::{AllocError, Global};
 use std::thread::Threads;

@@ -1,13 +1,13 @@
 //! The form of an expression.
 ghost use Rattle.std.specs.Prelude.{◌≡◌, IfOk, option_copied, option_map};
+ghost use Rattle.rp_command.specs.Views.{expression_of};
 ghost use Rattle.rp_language.specs.Expression.{IsKeptExpression, first_unknown, if_missing};
 ghost use Rattle.rp_walks.specs.Form.{form, parts_or_none};
-ghost use Rattle.rp_syntax.specs.Views.{expression_of};
 ghost use Rattle.rp_tests.specs.Comes.{Comes};
 
 use crate::compare::outside;
+use rp_command::Expr;
 use rp_space::{Name, box_halves};
-use rp_syntax::Expr;
 use rp_tests::{Named, Stopped, Tests};
 use std::alloc::{AllocError, Global};
 

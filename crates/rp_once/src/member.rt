@@ -1,14 +1,14 @@
 //! Membership of points in expressions, by signs.
 ghost use Rattle.std.specs.Prelude.{◌≡◌, true, option_copied, option_map};
+ghost use Rattle.rp_command.specs.Views.{expression_of};
 ghost use Rattle.rp_language.specs.Expression.{IsKeptExpression, closed, shape_or_nothing};
 ghost use Rattle.rp_geometry.specs.Geometry.{is_cube_point};
 ghost use Rattle.rp_geometry.specs.sets.Shape.{passes, is_member, shape_of_parts};
 ghost use Rattle.rp_model.specs.commands.Row.{shapes_of_parts};
-ghost use Rattle.rp_syntax.specs.Views.{expression_of};
 
+use rp_command::Expr;
 use rp_footprint::prism_holds;
 use rp_space::Point;
-use rp_syntax::Expr;
 use rp_tests::{Named, Tests};
 
 /// Whether a point of the cube lies in the form, if there is one.

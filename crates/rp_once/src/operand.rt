@@ -1,14 +1,14 @@
 //! The operands of a command that compares two forms.
 ghost use Rattle.std.specs.Prelude.{◌≡◌, IfSome, option_copied};
+ghost use Rattle.rp_command.specs.Views.{expression_of};
 ghost use Rattle.rp_language.specs.Expression.{IsKeptExpression};
 ghost use Rattle.rp_walks.specs.Walk.{pass};
 ghost use Rattle.rp_walks.specs.Form.{form};
-ghost use Rattle.rp_syntax.specs.Views.{expression_of};
 ghost use Rattle.rp_tests.specs.Comes.{Comes};
 ghost use Rattle.rp_once.specs.Operands.{form_of};
 
 use crate::form::formed;
-use rp_syntax::Expr;
+use rp_command::Expr;
 use rp_tests::{Named, Stopped, Tests};
 use std::alloc::Global;
 

@@ -4,8 +4,8 @@ ghost use Rattle.std.specs.Prelude.{◌≤◌, ◌+◌, length};
 use super::fault::{Cause, LineFault, Refusal, ReportFault};
 use super::lines::next_line;
 use super::stage::{Stage, next_stage};
+use rp_command::Version;
 use rp_drawing::Plan;
-use rp_syntax::Version;
 use std::alloc::Global;
 
 /// The version of the script of a report, how many lines say it, and what stands behind them.

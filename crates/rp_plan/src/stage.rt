@@ -3,10 +3,11 @@ ghost use Rattle.std.specs.Prelude.{◌≡◌, ◌≤◌, ◌∷◌, ◌++◌, [
 
 use super::fault::{Cause, LineFault};
 use rp_cert::Slice;
+use rp_command::{Command, Expr, Line, Version, spelled};
 use rp_drawing::{Plan, Ring, Section};
 use rp_report::{read_echo, read_proof, read_slice};
 use rp_space::Name;
-use rp_syntax::{Command, Expr, Line, Version, read_line, spelled};
+use rp_syntax::read_line;
 use std::alloc::Global;
 
 /// The most parts of a region.

@@ -1,5 +1,6 @@
 //! The row of a horizontal section.
 ghost use Rattle.std.specs.Prelude.{◌≡◌, ◌≤◌, IfOk, IfErr, OnOk, length, map};
+ghost use Rattle.rp_command.specs.Views.{expression_of};
 ghost use Rattle.rp_geometry.specs.parts.Parts.{most_parts};
 ghost use Rattle.rp_geometry.specs.sections.Trace.{IsHeight};
 ghost use Rattle.rp_language.specs.Expression.{IsKeptExpression, ask_section};
@@ -10,15 +11,14 @@ ghost use Rattle.rp_cert.specs.Section.{slice_shown};
 ghost use Rattle.rp_tests.specs.Comes.{Comes};
 ghost use Rattle.rp_follow.specs.Stops.{IsWrongOrMemory};
 ghost use Rattle.rp_report.specs.Views.{verdict_of};
-ghost use Rattle.rp_syntax.specs.Views.{expression_of};
 ghost use Rattle.rp_questions.specs.Slices.{follow_section_lines};
 ghost use Rattle.rp_register.specs.Replies.{Replies};
 
 use rp_asked::{RowEnd, row_form, slice_lines};
+use rp_command::Expr;
 use rp_follow::{Form, Slices, Trail, slices};
 use rp_register::{Register, Reply};
 use rp_report::{Verdict, write_verdict};
-use rp_syntax::Expr;
 use rp_tests::Stopped;
 use std::alloc::Global;
 

@@ -4,8 +4,8 @@ use Rattle.std.specs.List.{flat_map}
 use Rattle.std.proofs.Math.ListN.{take-append-drop}
 use Rattle.std.proofs.Math.Seq.{drop-cons}
 use Rattle.std.proofs.lemmas.List.Concat.{flat_map-append}
-use Rattle.rp_syntax.specs.Fronts.{AppendsFront}
-use Rattle.rp_syntax.proofs.Fronts.{front_before}
+use Rattle.rp_command.specs.Fronts.{AppendsFront}
+use Rattle.rp_command.proofs.Fronts.{front_before}
 use Rattle.rp_report.specs.Fronts.{Writes}
 
 -- ---- two texts

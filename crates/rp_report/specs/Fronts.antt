@@ -2,7 +2,7 @@
 use Rattle.std.specs.Prelude.{◌≡◌, ℕ, List, ◌++◌, Result, Ok, Err}
 use Rattle.std.specs.List.{flat_map}
 use denote.Ref.{Bor}
-use Rattle.rp_syntax.specs.Fronts.{AppendsFront}
+use Rattle.rp_command.specs.Fronts.{AppendsFront}
 
 -- a call that was to append the text has appended it; where it failed, a front of it
 abbrev pub Writes : {X E : Type 0} → Result X E → List ℕ → List ℕ → List ℕ → Type 0

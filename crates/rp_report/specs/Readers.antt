@@ -9,7 +9,7 @@ use Rattle.rp_geometry.specs.searches.ProofLine.{ProofLine, in_line, out_line, a
 use Rattle.rp_language.specs.Name.{label_eq}
 use Rattle.rp_language.specs.Grammar.{Word, number_spelled, space}
 use Rattle.rp_reports.specs.ProofText.{is_written_half_space, is_written_point, cons_some, Echo}
-use Rattle.rp_syntax.specs.Held.{most_held}
+use Rattle.rp_command.specs.Held.{most_held}
 
 -- reads a value from the front of a text; there is none where the text doesn't begin with a spelling
 abbrev pub Taker : Type 0 → Type 0

@@ -4,7 +4,7 @@ use Rattle.rp_geometry.specs.sets.Relation.{Relation}
 use Rattle.rp_model.specs.commands.Verdict.{Refusal as ModelRefusal, bad, unknown, known, repeated, layers, same_name, too_few, empty_region, limit, overlaps, empty_side, empty_child, outside_lot, children_overlap, gap, empty_operand, Verdict as ModelVerdict, says_yes, says_no, says_ok, relation, pieces, piece, parts, part, parcel, nobody, neighbours, clear, parcels, lots, lot, sections, slice, access, no_access, level, refused, entry_of}
 use Rattle.rp_reports.specs.Text.{Answer as ModelAnswer}
 use Rattle.rp_history.specs.Lots.{lot_of}
-use Rattle.rp_syntax.specs.Views.{fault_of}
+use Rattle.rp_command.specs.Views.{fault_of}
 use Rattle.rp_cert.specs.Lines.{line_of}
 use Rattle.rp_cert.specs.Section.{slice_shown}
 use Rattle.rp_report.specs.declared.answer.Refusal.{Refusal}

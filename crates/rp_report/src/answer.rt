@@ -1,9 +1,9 @@
 //! What is told of a line.
 
 use rp_cert::{Proofs, Slice};
+use rp_command::Why;
 use rp_history::LotLine;
 use rp_space::{Halves, Listed, Name, Numbers};
-use rp_syntax::Why;
 use std::alloc::{AllocError, Global};
 use std::boxed::Box;
 

@@ -4,7 +4,7 @@ ghost use Rattle.rp_reports.specs.ProofText.{echo_read, line_number};
 ghost use Rattle.rp_report.specs.Readers.{echo_of};
 
 use crate::readers::{behind, place_of};
-use rp_syntax::spelled;
+use rp_command::spelled;
 
 /// The greatest number of a line.
 const MAX_LINE: i128 = 16777216;

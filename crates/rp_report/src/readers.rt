@@ -7,8 +7,8 @@ ghost use Rattle.rp_geometry.specs.Geometry.{point_of, half_space_of, is_within_
 ghost use Rattle.rp_space.specs.Boxes.{integer_box};
 ghost use Rattle.rp_report.specs.Readers.{behind, kept_if, short_number, number_before, four_numbers, front, written_point, written_half_space, point, half_space, term, spaced_item, with_one_more, few_items, side_of, side, last_side, box_spelled};
 
+use rp_command::spelled;
 use rp_space::{Half, Inside, IntBox, Outside, Point, Term, is_multiplier};
-use rp_syntax::spelled;
 
 /// The size at which numbers that words spell are held. No number of a proof line comes near it.
 const HELD: u128 = 1329227995784915872903807060280344576;

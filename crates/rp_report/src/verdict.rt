@@ -1,8 +1,8 @@
 //! The text of verdict lines.
 ghost use Rattle.std.specs.Prelude.{◌≡◌};
+ghost use Rattle.rp_command.specs.Views.{fault_of};
 ghost use Rattle.rp_reports.specs.Text.{fault_word, refusal_text, verdict_text};
 ghost use Rattle.rp_model.specs.commands.Verdict.{children_overlap, level};
-ghost use Rattle.rp_syntax.specs.Views.{fault_of};
 ghost use Rattle.rp_report.specs.Fronts.{Writes};
 ghost use Rattle.rp_report.specs.Views.{refusal_of, verdict_of};
 
@@ -10,8 +10,8 @@ use crate::answer::{Refusal, Verdict};
 use crate::items::{WriteText, write_operand, write_operands};
 use crate::numbers::write_spaced;
 use crate::pieces::append;
+use rp_command::Why;
 use rp_space::Name;
-use rp_syntax::Why;
 use std::alloc::AllocError;
 
 /// The word of a fault of a line.

@@ -2,11 +2,11 @@ ghost use Rattle.std.specs.Prelude.{◌+◌, ◌<◌, length, IfOk, OnOk};
 ghost use Rattle.rp_model.specs.states.State.{state_of_parts};
 ghost use Rattle.rp_model.specs.states.Sound.{IsLaterThan};
 
+use rp_command::{Expr, Version};
 use rp_machine::{FormFault, Machine};
 use rp_region::Work;
 use rp_report::{Answer, write_answer};
 use rp_space::{IntBox, Name};
-use rp_syntax::{Expr, Version};
 use std::alloc::{AllocError, Global};
 use std::process::Abort;
 use std::test::Fail;

@@ -6,7 +6,7 @@ use Rattle.std.proofs.lemmas.Bool.Decides.{nat_tests}
 use Rattle.std.proofs.lemmas.Int.{ints}
 use Rattle.rp_language.specs.Grammar.{minus_sign, natural_spelled, as_negative, as_whole, number_spelled}
 use Rattle.rp_reports.specs.Output.{number_between}
-use Rattle.rp_syntax.specs.Held.{held, most_held}
+use Rattle.rp_command.specs.Held.{held, most_held}
 
 -- a natural number within its bounds
 abbrev pub bounded : ℕ → ℕ → ℕ → Option ℕ

@@ -1,14 +1,14 @@
 //! The line that marks a script of version 2.
 ghost use Rattle.std.specs.Prelude.{◌≡◌, ◌≤◌, length, OnErr, OnOk};
+ghost use Rattle.rp_command.specs.Versions.{version_of};
 ghost use Rattle.rp_io.specs.Bytes.{Appends, AppendsPrefix};
 ghost use Rattle.rp_io.specs.Faults.{HasRisen};
 ghost use Rattle.rp_reports.specs.Report.{script_body, script_lines, script_version};
-ghost use Rattle.rp_syntax.specs.Versions.{version_of};
 ghost use Rattle.rp_scripts.specs.Lines.{mark_text};
 
 use crate::lines::next_line;
+use rp_command::Version;
 use rp_io::{Failed, Sink};
-use rp_syntax::Version;
 
 /// The version of a script, and what stands behind the line that marks it: a script whose first line is `rp 2` is of
 /// version 2, and every other one of version 1.

@@ -2,7 +2,7 @@
 ghost use Rattle.std.specs.Prelude.{◌≡◌, ◌≤◌, IfSome};
 ghost use Rattle.rp_reports.specs.Output.{number_between};
 
-use rp_syntax::spelled;
+use rp_command::spelled;
 
 /// The number that a word of a command line spells, as in a script, if it is within the bounds.
 pub fn number_between(least: u64, greatest: u64, word: &[u8]) -> Option<u64>

@@ -1,18 +1,20 @@
 //! A script with each command in its one spelling.
 ghost use Rattle.std.specs.Prelude.{◌≤◌, ◌∷◌, ◌++◌, [], IfErr, IfOk, OnErr, OnOk};
+ghost use Rattle.rp_command.specs.Versions.{version_of};
+ghost use Rattle.rp_command.specs.Views.{command_of, line_of};
 ghost use Rattle.rp_io.specs.Bytes.{Appends, AppendsPrefix};
 ghost use Rattle.rp_language.specs.Grammar.{reading, spelling};
 ghost use Rattle.rp_reports.specs.Output.{spell_script, spelled_lines};
 ghost use Rattle.rp_reports.specs.Text.{line_end, text_of_lines};
-ghost use Rattle.rp_syntax.specs.Versions.{version_of};
-ghost use Rattle.rp_syntax.specs.Views.{command_of, line_of};
 ghost use Rattle.rp_scripts.specs.Output.{PutsFront, PutsLines, PutsOutput, HasOutputCause};
 
 use crate::fault::OutputFault;
 use crate::lines::next_line;
 use crate::mark::{put_mark, split_mark};
+use rp_command::{Command, Line, Version};
 use rp_io::Sink;
-use rp_syntax::{Command, Line, Version, read_line, write_command};
+use rp_spelling::write_command;
+use rp_syntax::read_line;
 use std::alloc::Global;
 
 /// Puts a command in its one spelling of a version, with a line end.

@@ -1,18 +1,18 @@
 //! A script as one of version 2.
 ghost use Rattle.std.specs.Prelude.{◌≤◌, ◌∷◌, [], IfErr, IfOk, OnErr};
+ghost use Rattle.rp_command.specs.Versions.{version_of};
 ghost use Rattle.rp_io.specs.Bytes.{AppendsPrefix};
 ghost use Rattle.rp_language.specs.Grammar.{reading};
 ghost use Rattle.rp_reports.specs.Output.{upgrade_script};
 ghost use Rattle.rp_reports.specs.Text.{text_of_lines};
 ghost use Rattle.rp_reports.specs.Upgrade.{upgraded_line};
-ghost use Rattle.rp_syntax.specs.Versions.{version_of};
 ghost use Rattle.rp_scripts.specs.Output.{PutsFront, PutsLines, PutsOutput, HasOutputCause};
 
 use crate::fault::OutputFault;
 use crate::lines::next_line;
 use crate::mark::{put_mark, split_mark};
+use rp_command::Version;
 use rp_io::Sink;
-use rp_syntax::Version;
 use rp_upgrade::upgrade_line;
 use std::alloc::Global;
 

@@ -3,7 +3,7 @@ use Rattle.std.proofs.Common.{◌≡◌, ℕ, suc, List, [], ◌∷◌, ◌++◌
 use Rattle.rp_syntax.specs.declared.fault.ReadFault.{ReadFault}
 use Rattle.rp_syntax.specs.declared.fault.ReadFault.TheVariants.{Bad, Memory}
 use Rattle.rp_syntax.specs.Reads.{FaultIs}
-use Rattle.rp_syntax.specs.Views.{fault_of}
+use Rattle.rp_command.specs.Views.{fault_of}
 use Rattle.rp_language.specs.Grammar.{Place, Fault, Reader, read_on, gives, many}
 
 -- items that were read before

@@ -3,7 +3,7 @@ use Rattle.std.proofs.Common.{◌≡◌, Bool, true, false, ◌&&◌, ℤ, pos, 
 use Rattle.std.specs.Prelude.{int_le, option_map}
 use Rattle.std.proofs.lemmas.Int.{ints}
 use Rattle.rp_language.specs.Grammar.{Word, Version, Place, Reader, bad_syntax, out_of_range, gives, fails, read_on, ◌>>=◌, next_word, or_fault, in_bounds, coordinate_spelled, coordinate}
-use Rattle.rp_syntax.specs.Held.{held, IsHeldBound}
+use Rattle.rp_command.specs.Held.{held, IsHeldBound}
 
 -- equal answers have equal values
 same_some : (x y : ℤ) → Some x ≡ Some y → x ≡ y

@@ -1,7 +1,7 @@
 -- What a call that reads words has read.
 use Rattle.std.specs.Prelude.{◌≡◌, Result, Ok, Err}
 use Rattle.rp_language.specs.Grammar.{Place, Fault}
-use Rattle.rp_syntax.specs.Views.{fault_of}
+use Rattle.rp_command.specs.Views.{fault_of}
 use Rattle.rp_syntax.specs.declared.fault.ReadFault.{ReadFault}
 use Rattle.rp_syntax.specs.declared.fault.ReadFault.TheVariants.{Bad, Memory}
 

@@ -1,16 +1,15 @@
 //! Whole commands.
 ghost use Rattle.std.specs.Prelude.{map};
+ghost use Rattle.rp_command.specs.Versions.{version_of};
+ghost use Rattle.rp_command.specs.Views.{expression_of, child_of, command_of};
 ghost use Rattle.rp_language.specs.Grammar.{keyword, verb_table, verb_words, equals_word, let_words, member_words, cut_words, subdivide_words, consolidate_words, as_of_words, many, child, name, command_words};
 ghost use Rattle.rp_syntax.specs.Keywords.{verb_of};
 ghost use Rattle.rp_syntax.specs.Reads.{Reads};
-ghost use Rattle.rp_syntax.specs.Versions.{version_of};
-ghost use Rattle.rp_syntax.specs.Views.{expression_of, child_of, command_of};
 
-use crate::command::{Command, Entries, Expr, Why};
 use crate::fault::ReadFault;
 use crate::keywords::{Verb, verb_for};
-use crate::version::Version;
 use crate::words::Words;
+use rp_command::{Command, Entries, Expr, Version, Why};
 use rp_space::{Name, Names};
 use std::alloc::Global;
 

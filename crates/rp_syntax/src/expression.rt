@@ -1,15 +1,14 @@
 //! Expressions in prefix form.
+ghost use Rattle.rp_command.specs.Versions.{version_of};
+ghost use Rattle.rp_command.specs.Views.{expression_of};
 ghost use Rattle.rp_language.specs.Grammar.{keyword, node_table, expression, expression_within};
 ghost use Rattle.rp_syntax.specs.Keywords.{node_of};
 ghost use Rattle.rp_syntax.specs.Reads.{Reads};
-ghost use Rattle.rp_syntax.specs.Versions.{version_of};
-ghost use Rattle.rp_syntax.specs.Views.{expression_of};
 
-use crate::command::{Expr, Why};
 use crate::fault::ReadFault;
 use crate::keywords::{Node, node_for};
-use crate::version::Version;
 use crate::words::Words;
+use rp_command::{Expr, Version, Why};
 use std::alloc::Global;
 
 /// One level more than there may be nodes: each level counts a node, so this is never passed.

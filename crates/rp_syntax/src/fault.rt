@@ -2,7 +2,7 @@
 ghost use Rattle.std.specs.Prelude.{◌≡◌};
 ghost use Rattle.rp_syntax.specs.declared.fault.ReadFault.TheVariants.{Memory};
 
-use crate::command::Why;
+use rp_command::Why;
 use std::alloc::{AllocError, AllocFailed};
 
 /// Why a command was not read.

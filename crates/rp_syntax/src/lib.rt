@@ -2,31 +2,24 @@
 //! The line grammar: a line of bytes is read as a command, or refused.
 //!
 //! In each version [`read_line`] reads a line as the command that the grammar says, or finds the first fault that it
-//! says, for every sequence of bytes. [`write_command`] appends the one spelling of a command in the version.
+//! says, for every sequence of bytes.
 
 ghost use Rattle.std.specs.Prelude.{◌≡◌, IfOk};
+ghost use Rattle.rp_command.specs.Versions.{version_of};
+ghost use Rattle.rp_command.specs.Views.{line_of};
 ghost use Rattle.rp_language.specs.Grammar.{most_bytes, reading, is_blank};
-ghost use Rattle.rp_syntax.specs.Versions.{version_of};
-ghost use Rattle.rp_syntax.specs.Views.{line_of};
 
-mod command;
 mod commands;
 mod expression;
 mod fault;
 mod keywords;
-mod number;
 mod numbers;
 mod space;
-mod spelling;
-mod version;
 mod words;
 
-pub use command::{Command, Entries, Expr, Line, Why};
 use fault::ReadFault;
-pub use number::spelled;
-pub use spelling::write_command;
+use rp_command::{Line, Version, Why};
 use std::alloc::{AllocError, Global};
-pub use version::Version;
 use words::Words;
 
 /// The longest line that may be a command, in bytes.

@@ -1,18 +1,16 @@
 //! Numbers, half-spaces, points and boxes of a line.
 ghost use Rattle.std.specs.Prelude.{◌≡◌, IfOk, IsTrue, ◌&&◌, ◌≤◌, int_le};
+ghost use Rattle.rp_command.specs.Held.{IsHeldBound};
+ghost use Rattle.rp_command.specs.Versions.{version_of};
 ghost use Rattle.rp_language.specs.Grammar.{box_numbers, coordinate, corner_numbers, count_between, cube_coordinate, half_space_numbers, height, many, number, point, prism_numbers};
 ghost use Rattle.rp_space.specs.Boxes.{integer_box};
 ghost use Rattle.rp_space.specs.Corners.{polygon_corner, polygon_corners, prism_of};
-ghost use Rattle.rp_syntax.specs.Held.{IsHeldBound};
 ghost use Rattle.rp_syntax.specs.Reads.{Reads};
-ghost use Rattle.rp_syntax.specs.Versions.{version_of};
 
-use crate::command::Why;
 use crate::fault::ReadFault;
-use crate::number::coordinate;
 use crate::space::{half_space, rational_point};
-use crate::version::Version;
 use crate::words::Words;
+use rp_command::{Version, Why, coordinate};
 use rp_space::{Corner, Corners, Half, IntBox, Point};
 use std::alloc::Global;
 

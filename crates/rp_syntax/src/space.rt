@@ -4,8 +4,8 @@ ghost use Rattle.rp_geometry.specs.Geometry.{half_space_of, point_of, is_half_sp
 ghost use Rattle.rp_language.specs.Grammar.{Place, nonzero_half_space, gives};
 ghost use Rattle.rp_syntax.specs.Reads.{Reads};
 
-use crate::command::Why;
 use crate::fault::ReadFault;
+use rp_command::Why;
 use rp_space::{Half, HalfFault, Point};
 
 /// The half-space of four numbers; `Zero` where all four are 0.

@@ -5,8 +5,8 @@ ghost use Rattle.rp_language.specs.Grammar.{words_of, next_word, end_of_line, co
 ghost use Rattle.rp_syntax.specs.Places.{is_space, words_left};
 ghost use Rattle.rp_syntax.specs.Reads.{Reads};
 
-use crate::command::Why;
 use crate::fault::ReadFault;
+use rp_command::Why;
 use rp_space::Name;
 use std::marker::Model;
 

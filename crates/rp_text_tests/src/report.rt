@@ -1,11 +1,11 @@
 use rp_cert::{Proof, Proofs};
+use rp_command::Why;
 use rp_history::LotLine;
 use rp_report::{
     Answer, Refusal, Verdict, Verdicts, read_echo, read_proof, read_slice, write_answer,
     write_verdict,
 };
 use rp_space::{Half, Halves, Inside, IntBox, Name, Names, Numbers, Outside, Point, Term};
-use rp_syntax::Why;
 use std::alloc::{AllocError, Global};
 use std::process::Abort;
 use std::test::Fail;

@@ -1,4 +1,6 @@
-use rp_syntax::{Command, Expr, Line, Version, Why, read_line, write_command};
+use rp_command::{Command, Expr, Line, Version, Why};
+use rp_spelling::write_command;
+use rp_syntax::read_line;
 use std::alloc::{AllocError, Global};
 use std::process::Abort;
 use std::test::Fail;

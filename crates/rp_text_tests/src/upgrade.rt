@@ -1,4 +1,4 @@
-use rp_syntax::Version;
+use rp_command::Version;
 use rp_upgrade::upgrade_line;
 use std::test::Fail;
 

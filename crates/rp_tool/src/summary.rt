@@ -8,9 +8,9 @@ ghost use Rattle.rp_reports.specs.Made.{made_script, run_from};
 ghost use Rattle.rp_scripts.specs.Made.{made_line};
 ghost use Rattle.rp_scripts.specs.Trial.{AreBounded, counted, summary_of};
 
+use rp_command::Version;
 use rp_machine::Machine;
 use rp_scripts::{Building, Counts, MadeLine, MadeScript, Summary};
-use rp_syntax::Version;
 use std::alloc::{AllocError, Global};
 use std::thread::Threads;
 

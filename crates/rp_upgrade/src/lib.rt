@@ -6,15 +6,17 @@
 //! blank or a command. Where memory ran out, a front of the line was appended.
 
 ghost use Rattle.std.specs.Prelude.{◌≡◌, ◌++◌, not, IfOk, OnErr, OnOk};
+ghost use Rattle.rp_command.specs.Fronts.{Appends, AppendsFront};
+ghost use Rattle.rp_command.specs.Versions.{version_of};
+ghost use Rattle.rp_command.specs.Views.{line_of};
 ghost use Rattle.rp_language.specs.Grammar.{reading};
 ghost use Rattle.rp_reports.specs.Output.{is_bad_reading};
 ghost use Rattle.rp_reports.specs.Upgrade.{upgraded_line};
-ghost use Rattle.rp_syntax.specs.Fronts.{Appends, AppendsFront};
-ghost use Rattle.rp_syntax.specs.Versions.{version_of};
-ghost use Rattle.rp_syntax.specs.Views.{line_of};
 ghost use Rattle.rp_upgrade.specs.Upgraded.{upgraded_text};
 
-use rp_syntax::{Line, Version, read_line, write_command};
+use rp_command::{Line, Version};
+use rp_spelling::write_command;
+use rp_syntax::read_line;
 use std::alloc::{AllocError, Global};
 
 /// Whether a line is neither blank nor a command.

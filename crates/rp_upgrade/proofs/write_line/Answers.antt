@@ -2,8 +2,8 @@ use Rattle.std.proofs.Common.{[], ◌∷◌}
 use Rattle.std.proofs.lemmas.Result.{err_from_is_err_and}
 use Rattle.rp_reports.specs.Text.{line_end}
 use Rattle.rp_reports.specs.Upgrade.{upgraded_line}
-use Rattle.rp_syntax.specs.Views.{line_of}
-use Rattle.rp_syntax.proofs.Fronts.{front_before}
+use Rattle.rp_command.specs.Views.{line_of}
+use Rattle.rp_command.proofs.Fronts.{front_before}
 use Rattle.rp_upgrade.proofs.write_line.Goals as goal
 
 pub returns-in_err-write_upgraded-clause-front : goal.returns-in_err-write_upgraded-clause-front

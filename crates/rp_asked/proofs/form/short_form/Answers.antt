@@ -1,4 +1,4 @@
-use Rattle.rp_syntax.specs.Views.{expression_of}
+use Rattle.rp_command.specs.Views.{expression_of}
 use Rattle.rp_asked.proofs.ShortForms.{made_form_is_short}
 use Rattle.rp_asked.proofs.form.short_form.Goals as goal
 

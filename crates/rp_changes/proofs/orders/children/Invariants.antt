@@ -4,7 +4,7 @@ use Rattle.rp_language.specs.Expression.{IsKeptExpression}
 use Rattle.rp_model.specs.states.State.{parts_in}
 use Rattle.rp_model.specs.commands.Row.{form_children}
 use Rattle.rp_reports.specs.Check.{line_tester}
-use Rattle.rp_syntax.specs.Views.{child_of, shapes_of}
+use Rattle.rp_command.specs.Views.{child_of, shapes_of}
 use Rattle.rp_changes.specs.Children.{formed_children}
 use Rattle.rp_changes.proofs.orders.children.Given as goal
 

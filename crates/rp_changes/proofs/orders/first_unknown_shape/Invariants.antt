@@ -1,7 +1,7 @@
 use Rattle.std.proofs.Common.{◌≡◌, drop}
 use Rattle.rp_language.specs.Expression.{first_unknown_among}
 use Rattle.rp_model.specs.states.State.{parts_in}
-use Rattle.rp_syntax.specs.Views.{shapes_of}
+use Rattle.rp_command.specs.Views.{shapes_of}
 use Rattle.rp_changes.proofs.orders.first_unknown_shape.Given as goal
 
 -- the first that is missing is among the expressions still to come

@@ -3,7 +3,7 @@ use Rattle.std.specs.Prelude.{option_map}
 use Rattle.std.proofs.lemmas.Result.{err_from_is_err_and}
 use Rattle.rp_model.specs.states.State.{state_of_parts}
 use Rattle.rp_states.proofs.Added.{later_further}
-use Rattle.rp_syntax.specs.Versions.{version_of}
+use Rattle.rp_command.specs.Versions.{version_of}
 use Rattle.rp_checker.specs.Answers.{echo_with}
 use Rattle.rp_checker.proofs.Numbered.{no_echo, low_echo, echo_halts, echo_ends}
 use Rattle.rp_checker.proofs.answer.follow_answer.Goals as goal

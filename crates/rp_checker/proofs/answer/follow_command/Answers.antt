@@ -1,5 +1,5 @@
 use Rattle.std.proofs.Common.{Bool, subst}
-use Rattle.rp_syntax.specs.Views.{command_of}
+use Rattle.rp_command.specs.Views.{command_of}
 use Rattle.rp_model.specs.commands.Row.{row}
 use Rattle.rp_model.specs.states.State.{PlainState}
 use Rattle.rp_reports.specs.Check.{line_tester, follow_walk, follow_command}

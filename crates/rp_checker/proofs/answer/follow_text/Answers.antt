@@ -1,7 +1,7 @@
 use Rattle.std.proofs.Common.{sym, ap, ◌∙◌}
 use Rattle.rp_language.proofs.ReadBounds.{read_expressions_are_kept_spec, read_heights_are_kept_spec, read_children_are_few}
-use Rattle.rp_syntax.specs.Versions.{version_of}
-use Rattle.rp_syntax.specs.Views.{command_of, line_of}
+use Rattle.rp_command.specs.Versions.{version_of}
+use Rattle.rp_command.specs.Views.{command_of, line_of}
 use Rattle.rp_checker.proofs.answer.follow_text.Goals as goal
 
 pub follow_command-requires-clause-kept : goal.follow_command-requires-clause-kept

@@ -1,7 +1,7 @@
 use Rattle.std.proofs.Common.{true, false, sym, subst}
 use Rattle.rp_model.specs.states.State.{PlainState}
 use Rattle.rp_reports.specs.Output.{report_lines}
-use Rattle.rp_syntax.specs.Versions.{version_of}
+use Rattle.rp_command.specs.Versions.{version_of}
 use Rattle.rp_checker.specs.declared.report.Found.TheVariants.{Accepted, Wrong}
 use Rattle.rp_checker.proofs.Whole.{IsGoing, begins, going_late, seen, goes_on, goes_wrong, ends, found_right, whole_accepted}
 use Rattle.rp_checker.proofs.report.check_report.Goals as goal

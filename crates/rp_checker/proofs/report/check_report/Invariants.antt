@@ -1,6 +1,6 @@
 use Rattle.std.proofs.Common.{length}
 use Rattle.rp_reports.specs.Output.{report_lines}
-use Rattle.rp_syntax.specs.Versions.{version_of}
+use Rattle.rp_command.specs.Versions.{version_of}
 use Rattle.rp_checker.proofs.Whole.{IsGoing}
 use Rattle.rp_checker.proofs.report.check_report.Given as goal
 

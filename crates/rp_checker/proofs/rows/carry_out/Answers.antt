@@ -5,8 +5,8 @@ use Rattle.std.specs.List.{AllByRecursion}
 use Rattle.rp_language.specs.Expression.{Command, IsKeptExpression, expressions_of, ask_at, ask_as_of, ask_list, ask_section, ask_equal, ask_within, ask_overlap}
 use Rattle.rp_model.specs.commands.Row.{row}
 use Rattle.rp_reports.specs.Check.{line_tester}
-use Rattle.rp_syntax.specs.Views.{command_of, expression_of, shapes_of}
-use Rattle.rp_syntax.proofs.Children.{kept_shapes}
+use Rattle.rp_command.specs.Views.{command_of, expression_of, shapes_of}
+use Rattle.rp_command.proofs.Children.{kept_shapes}
 use Rattle.rp_register.specs.Replies.{Replies}
 use Rattle.rp_checker.proofs.ToldLemmas.{question_told}
 use Rattle.rp_checker.proofs.rows.carry_out.Goals as goal

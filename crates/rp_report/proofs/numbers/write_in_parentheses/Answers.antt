@@ -1,7 +1,7 @@
 use Rattle.std.proofs.Common.{[], ◌∷◌, ◌++◌, map}
 use Rattle.std.proofs.lemmas.Result.{err_from_is_err_and}
 use Rattle.rp_language.specs.Grammar.{spaced}
-use Rattle.rp_syntax.proofs.Fronts.{front_before}
+use Rattle.rp_command.proofs.Fronts.{front_before}
 use Rattle.rp_report.proofs.FrontLemmas.{writes_third}
 use Rattle.rp_report.proofs.numbers.write_in_parentheses.Goals as goal
 

@@ -1,6 +1,6 @@
 use Rattle.std.proofs.lemmas.Result.{err_from_is_err_and}
 use Rattle.rp_reports.specs.Text.{items_text}
-use Rattle.rp_syntax.proofs.Fronts.{front_before}
+use Rattle.rp_command.proofs.Fronts.{front_before}
 use Rattle.rp_report.proofs.FrontLemmas.{front_same, writes_behind, writes_same}
 use Rattle.rp_report.proofs.LineLemmas.{spaced_text}
 use Rattle.rp_report.proofs.numbers.write_spaced.Goals as goal

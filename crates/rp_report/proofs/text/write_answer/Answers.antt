@@ -3,7 +3,7 @@ use Rattle.std.proofs.lemmas.Result.{err_from_is_err_and}
 use Rattle.rp_reports.specs.Text.{echo_text, line_end, proof_texts, text_of_lines, answer_lines}
 use Rattle.rp_cert.specs.declared.proof.Proof.{Proof}
 use Rattle.rp_cert.specs.Lines.{line_of}
-use Rattle.rp_syntax.proofs.Fronts.{front_before}
+use Rattle.rp_command.proofs.Fronts.{front_before}
 use Rattle.rp_report.specs.declared.answer.Answer.{Answer}
 use Rattle.rp_report.specs.declared.answer.Verdict.{Verdict}
 use Rattle.rp_report.specs.Views.{answer_of}

@@ -4,7 +4,7 @@ use Rattle.std.proofs.lemmas.Result.{err_from_is_err_and}
 use Rattle.rp_language.specs.Grammar.{space, spaced}
 use Rattle.rp_model.specs.commands.Verdict.{children_overlap}
 use Rattle.rp_reports.specs.Text.{refusal_text}
-use Rattle.rp_syntax.proofs.Fronts.{front_before}
+use Rattle.rp_command.proofs.Fronts.{front_before}
 use Rattle.rp_report.proofs.FrontLemmas.{front_same, writes_behind, writes_same}
 use Rattle.rp_report.proofs.verdict.write_children.Goals as goal
 

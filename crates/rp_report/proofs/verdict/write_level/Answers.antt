@@ -1,7 +1,7 @@
 use Rattle.std.proofs.Common.{[], ◌∷◌, ◌++◌, codes}
 use Rattle.std.specs.Fmt.{decimal}
 use Rattle.std.proofs.lemmas.Result.{err_from_is_err_and}
-use Rattle.rp_syntax.proofs.Fronts.{front_before}
+use Rattle.rp_command.proofs.Fronts.{front_before}
 use Rattle.rp_report.proofs.FrontLemmas.{front_between, writes_third}
 use Rattle.rp_report.proofs.verdict.write_level.Goals as goal
 

@@ -5,7 +5,7 @@ use Rattle.rp_language.specs.Grammar.{Version}
 use Rattle.rp_model.specs.states.State.{opening, state_of_parts}
 use Rattle.rp_model.specs.states.Sound.{IsLaterThan}
 use Rattle.rp_reports.specs.Machine.{Running}
-use Rattle.rp_syntax.specs.Versions.{version_of}
+use Rattle.rp_command.specs.Versions.{version_of}
 use Rattle.rp_run_tests.proofs.machine.opened.Goals as goal
 
 -- the opening state has no lots

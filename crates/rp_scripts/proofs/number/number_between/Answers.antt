@@ -1,7 +1,7 @@
 use Rattle.std.proofs.Common.{◌<◌, Some, sym, ap, ◌∙◌, arith}
 use Rattle.std.proofs.lemmas.Int.{ints}
 use Rattle.std.specs.Prelude.{pos, ◌≤ℤ◌}
-use Rattle.rp_syntax.specs.Held.{most_held}
+use Rattle.rp_command.specs.Held.{most_held}
 use Rattle.rp_scripts.proofs.NumberLemmas.{number_between-some}
 use Rattle.rp_scripts.proofs.number.number_between.Goals as goal
 

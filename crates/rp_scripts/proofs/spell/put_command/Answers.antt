@@ -2,8 +2,8 @@ use Rattle.std.proofs.Common.{◌≡◌, ℕ, List, [], ◌∷◌, ◌++◌, ap,
 use Rattle.rp_io.specs.Bytes.{AppendsPrefix}
 use Rattle.rp_language.specs.Grammar.{spelling}
 use Rattle.rp_reports.specs.Text.{line_end}
-use Rattle.rp_syntax.specs.Versions.{version_of}
-use Rattle.rp_syntax.specs.Views.{command_of}
+use Rattle.rp_command.specs.Versions.{version_of}
+use Rattle.rp_command.specs.Views.{command_of}
 use Rattle.rp_scripts.proofs.SinkLemmas.{AppendsPrefix-nothing, OnErr-holds}
 use Rattle.rp_scripts.proofs.spell.put_command.Goals as goal
 

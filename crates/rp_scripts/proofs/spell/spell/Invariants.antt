@@ -1,6 +1,6 @@
 use Rattle.std.proofs.Common.{◌≤◌, length}
 use Rattle.rp_reports.specs.Output.{has_bad_line, spelled_script}
-use Rattle.rp_syntax.specs.Versions.{version_of}
+use Rattle.rp_command.specs.Versions.{version_of}
 use Rattle.rp_scripts.proofs.BodyLemmas.{HasPutLines}
 use Rattle.rp_scripts.proofs.SpellLemmas.{spelled_at}
 use Rattle.rp_scripts.proofs.spell.spell.Given as goal

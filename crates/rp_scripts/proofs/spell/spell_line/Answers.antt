@@ -3,7 +3,7 @@ use Rattle.rp_io.specs.Bytes.{AppendsPrefix}
 use Rattle.rp_language.specs.Grammar.{Reading, reading}
 use Rattle.rp_reports.specs.Output.{spelled_lines}
 use Rattle.rp_reports.specs.Text.{text_of_lines}
-use Rattle.rp_syntax.specs.Versions.{version_of}
+use Rattle.rp_command.specs.Versions.{version_of}
 use Rattle.rp_scripts.specs.Output.{PutsLines}
 use Rattle.rp_scripts.proofs.SinkLemmas.{AppendsPrefix-nothing, OnErr-holds}
 use Rattle.rp_scripts.proofs.spell.spell_line.Goals as goal

@@ -1,7 +1,7 @@
 use Rattle.std.proofs.Common.{refl, arith}
 use Rattle.rp_reports.specs.Output.{has_bad_line}
 use Rattle.rp_reports.specs.Upgrade.{upgraded_script}
-use Rattle.rp_syntax.specs.Versions.{version_of}
+use Rattle.rp_command.specs.Versions.{version_of}
 use Rattle.rp_scripts.proofs.BodyLemmas.{HasPutLines-more}
 use Rattle.rp_scripts.proofs.SinkLemmas.{OnErr-holds}
 use Rattle.rp_scripts.proofs.SpellLemmas.{upgraded_at, HasPutLines-upgrade, PutsFront-upgrade, PutsFront-upgrade_mark, PutsOutput-upgrade}

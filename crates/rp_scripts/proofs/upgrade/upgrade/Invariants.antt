@@ -1,7 +1,7 @@
 use Rattle.std.proofs.Common.{◌≤◌, length}
 use Rattle.rp_reports.specs.Output.{has_bad_line}
 use Rattle.rp_reports.specs.Upgrade.{upgraded_script}
-use Rattle.rp_syntax.specs.Versions.{version_of}
+use Rattle.rp_command.specs.Versions.{version_of}
 use Rattle.rp_scripts.proofs.BodyLemmas.{HasPutLines}
 use Rattle.rp_scripts.proofs.SpellLemmas.{upgraded_at}
 use Rattle.rp_scripts.proofs.upgrade.upgrade.Given as goal

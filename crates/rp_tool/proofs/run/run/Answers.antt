@@ -3,7 +3,7 @@ use Rattle.std.proofs.lemmas.Result.{err_from_is_err_and}
 use Rattle.rp_model.specs.states.State.{state_of_parts}
 use Rattle.rp_model.specs.states.Sound.{IsLaterThan}
 use Rattle.rp_reports.specs.Machine.{Running}
-use Rattle.rp_syntax.specs.Versions.{version_of}
+use Rattle.rp_command.specs.Versions.{version_of}
 use Rattle.rp_scripts.specs.declared.fault.OutputFault.{OutputFault}
 use Rattle.rp_scripts.specs.declared.fault.OutputFault.TheVariants.{Put, Memory}
 use Rattle.rp_scripts.specs.Output.{HasOutputCause}

@@ -1,7 +1,7 @@
 use Rattle.std.proofs.Common.{◌∙◌, subst}
 use Rattle.rp_walks.specs.Walk.{Work, first_tester}
 use Rattle.rp_model.specs.commands.Row.{row}
-use Rattle.rp_syntax.specs.Views.{command_of}
+use Rattle.rp_command.specs.Views.{command_of}
 use Rattle.rp_machine.specs.Replies.{Runs}
 use Rattle.rp_machine.proofs.Told.{row_answered, row_changed}
 use Rattle.rp_machine.proofs.state.State.answer.Goals as goal

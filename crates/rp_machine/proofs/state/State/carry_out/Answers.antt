@@ -2,8 +2,8 @@ use Rattle.std.proofs.Common.{rules, FitsSigned, w32, ap, sym, ◌∙◌, subst,
 use Rattle.std.proofs.lemmas.Int.{to_z-of_z}
 use Rattle.std.specs.List.{AllByRecursion}
 use Rattle.rp_language.specs.Expression.{Command, IsKeptExpression, expressions_of, ask_equal, ask_within, ask_overlap, ask_at, ask_as_of, ask_list, ask_section}
-use Rattle.rp_syntax.specs.Views.{command_of, expression_of, shapes_of}
-use Rattle.rp_syntax.proofs.Children.{kept_shapes}
+use Rattle.rp_command.specs.Views.{command_of, expression_of, shapes_of}
+use Rattle.rp_command.proofs.Children.{kept_shapes}
 use Rattle.rp_machine.proofs.LotLemmas.{question_run}
 use Rattle.rp_machine.proofs.state.State.carry_out.Goals as goal
 

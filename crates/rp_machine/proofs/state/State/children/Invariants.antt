@@ -4,7 +4,7 @@ use Rattle.rp_language.specs.Expression.{IsKeptExpression}
 use Rattle.rp_walks.specs.Walk.{first_tester}
 use Rattle.rp_model.specs.states.State.{parts_in}
 use Rattle.rp_model.specs.commands.Row.{form_children}
-use Rattle.rp_syntax.specs.Views.{child_of, shapes_of}
+use Rattle.rp_command.specs.Views.{child_of, shapes_of}
 use Rattle.rp_machine.specs.Children.{formed_children}
 use Rattle.rp_machine.proofs.state.State.children.Given as goal
 

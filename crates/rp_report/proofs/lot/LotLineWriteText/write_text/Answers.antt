@@ -5,7 +5,7 @@ use Rattle.rp_reports.specs.Text.{end_text, layer_text, origins_text, lot_text}
 use Rattle.rp_model.specs.commands.Verdict.{entry_of}
 use Rattle.rp_history.specs.Lots.{lot_of}
 use Rattle.rp_history.specs.declared.lot.LotLine.{LotLine}
-use Rattle.rp_syntax.proofs.Fronts.{front_before}
+use Rattle.rp_command.proofs.Fronts.{front_before}
 use Rattle.rp_report.proofs.FrontLemmas.{front_behind, front_same, writes_behind, writes_same}
 use Rattle.rp_report.proofs.lot.LotLineWriteText.write_text.Goals as goal
 

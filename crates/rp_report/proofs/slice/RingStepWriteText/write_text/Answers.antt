@@ -1,7 +1,7 @@
 use Rattle.std.proofs.Common.{[], ◌∷◌, ◌++◌, ap}
 use Rattle.std.proofs.lemmas.Result.{err_from_is_err_and}
 use Rattle.rp_reports.specs.Text.{trace_text, point_text, step_text}
-use Rattle.rp_syntax.proofs.Fronts.{front_before}
+use Rattle.rp_command.proofs.Fronts.{front_before}
 use Rattle.rp_report.proofs.FrontLemmas.{front_between, front_same, writes_third, writes_same}
 use Rattle.rp_report.proofs.slice.RingStepWriteText.write_text.Goals as goal
 

@@ -3,8 +3,8 @@ use Rattle.std.proofs.lemmas.Result.{err_from_is_err_and}
 use Rattle.std.proofs.lemmas.List.{map-append}
 use Rattle.rp_language.specs.Grammar.{many, child}
 use Rattle.rp_syntax.specs.Reads.{FaultIs}
-use Rattle.rp_syntax.specs.Versions.{version_of}
-use Rattle.rp_syntax.specs.Views.{child_of}
+use Rattle.rp_command.specs.Versions.{version_of}
+use Rattle.rp_command.specs.Views.{child_of}
 use Rattle.rp_syntax.proofs.ManyLemmas.{with_front, with_none, many-more, many-stopped}
 use Rattle.rp_syntax.proofs.words.Words.children.Goals as goal
 

@@ -1,7 +1,7 @@
 use Rattle.std.proofs.Common.{◌≡◌, ◌-◌, map}
 use Rattle.rp_language.specs.Grammar.{many, child}
-use Rattle.rp_syntax.specs.Versions.{version_of}
-use Rattle.rp_syntax.specs.Views.{child_of}
+use Rattle.rp_command.specs.Versions.{version_of}
+use Rattle.rp_command.specs.Views.{child_of}
 use Rattle.rp_syntax.proofs.ManyLemmas.{with_front}
 use Rattle.rp_syntax.proofs.words.Words.children.Given as goal
 

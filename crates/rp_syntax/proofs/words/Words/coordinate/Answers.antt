@@ -5,7 +5,7 @@ use Rattle.std.proofs.lemmas.Bool.{and_from, and_left, and_right}
 use Rattle.std.proofs.lemmas.Int.{to_z-of_z}
 use mir.Syntax.{w128}
 use Rattle.rp_language.specs.Grammar.{coordinate}
-use Rattle.rp_syntax.specs.Versions.{version_of}
+use Rattle.rp_command.specs.Versions.{version_of}
 use Rattle.rp_syntax.proofs.NumberLemmas.{read_within, read_outside}
 use Rattle.rp_syntax.proofs.words.Words.coordinate.Goals as goal
 use Rattle.rp_syntax.proofs.words.Words.coordinate.Goals.{else-least-v-via-then-least-v+else-v-greatest, else-least-v-via-else-least-v}

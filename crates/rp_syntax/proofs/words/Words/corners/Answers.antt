@@ -4,7 +4,7 @@ use Rattle.std.proofs.lemmas.List.{map-append}
 use Rattle.rp_language.specs.Grammar.{many, corner_numbers}
 use Rattle.rp_space.specs.Corners.{polygon_corner}
 use Rattle.rp_syntax.specs.Reads.{FaultIs}
-use Rattle.rp_syntax.specs.Versions.{version_of}
+use Rattle.rp_command.specs.Versions.{version_of}
 use Rattle.rp_syntax.proofs.ManyLemmas.{with_front, with_none, many-more, many-stopped}
 use Rattle.rp_syntax.proofs.words.Words.corners.Goals as goal
 

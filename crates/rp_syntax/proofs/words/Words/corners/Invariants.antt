@@ -1,7 +1,7 @@
 use Rattle.std.proofs.Common.{◌≡◌, ◌-◌, map}
 use Rattle.rp_language.specs.Grammar.{many, corner_numbers}
 use Rattle.rp_space.specs.Corners.{polygon_corner}
-use Rattle.rp_syntax.specs.Versions.{version_of}
+use Rattle.rp_command.specs.Versions.{version_of}
 use Rattle.rp_syntax.proofs.ManyLemmas.{with_front}
 use Rattle.rp_syntax.proofs.words.Words.corners.Given as goal
 

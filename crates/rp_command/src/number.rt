@@ -1,0 +1,113 @@
+//! Numbers as words spell them.
+ghost use Rattle.std.specs.Prelude.{◌≡◌, option_map};
+ghost use Rattle.std.specs.List.{list_all};
+ghost use Rattle.std.specs.Char.{is_ascii_digit};
+ghost use Rattle.rp_command.specs.Held.{held, held_size};
+ghost use Rattle.rp_command.specs.Versions.{version_of};
+ghost use Rattle.rp_language.specs.Grammar.{coordinate_spelled, fraction_spelled, natural_spelled, number_spelled, size_spelled, starts_above_zero, thousandths_spelled, value_of_digits};
+
+use crate::version::Version;
+
+/// Numbers are held at this size where they are greater; it passes the bound of every place.
+const HELD: u128 = 1329227995784915872903807060280344576;
+
+/// The number that digits stand for, held at `HELD`.
+fn value_of(digits: &[u8]) -> u128
+    ensures { result ≡ held_size (value_of_digits digits.now) }
+{
+    let mut value = 0;
+    for digit in digits {
+        value = (10 * value + u128::from(digit.saturating_sub(b'0'))).min(HELD);
+    }
+    value
+}
+
+/// Whether the bytes are digits.
+fn are_digits(bytes: &[u8]) -> bool
+    ensures { result ≡ list_all is_ascii_digit bytes.now }
+{
+    bytes.iter().all(|byte| byte.is_ascii_digit())
+}
+
+/// Whether the bytes are digits of which the first isn't 0.
+fn starts_above_zero(digits: &[u8]) -> bool
+    ensures { result ≡ starts_above_zero digits.now }
+{
+    match digits {
+        [] => false,
+        [first, ..] => *first != b'0' && are_digits(digits),
+    }
+}
+
+/// The natural number that a word spells, held at `HELD`: 0, or digits of which the first isn't 0.
+fn natural(word: &[u8]) -> Option<u128>
+    ensures { result ≡ option_map held_size (natural_spelled word.now) }
+{
+    if word == b"0".as_slice() || starts_above_zero(word) {
+        Some(value_of(word))
+    } else {
+        None
+    }
+}
+
+/// The number that a point and three digits spell.
+fn fraction(tail: &[u8]) -> Option<u128>
+    ensures { result ≡ option_map held_size (fraction_spelled tail.now) }
+{
+    match tail {
+        [b'.', digits @ ..] => {
+            if digits.len() == 3 && are_digits(digits) {
+                Some(value_of(digits))
+            } else {
+                None
+            }
+        }
+        _ => None,
+    }
+}
+
+/// The number of thousandths that a word spells, held at `HELD`: a natural number, a point and three digits.
+fn thousandths(word: &[u8]) -> Option<u128>
+    ensures { result ≡ option_map held_size (thousandths_spelled word.now) }
+{
+    let front = word.len().saturating_sub(4);
+    let units = natural(&word[..front])?;
+    let rest = fraction(&word[front..])?;
+    Some((units.saturating_mul(1000).saturating_add(rest)).min(HELD))
+}
+
+/// The size of a coordinate that a word without a sign spells, held at `HELD`.
+fn size(version: Version, word: &[u8]) -> Option<u128>
+    ensures { result ≡ option_map held_size (size_spelled (version_of version) word.now) }
+{
+    match version {
+        Version::One => natural(word),
+        Version::Two => thousandths(word),
+    }
+}
+
+/// The coordinate that a word spells: a size, perhaps behind a minus sign, which isn't before 0. Where it passes 2^120 in
+/// size it is held there. `None` exactly where the word spells no coordinate.
+pub fn coordinate(version: Version, word: &[u8]) -> Option<i128>
+    ensures { result ≡ option_map held (coordinate_spelled (version_of version) word.now) }
+{
+    match word {
+        [] => None,
+        [b'-', digits @ ..] => match size(version, digits) {
+            Some(n) if n > 0 => Some(-(n as i128)),
+            _ => None,
+        },
+        _ => match size(version, word) {
+            Some(n) => Some(n as i128),
+            None => None,
+        },
+    }
+}
+
+/// The whole number that a word spells: 0, or an optional minus sign and digits of which the first isn't 0. Where it passes
+/// 2^120 in size it is held there. `None` exactly where the word spells no number.
+pub fn spelled(word: &[u8]) -> Option<i128>
+    ensures { result ≡ option_map held (number_spelled word.now) }
+{
+    coordinate(Version::One, word)
+}

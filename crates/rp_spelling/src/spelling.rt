@@ -1,0 +1,440 @@
+//! The one spelling of a command: its words, with one space between each two.
+ghost use Rattle.std.specs.Prelude.{◌≡◌, [], ◌∷◌, ◌++◌, ◌+◌, ◌<◌, drop, map, length, OnOk, OnErr, decimal, codes};
+ghost use Rattle.std.specs.Fmt.{signed_decimal};
+ghost use Rattle.std.specs.List.{flat_map};
+ghost use Rattle.rp_command.specs.Fronts.{Appends, AppendsFront};
+ghost use Rattle.rp_command.specs.Versions.{version_of};
+ghost use Rattle.rp_command.specs.Views.{expression_of, child_of, command_of};
+ghost use Rattle.rp_language.specs.Grammar.{Version as Versions, spelling, words_of_command, expression_words, half_space_words, point_words, box_words, corner_words, coordinate_text, thousandths_text, two};
+ghost use Rattle.rp_space.specs.Boxes.{integer_box};
+ghost use Rattle.rp_space.specs.Corners.{polygon_corner, polygon_corners};
+ghost use Rattle.rp_spelling.specs.Spells.{Spells, before_size, children_words};
+
+use itoa::{Buffer, Integer};
+use rp_command::{Command, Entries, Expr, Version};
+use rp_space::{Corner, Corners, Half, IntBox, Name, Names, Point};
+use std::alloc::AllocError;
+
+/// Appends a word behind a space.
+fn write_word(word: &[u8], out: &mut Vec<u8>) -> Result<(), AllocError>
+    ensures { Spells result out.old.items out.new.items (word.now ∷ []) }
+{
+    out.push(b' ')?;
+    out.extend_from_slice(word)
+}
+
+/// Appends two words, each behind a space.
+fn write_words(first: &[u8], second: &[u8], out: &mut Vec<u8>) -> Result<(), AllocError>
+    ensures { Spells result out.old.items out.new.items (first.now ∷ second.now ∷ []) }
+{
+    write_word(first, out)?;
+    write_word(second, out)
+}
+
+/// Appends numbers, each behind a space.
+fn write_numbers<I: Integer>(numbers: &[I], out: &mut Vec<u8>) -> Result<(), AllocError>
+    ensures { Spells result out.old.items out.new.items (map I.text numbers.now) }
+{
+    let mut buffer = Buffer::new();
+    for number in numbers {
+        write_word(buffer.format(*number).as_bytes(), out)?;
+    }
+    Ok(())
+}
+
+/// The byte of a digit.
+fn digit(n: u128) -> u8
+    requires { n < 10 }
+    ensures { result ≡ 48 + n }
+{
+    b'0' + n as u8
+}
+
+/// Appends a natural number of thousandths: its units, a point and three digits.
+fn write_thousandths(n: u128, out: &mut Vec<u8>) -> Result<(), AllocError>
+    ensures { Appends result out.old.items out.new.items (thousandths_text n) }
+{
+    let mut buffer = Buffer::new();
+    out.extend_from_slice(buffer.format(n / 1000).as_bytes())?;
+    let rest = n % 1000;
+    let digits = [digit(rest / 100), digit(rest / 10 % 10), digit(rest % 10)];
+    out.extend_from_slice(&[b'.', digits[0], digits[1], digits[2]])
+}
+
+/// A space, and a minus sign behind it for a number below 0.
+fn before_size(v: i128) -> &'static [u8]
+    ensures { result.now ≡ before_size v }
+{
+    if v < 0 { b" -" } else { b" " }
+}
+
+/// Appends a whole number of thousandths as a decimal, behind a space.
+fn write_decimal(v: i128, out: &mut Vec<u8>) -> Result<(), AllocError>
+    ensures { Spells result out.old.items out.new.items (coordinate_text two v ∷ []) }
+{
+    out.extend_from_slice(before_size(v))?;
+    write_thousandths(v.unsigned_abs(), out)
+}
+
+/// Appends a coordinate behind a space.
+fn write_coordinate(version: Version, v: i128, out: &mut Vec<u8>) -> Result<(), AllocError>
+    ensures { Spells result out.old.items out.new.items (coordinate_text (version_of version) v ∷ []) }
+{
+    match version {
+        Version::One => write_numbers(&[v], out),
+        Version::Two => write_decimal(v, out),
+    }
+}
+
+/// Appends coordinates, each behind a space.
+fn write_coordinates(
+    version: Version,
+    numbers: &[i128],
+    out: &mut Vec<u8>,
+) -> Result<(), AllocError>
+    ensures { Spells result out.old.items out.new.items (map (coordinate_text (version_of version)) numbers.now) }
+{
+    for number in numbers {
+        write_coordinate(version, *number, out)?;
+    }
+    Ok(())
+}
+
+/// Appends the four numbers of a half-space.
+fn write_half(half: &Half, out: &mut Vec<u8>) -> Result<(), AllocError>
+    ensures { Spells result out.old.items out.new.items (half_space_words half.now) }
+{
+    let (a, b, c, d) = half.numbers();
+    write_numbers(&[a, b, c, d], out)
+}
+
+/// Appends the three coordinates of a point.
+fn write_position(version: Version, point: &Point, out: &mut Vec<u8>) -> Result<(), AllocError>
+    ensures { Spells result out.old.items out.new.items (coordinate_text (version_of version) point.now.x ∷ coordinate_text (version_of version) point.now.y ∷ coordinate_text (version_of version) point.now.z ∷ []) }
+{
+    let (x, y, z, _) = point.numbers();
+    write_coordinates(version, &[x, y, z], out)
+}
+
+/// Appends the weight of a point.
+fn write_weight(point: &Point, out: &mut Vec<u8>) -> Result<(), AllocError>
+    ensures { Spells result out.old.items out.new.items (signed_decimal point.now.w ∷ []) }
+{
+    let (_, _, _, w) = point.numbers();
+    write_numbers(&[w], out)
+}
+
+/// Appends the four numbers of a point.
+fn write_point(version: Version, point: &Point, out: &mut Vec<u8>) -> Result<(), AllocError>
+    ensures { Spells result out.old.items out.new.items (point_words (version_of version) point.now) }
+{
+    write_position(version, point, out)?;
+    write_weight(point, out)
+}
+
+/// Appends the six numbers of a box.
+fn write_block(version: Version, block: &IntBox, out: &mut Vec<u8>) -> Result<(), AllocError>
+    ensures { Spells result out.old.items out.new.items (box_words (version_of version) (integer_box block.now)) }
+{
+    let [x1, y1, z1] = block.lo;
+    let [x2, y2, z2] = block.hi;
+    write_coordinates(
+        version,
+        &[
+            x1 as i128, y1 as i128, z1 as i128, x2 as i128, y2 as i128, z2 as i128,
+        ],
+        out,
+    )
+}
+
+/// Appends the two numbers of a corner.
+fn write_corner(version: Version, corner: &Corner, out: &mut Vec<u8>) -> Result<(), AllocError>
+    ensures { Spells result out.old.items out.new.items (corner_words (version_of version) (polygon_corner corner.now)) }
+{
+    write_coordinates(version, &[corner.x as i128, corner.y as i128], out)
+}
+
+/// Appends the two numbers of each corner.
+fn write_corners(version: Version, corners: &Corners, out: &mut Vec<u8>) -> Result<(), AllocError>
+    ensures { Spells result out.old.items out.new.items (flat_map (corner_words (version_of version)) (polygon_corners corners.now.items)) }
+{
+    for corner in corners.items() {
+        write_corner(version, corner, out)?;
+    }
+    Ok(())
+}
+
+/// Appends the two heights of a prism.
+fn write_heights(version: Version, low: i32, high: i32, out: &mut Vec<u8>) -> Result<(), AllocError>
+    ensures { Spells result out.old.items out.new.items (coordinate_text (version_of version) low ∷ coordinate_text (version_of version) high ∷ []) }
+{
+    write_coordinates(version, &[low as i128, high as i128], out)
+}
+
+/// Appends the number of corners, and the two numbers of each.
+fn write_polygon(version: Version, corners: &Corners, out: &mut Vec<u8>) -> Result<(), AllocError>
+    ensures { Spells result out.old.items out.new.items (decimal (length (polygon_corners corners.now.items)) ∷ flat_map (corner_words (version_of version)) (polygon_corners corners.now.items)) }
+{
+    write_numbers(&[corners.items().len()], out)?;
+    write_corners(version, corners, out)
+}
+
+/// The word that begins an expression.
+fn node_word(region: &Expr) -> &'static [u8]
+    ensures { (v : Versions) → expression_words v (expression_of region.now) ≡ result.now ∷ drop 1 (expression_words v (expression_of region.now)) }
+{
+    match region {
+        Expr::Half(_) => b"half",
+        Expr::Block(_) => b"box",
+        Expr::Prism(_, _, _) => b"prism",
+        Expr::All => b"all",
+        Expr::Nothing => b"none",
+        Expr::Name(_) => b"name",
+        Expr::Lot(_) => b"lot",
+        Expr::And(_, _) => b"and",
+        Expr::Or(_, _) => b"or",
+        Expr::Minus(_, _) => b"minus",
+        Expr::Not(_) => b"not",
+    }
+}
+
+/// Appends the words of an expression.
+fn write_expression(version: Version, region: &Expr, out: &mut Vec<u8>) -> Result<(), AllocError>
+    ensures { Spells result out.old.items out.new.items (expression_words (version_of version) (expression_of region.now)) }
+{
+    write_word(node_word(region), out)?;
+    match region {
+        Expr::Half(half) => write_half(half, out),
+        Expr::Block(block) => write_block(version, block, out),
+        Expr::Prism(low, high, corners) => {
+            write_heights(version, *low, *high, out)?;
+            write_polygon(version, corners, out)
+        }
+        Expr::All | Expr::Nothing => Ok(()),
+        Expr::Name(name) | Expr::Lot(name) => write_word(name.bytes(), out),
+        Expr::And(first, second) | Expr::Or(first, second) | Expr::Minus(first, second) => {
+            write_expression(version, first, out)?;
+            write_expression(version, second, out)
+        }
+        Expr::Not(operand) => write_expression(version, operand, out),
+    }
+}
+
+/// Appends the words of two expressions.
+fn write_pair(
+    version: Version,
+    first: &Expr,
+    second: &Expr,
+    out: &mut Vec<u8>,
+) -> Result<(), AllocError>
+    ensures { Spells result out.old.items out.new.items (expression_words (version_of version) (expression_of first.now) ++ expression_words (version_of version) (expression_of second.now)) }
+{
+    write_expression(version, first, out)?;
+    write_expression(version, second, out)
+}
+
+/// Appends a name and the words of an expression.
+fn write_named(
+    version: Version,
+    name: &Name,
+    region: &Expr,
+    out: &mut Vec<u8>,
+) -> Result<(), AllocError>
+    ensures { Spells result out.old.items out.new.items (name.now ∷ expression_words (version_of version) (expression_of region.now)) }
+{
+    write_word(name.bytes(), out)?;
+    write_expression(version, region, out)
+}
+
+/// Appends what follows the word `let`.
+fn write_definition(
+    version: Version,
+    name: &Name,
+    region: &Expr,
+    out: &mut Vec<u8>,
+) -> Result<(), AllocError>
+    ensures { Spells result out.old.items out.new.items (name.now ∷ codes "=" ∷ expression_words (version_of version) (expression_of region.now)) }
+{
+    write_words(name.bytes(), b"=", out)?;
+    write_expression(version, region, out)
+}
+
+/// Appends what follows the word `member`.
+fn write_member(
+    version: Version,
+    region: &Expr,
+    point: &Point,
+    out: &mut Vec<u8>,
+) -> Result<(), AllocError>
+    ensures { Spells result out.old.items out.new.items (expression_words (version_of version) (expression_of region.now) ++ point_words (version_of version) point.now) }
+{
+    write_expression(version, region, out)?;
+    write_point(version, point, out)
+}
+
+/// Appends the children of a subdivision.
+fn write_children(version: Version, children: &Entries, out: &mut Vec<u8>) -> Result<(), AllocError>
+    ensures { Spells result out.old.items out.new.items (children_words (version_of version) (map child_of children.now.items)) }
+{
+    for child in children.items() {
+        write_named(version, &child.0, &child.1, out)?;
+    }
+    Ok(())
+}
+
+/// Appends names.
+fn write_names(names: &Names, out: &mut Vec<u8>) -> Result<(), AllocError>
+    ensures { Spells result out.old.items out.new.items names.now.items }
+{
+    for name in names.items() {
+        write_word(name.bytes(), out)?;
+    }
+    Ok(())
+}
+
+/// Appends a name and a number.
+fn write_counted(name: &Name, count: usize, out: &mut Vec<u8>) -> Result<(), AllocError>
+    ensures { Spells result out.old.items out.new.items (name.now ∷ decimal count ∷ []) }
+{
+    write_word(name.bytes(), out)?;
+    write_numbers(&[count], out)
+}
+
+/// Appends what follows the word `subdivide`.
+fn write_subdivision(
+    version: Version,
+    lot: &Name,
+    children: &Entries,
+    out: &mut Vec<u8>,
+) -> Result<(), AllocError>
+    ensures { Spells result out.old.items out.new.items (lot.now ∷ decimal (length (map child_of children.now.items)) ∷ children_words (version_of version) (map child_of children.now.items)) }
+{
+    write_counted(lot, children.items().len(), out)?;
+    write_children(version, children, out)
+}
+
+/// Appends what follows the word `consolidate`.
+fn write_consolidation(new: &Name, lots: &Names, out: &mut Vec<u8>) -> Result<(), AllocError>
+    ensures { Spells result out.old.items out.new.items (new.now ∷ decimal (length lots.now.items) ∷ lots.now.items) }
+{
+    write_counted(new, lots.items().len(), out)?;
+    write_names(lots, out)
+}
+
+/// Appends what follows the word `asof`.
+fn write_as_of(
+    version: Version,
+    line: u32,
+    point: &Point,
+    out: &mut Vec<u8>,
+) -> Result<(), AllocError>
+    ensures { Spells result out.old.items out.new.items (decimal line ∷ point_words (version_of version) point.now) }
+{
+    write_numbers(&[line], out)?;
+    write_point(version, point, out)
+}
+
+/// Appends what follows the word `section`.
+fn write_section(
+    version: Version,
+    region: &Expr,
+    z: i32,
+    out: &mut Vec<u8>,
+) -> Result<(), AllocError>
+    ensures { Spells result out.old.items out.new.items (expression_words (version_of version) (expression_of region.now) ++ coordinate_text (version_of version) z ∷ []) }
+{
+    write_expression(version, region, out)?;
+    write_coordinate(version, z as i128, out)
+}
+
+/// Appends what follows the word `cut`.
+fn write_cut(
+    version: Version,
+    lot: &Name,
+    region: &Expr,
+    first: &Name,
+    second: &Name,
+    out: &mut Vec<u8>,
+) -> Result<(), AllocError>
+    ensures { Spells result out.old.items out.new.items (lot.now ∷ expression_words (version_of version) (expression_of region.now) ++ first.now ∷ second.now ∷ []) }
+{
+    write_named(version, lot, region, out)?;
+    write_words(first.bytes(), second.bytes(), out)
+}
+
+/// The word that begins a command.
+fn verb_word(c: &Command) -> &'static [u8]
+    ensures { (v : Versions) → words_of_command v (command_of c.now) ≡ result.now ∷ drop 1 (words_of_command v (command_of c.now)) }
+{
+    match c {
+        Command::Let(_, _) => b"let",
+        Command::Member(_, _) => b"member",
+        Command::Empty(_) => b"empty",
+        Command::Pieces(_) => b"pieces",
+        Command::Show(_) => b"show",
+        Command::Equal(_, _) => b"equal",
+        Command::Within(_, _) => b"within",
+        Command::Overlap(_, _) => b"overlap",
+        Command::Contact(_, _) => b"contact",
+        Command::Rcc(_, _) => b"rcc",
+        Command::Register(_, _) => b"register",
+        Command::Cut(_, _, _, _) => b"cut",
+        Command::Subdivide(_, _) => b"subdivide",
+        Command::Consolidate(_, _) => b"consolidate",
+        Command::Retire(_) => b"retire",
+        Command::Neighbours(_) => b"neighbours",
+        Command::History(_) => b"history",
+        Command::At(_) => b"at",
+        Command::Asof(_, _) => b"asof",
+        Command::Audit => b"audit",
+        Command::List => b"list",
+        Command::Layer(_) => b"layer",
+        Command::Section(_, _) => b"section",
+        Command::Access(_, _) => b"access",
+    }
+}
+
+/// Appends what follows the word of a command.
+fn write_operands(version: Version, c: &Command, out: &mut Vec<u8>) -> Result<(), AllocError>
+    ensures { Spells result out.old.items out.new.items (drop 1 (words_of_command (version_of version) (command_of c.now))) }
+{
+    match c {
+        Command::Let(name, region) => write_definition(version, name, region, out),
+        Command::Member(region, point) => write_member(version, region, point, out),
+        Command::Empty(region) | Command::Pieces(region) | Command::Show(region) => {
+            write_expression(version, region, out)
+        }
+        Command::Equal(first, second)
+        | Command::Within(first, second)
+        | Command::Overlap(first, second)
+        | Command::Contact(first, second)
+        | Command::Rcc(first, second) => write_pair(version, first, second, out),
+        Command::Register(lot, region) => write_named(version, lot, region, out),
+        Command::Cut(lot, region, first, second) => write_cut(
+            version, lot, region, first, second, out,
+        ),
+        Command::Subdivide(lot, children) => write_subdivision(version, lot, children, out),
+        Command::Consolidate(new, lots) => write_consolidation(new, lots, out),
+        Command::Retire(name)
+        | Command::Neighbours(name)
+        | Command::History(name)
+        | Command::Layer(name) => write_word(name.bytes(), out),
+        Command::At(point) => write_point(version, point, out),
+        Command::Asof(line, point) => write_as_of(version, *line, point, out),
+        Command::Audit | Command::List => Ok(()),
+        Command::Section(region, z) => write_section(version, region, *z, out),
+        Command::Access(from, to) => write_words(from.bytes(), to.bytes(), out),
+    }
+}
+
+/// Appends the command's one spelling in a version: its words with one space between, half-spaces and points in lowest terms.
+///
+/// Answers `AllocError` only for want of memory. Then `out` has what it had and a front of the spelling.
+#[tactic(auto, unfolding(rp_language::specs::Grammar::spelling))]
+pub fn write_command(version: Version, c: &Command, out: &mut Vec<u8>) -> Result<(), AllocError>
+    ensures ok { OnOk result (out.new.items ≡ out.old.items ++ spelling (version_of version) (command_of c.now)) }
+    ensures err { OnErr result (AppendsFront out.old.items out.new.items (spelling (version_of version) (command_of c.now))) }
+{
+    out.extend_from_slice(verb_word(c))?;
+    write_operands(version, c, out)
+}
