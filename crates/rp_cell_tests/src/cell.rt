@@ -2,29 +2,29 @@ use rp_cell::{
     Cell, Drops, Held, SideProofs, Sides, Slimmed, Strict, Weak, box_of, decide_strict,
     decide_weak, sides_of, slim,
 };
-use rp_space::{Half, HalfFault, IntBox, Outside, Term, box_halves};
-use std::test::Fail;
+use rp_space::{Half, IntBox, Outside, Term, box_halves};
+use std::process::Abort;
 
 /// Shows that a type may be sent to other threads and shared with them.
 fn needs_send_sync<T: Send + Sync>() {}
 
 /// A multiple of a half-space.
-fn term(by: i128, numbers: (i64, i64, i64, i64)) -> Result<Term, HalfFault> {
+fn term(rt: &impl Abort, by: i128, numbers: (i64, i64, i64, i64)) -> Term {
     let (a, b, c, d) = numbers;
-    Ok(Term {
+    Term {
         by,
-        half: Half::new(a, b, c, d)?,
-    })
+        half: Half::new(a, b, c, d).expect(rt, "no half-space"),
+    }
 }
 
 /// A tetrahedron with a corner at the origin, whose fourth side cuts the axes at 7/2, 7/3 and 7/5.
-fn tetrahedron() -> Result<[Half; 4], HalfFault> {
-    Ok([
-        Half::new(1, 0, 0, 0)?,
-        Half::new(0, 1, 0, 0)?,
-        Half::new(0, 0, 1, 0)?,
-        Half::new(-2, -3, -5, 7)?,
-    ])
+fn tetrahedron(rt: &impl Abort) -> [Half; 4] {
+    [
+        Half::new(1, 0, 0, 0).expect(rt, "no half-space"),
+        Half::new(0, 1, 0, 0).expect(rt, "no half-space"),
+        Half::new(0, 0, 1, 0).expect(rt, "no half-space"),
+        Half::new(-2, -3, -5, 7).expect(rt, "no half-space"),
+    ]
 }
 
 #[test]
@@ -40,68 +40,64 @@ fn types_cross_threads() {
 }
 
 #[test]
-fn a_box_with_points_is_decided_by_its_corners(rt: HostRuntime) -> Result<(), Fail> {
+fn a_box_with_points_is_decided_by_its_corners(rt: HostRuntime) {
     let cell = box_halves(&IntBox {
         lo: [0, 0, 0],
         hi: [10, 10, 10],
     });
     let Strict::Inside(points) = decide_strict(&cell) else {
-        return Err("the box is empty".into());
+        panic!(rt; "the box is empty");
     };
     let numbers = [(0, 0, 0, 1), (0, 0, 10, 1), (0, 10, 0, 1), (10, 0, 0, 1)];
     assert_eq!(rt; points.items().len(), 4);
     for (point, wanted) in points.items().iter().zip(numbers) {
         assert_eq!(rt; point.numbers(), wanted);
     }
-    Ok(())
 }
 
 #[test]
-fn a_flat_box_has_no_points_but_touches(rt: HostRuntime) -> Result<(), Fail> {
+fn a_flat_box_has_no_points_but_touches(rt: HostRuntime) {
     let cell = box_halves(&IntBox {
         lo: [0, 0, 0],
         hi: [0, 10, 10],
     });
     let Strict::Outside(terms) = decide_strict(&cell) else {
-        return Err("the flat box has points".into());
+        panic!(rt; "the flat box has points");
     };
-    let wanted = [term(1, (1, 0, 0, 0))?, term(1, (-1, 0, 0, 0))?];
+    let wanted = [term(&rt, 1, (1, 0, 0, 0)), term(&rt, 1, (-1, 0, 0, 0))];
     assert_eq!(rt; terms.items(), wanted.as_slice());
     let Weak::At(point) = decide_weak(&cell) else {
-        return Err("the closed box is empty".into());
+        panic!(rt; "the closed box is empty");
     };
     assert_eq!(rt; point.numbers(), (0, 0, 0, 1));
-    Ok(())
 }
 
 #[test]
-fn a_box_turned_over_is_empty_with_its_closure(rt: HostRuntime) -> Result<(), Fail> {
+fn a_box_turned_over_is_empty_with_its_closure(rt: HostRuntime) {
     let cell = box_halves(&IntBox {
         lo: [1, 0, 0],
         hi: [0, 10, 10],
     });
     let Weak::Outside(terms) = decide_weak(&cell) else {
-        return Err("the closed box has points".into());
+        panic!(rt; "the closed box has points");
     };
-    let wanted = [term(1, (1, 0, 0, -1))?, term(1, (-1, 0, 0, 0))?];
+    let wanted = [term(&rt, 1, (1, 0, 0, -1)), term(&rt, 1, (-1, 0, 0, 0))];
     assert_eq!(rt; terms.items(), wanted.as_slice());
-    Ok(())
 }
 
 #[test]
-fn a_tetrahedron_is_slim(rt: HostRuntime) -> Result<(), Fail> {
-    let cell = tetrahedron()?;
-    let slimmed = slim(rt.alloc(), &cell)?;
+fn a_tetrahedron_is_slim(rt: HostRuntime) {
+    let cell = tetrahedron(&rt);
+    let slimmed = slim(rt.alloc(), &cell).expect(&rt, "no memory");
     assert_eq!(rt; slimmed.kept.items(), cell.as_slice());
     assert_eq!(rt; slimmed.dropped.items().len(), 0);
-    Ok(())
 }
 
 #[test]
-fn a_tetrahedron_has_its_least_box_and_its_sides(rt: HostRuntime) -> Result<(), Fail> {
-    let cell = tetrahedron()?;
+fn a_tetrahedron_has_its_least_box_and_its_sides(rt: HostRuntime) {
+    let cell = tetrahedron(&rt);
     let Strict::Inside(_) = decide_strict(&cell) else {
-        return Err("the tetrahedron is empty".into());
+        panic!(rt; "the tetrahedron is empty");
     };
     let bounds = IntBox {
         lo: [0, 0, 0],
@@ -113,22 +109,22 @@ fn a_tetrahedron_has_its_least_box_and_its_sides(rt: HostRuntime) -> Result<(), 
     let [x, y, z, cut] = [(1, 0, 0, 0), (0, 1, 0, 0), (0, 0, 1, 0), (-2, -3, -5, 7)];
     let wanted = [
         [
-            term(3, y)?,
-            term(5, z)?,
-            term(1, cut)?,
-            term(2, (1, 0, 0, -4))?,
+            term(&rt, 3, y),
+            term(&rt, 5, z),
+            term(&rt, 1, cut),
+            term(&rt, 2, (1, 0, 0, -4)),
         ],
         [
-            term(2, x)?,
-            term(5, z)?,
-            term(1, cut)?,
-            term(3, (0, 1, 0, -3))?,
+            term(&rt, 2, x),
+            term(&rt, 5, z),
+            term(&rt, 1, cut),
+            term(&rt, 3, (0, 1, 0, -3)),
         ],
         [
-            term(2, x)?,
-            term(3, y)?,
-            term(1, cut)?,
-            term(5, (0, 0, 1, -2))?,
+            term(&rt, 2, x),
+            term(&rt, 3, y),
+            term(&rt, 1, cut),
+            term(&rt, 5, (0, 0, 1, -2)),
         ],
     ];
     let copy = sides.proofs.copy();
@@ -137,13 +133,12 @@ fn a_tetrahedron_has_its_least_box_and_its_sides(rt: HostRuntime) -> Result<(), 
         assert_eq!(rt; proof.items(), terms.as_slice());
     }
     assert_eq!(rt; sides.proofs.into_items().len(), 3);
-    Ok(())
 }
 
 #[test]
-fn certificates_of_sides_are_appended(rt: HostRuntime) -> Result<(), Fail> {
+fn certificates_of_sides_are_appended(rt: HostRuntime) {
     let mut terms = Outside::new();
-    terms.push(term(1, (0, 0, 0, -1))?);
+    terms.push(term(&rt, 1, (0, 0, 0, -1)));
     let mut proofs = SideProofs::new();
     proofs.push(terms.copy());
     proofs.push(terms);
@@ -151,22 +146,21 @@ fn certificates_of_sides_are_appended(rt: HostRuntime) -> Result<(), Fail> {
     for proof in proofs.items() {
         assert_eq!(rt; proof.items().len(), 1);
     }
-    Ok(())
 }
 
 #[test]
-fn a_half_space_of_all_points_is_dropped(rt: HostRuntime) -> Result<(), Fail> {
-    let all = Half::new(0, 0, 0, 1)?;
+fn a_half_space_of_all_points_is_dropped(rt: HostRuntime) {
+    let all = Half::new(0, 0, 0, 1).expect(&rt, "no half-space");
     let cell = [all];
-    let slimmed = slim(rt.alloc(), &cell)?;
+    let slimmed = slim(rt.alloc(), &cell).expect(&rt, "no memory");
     assert_eq!(rt; slimmed.kept.items().len(), 0);
     assert_eq!(rt; slimmed.dropped.items().len(), 1);
     for (half, terms) in slimmed.dropped.items() {
         assert_eq!(rt; *half, all);
-        assert_eq!(rt; terms.items(), [term(1, (0, 0, 0, -1))?].as_slice());
+        assert_eq!(rt; terms.items(), [term(&rt, 1, (0, 0, 0, -1))].as_slice());
     }
     let Strict::Inside(_) = decide_strict(&cell) else {
-        return Err("the cube is empty".into());
+        panic!(rt; "the cube is empty");
     };
     let edge = 16777216;
     let cube = IntBox {
@@ -175,11 +169,10 @@ fn a_half_space_of_all_points_is_dropped(rt: HostRuntime) -> Result<(), Fail> {
     };
     assert_eq!(rt; box_of(&cell), cube);
     assert_eq!(rt; sides_of(&cell).proofs.items().len(), 0);
-    Ok(())
 }
 
 #[test]
-fn a_held_box_is_asked_with_further_half_spaces(rt: HostRuntime) -> Result<(), Fail> {
+fn a_held_box_is_asked_with_further_half_spaces(rt: HostRuntime) {
     let held = Held::new(&box_halves(&IntBox {
         lo: [0, 0, 0],
         hi: [10, 10, 10],
@@ -187,12 +180,12 @@ fn a_held_box_is_asked_with_further_half_spaces(rt: HostRuntime) -> Result<(), F
     assert_eq!(rt; held.halves().len(), 6);
     // The corner at the origin is cut off, touched, and left.
     let [within, touching, beyond] = [
-        Half::new(-1, -1, -1, 1)?,
-        Half::new(-1, -1, -1, 0)?,
-        Half::new(-1, -1, -1, -1)?,
+        Half::new(-1, -1, -1, 1).expect(&rt, "no half-space"),
+        Half::new(-1, -1, -1, 0).expect(&rt, "no half-space"),
+        Half::new(-1, -1, -1, -1).expect(&rt, "no half-space"),
     ];
     let Strict::Inside(points) = held.strict_with(&[within]) else {
-        return Err("the corner that is cut off is empty".into());
+        panic!(rt; "the corner that is cut off is empty");
     };
     let numbers = [(0, 0, 0, 1), (0, 0, 1, 1), (0, 1, 0, 1), (1, 0, 0, 1)];
     assert_eq!(rt; points.items().len(), 4);
@@ -200,31 +193,30 @@ fn a_held_box_is_asked_with_further_half_spaces(rt: HostRuntime) -> Result<(), F
         assert_eq!(rt; point.numbers(), wanted);
     }
     let Weak::At(point) = held.weak_with(&[touching]) else {
-        return Err("the corner is not touched".into());
+        panic!(rt; "the corner is not touched");
     };
     assert_eq!(rt; point.numbers(), (0, 0, 0, 1));
     let [x, y, z] = [(1, 0, 0, 0), (0, 1, 0, 0), (0, 0, 1, 0)];
     let apart = held.with(&[beyond]);
     let Weak::Outside(terms) = apart.weak() else {
-        return Err("the corner is touched from beyond".into());
+        panic!(rt; "the corner is touched from beyond");
     };
     let wanted = [
-        term(1, x)?,
-        term(1, y)?,
-        term(1, z)?,
-        term(1, (-1, -1, -1, -1))?,
+        term(&rt, 1, x),
+        term(&rt, 1, y),
+        term(&rt, 1, z),
+        term(&rt, 1, (-1, -1, -1, -1)),
     ];
     assert_eq!(rt; terms.items(), wanted.as_slice());
     let Strict::Outside(terms) = apart.strict() else {
-        return Err("there are points beyond the corner".into());
+        panic!(rt; "there are points beyond the corner");
     };
     assert_eq!(rt; terms.items(), wanted.as_slice());
-    Ok(())
 }
 
 #[test]
-fn a_held_cell_grows_and_is_slimmed(rt: HostRuntime) -> Result<(), Fail> {
-    let cell = tetrahedron()?;
+fn a_held_cell_grows_and_is_slimmed(rt: HostRuntime) {
+    let cell = tetrahedron(&rt);
     let mut held = Held::new(&cell[..3]);
     held.push(cell[3]);
     held.extend(&[cell[0]]);
@@ -232,11 +224,10 @@ fn a_held_cell_grows_and_is_slimmed(rt: HostRuntime) -> Result<(), Fail> {
     assert_eq!(rt; copy.halves().len(), 5);
     copy.hold(&cell[..1]);
     copy.copy_from(&held);
-    let slimmed = copy.slim(rt.alloc())?;
+    let slimmed = copy.slim(rt.alloc()).expect(&rt, "no memory");
     assert_eq!(rt;
         slimmed.kept.items(),
         [cell[1], cell[2], cell[3], cell[0]].as_slice()
     );
     assert_eq!(rt; slimmed.dropped.items().len(), 1);
-    Ok(())
 }

@@ -3,7 +3,6 @@ ghost use Rattle.std.specs.Prelude.{◌≡◌, ◌<◌, ◌≤◌, ◌+◌, leng
 use rp_clip::{Clip, inside_on_polygons, weak_on_polygon};
 use rp_space::{Half, Point};
 use std::process::Abort;
-use std::test::Fail;
 
 /// Shows that a type may be sent to other threads and shared with them.
 fn needs_send_sync<T: Send + Sync>() {}
@@ -46,7 +45,7 @@ fn clip_of_three(
 }
 
 #[test]
-fn a_tetrahedron_has_its_four_corners(rt: HostRuntime) -> Result<(), Fail> {
+fn a_tetrahedron_has_its_four_corners(rt: HostRuntime) {
     let mut clip = clip_of_three(&rt, [(1, 0, 0, 0), (0, 1, 0, 0), (0, 0, 1, 0)], [8, 8, 8]);
     assert_eq!(rt; clip.halves().len(), 3);
     assert!(rt; clip.add(half(&rt, (-2, -3, -5, 7))));
@@ -58,19 +57,18 @@ fn a_tetrahedron_has_its_four_corners(rt: HostRuntime) -> Result<(), Fail> {
     assert!(rt; vertices.contains(&point(&rt, (0, 0, 7, 5))));
     let mut other = Clip::<256>::cube();
     other.copy_from(&clip.copy());
-    let inside = other.first_inside().ok_or("no certificate")?;
+    let inside = other.first_inside().expect(&rt, "no certificate");
     let points = inside.items();
     assert_eq!(rt; points.len(), 4);
     assert_eq!(rt; points[0].numbers(), (0, 0, 0, 1));
     assert_eq!(rt; points[1].numbers(), (0, 0, 7, 5));
     assert_eq!(rt; points[2].numbers(), (0, 7, 0, 3));
     assert_eq!(rt; points[3].numbers(), (7, 0, 0, 2));
-    let weak = clip.first_weak().ok_or("no weak point")?;
+    let weak = clip.first_weak().expect(&rt, "no weak point");
     assert_eq!(rt; weak.numbers(), (0, 0, 0, 1));
     clip.clear();
     assert_eq!(rt; clip.halves().len(), 0);
     assert_eq!(rt; clip.corners().len(), 8);
-    Ok(())
 }
 
 #[test]
@@ -100,18 +98,17 @@ fn a_half_space_and_its_complement_have_no_common_point(rt: HostRuntime) {
 }
 
 #[test]
-fn the_cube_alone_has_its_corners(rt: HostRuntime) -> Result<(), Fail> {
+fn the_cube_alone_has_its_corners(rt: HostRuntime) {
     let edge = 16777216;
     let cube = Clip::<256>::cube();
     assert_eq!(rt; cube.vertices().len(), 8);
-    let inside = cube.first_inside().ok_or("no certificate")?;
+    let inside = cube.first_inside().expect(&rt, "no certificate");
     let points = inside.items();
     assert_eq!(rt; points.len(), 4);
     assert_eq!(rt; points[0].numbers(), (-edge, -edge, -edge, 1));
     assert_eq!(rt; points[1].numbers(), (-edge, -edge, edge, 1));
     assert_eq!(rt; points[2].numbers(), (-edge, edge, -edge, 1));
     assert_eq!(rt; points[3].numbers(), (edge, -edge, -edge, 1));
-    Ok(())
 }
 
 /// The first points of a cell that has them on its first planes, as all its vertices tell, and as its polygons do.

@@ -2,7 +2,6 @@ ghost use Rattle.std.specs.Prelude.{◌<◌};
 
 use rp_footprint::{prism_holds, trapezoid};
 use rp_space::{Corner, Half, Point};
-use std::test::Fail;
 
 /// A polygon that crosses itself: two triangles that meet in (5, 5).
 const CROSSED: [Corner; 4] = [
@@ -33,7 +32,7 @@ fn is_in_square(x: i128, y: i128, z: i128, w: i128) -> Option<bool> {
 }
 
 #[test]
-fn crossed_polygon_has_two_triangles(rt: HostRuntime) -> Result<(), Fail> {
+fn crossed_polygon_has_two_triangles(rt: HostRuntime) {
     let rows = [
         (5, 2, 5, 1, false),
         (2, 5, 5, 1, true),
@@ -50,14 +49,13 @@ fn crossed_polygon_has_two_triangles(rt: HostRuntime) -> Result<(), Fail> {
         (-1, 5, 5, 1, false),
     ];
     for (x, y, z, w, expected) in rows {
-        let found = is_in_crossed(x, y, z, w).ok_or("no point")?;
+        let found = is_in_crossed(x, y, z, w).expect(&rt, "no point");
         assert!(rt; found == expected);
     }
-    Ok(())
 }
 
 #[test]
-fn square_is_a_box(rt: HostRuntime) -> Result<(), Fail> {
+fn square_is_a_box(rt: HostRuntime) {
     let rows = [
         (0, 0, 0, 1, true),
         (10, 0, 0, 1, false),
@@ -67,10 +65,9 @@ fn square_is_a_box(rt: HostRuntime) -> Result<(), Fail> {
         (5, 11, 5, 1, false),
     ];
     for (x, y, z, w, expected) in rows {
-        let found = is_in_square(x, y, z, w).ok_or("no point")?;
+        let found = is_in_square(x, y, z, w).expect(&rt, "no point");
         assert!(rt; found == expected);
     }
-    Ok(())
 }
 
 /// The trapezoid of an edge of the crossed polygon.
@@ -81,8 +78,8 @@ fn crossed_cell(k: usize) -> Option<[Half; 6]>
 }
 
 #[test]
-fn trapezoids_are_made(rt: HostRuntime) -> Result<(), Fail> {
-    let cell = crossed_cell(0).ok_or("no cell")?;
+fn trapezoids_are_made(rt: HostRuntime) {
+    let cell = crossed_cell(0).expect(&rt, "no cell");
     let numbers = [
         (1, 0, 0, 0),
         (-1, 0, 0, 10),
@@ -95,9 +92,8 @@ fn trapezoids_are_made(rt: HostRuntime) -> Result<(), Fail> {
         assert!(rt; half.numbers() == *expected);
     }
     assert!(rt; crossed_cell(1).is_none());
-    let falling = crossed_cell(2).ok_or("no cell")?;
+    let falling = crossed_cell(2).expect(&rt, "no cell");
     let [_, _, _, below, _, _] = falling;
     assert!(rt; below.numbers() == (-1, -1, 0, 10));
     assert!(rt; crossed_cell(3).is_none());
-    Ok(())
 }

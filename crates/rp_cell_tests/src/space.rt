@@ -4,7 +4,6 @@ use rp_space::{
     is_contradiction, is_multiplier, joined, meet, quotient, with_cube,
 };
 use std::collections::HashMap;
-use std::test::Fail;
 
 /// Shows that a type may be sent to other threads and shared with them.
 fn needs_send_sync<T: Send + Sync>() {}
@@ -55,79 +54,75 @@ fn names_are_told_from_others(rt: HostRuntime) {
 }
 
 #[test]
-fn a_name_gives_its_bytes(rt: HostRuntime) -> Result<(), Fail> {
-    let name = Name::new(b"tower.2").ok_or("no name")?;
+fn a_name_gives_its_bytes(rt: HostRuntime) {
+    let name = Name::new(b"tower.2").expect(&rt, "no name");
     assert_eq!(rt; name.bytes(), b"tower.2".as_slice());
-    Ok(())
 }
 
 #[test]
-fn a_name_is_a_key(rt: HostRuntime) -> Result<(), Fail> {
-    let east = Name::new(b"east").ok_or("no name")?;
-    let again = Name::new(b"east").ok_or("no name")?;
-    let west = Name::new(b"west").ok_or("no name")?;
+fn a_name_is_a_key(rt: HostRuntime) {
+    let east = Name::new(b"east").expect(&rt, "no name");
+    let again = Name::new(b"east").expect(&rt, "no name");
+    let west = Name::new(b"west").expect(&rt, "no name");
     assert!(rt; east == again);
     assert!(rt; east != west);
     let mut numbers = HashMap::new(rt.alloc());
-    numbers.insert(east, 7)?;
+    numbers.insert(east, 7).expect(&rt, "no memory");
     assert_eq!(rt; numbers.get(&again).copied(), Some(7));
     assert_eq!(rt; numbers.get(&west).copied(), None);
-    Ok(())
 }
 
 #[test]
-fn lists_grow(rt: HostRuntime) -> Result<(), Fail> {
+fn lists_grow(rt: HostRuntime) {
     let mut numbers = Numbers::new(rt.alloc());
-    numbers.reserve(2)?;
-    numbers.push(7)?;
-    numbers.push(9)?;
+    numbers.reserve(2).expect(&rt, "no memory");
+    numbers.push(7).expect(&rt, "no memory");
+    numbers.push(9).expect(&rt, "no memory");
     assert_eq!(rt; numbers.items(), [7, 9].as_slice());
     let mut names = Names::new(rt.alloc());
-    names.push(Name::new(b"a").ok_or("no name")?)?;
+    names
+        .push(Name::new(b"a").expect(&rt, "no name"))
+        .expect(&rt, "no memory");
     assert_eq!(rt; names.items().len(), 1);
     let mut halves = Halves::new(rt.alloc());
-    halves.push(Half::new(2, 0, 0, -4).ok().ok_or("no half-space")?)?;
+    halves
+        .push(Half::new(2, 0, 0, -4).expect(&rt, "no half-space"))
+        .expect(&rt, "no memory");
     assert_eq!(rt; halves.items().len(), 1);
-    Ok(())
 }
 
 #[test]
-fn lists_are_joined_and_taken_apart(rt: HostRuntime) -> Result<(), Fail> {
-    let mut front = Numbers::copy_of(rt.alloc(), &[7, 9])?;
-    let back = Numbers::copy_of(rt.alloc(), &[1, 2, 3])?;
-    front.append(back)?;
-    front.append(Numbers::new(rt.alloc()))?;
+fn lists_are_joined_and_taken_apart(rt: HostRuntime) {
+    let mut front = Numbers::copy_of(rt.alloc(), &[7, 9]).expect(&rt, "no memory");
+    let back = Numbers::copy_of(rt.alloc(), &[1, 2, 3]).expect(&rt, "no memory");
+    front.append(back).expect(&rt, "no memory");
+    front
+        .append(Numbers::new(rt.alloc()))
+        .expect(&rt, "no memory");
     assert_eq!(rt; front.items(), [7, 9, 1, 2, 3].as_slice());
     let items = front.into_items();
     assert_eq!(rt; items.as_slice(), [7, 9, 1, 2, 3].as_slice());
-    Ok(())
 }
 
 #[test]
-fn half_spaces_and_points_are_kept_in_lowest_terms(rt: HostRuntime) -> Result<(), Fail> {
-    let half = Half::new(2, 0, 0, -4).ok().ok_or("no half-space")?;
+fn half_spaces_and_points_are_kept_in_lowest_terms(rt: HostRuntime) {
+    let half = Half::new(2, 0, 0, -4).expect(&rt, "no half-space");
     assert_eq!(rt; half.numbers(), (1, 0, 0, -2));
     assert_eq!(rt; half.not().numbers(), (-1, 0, 0, 2));
-    let point = Point::new(4, 6, 8, 2).ok().ok_or("no point")?;
+    let point = Point::new(4, 6, 8, 2).expect(&rt, "no point");
     assert_eq!(rt; point.numbers(), (2, 3, 4, 1));
     assert_eq!(rt; half.side(&point), 0);
     assert!(rt; half.holds(&point));
     assert!(rt; !half.not().holds(&point));
-    Ok(())
 }
 
 #[test]
-fn the_greatest_side_value_keeps_within_128_bits(rt: HostRuntime) -> Result<(), Fail> {
+fn the_greatest_side_value_keeps_within_128_bits(rt: HostRuntime) {
     let edge = 16777216;
-    let half = Half::new(edge, edge, edge, 844424930131967)
-        .ok()
-        .ok_or("no half-space")?;
+    let half = Half::new(edge, edge, edge, 844424930131967).expect(&rt, "no half-space");
     let x = 2535301200456458802993406410751;
-    let point = Point::new(x, x, x, 37778931862957161709567)
-        .ok()
-        .ok_or("no point")?;
+    let point = Point::new(x, x, x, 37778931862957161709567).expect(&rt, "no point");
     assert_eq!(rt; half.side(&point), 159507359494189866969524139851499175937);
-    Ok(())
 }
 
 #[test]
@@ -149,7 +144,7 @@ fn boxes_have_six_sides(rt: HostRuntime) {
 }
 
 #[test]
-fn a_box_holds_its_lower_sides_alone(rt: HostRuntime) -> Result<(), Fail> {
+fn a_box_holds_its_lower_sides_alone(rt: HostRuntime) {
     let bounds = IntBox {
         lo: [0; 3],
         hi: [10; 3],
@@ -161,14 +156,13 @@ fn a_box_holds_its_lower_sides_alone(rt: HostRuntime) -> Result<(), Fail> {
         (5, 5, 10, 1, false),
         (5, -1, 5, 2, false),
     ] {
-        let point = Point::new(x, y, z, w).ok().ok_or("no point")?;
+        let point = Point::new(x, y, z, w).expect(&rt, "no point");
         assert_eq!(rt; bounds.holds(&point), is_held);
     }
-    let upper = Point::new(0, 16777216, 0, 1).ok().ok_or("no point")?;
+    let upper = Point::new(0, 16777216, 0, 1).expect(&rt, "no point");
     assert!(rt; !upper.is_in_cube());
-    let lower = Point::new(-16777216, 0, 0, 1).ok().ok_or("no point")?;
+    let lower = Point::new(-16777216, 0, 0, 1).expect(&rt, "no point");
     assert!(rt; lower.is_in_cube());
-    Ok(())
 }
 
 #[test]
@@ -179,33 +173,31 @@ fn half_spaces_of_two_lists_stand_in_one(rt: HostRuntime) {
 }
 
 #[test]
-fn planes_through_one_line_do_not_meet_in_one_point(rt: HostRuntime) -> Result<(), Fail> {
-    let x = Half::new(1, 0, 0, 0).ok().ok_or("no half-space")?;
-    let y = Half::new(0, 1, 0, 0).ok().ok_or("no half-space")?;
-    let slope = Half::new(-2, -3, -5, 7).ok().ok_or("no half-space")?;
-    let between = Half::new(1, 1, 0, 0).ok().ok_or("no half-space")?;
-    let corner = meet(&x, &y, &slope).ok_or("no point")?;
+fn planes_through_one_line_do_not_meet_in_one_point(rt: HostRuntime) {
+    let x = Half::new(1, 0, 0, 0).expect(&rt, "no half-space");
+    let y = Half::new(0, 1, 0, 0).expect(&rt, "no half-space");
+    let slope = Half::new(-2, -3, -5, 7).expect(&rt, "no half-space");
+    let between = Half::new(1, 1, 0, 0).expect(&rt, "no half-space");
+    let corner = meet(&x, &y, &slope).expect(&rt, "no point");
     assert_eq!(rt; corner.numbers(), (0, 0, 7, 5));
     assert!(rt; meet(&x, &y, &between).is_none());
-    Ok(())
 }
 
 #[test]
-fn three_planes_meet_in_lowest_terms(rt: HostRuntime) -> Result<(), Fail> {
-    let x = Half::new(2, 0, 0, -3).ok().ok_or("no half-space")?;
-    let y = Half::new(0, 1, 0, -2).ok().ok_or("no half-space")?;
-    let z = Half::new(0, 0, -4, 1).ok().ok_or("no half-space")?;
-    let point = meet(&x, &y, &z).ok_or("no point")?;
+fn three_planes_meet_in_lowest_terms(rt: HostRuntime) {
+    let x = Half::new(2, 0, 0, -3).expect(&rt, "no half-space");
+    let y = Half::new(0, 1, 0, -2).expect(&rt, "no half-space");
+    let z = Half::new(0, 0, -4, 1).expect(&rt, "no half-space");
+    let point = meet(&x, &y, &z).expect(&rt, "no point");
     assert_eq!(rt; point.numbers(), (6, 8, 1, 4));
-    let turned = Pair::new(&z, &y).meet(&x).ok_or("no point")?;
+    let turned = Pair::new(&z, &y).meet(&x).expect(&rt, "no point");
     assert_eq!(rt; turned.numbers(), (6, 8, 1, 4));
     assert!(rt; meet(&x, &x.not(), &z).is_none());
-    let meeting = Pair::new(&x, &y).meeting(&z.not()).ok_or("no point")?;
+    let meeting = Pair::new(&x, &y).meeting(&z.not()).expect(&rt, "no point");
     assert_eq!(rt; meeting.side(&z), 0);
     assert_eq!(rt; meeting.side(&Half::default()), 12);
     assert_eq!(rt; meeting.numbers(), (12, 16, 2, 8));
     assert_eq!(rt; meeting.point().numbers(), (6, 8, 1, 4));
-    Ok(())
 }
 
 #[test]
@@ -241,16 +233,15 @@ fn short_lists_are_copied(rt: HostRuntime) {
 }
 
 #[test]
-fn multiples_are_added_up(rt: HostRuntime) -> Result<(), Fail> {
+fn multiples_are_added_up(rt: HostRuntime) {
     assert!(rt; is_multiplier(37778931862957161709567));
     assert!(rt; !is_multiplier(37778931862957161709568));
     assert!(rt; !is_multiplier(0));
-    let above = Half::new(1, 0, 0, -3).ok().ok_or("no half-space")?;
-    let below = Half::new(-2, 0, 0, 6).ok().ok_or("no half-space")?;
+    let above = Half::new(1, 0, 0, -3).expect(&rt, "no half-space");
+    let below = Half::new(-2, 0, 0, 6).expect(&rt, "no half-space");
     let terms = [Term { by: 1, half: above }, Term { by: 1, half: below }];
     assert!(rt; is_balanced(&terms));
     assert!(rt; is_contradiction(&terms, true));
     assert!(rt; !is_contradiction(&terms, false));
     assert!(rt; !is_balanced(&[Term { by: 1, half: above }]));
-    Ok(())
 }

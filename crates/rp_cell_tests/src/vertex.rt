@@ -4,7 +4,6 @@ use rp_vertex::{
     weak_on_few_lines,
 };
 use std::process::Abort;
-use std::test::Fail;
 
 /// The half-space of four numbers, which are within their bounds.
 fn half(rt: &impl Abort, numbers: (i64, i64, i64, i64)) -> Half {
@@ -13,42 +12,40 @@ fn half(rt: &impl Abort, numbers: (i64, i64, i64, i64)) -> Half {
 }
 
 #[test]
-fn a_tetrahedron_has_its_four_corners(rt: HostRuntime) -> Result<(), Fail> {
+fn a_tetrahedron_has_its_four_corners(rt: HostRuntime) {
     let cell = [
         half(&rt, (1, 0, 0, 0)),
         half(&rt, (0, 1, 0, 0)),
         half(&rt, (0, 0, 1, 0)),
         half(&rt, (-2, -3, -5, 7)),
     ];
-    let inside = first_inside(&cell).ok_or("no certificate")?;
+    let inside = first_inside(&cell).expect(&rt, "no certificate");
     let points = inside.items();
     assert_eq!(rt; points.len(), 4);
     assert_eq!(rt; points[0].numbers(), (0, 0, 0, 1));
     assert_eq!(rt; points[1].numbers(), (0, 0, 7, 5));
     assert_eq!(rt; points[2].numbers(), (0, 7, 0, 3));
     assert_eq!(rt; points[3].numbers(), (7, 0, 0, 2));
-    let weak = first_weak(&cell).ok_or("no weak point")?;
+    let weak = first_weak(&cell).expect(&rt, "no weak point");
     assert_eq!(rt; weak.numbers(), (0, 0, 0, 1));
-    Ok(())
 }
 
 #[test]
-fn a_few_lines_of_the_first_plane_tell_the_same(rt: HostRuntime) -> Result<(), Fail> {
+fn a_few_lines_of_the_first_plane_tell_the_same(rt: HostRuntime) {
     let cell = [
         half(&rt, (1, 0, 0, 0)),
         half(&rt, (0, 1, 0, 0)),
         half(&rt, (0, 0, 1, 0)),
         half(&rt, (-2, -3, -5, 7)),
     ];
-    let inside = inside_on_few_lines(&cell).ok_or("no certificate")?;
+    let inside = inside_on_few_lines(&cell).expect(&rt, "no certificate");
     let points = inside.items();
     assert_eq!(rt; points.len(), 4);
     assert_eq!(rt; points[1].numbers(), (0, 0, 7, 5));
     assert_eq!(rt; points[3].numbers(), (7, 0, 0, 2));
-    let weak = weak_on_few_lines(&cell).ok_or("no weak point")?;
+    let weak = weak_on_few_lines(&cell).expect(&rt, "no weak point");
     assert_eq!(rt; weak.numbers(), (0, 0, 0, 1));
     assert!(rt; first_inside_over_triples(&cell).is_some());
-    Ok(())
 }
 
 /// A box that is cut at two opposite corners and along the edges beside them: 16 half-spaces.
@@ -72,17 +69,16 @@ const CUT_BOX: [(i64, i64, i64, i64); 16] = [
 ];
 
 #[test]
-fn lines_and_triples_find_the_same(rt: HostRuntime) -> Result<(), Fail> {
+fn lines_and_triples_find_the_same(rt: HostRuntime) {
     let cell = CUT_BOX.map(|numbers| half(&rt, numbers));
-    let along = first_inside(&cell).ok_or("no certificate")?;
-    let over = first_inside_over_triples(&cell).ok_or("no certificate over triples")?;
+    let along = first_inside(&cell).expect(&rt, "no certificate");
+    let over = first_inside_over_triples(&cell).expect(&rt, "no certificate over triples");
     assert_eq!(rt; along.items(), over.items());
     assert_eq!(rt; along.items().len(), 4);
-    Ok(())
 }
 
 #[test]
-fn a_first_point_on_four_planes_is_found_on_a_few_lines(rt: HostRuntime) -> Result<(), Fail> {
+fn a_first_point_on_four_planes_is_found_on_a_few_lines(rt: HostRuntime) {
     let cell = [
         half(&rt, (1, 0, 0, 0)),
         half(&rt, (0, 1, 0, 0)),
@@ -90,16 +86,15 @@ fn a_first_point_on_four_planes_is_found_on_a_few_lines(rt: HostRuntime) -> Resu
         half(&rt, (1, 1, 1, 0)),
         half(&rt, (-2, -3, -5, 7)),
     ];
-    let inside = inside_on_few_lines(&cell).ok_or("no certificate")?;
+    let inside = inside_on_few_lines(&cell).expect(&rt, "no certificate");
     let points = inside.items();
     assert_eq!(rt; points.len(), 4);
     assert_eq!(rt; points[0].numbers(), (0, 0, 0, 1));
     assert_eq!(rt; points[2].numbers(), (0, 7, 0, 3));
-    Ok(())
 }
 
 #[test]
-fn a_half_space_and_its_complement_have_no_common_point(rt: HostRuntime) -> Result<(), Fail> {
+fn a_half_space_and_its_complement_have_no_common_point(rt: HostRuntime) {
     let above = half(&rt, (0, 0, 1, -4));
     let flat = [above, above.not()];
     assert!(rt; first_inside(&flat).is_none());
@@ -107,20 +102,18 @@ fn a_half_space_and_its_complement_have_no_common_point(rt: HostRuntime) -> Resu
     let apart = [above, half(&rt, (0, 0, -1, 3))];
     assert!(rt; first_inside(&apart).is_none());
     assert!(rt; first_weak(&apart).is_none());
-    Ok(())
 }
 
 #[test]
-fn the_cube_alone_has_its_corners(rt: HostRuntime) -> Result<(), Fail> {
+fn the_cube_alone_has_its_corners(rt: HostRuntime) {
     let edge = 16777216;
-    let inside = first_inside(&[]).ok_or("no certificate")?;
+    let inside = first_inside(&[]).expect(&rt, "no certificate");
     let points = inside.items();
     assert_eq!(rt; points.len(), 4);
     assert_eq!(rt; points[0].numbers(), (-edge, -edge, -edge, 1));
     assert_eq!(rt; points[1].numbers(), (-edge, -edge, edge, 1));
     assert_eq!(rt; points[2].numbers(), (-edge, edge, -edge, 1));
     assert_eq!(rt; points[3].numbers(), (edge, -edge, -edge, 1));
-    Ok(())
 }
 
 #[test]
@@ -151,7 +144,7 @@ fn box_sides(rt: &impl Abort, lo: [i32; 3], hi: [i32; 3]) -> [Half; 6] {
 }
 
 #[test]
-fn boxes_side_by_side_touch_beyond_planes_that_are_cut_off(rt: HostRuntime) -> Result<(), Fail> {
+fn boxes_side_by_side_touch_beyond_planes_that_are_cut_off(rt: HostRuntime) {
     let near = box_sides(&rt, [0, 0, 0], [4, 4, 2]);
     // Beside it on x, on y and on an edge, upon it, and in it.
     let cases = [
@@ -163,10 +156,9 @@ fn boxes_side_by_side_touch_beyond_planes_that_are_cut_off(rt: HostRuntime) -> R
     ];
     for (lo, hi, corner) in cases {
         let both = joined(&near, &box_sides(&rt, lo, hi));
-        let soon = weak_on_few_lines(both.as_slice()).ok_or("not soon")?;
-        let first = first_weak(both.as_slice()).ok_or("no weak point")?;
+        let soon = weak_on_few_lines(both.as_slice()).expect(&rt, "not soon");
+        let first = first_weak(both.as_slice()).expect(&rt, "no weak point");
         assert_eq!(rt; soon.numbers(), first.numbers());
         assert_eq!(rt; soon.numbers(), corner);
     }
-    Ok(())
 }

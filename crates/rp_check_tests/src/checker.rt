@@ -4,25 +4,22 @@ ghost use Rattle.rp_reports.specs.Output.{most_report_bytes};
 use rp_checker::{Found, check_report};
 use std::alloc::Global;
 use std::process::Abort;
-use std::test::Fail;
 
 /// Checks a report.
-fn expect(rt: &impl Abort, alloc: Global, report: &[u8], wanted: Found) -> Result<(), Fail>
+fn expect(rt: &impl Abort, alloc: Global, report: &[u8], wanted: Found)
     requires { length report.now ≤ most_report_bytes }
 {
-    assert_eq!(rt; check_report(alloc, report)?, wanted);
-    Ok(())
+    assert_eq!(rt; check_report(alloc, report).expect(rt, "no memory"), wanted);
 }
 
 /// Checks a report that is put together while the test runs.
-fn expect_made(rt: &impl Abort, alloc: Global, report: &[u8], wanted: Found) -> Result<(), Fail> {
+fn expect_made(rt: &impl Abort, alloc: Global, report: &[u8], wanted: Found) {
     assert!(rt; report.len() <= 67108864);
-    assert_eq!(rt; check_report(alloc, report)?, wanted);
-    Ok(())
+    assert_eq!(rt; check_report(alloc, report).expect(rt, "no memory"), wanted);
 }
 
 #[test]
-fn true_reports_are_accepted(rt: HostRuntime) -> Result<(), Fail> {
+fn true_reports_are_accepted(rt: HostRuntime) {
     let table: [&[u8]; 6] = [
         b"",
         b"> 1 empty box 0 0 0 0 10 10\n  out 1*(1 0 0 0) 1*(-1 0 0 0)\n= yes\n",
@@ -32,13 +29,12 @@ fn true_reports_are_accepted(rt: HostRuntime) -> Result<(), Fail> {
         b"> 3 member box 0 0 0 10 10 10 1 1 1 1\n= yes\n> 5 layer rights\n= ok\n",
     ];
     for report in table {
-        expect(&rt, rt.alloc(), report, Found::Accepted)?;
+        expect(&rt, rt.alloc(), report, Found::Accepted);
     }
-    Ok(())
 }
 
 #[test]
-fn certificates_need_not_be_the_first(rt: HostRuntime) -> Result<(), Fail> {
+fn certificates_need_not_be_the_first(rt: HostRuntime) {
     let table: [&[u8]; 6] = [
         b"> 1 empty box 0 0 0 0 10 10\n  out 37778931862957161709567*(1 0 0 0) 37778931862957161709567*(-1 0 0 0)\n= yes\n",
         b"> 1 empty box 0 0 0 0 10 10\n  out 1*(-1 0 0 0) 1*(1 0 0 0)\n= yes\n",
@@ -48,13 +44,12 @@ fn certificates_need_not_be_the_first(rt: HostRuntime) -> Result<(), Fail> {
         b"> 1 empty box 0 0 0 10 10 10\n  in (1 1 1 1)\n  box -1 0 0 10 10 10\n  out 1*(1 0 0 0) 1*(-1 0 0 -1)\n  in (9 9 9 2)\n= no\n",
     ];
     for report in table {
-        expect(&rt, rt.alloc(), report, Found::Accepted)?;
+        expect(&rt, rt.alloc(), report, Found::Accepted);
     }
-    Ok(())
 }
 
 #[test]
-fn a_changed_line_is_wrong(rt: HostRuntime) -> Result<(), Fail> {
+fn a_changed_line_is_wrong(rt: HostRuntime) {
     let table: [(&[u8], u32); 20] = [
         (
             b"> 1 empty box 0 0 0 0 10 10\n  out 37778931862957161709568*(1 0 0 0) 37778931862957161709568*(-1 0 0 0)\n= yes\n",
@@ -123,13 +118,12 @@ fn a_changed_line_is_wrong(rt: HostRuntime) -> Result<(), Fail> {
         (b"> 2 layer a\n= ok\n> 2 layer b\n= ok\n", 3),
     ];
     for (report, number) in table {
-        expect(&rt, rt.alloc(), report, Found::Wrong(number))?;
+        expect(&rt, rt.alloc(), report, Found::Wrong(number));
     }
-    Ok(())
 }
 
 #[test]
-fn a_limit_may_be_told(rt: HostRuntime) -> Result<(), Fail> {
+fn a_limit_may_be_told(rt: HostRuntime) {
     let table: [(&[u8], Found); 10] = [
         (
             b"> 1 empty box 0 0 0 0 10 10\n= refused limit\n",
@@ -161,13 +155,12 @@ fn a_limit_may_be_told(rt: HostRuntime) -> Result<(), Fail> {
         ),
     ];
     for (report, wanted) in table {
-        expect(&rt, rt.alloc(), report, wanted)?;
+        expect(&rt, rt.alloc(), report, wanted);
     }
-    Ok(())
 }
 
 #[test]
-fn lines_that_are_no_command_are_refused(rt: HostRuntime) -> Result<(), Fail> {
+fn lines_that_are_no_command_are_refused(rt: HostRuntime) {
     let table: [(&[u8], Found); 6] = [
         (b"> 1 walk\n= refused syntax\n", Found::Accepted),
         (
@@ -180,13 +173,12 @@ fn lines_that_are_no_command_are_refused(rt: HostRuntime) -> Result<(), Fail> {
         (b"> 1 walk\n= refused limit\n", Found::Wrong(2)),
     ];
     for (report, wanted) in table {
-        expect(&rt, rt.alloc(), report, wanted)?;
+        expect(&rt, rt.alloc(), report, wanted);
     }
-    Ok(())
 }
 
 #[test]
-fn names_stand_for_what_was_made(rt: HostRuntime) -> Result<(), Fail> {
+fn names_stand_for_what_was_made(rt: HostRuntime) {
     let table: [(&[u8], Found); 3] = [
         (
             b"> 1 let a = box 0 0 0 10 10 10\n  in (1 1 1 1)\n  box 0 0 0 10 10 10\n= ok\n> 2 let a = all\n= refused known a\n> 3 empty name a\n  in (2 2 2 1)\n= no\n",
@@ -202,13 +194,12 @@ fn names_stand_for_what_was_made(rt: HostRuntime) -> Result<(), Fail> {
         ),
     ];
     for (report, wanted) in table {
-        expect(&rt, rt.alloc(), report, wanted)?;
+        expect(&rt, rt.alloc(), report, wanted);
     }
-    Ok(())
 }
 
 #[test]
-fn a_report_of_the_second_version_begins_with_its_mark(rt: HostRuntime) -> Result<(), Fail> {
+fn a_report_of_the_second_version_begins_with_its_mark(rt: HostRuntime) {
     let table: [(&[u8], Found); 14] = [
         (
             b"> 0 rp 2\n> 1 member box 0.000 0.000 0.000 0.010 0.010 0.010 0.005 0.003 0.005 9\n= yes\n",
@@ -247,13 +238,12 @@ fn a_report_of_the_second_version_begins_with_its_mark(rt: HostRuntime) -> Resul
         (b"> 0 rp 1\n> 1 layer a\n= ok\n", Found::Wrong(1)),
     ];
     for (report, wanted) in table {
-        expect(&rt, rt.alloc(), report, wanted)?;
+        expect(&rt, rt.alloc(), report, wanted);
     }
-    Ok(())
 }
 
 #[test]
-fn prisms_are_formed_of_their_trapezoids(rt: HostRuntime) -> Result<(), Fail> {
+fn prisms_are_formed_of_their_trapezoids(rt: HostRuntime) {
     let table: [(&[u8], Found); 5] = [
         (
             b"> 1 show prism 0 10 4 0 0 10 0 10 10 0 10\n  out 1*(0 1 0 0) 1*(0 -1 0 0)\n  in (0 0 0 1) (0 0 10 1) (0 10 0 1) (10 0 0 1)\n  box 0 0 0 10 10 10\n= parts 1\n= part (1 0 0 0) (-1 0 0 10) (0 1 0 0) (0 -1 0 10) (0 0 1 0) (0 0 -1 10)\n",
@@ -277,9 +267,8 @@ fn prisms_are_formed_of_their_trapezoids(rt: HostRuntime) -> Result<(), Fail> {
         ),
     ];
     for (report, wanted) in table {
-        expect(&rt, rt.alloc(), report, wanted)?;
+        expect(&rt, rt.alloc(), report, wanted);
     }
-    Ok(())
 }
 
 /// The lines of the section of a box before its slice.
@@ -297,7 +286,7 @@ const UPPER_SECTION: &[u8] = b"> 1 section box 0 0 0 10 10 10 10
 ";
 
 #[test]
-fn a_slice_passes_for_its_part(rt: HostRuntime) -> Result<(), Fail> {
+fn a_slice_passes_for_its_part(rt: HostRuntime) {
     let table: [(&[u8], &[u8], Found); 10] = [
         (
             SECTION,
@@ -332,15 +321,14 @@ fn a_slice_passes_for_its_part(rt: HostRuntime) -> Result<(), Fail> {
     ];
     for (lines, slice, wanted) in table {
         let mut report = Vec::new(rt.alloc());
-        report.extend_from_slice(lines)?;
-        report.extend_from_slice(slice)?;
-        expect_made(&rt, rt.alloc(), &report, wanted)?;
+        report.extend_from_slice(lines).expect(&rt, "no memory");
+        report.extend_from_slice(slice).expect(&rt, "no memory");
+        expect_made(&rt, rt.alloc(), &report, wanted);
     }
-    Ok(())
 }
 
 #[test]
-fn as_many_slices_are_shown_as_there_are_parts(rt: HostRuntime) -> Result<(), Fail> {
+fn as_many_slices_are_shown_as_there_are_parts(rt: HostRuntime) {
     let table: [(&[u8], Found); 5] = [
         (
             b"> 1 section none 16777215\n= sections 0\n> 2 section all 16777216\n= refused range\n",
@@ -361,9 +349,8 @@ fn as_many_slices_are_shown_as_there_are_parts(rt: HostRuntime) -> Result<(), Fa
         (b"> 1 section name a 5\n= refused limit\n", Found::Wrong(2)),
     ];
     for (report, wanted) in table {
-        expect(&rt, rt.alloc(), report, wanted)?;
+        expect(&rt, rt.alloc(), report, wanted);
     }
-    Ok(())
 }
 
 /// The lines of a report of four lots, three of them in a row.
@@ -386,7 +373,7 @@ const ROW_OF_LOTS: &[u8] = b"> 1 register a box 0 0 0 10 10 10
 ";
 
 #[test]
-fn access_follows_least_chains(rt: HostRuntime) -> Result<(), Fail> {
+fn access_follows_least_chains(rt: HostRuntime) {
     let table: [(&[u8], Found); 8] = [
         (
             b"> 5 access a c\n  at (10 0 0 1)\n  at (20 0 0 1)\n= access 2\n= parcel a\n= parcel b\n= parcel c\n= level 2 a\n= level 1 b\n= level 0 c\n",
@@ -417,11 +404,12 @@ fn access_follows_least_chains(rt: HostRuntime) -> Result<(), Fail> {
     ];
     for (lines, wanted) in table {
         let mut report = Vec::new(rt.alloc());
-        report.extend_from_slice(ROW_OF_LOTS)?;
-        report.extend_from_slice(lines)?;
-        expect_made(&rt, rt.alloc(), &report, wanted)?;
+        report
+            .extend_from_slice(ROW_OF_LOTS)
+            .expect(&rt, "no memory");
+        report.extend_from_slice(lines).expect(&rt, "no memory");
+        expect_made(&rt, rt.alloc(), &report, wanted);
     }
-    Ok(())
 }
 
 /// A report of every command that makes, changes or asks for lots.
@@ -585,15 +573,14 @@ const FORMS: &[u8] = b"> 1 let a = box 0 0 0 2 2 2
 ";
 
 #[test]
-fn reports_of_lots_and_forms_are_accepted(rt: HostRuntime) -> Result<(), Fail> {
+fn reports_of_lots_and_forms_are_accepted(rt: HostRuntime) {
     for report in [LOTS, FORMS] {
-        expect_made(&rt, rt.alloc(), report, Found::Accepted)?;
+        expect_made(&rt, rt.alloc(), report, Found::Accepted);
     }
-    Ok(())
 }
 
 #[test]
-fn a_wrong_verdict_on_lots_is_wrong(rt: HostRuntime) -> Result<(), Fail> {
+fn a_wrong_verdict_on_lots_is_wrong(rt: HostRuntime) {
     let table: [(&[u8], u32); 4] = [
         (
             b"> 1 register a box 0 0 0 4 2 2\n  in (1 1 1 1)\n  box 0 0 0 4 2 2\n= ok\n> 2 audit\n= clear 2\n",
@@ -613,9 +600,8 @@ fn a_wrong_verdict_on_lots_is_wrong(rt: HostRuntime) -> Result<(), Fail> {
         ),
     ];
     for (report, number) in table {
-        expect(&rt, rt.alloc(), report, Found::Wrong(number))?;
+        expect(&rt, rt.alloc(), report, Found::Wrong(number));
     }
-    Ok(())
 }
 
 /// The lines of a report in which no line may be left out, and none may stand twice.
@@ -640,32 +626,31 @@ const LINES: [&[u8]; 17] = [
 ];
 
 /// The lines of the report, where the line at one place stands so many times.
-fn report_with(alloc: Global, place: usize, times: usize) -> Result<Vec<u8>, Fail> {
+fn report_with(rt: &impl Abort, alloc: Global, place: usize, times: usize) -> Vec<u8> {
     let mut report = Vec::new(alloc);
     for (i, line) in LINES.iter().enumerate() {
         let copies = if i == place { times } else { 1 };
         for _ in 0..copies {
-            report.extend_from_slice(line)?;
-            report.push(b'\n')?;
+            report.extend_from_slice(line).expect(rt, "no memory");
+            report.push(b'\n').expect(rt, "no memory");
         }
     }
-    Ok(report)
+    report
 }
 
 #[test]
-fn no_line_may_be_left_out_or_stand_twice(rt: HostRuntime) -> Result<(), Fail> {
+fn no_line_may_be_left_out_or_stand_twice(rt: HostRuntime) {
     expect_made(
         &rt,
         rt.alloc(),
-        &report_with(rt.alloc(), 0, 1)?,
+        &report_with(&rt, rt.alloc(), 0, 1),
         Found::Accepted,
-    )?;
+    );
     for place in 0..17usize {
         let number = place as u32 + 1;
-        let left_out = report_with(rt.alloc(), place, 0)?;
-        expect_made(&rt, rt.alloc(), &left_out, Found::Wrong(number))?;
-        let doubled = report_with(rt.alloc(), place, 2)?;
-        expect_made(&rt, rt.alloc(), &doubled, Found::Wrong(number + 1))?;
+        let left_out = report_with(&rt, rt.alloc(), place, 0);
+        expect_made(&rt, rt.alloc(), &left_out, Found::Wrong(number));
+        let doubled = report_with(&rt, rt.alloc(), place, 2);
+        expect_made(&rt, rt.alloc(), &doubled, Found::Wrong(number + 1));
     }
-    Ok(())
 }

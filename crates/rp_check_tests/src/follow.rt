@@ -11,7 +11,6 @@ use rp_space::{Corner, Half, Halves, IntBox, box_halves};
 use rp_tests::Stopped;
 use std::alloc::Global;
 use std::process::Abort;
-use std::test::Fail;
 
 /// A box from 0 to 10 on each axis.
 const WEST: IntBox = IntBox {
@@ -163,66 +162,60 @@ fn a_weak_test_takes_a_line_that_passes(rt: HostRuntime) {
 }
 
 /// The half-spaces of the first box and one that adds nothing.
-fn loose_box(alloc: Global) -> Result<Halves, Fail>
-    ensures { IfOk result (λ halves. length halves.items ≤ 64) }
+fn loose_box(rt: &impl Abort, alloc: Global) -> Halves
+    ensures { length result.items ≤ 64 }
 {
-    let mut halves = Halves::copy_of(alloc, &box_halves(&WEST))?;
-    halves.push(Half::new(1, 0, 0, 1)?)?;
-    Ok(halves)
+    let mut halves = Halves::copy_of(alloc, &box_halves(&WEST)).expect(rt, "no memory");
+    halves
+        .push(Half::new(1, 0, 0, 1).expect(rt, "no half-space"))
+        .expect(rt, "no memory");
+    halves
 }
 
 /// Follows a part test of a box with one half-space that adds nothing.
-fn loose_part(alloc: Global, report: &[u8]) -> Result<(Option<Kept>, u32), Fail>
+fn loose_part(rt: &impl Abort, alloc: Global, report: &[u8]) -> (Option<Kept>, u32)
     requires { length report.now ≤ most_report_bytes }
 {
     let mut trail = Trail::new(report);
-    let halves = loose_box(alloc)?;
-    let part = made(alloc, halves.items(), &mut trail)?;
-    Ok((part, trail.number()))
+    let halves = loose_box(rt, alloc);
+    let part = made(alloc, halves.items(), &mut trail).expect(rt, "a part test stops");
+    (part, trail.number())
 }
 
 #[test]
-fn a_part_test_drops_what_adds_nothing(rt: HostRuntime) -> Result<(), Fail> {
+fn a_part_test_drops_what_adds_nothing(rt: HostRuntime) {
     let report =
         b"  in (1 1 1 1)\n  drop (1 0 0 1) 1*(1 0 0 0) 1*(-1 0 0 -1)\n  box 0 0 0 10 10 10\n";
-    let (part, number) = loose_part(rt.alloc(), report)?;
-    let part = part.ok_or("no part")?;
+    let (part, number) = loose_part(&rt, rt.alloc(), report);
+    let part = part.expect(&rt, "no part");
     assert_eq!(rt; number, 4);
     assert_eq!(rt; part.halves.items(), box_halves(&WEST).as_slice());
-    assert_eq!(rt; part.copy(rt.alloc())?.bounds, WEST);
-    Ok(())
+    assert_eq!(rt; part.copy(rt.alloc()).expect(&rt, "no memory").bounds, WEST);
 }
 
 #[test]
-fn a_box_that_is_not_the_least_is_shown(rt: HostRuntime) -> Result<(), Fail> {
+fn a_box_that_is_not_the_least_is_shown(rt: HostRuntime) {
     let report =
         b"  in (1 1 1 1)\n  drop (1 0 0 1) 1*(1 0 0 0) 1*(-1 0 0 -1)\n  box -1 0 0 10 10 10\n  out 1*(1 0 0 0) 1*(-1 0 0 -1)\n";
-    let (part, number) = loose_part(rt.alloc(), report)?;
-    let part = part.ok_or("no part")?;
+    let (part, number) = loose_part(&rt, rt.alloc(), report);
+    let part = part.expect(&rt, "no part");
     assert_eq!(rt; number, 5);
     assert_eq!(rt; part.bounds.lo, [-1, 0, 0]);
-    Ok(())
 }
 
 /// Follows a part test of a box with one half-space that adds nothing, on a report that doesn't fit: why it stops, and the
 /// number of the next line then.
-fn expect_stopped(
-    rt: &impl Abort,
-    alloc: Global,
-    report: &[u8],
-    wanted: (Stopped, u32),
-) -> Result<(), Fail>
+fn expect_stopped(rt: &impl Abort, alloc: Global, report: &[u8], wanted: (Stopped, u32))
     requires { length report.now ≤ most_report_bytes }
 {
     let mut trail = Trail::new(report);
-    let halves = loose_box(alloc)?;
+    let halves = loose_box(rt, alloc);
     let stopped = made(alloc, halves.items(), &mut trail).err();
     assert_eq!(rt; (stopped, trail.number()), (Some(wanted.0), wanted.1));
-    Ok(())
 }
 
 #[test]
-fn a_part_test_finds_the_wrong_line(rt: HostRuntime) -> Result<(), Fail> {
+fn a_part_test_finds_the_wrong_line(rt: HostRuntime) {
     let table: [(&[u8], (Stopped, u32)); 6] = [
         (b"  in (0 1 1 1)\n", (Stopped::Wrong, 1)),
         (
@@ -244,83 +237,90 @@ fn a_part_test_finds_the_wrong_line(rt: HostRuntime) -> Result<(), Fail> {
         (b"  in (1 1 1 1)\n= refused limit\n", (Stopped::Told, 2)),
     ];
     for (report, wanted) in table {
-        expect_stopped(&rt, rt.alloc(), report, wanted)?;
+        expect_stopped(&rt, rt.alloc(), report, wanted);
     }
-    Ok(())
 }
 
 /// Half-spaces that all hold the origin: more than a part may keep.
-fn many_halves(alloc: Global) -> Result<Halves, Fail>
-    ensures { IfOk result (λ halves. length halves.items ≤ 64) }
+fn many_halves(rt: &impl Abort, alloc: Global) -> Halves
+    ensures { length result.items ≤ 64 }
 {
     let mut halves = Halves::new(alloc);
     for d in 1..34u8 {
-        halves.push(Half::new(1, 0, 0, i64::from(d))?)?;
+        halves
+            .push(Half::new(1, 0, 0, i64::from(d)).expect(rt, "no half-space"))
+            .expect(rt, "no memory");
     }
-    Ok(halves)
+    halves
 }
 
 /// Follows a part test of these half-spaces, and tells the number of the next line.
-fn crowded(alloc: Global, report: &[u8]) -> Result<(Option<Stopped>, u32), Fail>
+fn crowded(rt: &impl Abort, alloc: Global, report: &[u8]) -> (Option<Stopped>, u32)
     requires { length report.now ≤ most_report_bytes }
 {
     let mut trail = Trail::new(report);
-    let halves = many_halves(alloc)?;
+    let halves = many_halves(rt, alloc);
     let stopped = made(alloc, halves.items(), &mut trail).err();
-    Ok((stopped, trail.number()))
+    (stopped, trail.number())
 }
 
 #[test]
-fn more_than_32_half_spaces_are_a_limit(rt: HostRuntime) -> Result<(), Fail> {
-    let limit = crowded(rt.alloc(), b"  in (0 0 0 1)\n= refused limit\n")?;
+fn more_than_32_half_spaces_are_a_limit(rt: HostRuntime) {
+    let limit = crowded(&rt, rt.alloc(), b"  in (0 0 0 1)\n= refused limit\n");
     assert_eq!(rt; limit, (Some(Stopped::Limit), 2));
     let dropped = crowded(
+        &rt,
         rt.alloc(),
         b"  in (0 0 0 1)\n  drop (1 0 0 33) 1*(1 0 0 1) 1*(-1 0 0 -33)\n",
-    )?;
+    );
     assert_eq!(rt; dropped, (Some(Stopped::Wrong), 3));
-    Ok(())
 }
 
 /// The form of a box, by a part test.
-fn box_form(alloc: Global, bounds: &IntBox, trail: &mut Trail<'_>) -> Result<Form, Stopped>
+fn box_form(rt: &impl Abort, alloc: Global, bounds: &IntBox, trail: &mut Trail<'_>) -> Form
     requires { is_box_in_bounds (integer_box bounds.now) ≡ true }
 {
     let mut form = Form::new(alloc);
-    if let Some(part) = made(alloc, &box_halves(bounds), trail)? {
-        form.push(part)?;
+    let part = made(alloc, &box_halves(bounds), trail).expect(rt, "a part test stops");
+    if let Some(part) = part {
+        form.push(part).expect(rt, "no memory");
     }
-    Ok(form)
+    form
 }
 
 /// The forms of the first box and of another one.
-fn two_boxes(alloc: Global, second: &IntBox, trail: &mut Trail<'_>) -> Result<(Form, Form), Stopped>
+fn two_boxes(rt: &impl Abort, alloc: Global, second: &IntBox, trail: &mut Trail<'_>) -> (Form, Form)
     requires { is_box_in_bounds (integer_box second.now) ≡ true }
 {
-    let west = box_form(alloc, &WEST, trail)?;
-    let second = box_form(alloc, second, trail)?;
-    Ok((west, second))
+    let west = box_form(rt, alloc, &WEST, trail);
+    let second = box_form(rt, alloc, second, trail);
+    (west, second)
 }
 
 #[test]
-fn a_join_has_the_common_part(rt: HostRuntime) -> Result<(), Fail> {
+fn a_join_has_the_common_part(rt: HostRuntime) {
     let mut trail = Trail::new(
         b"  in (1 1 1 1)\n  box 0 0 0 10 10 10\n  in (6 6 6 1)\n  box 4 2 2 12 8 8\n  in (6 6 6 1)\n  box 4 2 2 10 8 8\n",
     );
-    let (west, middle) = two_boxes(rt.alloc(), &MIDDLE, &mut trail)?;
-    let both = joined(rt.alloc(), &west, &middle, &mut trail)?;
+    let (west, middle) = two_boxes(&rt, rt.alloc(), &MIDDLE, &mut trail);
+    let both = joined(rt.alloc(), &west, &middle, &mut trail).expect(&rt, "a test stops");
     assert_eq!(rt; trail.number(), 7);
     let [part] = both.items() else {
-        return Err("not one part".into());
+        panic!(rt; "not one part");
     };
     assert_eq!(rt; part.halves.items().len(), 12);
     assert_eq!(rt; part.bounds.hi, [10, 8, 8]);
-    assert_eq!(rt; copy(rt.alloc(), &both)?.items().len(), 1);
-    Ok(())
+    assert_eq!(rt;
+        copy(rt.alloc(), &both)
+            .expect(&rt, "no memory")
+            .items()
+            .len(),
+        1
+    );
 }
 
 #[test]
-fn a_difference_is_carved(rt: HostRuntime) -> Result<(), Fail> {
+fn a_difference_is_carved(rt: HostRuntime) {
     let mut trail = Trail::new(
         b"  in (1 1 1 1)\n  box 0 0 0 10 10 10\n  in (1 1 1 1)\n  box 0 0 0 4 10 10\n  in (1 1 1 1)\n  out 1*(1 0 0 0) 1*(-1 0 0 0)\n  in (5 5 5 1)\n  box 4 0 0 10 10 10\n  out 1*(0 1 0 0) 1*(0 -1 0 0)\n  out 1*(0 -1 0 10) 1*(0 1 0 -10)\n  out 1*(0 0 1 0) 1*(0 0 -1 0)\n  out 1*(0 0 -1 10) 1*(0 0 1 -10)\n",
     );
@@ -328,26 +328,25 @@ fn a_difference_is_carved(rt: HostRuntime) -> Result<(), Fail> {
         lo: [0, 0, 0],
         hi: [4, 10, 10],
     };
-    let (west, second) = two_boxes(rt.alloc(), &second, &mut trail)?;
-    let rest = differed(rt.alloc(), &west, &second, &mut trail)?;
+    let (west, second) = two_boxes(&rt, rt.alloc(), &second, &mut trail);
+    let rest = differed(rt.alloc(), &west, &second, &mut trail).expect(&rt, "a test stops");
     assert_eq!(rt; trail.number(), 13);
     let [part] = rest.items() else {
-        return Err("not one part".into());
+        panic!(rt; "not one part");
     };
     assert_eq!(rt; part.halves.items().len(), 8);
     assert_eq!(rt; part.bounds.lo, [4, 0, 0]);
-    Ok(())
 }
 
 #[test]
-fn boxes_that_share_a_face_touch_and_have_no_common_point(rt: HostRuntime) -> Result<(), Fail> {
+fn boxes_that_share_a_face_touch_and_have_no_common_point(rt: HostRuntime) {
     let mut trail = Trail::new(
         b"  in (1 1 1 1)\n  box 0 0 0 10 10 10\n  in (11 1 1 1)\n  box 10 0 0 20 10 10\n  out 1*(-1 0 0 10) 1*(1 0 0 -10)\n  at (10 0 0 1)\n  at (10 1 1 1)\n",
     );
-    let (west, east) = two_boxes(rt.alloc(), &EAST, &mut trail)?;
+    let (west, east) = two_boxes(&rt, rt.alloc(), &EAST, &mut trail);
     for near in [false, true] {
-        assert!(rt; !common(&west, &east, near, &mut trail)?);
-        assert!(rt; touching(&west, &east, near, &mut trail)?);
+        assert!(rt; !common(&west, &east, near, &mut trail).expect(&rt, "a test stops"));
+        assert!(rt; touching(&west, &east, near, &mut trail).expect(&rt, "a test stops"));
     }
     // Near, no pair of these boxes is tested for a common point.
     assert_eq!(rt; trail.number(), 8);
@@ -357,34 +356,31 @@ fn boxes_that_share_a_face_touch_and_have_no_common_point(rt: HostRuntime) -> Re
         common(&west, &east, false, &mut trail),
         Err(Stopped::Limit)
     );
-    Ok(())
 }
 
 #[test]
-fn boxes_with_a_common_part_meet(rt: HostRuntime) -> Result<(), Fail> {
+fn boxes_with_a_common_part_meet(rt: HostRuntime) {
     let mut trail = Trail::new(
         b"  in (1 1 1 1)\n  box 0 0 0 10 10 10\n  in (6 6 6 1)\n  box 4 2 2 12 8 8\n  in (6 6 6 1)\n  at (10 2 2 1)\n  in (9 3 3 1)\n  at (6 6 6 1)\n",
     );
-    let (west, middle) = two_boxes(rt.alloc(), &MIDDLE, &mut trail)?;
+    let (west, middle) = two_boxes(&rt, rt.alloc(), &MIDDLE, &mut trail);
     for near in [false, true] {
-        assert!(rt; common(&west, &middle, near, &mut trail)?);
-        assert!(rt; touching(&west, &middle, near, &mut trail)?);
+        assert!(rt; common(&west, &middle, near, &mut trail).expect(&rt, "a test stops"));
+        assert!(rt; touching(&west, &middle, near, &mut trail).expect(&rt, "a test stops"));
     }
     assert_eq!(rt; trail.number(), 9);
-    Ok(())
 }
 
 #[test]
-fn boxes_apart_are_not_in_contact(rt: HostRuntime) -> Result<(), Fail> {
+fn boxes_apart_are_not_in_contact(rt: HostRuntime) {
     let mut trail = Trail::new(
         b"  in (1 1 1 1)\n  box 0 0 0 10 10 10\n  in (12 1 1 1)\n  box 11 0 0 20 10 10\n  apart 1*(-1 0 0 10) 1*(1 0 0 -11)\n",
     );
-    let (west, far) = two_boxes(rt.alloc(), &FAR, &mut trail)?;
+    let (west, far) = two_boxes(&rt, rt.alloc(), &FAR, &mut trail);
     for near in [false, true] {
-        assert!(rt; !touching(&west, &far, near, &mut trail)?);
+        assert!(rt; !touching(&west, &far, near, &mut trail).expect(&rt, "a test stops"));
     }
     assert_eq!(rt; trail.number(), 6);
-    Ok(())
 }
 
 /// Follows the join and the difference of two boxes on a report that doesn't fit, with so many tests counted before: why
@@ -395,12 +391,12 @@ fn expect_forms_stopped(
     report: &[u8],
     count: u64,
     wanted: (Stopped, u32),
-) -> Result<(), Fail>
+)
     requires { length report.now ≤ most_report_bytes }
 {
     for is_join in [true, false] {
         let mut trail = Trail::new(report);
-        let (west, middle) = two_boxes(alloc, &MIDDLE, &mut trail)?;
+        let (west, middle) = two_boxes(rt, alloc, &MIDDLE, &mut trail);
         assert!(rt; trail.count(count));
         let stopped = if is_join {
             joined(alloc, &west, &middle, &mut trail).err()
@@ -409,11 +405,10 @@ fn expect_forms_stopped(
         };
         assert_eq!(rt; (stopped, trail.number()), (Some(wanted.0), wanted.1));
     }
-    Ok(())
 }
 
 #[test]
-fn forms_stop_at_a_line_or_a_limit(rt: HostRuntime) -> Result<(), Fail> {
+fn forms_stop_at_a_line_or_a_limit(rt: HostRuntime) {
     let table: [(&[u8], u64, (Stopped, u32)); 4] = [
         (
             b"  in (1 1 1 1)\n  box 0 0 0 10 10 10\n  in (6 6 6 1)\n  box 4 2 2 12 8 8\n  in (11 6 6 1)\n",
@@ -437,9 +432,8 @@ fn forms_stop_at_a_line_or_a_limit(rt: HostRuntime) -> Result<(), Fail> {
         ),
     ];
     for (report, count, wanted) in table {
-        expect_forms_stopped(&rt, rt.alloc(), report, count, wanted)?;
+        expect_forms_stopped(&rt, rt.alloc(), report, count, wanted);
     }
-    Ok(())
 }
 
 /// A square.
@@ -460,57 +454,56 @@ fn raised_square(alloc: Global, report: &[u8]) -> (Result<Form, Stopped>, u32)
 }
 
 #[test]
-fn a_raised_square_is_one_part(rt: HostRuntime) -> Result<(), Fail> {
+fn a_raised_square_is_one_part(rt: HostRuntime) {
     let (form, number) = raised_square(
         rt.alloc(),
         b"  out 1*(0 1 0 0) 1*(0 -1 0 0)\n  in (1 1 1 1)\n  box 0 0 0 10 10 10\n",
     );
     assert_eq!(rt; number, 4);
-    let form = form?;
+    let form = form.expect(&rt, "no form");
     let [part] = form.items() else {
-        return Err("not one part".into());
+        panic!(rt; "not one part");
     };
     assert_eq!(rt; part.halves.items(), box_halves(&WEST).as_slice());
     let (form, number) = raised_square(rt.alloc(), b"  in (1 1 1 1)\n");
     assert_eq!(rt; (form.err(), number), (Some(Stopped::Wrong), 1));
-    Ok(())
 }
 
 /// Follows the slices of the first box and of the one in its middle at a height, on the lines behind those of their part
 /// tests: how many there are, and the number of the next line then.
 fn slices_of_two(
+    rt: &impl Abort,
     alloc: Global,
     z: i32,
     report: &[u8],
-) -> Result<(Result<usize, Stopped>, u32), Stopped>
+) -> (Result<usize, Stopped>, u32)
     requires height { IsHeight z }
     requires short { length report.now ≤ most_report_bytes }
 {
     let mut trail = Trail::new(report);
-    let (mut form, middle) = two_boxes(alloc, &MIDDLE, &mut trail)?;
-    form.append(middle)?;
+    let (mut form, middle) = two_boxes(rt, alloc, &MIDDLE, &mut trail);
+    form.append(middle).expect(rt, "no memory");
     let mut ahead = trail.ahead();
     let found = slices(alloc, &form, z, &mut ahead).map(|slices| slices.items().len());
-    Ok((found, ahead.number()))
+    (found, ahead.number())
 }
 
 #[test]
-fn slices_are_taken_where_they_pass(rt: HostRuntime) -> Result<(), Fail> {
+fn slices_are_taken_where_they_pass(rt: HostRuntime) {
     let rings =
         b"  in (1 1 1 1)\n  box 0 0 0 10 10 10\n  in (6 6 6 1)\n  box 4 2 2 12 8 8\n= ring (1 0 0) (0 0 5 1) (0 1 0) (10 0 5 1) (-1 0 10) (10 10 5 1) (0 -1 10) (0 10 5 1)\n= ring (1 0 -4) (4 2 5 1) (0 1 -2) (12 2 5 1) (-1 0 12) (12 8 5 1) (0 -1 8) (4 8 5 1)\n";
-    assert_eq!(rt; slices_of_two(rt.alloc(), 5, rings), Ok((Ok(2), 7)));
+    assert_eq!(rt; slices_of_two(&rt, rt.alloc(), 5, rings), (Ok(2), 7));
     assert_eq!(rt;
-        slices_of_two(rt.alloc(), 6, rings),
-        Ok((Err(Stopped::Wrong), 5))
+        slices_of_two(&rt, rt.alloc(), 6, rings),
+        (Err(Stopped::Wrong), 5)
     );
     let flat =
         b"  in (1 1 1 1)\n  box 0 0 0 10 10 10\n  in (6 6 6 1)\n  box 4 2 2 12 8 8\n= flat 1*(0 0 -1 10)\n= flat 2*(0 0 -1 8)\n";
-    assert_eq!(rt; slices_of_two(rt.alloc(), 10, flat), Ok((Ok(2), 7)));
+    assert_eq!(rt; slices_of_two(&rt, rt.alloc(), 10, flat), (Ok(2), 7));
     assert_eq!(rt;
-        slices_of_two(rt.alloc(), 9, flat),
-        Ok((Err(Stopped::Wrong), 5))
+        slices_of_two(&rt, rt.alloc(), 9, flat),
+        (Err(Stopped::Wrong), 5)
     );
-    Ok(())
 }
 
 #[test]

@@ -5,7 +5,6 @@ use rp_command::Version;
 use rp_space::{Name, Point};
 use std::alloc::Global;
 use std::process::Abort;
-use std::test::Fail;
 
 /// The corners of a square of 10 units.
 const SQUARE: [(i128, i128, i128); 4] = [(0, 0, 1), (10, 0, 1), (10, 10, 1), (0, 10, 1)];
@@ -17,51 +16,57 @@ const EAST: [(i128, i128, i128); 4] = [(10, 0, 1), (20, 0, 1), (20, 10, 1), (10,
 const TIP: [(i128, i128, i128); 3] = [(0, 0, 1), (1, 0, 1), (0, 2, 3)];
 
 /// Whether a ring of these corners is in the domain.
-fn ring(alloc: Global, corners: &[(i128, i128, i128)]) -> Result<Option<Ring>, Fail> {
+fn ring(rt: &impl Abort, alloc: Global, corners: &[(i128, i128, i128)]) -> Option<Ring> {
     let mut steps = Vec::new(alloc);
     for (x, y, w) in corners {
-        let end = Point::new(*x, *y, 0, *w)?;
-        steps.push(RingStep {
-            edge: Edge::default(),
-            end,
-        })?;
+        let end = Point::new(*x, *y, 0, *w).expect(rt, "no point");
+        let edge = Edge::default();
+        let added = steps.push(RingStep { edge, end });
+        added.expect(rt, "no memory");
     }
     if steps.len() > 36 {
-        return Ok(None);
+        return None;
     }
-    Ok(Ring::new(alloc, &steps)?)
+    Ring::new(alloc, &steps).expect(rt, "no memory")
 }
 
 /// A section with one ring, or without any where there is no corner.
 fn section(
+    rt: &impl Abort,
     alloc: Global,
     line: u32,
     z: i32,
     name: &[u8],
     corners: &[(i128, i128, i128)],
-) -> Result<Section, Fail> {
+) -> Section {
     let mut section = Section::new(alloc, line, z, Name::new(name));
     if corners.is_empty() {
-        return Ok(section);
+        return section;
     }
-    if let Some(ring) = ring(alloc, corners)? {
-        section.push(ring)?;
+    if let Some(ring) = ring(rt, alloc, corners) {
+        section.push(ring).expect(rt, "no memory");
     }
-    Ok(section)
+    section
 }
 
 /// The picture of sections.
-fn picture(alloc: Global, version: Version, sections: Vec<Section>) -> Result<Vec<u8>, Fail> {
+fn picture(rt: &impl Abort, alloc: Global, version: Version, sections: Vec<Section>) -> Vec<u8> {
     let mut plan = Plan::new(alloc, version);
     for section in sections {
         if plan.is_full() {
             break;
         }
-        plan.push(section)?;
+        plan.push(section).expect(rt, "no memory");
     }
     let mut text = Vec::new(alloc);
-    write_picture(alloc, &mut plan, &mut text)?;
-    Ok(text)
+    write_picture(alloc, &mut plan, &mut text).expect(rt, "no memory");
+    text
+}
+
+/// The picture of one section.
+fn picture_of_one(rt: &impl Abort, alloc: Global, version: Version, section: Section) -> Vec<u8> {
+    let sections = vec![in alloc; section].expect(rt, "no memory");
+    picture(rt, alloc, version, sections)
 }
 
 /// Whether a piece stands in a text.
@@ -82,7 +87,7 @@ fn expect_pieces(rt: &impl Abort, text: &[u8], pieces: &[&[u8]]) {
 }
 
 #[test]
-fn quotients_are_rounded_to_the_nearest(rt: HostRuntime) -> Result<(), Fail> {
+fn quotients_are_rounded_to_the_nearest(rt: HostRuntime) {
     // Of two that are as near it is the greater one.
     for (n, d, want) in [
         (7, 2, 4),
@@ -96,13 +101,12 @@ fn quotients_are_rounded_to_the_nearest(rt: HostRuntime) -> Result<(), Fail> {
     ] {
         assert_eq!(rt; nearest(n, d), want, "{n} / {d}");
     }
-    Ok(())
 }
 
 #[test]
-fn a_square_fills_its_drawing(rt: HostRuntime) -> Result<(), Fail> {
-    let sections = vec![in rt.alloc(); section(rt.alloc(), 7, 1500, b"lot-7", &SQUARE)?]?;
-    let text = picture(rt.alloc(), Version::One, sections)?;
+fn a_square_fills_its_drawing(rt: HostRuntime) {
+    let section = section(&rt, rt.alloc(), 7, 1500, b"lot-7", &SQUARE);
+    let text = picture_of_one(&rt, rt.alloc(), Version::One, section);
     expect_pieces(
         &rt,
         &text,
@@ -116,13 +120,12 @@ fn a_square_fills_its_drawing(rt: HostRuntime) -> Result<(), Fail> {
             b">lot-7 (line 7)</text>",
         ],
     );
-    Ok(())
 }
 
 #[test]
-fn lengths_of_version_2_are_metres(rt: HostRuntime) -> Result<(), Fail> {
-    let sections = vec![in rt.alloc(); section(rt.alloc(), 7, -1050, b"", &SQUARE)?]?;
-    let text = picture(rt.alloc(), Version::Two, sections)?;
+fn lengths_of_version_2_are_metres(rt: HostRuntime) {
+    let section = section(&rt, rt.alloc(), 7, -1050, b"", &SQUARE);
+    let text = picture_of_one(&rt, rt.alloc(), Version::Two, section);
     expect_pieces(
         &rt,
         &text,
@@ -132,19 +135,19 @@ fn lengths_of_version_2_are_metres(rt: HostRuntime) -> Result<(), Fail> {
             b">line 7</text>",
         ],
     );
-    Ok(())
 }
 
 #[test]
-fn heights_rise_and_neighbours_differ(rt: HostRuntime) -> Result<(), Fail> {
+fn heights_rise_and_neighbours_differ(rt: HostRuntime) {
     let alloc = rt.alloc();
     let sections = vec![in alloc;
-        section(alloc, 1, 9, b"upper", &SQUARE)?,
-        section(alloc, 2, 5, b"west", &SQUARE)?,
-        section(alloc, 3, 5, b"east", &EAST)?,
-        section(alloc, 4, 5, b"none", &[])?,
-    ]?;
-    let text = picture(alloc, Version::One, sections)?;
+        section(&rt, alloc, 1, 9, b"upper", &SQUARE),
+        section(&rt, alloc, 2, 5, b"west", &SQUARE),
+        section(&rt, alloc, 3, 5, b"east", &EAST),
+        section(&rt, alloc, 4, 5, b"none", &[]),
+    ]
+    .expect(&rt, "no memory");
+    let text = picture(&rt, alloc, Version::One, sections);
     expect_pieces(
         &rt,
         &text,
@@ -155,26 +158,23 @@ fn heights_rise_and_neighbours_differ(rt: HostRuntime) -> Result<(), Fail> {
             b"<g transform=\"translate(40000,0)\">\n<text x=\"2000\" y=\"2600\" font-size=\"1600\">height 9</text>",
         ],
     );
-    Ok(())
 }
 
 #[test]
-fn corners_are_placed_exactly(rt: HostRuntime) -> Result<(), Fail> {
-    let sections = vec![in rt.alloc(); section(rt.alloc(), 1, 1, b"tip", &TIP)?]?;
-    let text = picture(rt.alloc(), Version::One, sections)?;
+fn corners_are_placed_exactly(rt: HostRuntime) {
+    let section = section(&rt, rt.alloc(), 1, 1, b"tip", &TIP);
+    let text = picture_of_one(&rt, rt.alloc(), Version::One, section);
     expect_pieces(
         &rt,
         &text,
         &[b" d=\"M 0 0 36000 0 0 -24000 Z\"", b">1 unit</text>"],
     );
-    Ok(())
 }
 
 #[test]
-fn rings_stay_in_the_domain(rt: HostRuntime) -> Result<(), Fail> {
+fn rings_stay_in_the_domain(rt: HostRuntime) {
     let edge = [(16777216, 0, 1), (0, -16777216, 1), (33554431, 1, 2)];
-    assert!(rt; ring(rt.alloc(), &edge)?.is_some());
+    assert!(rt; ring(&rt, rt.alloc(), &edge).is_some());
     let outside = [(0, 0, 1), (33554433, 0, 2), (0, 1, 1)];
-    assert!(rt; ring(rt.alloc(), &outside)?.is_none());
-    Ok(())
+    assert!(rt; ring(&rt, rt.alloc(), &outside).is_none());
 }

@@ -6,7 +6,6 @@ use std::alloc::{AllocError, Global};
 use std::marker::Brand;
 use std::sync::atomic::{AtomicU64, Ordering};
 use std::sync::ledger::{Blank, Ledger};
-use std::test::Fail;
 
 /// Shows that a type may be sent to other threads and shared with them.
 fn needs_send_sync<T: Send + Sync>() {}
@@ -51,21 +50,29 @@ const CORNER: IntBox = IntBox {
 };
 
 #[test]
-fn closed_boxes_also_meet_where_they_touch(rt: HostRuntime) -> Result<(), Fail> {
+fn closed_boxes_also_meet_where_they_touch(rt: HostRuntime) {
     let alloc = rt.alloc();
     let mut index = Index::new(alloc);
-    index.insert(alloc, 2, SECOND)?;
-    index.insert(alloc, 1, FIRST)?;
-    let open = search::<_, Brand>(&index, alloc, &CORNER, false, &Quiet, Blank::new(1))?;
+    index.insert(alloc, 2, SECOND).expect(&rt, "no memory");
+    index.insert(alloc, 1, FIRST).expect(&rt, "no memory");
+    let open = search::<_, Brand>(&index, alloc, &CORNER, false, &Quiet, Blank::new(1)).expect(
+        &rt,
+        "no memory",
+    );
     assert_eq!(rt; open.as_slice(), [1].as_slice());
-    let closed = search::<_, Brand>(&index, alloc, &CORNER, true, &Quiet, Blank::new(1))?;
+    let closed = search::<_, Brand>(&index, alloc, &CORNER, true, &Quiet, Blank::new(1)).expect(
+        &rt,
+        "no memory",
+    );
     assert_eq!(rt; closed.as_slice(), [1, 2].as_slice());
     assert_eq!(rt; index.insert(alloc, 2, FIRST), Err(IndexFault::Known));
     assert!(rt; index.remove(1));
     assert!(rt; !index.remove(1));
-    let left = search::<_, Brand>(&index, alloc, &CORNER, true, &Quiet, Blank::new(1))?;
+    let left = search::<_, Brand>(&index, alloc, &CORNER, true, &Quiet, Blank::new(1)).expect(
+        &rt,
+        "no memory",
+    );
     assert_eq!(rt; left.as_slice(), [2].as_slice());
-    Ok(())
 }
 
 /// Counts the nodes that are visited.
@@ -90,21 +97,32 @@ fn slice(x: u16) -> IntBox {
 }
 
 #[test]
-fn few_of_many_nodes_are_visited(rt: HostRuntime) -> Result<(), Fail> {
+fn few_of_many_nodes_are_visited(rt: HostRuntime) {
     let alloc = rt.alloc();
     let mut index = Index::new(alloc);
     for i in 0..1023u16 {
-        index.insert(alloc, i as u32, slice(i))?;
+        index
+            .insert(alloc, i as u32, slice(i))
+            .expect(&rt, "no memory");
     }
     let visits = Visits(AtomicU64::new(0));
-    let open = search::<_, Brand>(&index, alloc, &slice(500), false, &visits, Blank::new(1))?;
+    let open = search::<_, Brand>(&index, alloc, &slice(500), false, &visits, Blank::new(1)).expect(
+        &rt,
+        "no memory",
+    );
     assert_eq!(rt; open.as_slice(), [500].as_slice());
     assert!(rt; (1..=84).contains(&visits.0.load(Ordering::SeqCst)));
     let visits = Visits(AtomicU64::new(0));
-    let closed = search::<_, Brand>(&index, alloc, &slice(500), true, &visits, Blank::new(1))?;
+    let closed = search::<_, Brand>(
+        &index,
+        alloc,
+        &slice(500),
+        true,
+        &visits,
+        Blank::new(1),
+    ).expect(&rt, "no memory");
     assert_eq!(rt; closed.as_slice(), [499, 500, 501].as_slice());
     assert!(rt; (1..=168).contains(&visits.0.load(Ordering::SeqCst)));
-    Ok(())
 }
 
 /// The box from z to z + 1, and from 0 to 1 on the other axes.
@@ -117,18 +135,26 @@ fn storey(z: u16) -> IntBox {
 }
 
 #[test]
-fn few_nodes_are_visited_where_all_boxes_meet_on_x(rt: HostRuntime) -> Result<(), Fail> {
+fn few_nodes_are_visited_where_all_boxes_meet_on_x(rt: HostRuntime) {
     let alloc = rt.alloc();
     let mut index = Index::new(alloc);
     for i in 0..1023u16 {
-        index.insert(alloc, i as u32, storey(i))?;
+        index
+            .insert(alloc, i as u32, storey(i))
+            .expect(&rt, "no memory");
     }
     let visits = Visits(AtomicU64::new(0));
-    let open = search::<_, Brand>(&index, alloc, &storey(500), false, &visits, Blank::new(1))?;
+    let open = search::<_, Brand>(
+        &index,
+        alloc,
+        &storey(500),
+        false,
+        &visits,
+        Blank::new(1),
+    ).expect(&rt, "no memory");
     assert_eq!(rt; open.as_slice(), [500].as_slice());
     // At each of the ten levels at most two nodes.
     assert!(rt; (1..=20).contains(&visits.0.load(Ordering::SeqCst)));
-    Ok(())
 }
 
 /// The ids from one on.
@@ -162,11 +188,13 @@ fn first<C: Choice, W: Watch, L: Ledger>(
 }
 
 #[test]
-fn the_first_id_is_found_by_few_visits(rt: HostRuntime) -> Result<(), Fail> {
+fn the_first_id_is_found_by_few_visits(rt: HostRuntime) {
     let alloc = rt.alloc();
     let mut index = Index::new(alloc);
     for i in 0..1023u16 {
-        index.insert(alloc, i as u32, slice(i))?;
+        index
+            .insert(alloc, i as u32, slice(i))
+            .expect(&rt, "no memory");
     }
     let visits = Visits(AtomicU64::new(0));
     assert_eq!(rt;
@@ -182,5 +210,4 @@ fn the_first_id_is_found_by_few_visits(rt: HostRuntime) -> Result<(), Fail> {
         None
     );
     assert!(rt; (3..=504).contains(&visits.0.load(Ordering::SeqCst)));
-    Ok(())
 }

@@ -3,7 +3,6 @@ ghost use Rattle.std.specs.Prelude.{ℕ, ◌*◌, ◌≤◌, ◌^◌};
 use rp_crew::{Judge, judge_all};
 use std::alloc::{AllocError, Global};
 use std::sync::atomic::{AtomicBool, AtomicUsize, Ordering};
-use std::test::Fail;
 
 /// The numbers from 0 on, each of which means its square.
 #[derive(Drop)]
@@ -30,12 +29,14 @@ impl Judge for Squares {
 }
 
 #[test]
-fn squares_come_in_order_whatever_the_grain(rt: HostRuntime) -> Result<(), Fail> {
+fn squares_come_in_order_whatever_the_grain(rt: HostRuntime) {
     for grain in [1, 2, 9] {
-        let squares = judge_all(&rt, rt.alloc(), grain, &Squares { count: 5 })?;
+        let squares = judge_all(&rt, rt.alloc(), grain, &Squares { count: 5 }).expect(
+            &rt,
+            "no memory",
+        );
         assert_eq!(rt; squares.as_slice(), [0, 1, 4, 9, 16].as_slice());
     }
-    Ok(())
 }
 
 /// Two items, each of which means its number. Each waits a while for the other to begin.
@@ -69,17 +70,16 @@ impl Judge for Pair {
 }
 
 #[test]
-fn two_items_are_judged_at_once(rt: HostRuntime) -> Result<(), Fail> {
+fn two_items_are_judged_at_once(rt: HostRuntime) {
     let pair = Pair {
         came: [AtomicBool::new(false), AtomicBool::new(false)],
         met: [AtomicBool::new(false), AtomicBool::new(false)],
     };
-    let numbers = judge_all(&rt, rt.alloc(), 1, &pair)?;
+    let numbers = judge_all(&rt, rt.alloc(), 1, &pair).expect(&rt, "no memory");
     assert_eq!(rt; numbers.as_slice(), [0, 1].as_slice());
     for met in &pair.met {
         assert!(rt; met.load(Ordering::SeqCst));
     }
-    Ok(())
 }
 
 /// So many items, each of which means its number. How many are judged at once is counted, and the most of these counts.
@@ -114,15 +114,14 @@ impl Judge for Counted {
 }
 
 #[test]
-fn few_threads_judge_many_items(rt: HostRuntime) -> Result<(), Fail> {
+fn few_threads_judge_many_items(rt: HostRuntime) {
     let counted = Counted {
         count: 1000,
         now: AtomicUsize::new(0),
         most: AtomicUsize::new(0),
     };
-    let numbers = judge_all(&rt, rt.alloc(), 1, &counted)?;
+    let numbers = judge_all(&rt, rt.alloc(), 1, &counted).expect(&rt, "no memory");
     assert_eq!(rt; numbers.len(), 1000);
     // The first of those that run at once finds no other one.
     assert!(rt; counted.most.load(Ordering::SeqCst) < 8);
-    Ok(())
 }

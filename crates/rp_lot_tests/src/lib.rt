@@ -12,6 +12,8 @@ mod crew;
 #[cfg(test)]
 mod history;
 #[cfg(test)]
+mod names;
+#[cfg(test)]
 mod nearby;
 #[cfg(test)]
 mod parcels;

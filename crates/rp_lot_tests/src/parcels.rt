@@ -4,6 +4,7 @@ ghost use Rattle.rp_language.specs.Name.{is_name};
 ghost use Rattle.rp_space.specs.Boxes.{integer_box};
 ghost use Rattle.rp_parcels.specs.Register.{IsLater};
 
+use crate::names::name;
 use rp_boxindex::{Quiet, Watch};
 use rp_cert::{Proof, Proofs};
 use rp_parcels::{Access, Child, ParcelFault, Parcels};
@@ -52,13 +53,6 @@ const FAR: IntBox = IntBox {
 
 /// As many tests as may be counted.
 const MAX_TESTS: u64 = 65536;
-
-/// A name.
-fn name(bytes: &[u8]) -> Name
-    requires { is_name bytes.now ≡ true }
-{
-    Name::new(bytes).unwrap()
-}
 
 /// The region of a box.
 fn region(rt: &impl Abort, alloc: Global, bounds: &IntBox) -> Region

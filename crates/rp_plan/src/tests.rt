@@ -3,7 +3,7 @@ use crate::status::{OUT_OF_MEMORY, PUT_FAILED, READ_FAILED, REFUSED, TOO_LONG, s
 use crate::top::draw;
 use rp_io::{MemorySink, MemorySource, QuietSink, QuietSource};
 use std::alloc::{AllocError, Global};
-use std::test::Fail;
+use std::process::Abort;
 
 /// A report of version 2: a name, and its section at two heights.
 const REPORT: &[u8] = b"> 0 rp 2
@@ -26,25 +26,24 @@ const REPORT: &[u8] = b"> 0 rp 2
 ";
 
 /// What comes of a report.
-fn outcome(alloc: Global, report: &[u8]) -> Result<Result<Vec<u32>, Fault>, AllocError> {
+fn outcome(rt: &impl Abort, alloc: Global, report: &[u8]) -> Result<Vec<u32>, Fault> {
     let mut source = QuietSource::new(report);
-    let mut sink = QuietSink::new(alloc, 100_000)?;
-    Ok(draw(alloc, &mut source, &mut sink))
+    let mut sink = QuietSink::new(alloc, 100_000).expect(rt, "no memory");
+    draw(alloc, &mut source, &mut sink)
 }
 
 #[test]
-fn sections_are_drawn(rt: HostRuntime) -> Result<(), Fail> {
+fn sections_are_drawn(rt: HostRuntime) {
     let mut source = QuietSource::new(REPORT);
-    let mut sink = QuietSink::new(rt.alloc(), 100_000)?;
-    let lines = draw(rt.alloc(), &mut source, &mut sink)?;
+    let mut sink = QuietSink::new(rt.alloc(), 100_000).expect(&rt, "no memory");
+    let lines = draw(rt.alloc(), &mut source, &mut sink).expect(&rt, "nothing is drawn");
     assert_eq!(rt; lines.as_slice(), [3, 4, 5].as_slice());
     assert!(rt; sink.bytes().starts_with(b"<svg "));
     assert!(rt; sink.bytes().ends_with(b"</svg>\n"));
-    Ok(())
 }
 
 #[test]
-fn other_lines_are_refused(rt: HostRuntime) -> Result<(), Fail> {
+fn other_lines_are_refused(rt: HostRuntime) {
     for (report, line, cause) in [
         (b"rp 2".as_slice(), 1, Cause::Line),
         (b"> 1 all\n= yes\n\n> 2 all\n= yes", 3, Cause::Line),
@@ -68,23 +67,22 @@ fn other_lines_are_refused(rt: HostRuntime) -> Result<(), Fail> {
         (b"> 1 all\n  in (0 0 0 1)\n", 3, Cause::End),
     ] {
         let fault = Fault::Refused(Refusal { line, cause });
-        match outcome(rt.alloc(), report)? {
+        match outcome(&rt, rt.alloc(), report) {
             Ok(_) => assert!(rt; false, "{report:?}"),
             Err(found) => assert_eq!(rt; found, fault, "{report:?}"),
         }
         assert_eq!(rt; status_of(&fault), REFUSED);
     }
-    Ok(())
 }
 
 #[test]
-fn faults_have_their_statuses(rt: HostRuntime) -> Result<(), Fail> {
+fn faults_have_their_statuses(rt: HostRuntime) {
     let mut source = MemorySource::new(REPORT, 100, &[2]);
-    let mut sink = QuietSink::new(rt.alloc(), 100)?;
+    let mut sink = QuietSink::new(rt.alloc(), 100).expect(&rt, "no memory");
     let read = draw(rt.alloc(), &mut source, &mut sink).err();
     assert_eq!(rt; read, Some(Fault::Read));
     let mut source = QuietSource::new(REPORT);
-    let mut sink = MemorySink::new(rt.alloc(), 10, &[])?;
+    let mut sink = MemorySink::new(rt.alloc(), 10, &[]).expect(&rt, "no memory");
     let put = draw(rt.alloc(), &mut source, &mut sink).err();
     assert_eq!(rt; put, Some(Fault::Put));
     assert_eq!(rt; sink.bytes(), b"<svg xmlns".as_slice());
@@ -96,5 +94,4 @@ fn faults_have_their_statuses(rt: HostRuntime) -> Result<(), Fail> {
     ] {
         assert_eq!(rt; status_of(&fault), status);
     }
-    Ok(())
 }

@@ -4,6 +4,8 @@
 //! They use what the crates give to all, and stand apart so that no program's crate is proved with tests.
 
 #[cfg(test)]
+mod boxes;
+#[cfg(test)]
 mod groups;
 #[cfg(test)]
 mod pieces;

@@ -2,20 +2,13 @@ ghost use Rattle.std.specs.Prelude.{◌≡◌, true};
 ghost use Rattle.rp_geometry.specs.Geometry.{is_box_in_bounds};
 ghost use Rattle.rp_space.specs.Boxes.{integer_box};
 
+use crate::boxes::box_region;
 use rp_cert::Proof;
 use rp_pieces::{PieceList, pieces};
 use rp_region::{OpFault, Region, Work};
-use rp_space::{IntBox, box_halves};
+use rp_space::IntBox;
 use std::alloc::Global;
 use std::process::Abort;
-
-/// The region of a box.
-fn of_box(rt: &impl Abort, alloc: Global, bounds: &IntBox, work: &mut Work) -> Region
-    requires { is_box_in_bounds (integer_box bounds.now) ≡ true }
-{
-    let made = Region::of_cell(alloc, &box_halves(bounds), work);
-    made.expect(rt, "no region of a box")
-}
 
 /// Two regions as one, the parts of the second behind those of the first.
 fn joined(rt: &impl Abort, first: Region, second: Region, work: &mut Work) -> Region {
@@ -33,7 +26,7 @@ fn with_box(
 ) -> Region
     requires { is_box_in_bounds (integer_box bounds.now) ≡ true }
 {
-    let part = of_box(rt, alloc, bounds, work);
+    let part = box_region(rt, alloc, bounds, work);
     joined(rt, region, part, work)
 }
 

@@ -2,12 +2,12 @@ ghost use Rattle.std.specs.Prelude.{◌≡◌, ◌≤◌, length, true};
 ghost use Rattle.rp_geometry.specs.Geometry.{is_box_in_bounds};
 ghost use Rattle.rp_space.specs.Boxes.{integer_box};
 
+use crate::boxes::box_region;
 use rp_cert::Proof;
 use rp_region::{OpFault, Part, Region, Work};
-use rp_space::{Corner, Half, HalfFault, Inside, IntBox, Outside, Point, PointFault, box_halves};
-use std::alloc::{AllocError, Global};
+use rp_space::{Corner, Half, Inside, IntBox, Outside, Point};
+use std::alloc::Global;
 use std::process::Abort;
-use std::test::Fail;
 
 /// The numbers of a half-space.
 type HalfNumbers = (i64, i64, i64, i64);
@@ -73,26 +73,20 @@ fn expect_halves(rt: &impl Abort, part: &Part, wanted: &[HalfNumbers]) {
     }
 }
 
-/// The region of a box.
-fn box_region(alloc: Global, bounds: &IntBox, work: &mut Work) -> Result<Region, OpFault>
-    requires { is_box_in_bounds (integer_box bounds.now) ≡ true }
-{
-    Region::of_cell(alloc, &box_halves(bounds), work)
-}
-
 /// The regions of two boxes.
 fn regions_of(
+    rt: &impl Abort,
     alloc: Global,
     first: &IntBox,
     second: &IntBox,
     work: &mut Work,
-) -> Result<(Region, Region), OpFault>
+) -> (Region, Region)
     requires first { is_box_in_bounds (integer_box first.now) ≡ true }
     requires second { is_box_in_bounds (integer_box second.now) ≡ true }
 {
-    let first = box_region(alloc, first, work)?;
-    let second = box_region(alloc, second, work)?;
-    Ok((first, second))
+    let first = box_region(rt, alloc, first, work);
+    let second = box_region(rt, alloc, second, work);
+    (first, second)
 }
 
 /// Shows that a type may be sent to other threads and shared with them.
@@ -107,7 +101,7 @@ fn types_cross_threads() {
 }
 
 /// Two boxes of no test, and what the second leaves of the first.
-fn carved(rt: &impl Abort, alloc: Global, work: &mut Work) -> Result<Region, OpFault> {
+fn carved(rt: &impl Abort, alloc: Global, work: &mut Work) -> Region {
     let whole = IntBox {
         lo: [0, 0, 0],
         hi: [10, 10, 10],
@@ -116,9 +110,9 @@ fn carved(rt: &impl Abort, alloc: Global, work: &mut Work) -> Result<Region, OpF
         lo: [0, 0, 0],
         hi: [4, 10, 10],
     };
-    let (whole, west) = regions_of(alloc, &whole, &west, work)?;
+    let (whole, west) = regions_of(rt, alloc, &whole, &west, work);
     assert_eq!(rt; work.tests(), 0);
-    whole.minus(alloc, &west, work)
+    whole.minus(alloc, &west, work).expect(rt, "no region")
 }
 
 /// Compares the one part of a region.
@@ -156,9 +150,9 @@ const CARVED_LINES: &[Line] = &[
 ];
 
 #[test]
-fn a_difference_is_carved(rt: HostRuntime) -> Result<(), Fail> {
+fn a_difference_is_carved(rt: HostRuntime) {
     let mut work = Work::new(rt.alloc());
-    let east = carved(&rt, rt.alloc(), &mut work)?;
+    let east = carved(&rt, rt.alloc(), &mut work);
     assert_eq!(rt; work.tests(), 7);
     let halves = [
         (-1, 0, 0, 10),
@@ -171,24 +165,18 @@ fn a_difference_is_carved(rt: HostRuntime) -> Result<(), Fail> {
     expect_part(&rt, &east, &halves, [4, 0, 0], [10, 10, 10]);
     expect_lines(&rt, work.proofs(), CARVED_LINES);
     expect_lines(&rt, work.into_proofs().items(), CARVED_LINES);
-    Ok(())
 }
 
 /// Compares which points of a table are in a region.
-fn expect_points(
-    rt: &impl Abort,
-    region: &Region,
-    table: &[(PointNumbers, bool)],
-) -> Result<(), PointFault> {
+fn expect_points(rt: &impl Abort, region: &Region, table: &[(PointNumbers, bool)]) {
     for ((x, y, z, w), inside) in table {
-        let p = Point::new(*x, *y, *z, *w)?;
+        let p = Point::new(*x, *y, *z, *w).expect(rt, "no point");
         assert_eq!(rt; region.holds(&p), *inside, "{p:?}");
     }
-    Ok(())
 }
 
 /// Two boxes that have a part in common, and for each a part of its own.
-fn two_boxes(alloc: Global, work: &mut Work) -> Result<(Region, Region), OpFault> {
+fn two_boxes(rt: &impl Abort, alloc: Global, work: &mut Work) -> (Region, Region) {
     let large = IntBox {
         lo: [0, 0, 0],
         hi: [9, 9, 9],
@@ -197,7 +185,7 @@ fn two_boxes(alloc: Global, work: &mut Work) -> Result<(Region, Region), OpFault
         lo: [5, 5, 5],
         hi: [12, 8, 8],
     };
-    regions_of(alloc, &large, &small, work)
+    regions_of(rt, alloc, &large, &small, work)
 }
 
 /// A point of both boxes.
@@ -216,49 +204,52 @@ const IN_NEITHER: PointNumbers = (20, 6, 6, 1);
 const OUTSIDE: PointNumbers = (16777216, 0, 0, 1);
 
 /// What both boxes have.
-fn both_boxes(alloc: Global, work: &mut Work) -> Result<Region, OpFault> {
-    let (large, small) = two_boxes(alloc, work)?;
-    large.both(alloc, &small, work)
+fn both_boxes(rt: &impl Abort, alloc: Global, work: &mut Work) -> Region {
+    let (large, small) = two_boxes(rt, alloc, work);
+    large.both(alloc, &small, work).expect(rt, "no region")
 }
 
 /// What one of the boxes has.
-fn either_box(alloc: Global, work: &mut Work) -> Result<Region, OpFault> {
-    let (large, small) = two_boxes(alloc, work)?;
-    large.either(alloc, &small, work)
+fn either_box(rt: &impl Abort, alloc: Global, work: &mut Work) -> Region {
+    let (large, small) = two_boxes(rt, alloc, work);
+    large.either(alloc, &small, work).expect(rt, "no region")
 }
 
 /// The same, with the parts moved.
-fn joined_boxes(alloc: Global, work: &mut Work) -> Result<Region, OpFault> {
-    let (large, small) = two_boxes(alloc, work)?;
-    large.into_either(small.copy(alloc)?, work)
+fn joined_boxes(rt: &impl Abort, alloc: Global, work: &mut Work) -> Region {
+    let (large, small) = two_boxes(rt, alloc, work);
+    large
+        .into_either(small.copy(alloc).expect(rt, "no memory"), work)
+        .expect(rt, "no region")
 }
 
 /// What the larger box alone has.
-fn rest_of_box(alloc: Global, work: &mut Work) -> Result<Region, OpFault> {
-    let (large, small) = two_boxes(alloc, work)?;
-    large.minus(alloc, &small, work)
+fn rest_of_box(rt: &impl Abort, alloc: Global, work: &mut Work) -> Region {
+    let (large, small) = two_boxes(rt, alloc, work);
+    large.minus(alloc, &small, work).expect(rt, "no region")
 }
 
 /// The same, with the parts moved.
-fn left_of_box(alloc: Global, work: &mut Work) -> Result<Region, OpFault> {
-    let (large, small) = two_boxes(alloc, work)?;
-    large.into_minus(alloc, &small, work)
+fn left_of_box(rt: &impl Abort, alloc: Global, work: &mut Work) -> Region {
+    let (large, small) = two_boxes(rt, alloc, work);
+    large
+        .into_minus(alloc, &small, work)
+        .expect(rt, "no region")
 }
 
 /// What the larger box leaves of the cube.
-fn outside_of_box(alloc: Global, work: &mut Work) -> Result<Region, OpFault> {
-    let (large, _) = two_boxes(alloc, work)?;
-    large.outside(alloc, work)
+fn outside_of_box(rt: &impl Abort, alloc: Global, work: &mut Work) -> Region {
+    let (large, _) = two_boxes(rt, alloc, work);
+    large.outside(alloc, work).expect(rt, "no region")
 }
 
 #[test]
-fn both_have_the_common_points(rt: HostRuntime) -> Result<(), Fail> {
+fn both_have_the_common_points(rt: HostRuntime) {
     let mut work = Work::new(rt.alloc());
-    let both = both_boxes(rt.alloc(), &mut work)?;
+    let both = both_boxes(&rt, rt.alloc(), &mut work);
     assert_eq!(rt; work.tests(), 1);
     let table = [(IN_BOTH, true), (IN_LARGE, false), (IN_SMALL, false)];
-    expect_points(&rt, &both, &table)?;
-    Ok(())
+    expect_points(&rt, &both, &table);
 }
 
 /// The points of one of the boxes.
@@ -270,19 +261,17 @@ const EITHER_POINTS: [(PointNumbers, bool); 4] = [
 ];
 
 #[test]
-fn either_has_the_points_of_each(rt: HostRuntime) -> Result<(), Fail> {
+fn either_has_the_points_of_each(rt: HostRuntime) {
     let mut work = Work::new(rt.alloc());
-    let either = either_box(rt.alloc(), &mut work)?;
+    let either = either_box(&rt, rt.alloc(), &mut work);
     assert_eq!(rt; either.parts().len(), 2);
-    expect_points(&rt, &either, &EITHER_POINTS)?;
-    Ok(())
+    expect_points(&rt, &either, &EITHER_POINTS);
 }
 
 #[test]
-fn either_has_the_points_of_each_that_is_moved(rt: HostRuntime) -> Result<(), Fail> {
-    let moved = joined_boxes(rt.alloc(), &mut Work::new(rt.alloc()))?;
-    expect_points(&rt, &moved, &EITHER_POINTS)?;
-    Ok(())
+fn either_has_the_points_of_each_that_is_moved(rt: HostRuntime) {
+    let moved = joined_boxes(&rt, rt.alloc(), &mut Work::new(rt.alloc()));
+    expect_points(&rt, &moved, &EITHER_POINTS);
 }
 
 /// The points of the larger box alone.
@@ -293,81 +282,62 @@ const REST_POINTS: [(PointNumbers, bool); 3] = [
 ];
 
 #[test]
-fn minus_leaves_the_points_of_the_first_alone(rt: HostRuntime) -> Result<(), Fail> {
-    let minus = rest_of_box(rt.alloc(), &mut Work::new(rt.alloc()))?;
-    expect_points(&rt, &minus, &REST_POINTS)?;
-    Ok(())
+fn minus_leaves_the_points_of_the_first_alone(rt: HostRuntime) {
+    let minus = rest_of_box(&rt, rt.alloc(), &mut Work::new(rt.alloc()));
+    expect_points(&rt, &minus, &REST_POINTS);
 }
 
 #[test]
-fn minus_leaves_the_points_of_one_that_is_moved(rt: HostRuntime) -> Result<(), Fail> {
-    let moved = left_of_box(rt.alloc(), &mut Work::new(rt.alloc()))?;
-    expect_points(&rt, &moved, &REST_POINTS)?;
-    Ok(())
+fn minus_leaves_the_points_of_one_that_is_moved(rt: HostRuntime) {
+    let moved = left_of_box(&rt, rt.alloc(), &mut Work::new(rt.alloc()));
+    expect_points(&rt, &moved, &REST_POINTS);
 }
 
 #[test]
-fn outside_has_the_other_points_of_the_cube(rt: HostRuntime) -> Result<(), Fail> {
-    let rest = outside_of_box(rt.alloc(), &mut Work::new(rt.alloc()))?;
+fn outside_has_the_other_points_of_the_cube(rt: HostRuntime) {
+    let rest = outside_of_box(&rt, rt.alloc(), &mut Work::new(rt.alloc()));
     let table = [(IN_LARGE, false), (IN_SMALL, true), (OUTSIDE, false)];
-    expect_points(&rt, &rest, &table)?;
-    Ok(())
+    expect_points(&rt, &rest, &table);
 }
 
 #[test]
-fn the_whole_cube_has_no_half_spaces(rt: HostRuntime) -> Result<(), Fail> {
-    let all = Region::all(rt.alloc())?;
+fn the_whole_cube_has_no_half_spaces(rt: HostRuntime) {
+    let all = Region::all(rt.alloc()).expect(&rt, "no memory");
     expect_part(&rt, &all, &[], [-16777216; 3], [16777216; 3]);
     assert!(rt; Region::none(rt.alloc()).parts().is_empty());
-    Ok(())
 }
 
 /// What the whole cube leaves of itself.
-fn outside_of_all(alloc: Global, work: &mut Work) -> Result<Region, OpFault> {
-    let all = Region::all(alloc)?;
-    all.outside(alloc, work)
+fn outside_of_all(rt: &impl Abort, alloc: Global, work: &mut Work) -> Region {
+    let all = Region::all(alloc).expect(rt, "no memory");
+    all.outside(alloc, work).expect(rt, "no region")
 }
 
 #[test]
-fn the_whole_cube_leaves_nothing(rt: HostRuntime) -> Result<(), Fail> {
+fn the_whole_cube_leaves_nothing(rt: HostRuntime) {
     let mut work = Work::new(rt.alloc());
-    let none = outside_of_all(rt.alloc(), &mut work)?;
+    let none = outside_of_all(&rt, rt.alloc(), &mut work);
     assert!(rt; none.parts().is_empty());
     assert_eq!(rt; work.tests(), 1);
-    Ok(())
 }
 
 /// Takes the second of two boxes apart from the first, which makes no test.
-fn expect_rest(
-    rt: &impl Abort,
-    alloc: Global,
-    west: &Region,
-    east: &Region,
-    work: &mut Work,
-) -> Result<(), OpFault> {
-    let rest = west.minus(alloc, east, work)?;
+fn expect_rest(rt: &impl Abort, alloc: Global, west: &Region, east: &Region, work: &mut Work) {
+    let rest = west.minus(alloc, east, work).expect(rt, "no region");
     assert_eq!(rt; rest.parts().len(), 1);
     assert_eq!(rt; work.tests(), 0);
     assert_eq!(rt; work.proofs().len(), 4);
-    Ok(())
 }
 
 /// Joins two boxes apart, which makes one test.
-fn expect_no_join(
-    rt: &impl Abort,
-    alloc: Global,
-    west: &Region,
-    east: &Region,
-    work: &mut Work,
-) -> Result<(), OpFault> {
-    let common = west.both(alloc, east, work)?;
+fn expect_no_join(rt: &impl Abort, alloc: Global, west: &Region, east: &Region, work: &mut Work) {
+    let common = west.both(alloc, east, work).expect(rt, "no region");
     assert!(rt; common.parts().is_empty());
     assert_eq!(rt; work.tests(), 1);
-    Ok(())
 }
 
 /// Two boxes that share a face.
-fn boxes_with_a_face(alloc: Global, work: &mut Work) -> Result<(Region, Region), OpFault> {
+fn boxes_with_a_face(rt: &impl Abort, alloc: Global, work: &mut Work) -> (Region, Region) {
     let west = IntBox {
         lo: [0, 0, 0],
         hi: [10, 10, 10],
@@ -376,20 +346,19 @@ fn boxes_with_a_face(alloc: Global, work: &mut Work) -> Result<(Region, Region),
         lo: [10, 0, 0],
         hi: [20, 10, 10],
     };
-    regions_of(alloc, &west, &east, work)
+    regions_of(rt, alloc, &west, &east, work)
 }
 
 /// What is tested of two boxes that share a face.
-fn expect_few_tests(rt: &impl Abort, alloc: Global, work: &mut Work) -> Result<(), OpFault> {
-    let (west, east) = boxes_with_a_face(alloc, work)?;
-    expect_rest(rt, alloc, &west, &east, work)?;
-    expect_no_join(rt, alloc, &west, &east, work)
+fn expect_few_tests(rt: &impl Abort, alloc: Global, work: &mut Work) {
+    let (west, east) = boxes_with_a_face(rt, alloc, work);
+    expect_rest(rt, alloc, &west, &east, work);
+    expect_no_join(rt, alloc, &west, &east, work);
 }
 
 #[test]
-fn boxes_apart_are_not_tested(rt: HostRuntime) -> Result<(), Fail> {
-    expect_few_tests(&rt, rt.alloc(), &mut Work::new(rt.alloc()))?;
-    Ok(())
+fn boxes_apart_are_not_tested(rt: HostRuntime) {
+    expect_few_tests(&rt, rt.alloc(), &mut Work::new(rt.alloc()));
 }
 
 /// Compares how many points show that two regions share one, over all pairs of parts or over those that are near.
@@ -400,11 +369,12 @@ fn expect_common(
     near: bool,
     points: Option<usize>,
     work: &mut Work,
-) -> Result<(), OpFault> {
+) {
     let (first, second) = regions;
-    let common = first.first_common(alloc, second, near, work)?;
+    let common = first
+        .first_common(alloc, second, near, work)
+        .expect(rt, "no region");
     assert_eq!(rt; common.map(|shown| shown.items().len()), points);
-    Ok(())
 }
 
 /// Compares the first point at which two regions touch, over all pairs of parts or over those that are near.
@@ -415,27 +385,27 @@ fn expect_touch(
     near: bool,
     point: Option<PointNumbers>,
     work: &mut Work,
-) -> Result<(), OpFault> {
+) {
     let (first, second) = regions;
-    let touch = first.first_touch(alloc, second, near, work)?;
+    let touch = first
+        .first_touch(alloc, second, near, work)
+        .expect(rt, "no region");
     assert_eq!(rt; touch.map(|shown| shown.numbers()), point);
-    Ok(())
 }
 
 /// What is found of two boxes that share a face.
-fn expect_face(rt: &impl Abort, alloc: Global, work: &mut Work) -> Result<(), OpFault> {
-    let boxes = boxes_with_a_face(alloc, &mut Work::new(alloc))?;
+fn expect_face(rt: &impl Abort, alloc: Global, work: &mut Work) {
+    let boxes = boxes_with_a_face(rt, alloc, &mut Work::new(alloc));
     for near in [false, true] {
-        expect_common(rt, alloc, &boxes, near, None, work)?;
-        expect_touch(rt, alloc, &boxes, near, Some((10, 0, 0, 1)), work)?;
+        expect_common(rt, alloc, &boxes, near, None, work);
+        expect_touch(rt, alloc, &boxes, near, Some((10, 0, 0, 1)), work);
     }
-    Ok(())
 }
 
 #[test]
-fn boxes_that_share_a_face_touch_and_have_no_common_point(rt: HostRuntime) -> Result<(), Fail> {
+fn boxes_that_share_a_face_touch_and_have_no_common_point(rt: HostRuntime) {
     let mut work = Work::new(rt.alloc());
-    expect_face(&rt, rt.alloc(), &mut work)?;
+    expect_face(&rt, rt.alloc(), &mut work);
     // Near, no pair of these boxes is tested for a common point, and nothing is counted.
     assert_eq!(rt; work.tests(), 2);
     let lines = [
@@ -444,11 +414,10 @@ fn boxes_that_share_a_face_touch_and_have_no_common_point(rt: HostRuntime) -> Re
         Line::At((10, 0, 0, 1)),
     ];
     expect_lines(&rt, work.proofs(), &lines);
-    Ok(())
 }
 
 /// Two boxes with a gap between them.
-fn boxes_with_a_gap(alloc: Global, work: &mut Work) -> Result<(Region, Region), OpFault> {
+fn boxes_with_a_gap(rt: &impl Abort, alloc: Global, work: &mut Work) -> (Region, Region) {
     let west = IntBox {
         lo: [0, 0, 0],
         hi: [10, 10, 10],
@@ -457,192 +426,186 @@ fn boxes_with_a_gap(alloc: Global, work: &mut Work) -> Result<(Region, Region), 
         lo: [11, 0, 0],
         hi: [21, 10, 10],
     };
-    regions_of(alloc, &west, &east, work)
+    regions_of(rt, alloc, &west, &east, work)
 }
 
 /// What is found of two boxes with a gap between them.
-fn expect_gap(rt: &impl Abort, alloc: Global, work: &mut Work) -> Result<(), OpFault> {
-    let boxes = boxes_with_a_gap(alloc, &mut Work::new(alloc))?;
+fn expect_gap(rt: &impl Abort, alloc: Global, work: &mut Work) {
+    let boxes = boxes_with_a_gap(rt, alloc, &mut Work::new(alloc));
     for near in [false, true] {
-        expect_touch(rt, alloc, &boxes, near, None, work)?;
+        expect_touch(rt, alloc, &boxes, near, None, work);
     }
-    Ok(())
 }
 
 #[test]
-fn boxes_apart_neither_overlap_nor_touch(rt: HostRuntime) -> Result<(), Fail> {
+fn boxes_apart_neither_overlap_nor_touch(rt: HostRuntime) {
     let mut work = Work::new(rt.alloc());
-    expect_gap(&rt, rt.alloc(), &mut work)?;
+    expect_gap(&rt, rt.alloc(), &mut work);
     assert_eq!(rt; work.tests(), 1);
     let lines = [Line::Apart(&[(1, (-1, 0, 0, 10)), (1, (1, 0, 0, -11))])];
     expect_lines(&rt, work.proofs(), &lines);
-    Ok(())
 }
 
 /// The larger box, and a union of one far away and the smaller one.
-fn box_and_others(alloc: Global, work: &mut Work) -> Result<(Region, Region), OpFault> {
-    let (large, small) = two_boxes(alloc, work)?;
+fn box_and_others(rt: &impl Abort, alloc: Global, work: &mut Work) -> (Region, Region) {
+    let (large, small) = two_boxes(rt, alloc, work);
     let far = IntBox {
         lo: [20, 20, 20],
         hi: [30, 30, 30],
     };
-    let others = box_region(alloc, &far, work)?.into_either(small, work)?;
-    Ok((large, others))
+    let others = box_region(rt, alloc, &far, work)
+        .into_either(small, work)
+        .expect(rt, "no region");
+    (large, others)
 }
 
 /// What is found of them.
-fn expect_second_pair(rt: &impl Abort, alloc: Global, work: &mut Work) -> Result<(), OpFault> {
-    let regions = box_and_others(alloc, &mut Work::new(alloc))?;
-    expect_common(rt, alloc, &regions, false, Some(4), work)
+fn expect_second_pair(rt: &impl Abort, alloc: Global, work: &mut Work) {
+    let regions = box_and_others(rt, alloc, &mut Work::new(alloc));
+    expect_common(rt, alloc, &regions, false, Some(4), work);
 }
 
 #[test]
-fn the_first_pair_with_a_common_point_is_found(rt: HostRuntime) -> Result<(), Fail> {
+fn the_first_pair_with_a_common_point_is_found(rt: HostRuntime) {
     let mut work = Work::new(rt.alloc());
-    expect_second_pair(&rt, rt.alloc(), &mut work)?;
+    expect_second_pair(&rt, rt.alloc(), &mut work);
     assert_eq!(rt; work.tests(), 2);
     let lines = [
         Line::Out(&[(1, (-1, 0, 0, 9)), (1, (1, 0, 0, -20))]),
         Line::In(&[(9, 5, 5, 1), (9, 5, 8, 1), (9, 8, 5, 1), (5, 5, 5, 1)]),
     ];
     expect_lines(&rt, work.proofs(), &lines);
-    Ok(())
 }
 
 /// Makes the last test, and no further one.
-fn expect_last_test(rt: &impl Abort, alloc: Global, work: &mut Work) -> Result<(), AllocError> {
-    let all = Region::all(alloc)?;
+fn expect_last_test(rt: &impl Abort, alloc: Global, work: &mut Work) {
+    let all = Region::all(alloc).expect(rt, "no memory");
     assert!(rt; all.both(alloc, &all, work).is_ok());
     assert_eq!(rt; work.tests(), 65536);
     assert!(rt; matches!(all.both(alloc, &all, work), Err(OpFault::Limit)));
     assert!(rt; matches!(all.minus(alloc, &all, work), Err(OpFault::Limit)));
     assert_eq!(rt; work.tests(), 65536);
-    Ok(())
 }
 
 #[test]
-fn tests_are_counted_up_to_their_limit(rt: HostRuntime) -> Result<(), Fail> {
+fn tests_are_counted_up_to_their_limit(rt: HostRuntime) {
     let mut work = Work::new(rt.alloc());
     assert!(rt; work.count(65535));
     assert!(rt; !work.count(2));
     assert!(rt; !work.count(u64::MAX));
     assert_eq!(rt; work.tests(), 65535);
-    expect_last_test(&rt, rt.alloc(), &mut work)?;
-    Ok(())
+    expect_last_test(&rt, rt.alloc(), &mut work);
 }
 
 /// The whole cube, 1,024 times.
-fn cubes(alloc: Global, work: &mut Work) -> Result<Region, OpFault> {
-    let mut region = Region::all(alloc)?;
+fn cubes(rt: &impl Abort, alloc: Global, work: &mut Work) -> Region {
+    let mut region = Region::all(alloc).expect(rt, "no memory");
     for _ in 0..10 {
-        region = region.either(alloc, &region, work)?;
+        region = region.either(alloc, &region, work).expect(rt, "no region");
     }
-    Ok(region)
+    region
 }
 
 /// A region of as many parts as there may be, and one more.
-fn expect_no_more_parts(rt: &impl Abort, alloc: Global, region: &Region) -> Result<(), AllocError> {
+fn expect_no_more_parts(rt: &impl Abort, alloc: Global, region: &Region) {
     assert_eq!(rt; region.parts().len(), 1024);
-    let one = Region::all(alloc)?;
+    let one = Region::all(alloc).expect(rt, "no memory");
     let more = region.either(alloc, &one, &mut Work::new(alloc));
     assert!(rt; matches!(more, Err(OpFault::Limit)));
-    Ok(())
 }
 
 #[test]
-fn regions_have_at_most_1024_parts(rt: HostRuntime) -> Result<(), Fail> {
-    let region = cubes(rt.alloc(), &mut Work::new(rt.alloc()))?;
-    expect_no_more_parts(&rt, rt.alloc(), &region)?;
-    Ok(())
+fn regions_have_at_most_1024_parts(rt: HostRuntime) {
+    let region = cubes(&rt, rt.alloc(), &mut Work::new(rt.alloc()));
+    expect_no_more_parts(&rt, rt.alloc(), &region);
 }
 
 /// The half-space above the tangent of a parabola at k.
-fn tangent(k: i64) -> Result<Half, HalfFault> {
-    let square = k.checked_mul(k).ok_or(HalfFault::Range)?;
-    let double = k.checked_mul(-2).ok_or(HalfFault::Range)?;
-    Half::new(double, 1, 0, square)
+fn tangent(rt: &impl Abort, k: i64) -> Half {
+    let square = k.checked_mul(k).expect(rt, "no square");
+    let double = k.checked_mul(-2).expect(rt, "no double");
+    Half::new(double, 1, 0, square).expect(rt, "no half-space")
 }
 
 /// The half-spaces above 33 tangents of a parabola.
-fn tangents() -> Result<[Half; 33], HalfFault> {
+fn tangents(rt: &impl Abort) -> [Half; 33] {
     let mut cell = [Half::default(); 33];
     for (k, half) in cell.iter_mut().enumerate() {
-        *half = tangent(k as i64)?;
+        *half = tangent(rt, k as i64);
     }
-    Ok(cell)
+    cell
 }
 
 /// Makes one part of a cell, which keeps all its half-spaces.
-fn expect_kept(
-    rt: &impl Abort,
-    alloc: Global,
-    cell: &[Half],
-    work: &mut Work,
-) -> Result<(), OpFault>
+fn expect_kept(rt: &impl Abort, alloc: Global, cell: &[Half], work: &mut Work)
     requires { length cell.now ≤ 64 }
 {
-    let few = Region::of_cell(alloc, cell, work)?;
+    let few = Region::of_cell(alloc, cell, work).expect(rt, "no region");
     assert_eq!(rt; few.parts().len(), 1);
     for part in few.parts() {
         assert_eq!(rt; part.halves().len(), cell.len());
     }
-    Ok(())
 }
 
 #[test]
-fn parts_have_at_most_32_half_spaces(rt: HostRuntime) -> Result<(), Fail> {
-    let cell = tangents()?;
+fn parts_have_at_most_32_half_spaces(rt: HostRuntime) {
+    let cell = tangents(&rt);
     let mut work = Work::new(rt.alloc());
-    expect_kept(&rt, rt.alloc(), &cell[..32], &mut work)?;
+    expect_kept(&rt, rt.alloc(), &cell[..32], &mut work);
     let told = work.proofs().len();
     let many = Region::of_cell(rt.alloc(), &cell, &mut work);
     assert!(rt; matches!(many, Err(OpFault::Limit)));
     assert_eq!(rt; work.proofs().len(), told);
-    Ok(())
 }
 
 /// Three half-spaces along the axis of x.
-fn along_x() -> Result<[Half; 3], HalfFault> {
-    Ok([
-        Half::new(1, 0, 0, 0)?,
-        Half::new(-1, 0, 0, 0)?,
-        Half::new(-1, 0, 0, -1)?,
-    ])
+fn along_x(rt: &impl Abort) -> [Half; 3] {
+    [
+        Half::new(1, 0, 0, 0).expect(rt, "no half-space"),
+        Half::new(-1, 0, 0, 0).expect(rt, "no half-space"),
+        Half::new(-1, 0, 0, -1).expect(rt, "no half-space"),
+    ]
 }
 
 /// Makes tests of one half-space and another, and counts them.
-fn tested(
-    rt: &impl Abort,
-    alloc: Global,
-    first: Half,
-    second: Half,
-    third: Half,
-) -> Result<Work, AllocError> {
+fn tested(rt: &impl Abort, alloc: Global, first: Half, second: Half, third: Half) -> Work {
     let mut work = Work::new(alloc);
-    assert!(rt; work.strict(alloc, &[first], &[second])?.is_none());
-    assert!(rt; work.weak(alloc, &[first], &[second])?.is_some());
-    assert!(rt; work.weak(alloc, &[first], &[third])?.is_none());
+    assert!(rt;
+        work.strict(alloc, &[first], &[second])
+            .expect(rt, "no memory")
+            .is_none()
+    );
+    assert!(rt;
+        work.weak(alloc, &[first], &[second])
+            .expect(rt, "no memory")
+            .is_some()
+    );
+    assert!(rt;
+        work.weak(alloc, &[first], &[third])
+            .expect(rt, "no memory")
+            .is_none()
+    );
     assert!(rt; work.count(3));
-    Ok(work)
+    work
 }
 
 /// Makes one test of a half-space, and counts as four.
-fn tested_alone(rt: &impl Abort, alloc: Global, half: Half) -> Result<Work, AllocError> {
+fn tested_alone(rt: &impl Abort, alloc: Global, half: Half) -> Work {
     let mut work = Work::new(alloc);
-    let found = work.strict(alloc, &[half], &[])?;
+    let found = work.strict(alloc, &[half], &[]).expect(rt, "no memory");
     assert_eq!(rt; found.map(|shown| shown.items().len()), Some(4));
     assert!(rt; work.count(4));
-    Ok(work)
+    work
 }
 
 #[test]
-fn tests_tell_their_certificates(rt: HostRuntime) -> Result<(), Fail> {
-    let [east, west, far] = along_x()?;
-    let mut work = tested(&rt, rt.alloc(), east, west, far)?;
-    let later = tested_alone(&rt, rt.alloc(), east)?;
+fn tests_tell_their_certificates(rt: HostRuntime) {
+    let [east, west, far] = along_x(&rt);
+    let mut work = tested(&rt, rt.alloc(), east, west, far);
+    let later = tested_alone(&rt, rt.alloc(), east);
     assert!(rt; work.tests() <= 3);
     assert!(rt; later.tests() <= 4);
-    work.append(rt.alloc(), later)?;
+    work.append(rt.alloc(), later).expect(&rt, "no memory");
     assert_eq!(rt; work.tests(), 7);
     expect_lines(
         &rt,
@@ -659,20 +622,14 @@ fn tests_tell_their_certificates(rt: HostRuntime) -> Result<(), Fail> {
             ]),
         ],
     );
-    Ok(())
 }
 
 /// Whether the one part of a region is in contact with that of another.
-fn are_in_contact(
-    rt: &impl Abort,
-    first: &Region,
-    second: &Region,
-    work: &mut Work,
-) -> Result<bool, AllocError> {
+fn are_in_contact(rt: &impl Abort, first: &Region, second: &Region, work: &mut Work) -> bool {
     let ([first], [second]) = (first.parts(), second.parts()) else {
         panic!(rt; "not one part each");
     };
-    work.are_in_contact(first, second)
+    work.are_in_contact(first, second).expect(rt, "no memory")
 }
 
 /// Compares whether two boxes are in contact.
@@ -683,17 +640,16 @@ fn expect_contact(
     second: &IntBox,
     wanted: bool,
     work: &mut Work,
-) -> Result<(), OpFault>
+)
     requires first { is_box_in_bounds (integer_box first.now) ≡ true }
     requires second { is_box_in_bounds (integer_box second.now) ≡ true }
 {
-    let (first, second) = regions_of(alloc, first, second, &mut Work::new(alloc))?;
-    assert_eq!(rt; are_in_contact(rt, &first, &second, work)?, wanted);
-    Ok(())
+    let (first, second) = regions_of(rt, alloc, first, second, &mut Work::new(alloc));
+    assert_eq!(rt; are_in_contact(rt, &first, &second, work), wanted);
 }
 
 #[test]
-fn parts_touch_at_a_corner(rt: HostRuntime) -> Result<(), Fail> {
+fn parts_touch_at_a_corner(rt: HostRuntime) {
     let first = IntBox {
         lo: [0, 0, 0],
         hi: [10, 10, 10],
@@ -707,15 +663,14 @@ fn parts_touch_at_a_corner(rt: HostRuntime) -> Result<(), Fail> {
         hi: [21, 21, 21],
     };
     let mut work = Work::new(rt.alloc());
-    expect_contact(&rt, rt.alloc(), &first, &corner, true, &mut work)?;
-    expect_contact(&rt, rt.alloc(), &first, &apart, false, &mut work)?;
+    expect_contact(&rt, rt.alloc(), &first, &corner, true, &mut work);
+    expect_contact(&rt, rt.alloc(), &first, &apart, false, &mut work);
     let wanted = [
         Line::At((10, 10, 10, 1)),
         Line::Apart(&[(1, (-1, 0, 0, 10)), (1, (1, 0, 0, -11))]),
     ];
     expect_lines(&rt, work.proofs(), &wanted);
     assert_eq!(rt; work.tests(), 0);
-    Ok(())
 }
 
 /// A square.
@@ -735,19 +690,19 @@ const CROSSED: [Corner; 4] = [
 ];
 
 /// The square, raised from 0 to 10.
-fn raised_square(alloc: Global, work: &mut Work) -> Result<Region, OpFault> {
-    Region::of_prism(alloc, 0, 10, &SQUARE, work)
+fn raised_square(rt: &impl Abort, alloc: Global, work: &mut Work) -> Region {
+    Region::of_prism(alloc, 0, 10, &SQUARE, work).expect(rt, "no region")
 }
 
 /// The crossed polygon, raised from 0 to 10.
-fn raised_crossed(alloc: Global, work: &mut Work) -> Result<Region, OpFault> {
-    Region::of_prism(alloc, 0, 10, &CROSSED, work)
+fn raised_crossed(rt: &impl Abort, alloc: Global, work: &mut Work) -> Region {
+    Region::of_prism(alloc, 0, 10, &CROSSED, work).expect(rt, "no region")
 }
 
 #[test]
-fn a_raised_square_is_one_part(rt: HostRuntime) -> Result<(), Fail> {
+fn a_raised_square_is_one_part(rt: HostRuntime) {
     let mut work = Work::new(rt.alloc());
-    let square = raised_square(rt.alloc(), &mut work)?;
+    let square = raised_square(&rt, rt.alloc(), &mut work);
     assert_eq!(rt; work.tests(), 0);
     let halves = [
         (1, 0, 0, 0),
@@ -758,13 +713,12 @@ fn a_raised_square_is_one_part(rt: HostRuntime) -> Result<(), Fail> {
         (0, 0, -1, 10),
     ];
     expect_part(&rt, &square, &halves, [0, 0, 0], [10, 10, 10]);
-    Ok(())
 }
 
 #[test]
-fn a_raised_polygon_may_cross_itself(rt: HostRuntime) -> Result<(), Fail> {
+fn a_raised_polygon_may_cross_itself(rt: HostRuntime) {
     let mut work = Work::new(rt.alloc());
-    let crossed = raised_crossed(rt.alloc(), &mut work)?;
+    let crossed = raised_crossed(&rt, rt.alloc(), &mut work);
     let table = [
         ((5, 2, 5, 1), false),
         ((2, 5, 5, 1), true),
@@ -773,6 +727,5 @@ fn a_raised_polygon_may_cross_itself(rt: HostRuntime) -> Result<(), Fail> {
         ((2, 5, 10, 1), false),
         (OUTSIDE, false),
     ];
-    expect_points(&rt, &crossed, &table)?;
-    Ok(())
+    expect_points(&rt, &crossed, &table);
 }

@@ -2,18 +2,12 @@ ghost use Rattle.std.specs.Prelude.{◌≡◌, true};
 ghost use Rattle.rp_geometry.specs.Geometry.{is_box_in_bounds};
 ghost use Rattle.rp_space.specs.Boxes.{integer_box};
 
+use crate::boxes::box_region;
 use rp_region::{OpFault, Region, Work};
 use rp_relate::{Rcc8, RccFault, contact, equal, is_empty, overlap, rcc, within};
-use rp_space::{Half, IntBox, box_halves};
+use rp_space::{Half, IntBox};
 use std::alloc::Global;
 use std::process::Abort;
-
-/// The region of a box.
-fn box_region(rt: &impl Abort, alloc: Global, bounds: &IntBox, work: &mut Work) -> Region
-    requires { is_box_in_bounds (integer_box bounds.now) ≡ true }
-{
-    Region::of_cell(alloc, &box_halves(bounds), work).expect(rt, "no region of a box")
-}
 
 /// A building with a wing: two boxes that share half a face.
 fn winged(rt: &impl Abort, alloc: Global, work: &mut Work) -> Region {

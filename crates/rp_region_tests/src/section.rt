@@ -4,7 +4,7 @@ use arrayvec::ArrayVec;
 use rp_cert::{Edge, RingStep, Slice, check_slice};
 use rp_section::{quick_ring, slice};
 use rp_space::{Half, IntBox, Point, box_halves};
-use std::test::Fail;
+use std::process::Abort;
 
 /// The numbers of a half-space.
 type Row = (i64, i64, i64, i64);
@@ -60,126 +60,121 @@ fn ten_box() -> [Half; 6] {
 }
 
 /// A step of a ring with these numbers.
-fn step(edge: (i32, i32, i64), end: (i128, i128, i128, i128)) -> Result<RingStep, Fail> {
+fn step(rt: &impl Abort, edge: (i32, i32, i64), end: (i128, i128, i128, i128)) -> RingStep {
     let (a, b, d) = edge;
     let (x, y, z, w) = end;
-    let end = Point::new(x, y, z, w).ok().ok_or("no point")?;
-    Ok(RingStep {
+    let end = Point::new(x, y, z, w).expect(rt, "no point");
+    RingStep {
         edge: Edge { a, b, d },
         end,
-    })
+    }
 }
 
 #[test]
-fn a_box_leaves_a_square(rt: HostRuntime) -> Result<(), Fail> {
+fn a_box_leaves_a_square(rt: HostRuntime) {
     let square = slice(&ten_box(), 5);
     assert!(rt; check_slice(&ten_box(), 5, &square));
     let Slice::Ring(steps) = square else {
-        return Err("no ring")?;
+        panic!(rt; "no ring");
     };
     let wanted = [
-        step((1, 0, 0), (0, 0, 5, 1))?,
-        step((0, 1, 0), (10, 0, 5, 1))?,
-        step((-1, 0, 10), (10, 10, 5, 1))?,
-        step((0, -1, 10), (0, 10, 5, 1))?,
+        step(&rt, (1, 0, 0), (0, 0, 5, 1)),
+        step(&rt, (0, 1, 0), (10, 0, 5, 1)),
+        step(&rt, (-1, 0, 10), (10, 10, 5, 1)),
+        step(&rt, (0, -1, 10), (0, 10, 5, 1)),
     ];
     assert!(rt; steps.items() == wanted.as_slice());
-    Ok(())
 }
 
 #[test]
-fn a_box_leaves_nothing_at_its_upper_side(rt: HostRuntime) -> Result<(), Fail> {
+fn a_box_leaves_nothing_at_its_upper_side(rt: HostRuntime) {
     let Slice::Flat(terms) = slice(&ten_box(), 10) else {
-        return Err("no certificate")?;
+        panic!(rt; "no certificate");
     };
     assert_eq!(rt; terms.items().len(), 1);
     for term in terms.items() {
         assert_eq!(rt; term.by, 1);
         assert_eq!(rt; term.half.numbers(), (0, 0, -1, 10));
     }
-    Ok(())
 }
 
 #[test]
-fn a_tetrahedron_leaves_a_triangle(rt: HostRuntime) -> Result<(), Fail> {
+fn a_tetrahedron_leaves_a_triangle(rt: HostRuntime) {
     let cell = [
-        Half::new(1, 0, 0, 0).ok().ok_or("no half-space")?,
-        Half::new(0, 1, 0, 0).ok().ok_or("no half-space")?,
-        Half::new(0, 0, 1, 0).ok().ok_or("no half-space")?,
-        Half::new(-2, -3, -5, 7).ok().ok_or("no half-space")?,
+        Half::new(1, 0, 0, 0).expect(&rt, "no half-space"),
+        Half::new(0, 1, 0, 0).expect(&rt, "no half-space"),
+        Half::new(0, 0, 1, 0).expect(&rt, "no half-space"),
+        Half::new(-2, -3, -5, 7).expect(&rt, "no half-space"),
     ];
     let Slice::Ring(steps) = slice(&cell, 1) else {
-        return Err("no ring")?;
+        panic!(rt; "no ring");
     };
     let wanted = [
-        step((1, 0, 0), (0, 0, 1, 1))?,
-        step((0, 1, 0), (1, 0, 1, 1))?,
-        step((-2, -3, 2), (0, 2, 3, 3))?,
+        step(&rt, (1, 0, 0), (0, 0, 1, 1)),
+        step(&rt, (0, 1, 0), (1, 0, 1, 1)),
+        step(&rt, (-2, -3, 2), (0, 2, 3, 3)),
     ];
     assert!(rt; steps.items() == wanted.as_slice());
-    Ok(())
 }
 
 #[test]
-fn three_half_spaces_leave_nothing(rt: HostRuntime) -> Result<(), Fail> {
+fn three_half_spaces_leave_nothing(rt: HostRuntime) {
     let cell = [
-        Half::new(1, 0, 0, -1).ok().ok_or("no half-space")?,
-        Half::new(0, 1, 0, -1).ok().ok_or("no half-space")?,
-        Half::new(-1, -1, 0, 2).ok().ok_or("no half-space")?,
+        Half::new(1, 0, 0, -1).expect(&rt, "no half-space"),
+        Half::new(0, 1, 0, -1).expect(&rt, "no half-space"),
+        Half::new(-1, -1, 0, 2).expect(&rt, "no half-space"),
     ];
     let flat = slice(&cell, 0);
     assert!(rt; check_slice(&cell, 0, &flat));
     let Slice::Flat(terms) = flat else {
-        return Err("no certificate")?;
+        panic!(rt; "no certificate");
     };
     assert_eq!(rt; terms.items().len(), 3);
-    Ok(())
 }
 
 /// Appends a half-space to a cell.
-fn add(cell: &mut Cell, row: Row) -> Result<(), Fail> {
+fn add(rt: &impl Abort, cell: &mut Cell, row: Row) {
     let (a, b, c, d) = row;
-    let half = Half::new(a, b, c, d).ok().ok_or("no half-space")?;
-    cell.try_push(half).ok().ok_or("no room")?;
-    Ok(())
+    let half = Half::new(a, b, c, d).expect(rt, "no half-space");
+    cell.try_push(half).expect(rt, "no room");
 }
 
 /// The cell of some half-spaces.
-fn cell_of(rows: &[Row]) -> Result<Cell, Fail> {
+fn cell_of(rt: &impl Abort, rows: &[Row]) -> Cell {
     let mut cell = Cell::new();
     for row in rows {
-        add(&mut cell, *row)?;
+        add(rt, &mut cell, *row);
     }
-    Ok(cell)
+    cell
 }
 
 /// A round cell of 32 half-spaces: a quarter, turned three times.
-fn round_cell() -> Result<Cell, Fail> {
+fn round_cell(rt: &impl Abort) -> Cell {
     let mut cell = Cell::new();
     for (a, b, c, d) in QUARTER {
-        add(&mut cell, (a, b, c, d))?;
-        add(&mut cell, (-a, -b, c, d))?;
-        add(&mut cell, (b, -a, c, d))?;
-        add(&mut cell, (-b, a, c, d))?;
+        add(rt, &mut cell, (a, b, c, d));
+        add(rt, &mut cell, (-a, -b, c, d));
+        add(rt, &mut cell, (b, -a, c, d));
+        add(rt, &mut cell, (-b, a, c, d));
     }
-    Ok(cell)
+    cell
 }
 
 /// How many steps the ring of a cell has, which the guess has to be.
-fn steps_guessed(cell: &[Half]) -> Result<usize, Fail>
+fn steps_guessed(rt: &impl Abort, cell: &[Half]) -> usize
     requires { length cell.now ≤ 32 }
 {
     let Slice::Ring(steps) = slice(cell, 3) else {
-        return Err("no ring")?;
+        panic!(rt; "no ring");
     };
     if quick_ring(cell, 3).items() != steps.items() {
-        return Err("the guess is not the ring")?;
+        panic!(rt; "the guess is not the ring");
     }
-    Ok(steps.items().len())
+    steps.items().len()
 }
 
 #[test]
-fn the_guess_is_the_ring(rt: HostRuntime) -> Result<(), Fail> {
+fn the_guess_is_the_ring(rt: HostRuntime) {
     let cases: [(&[Row], usize); 10] = [
         // bounded by the cube's sides alone, or by some of them
         (&[], 4),
@@ -195,22 +190,20 @@ fn the_guess_is_the_ring(rt: HostRuntime) -> Result<(), Fail> {
         (&HEXAGON, 6),
     ];
     for (rows, count) in cases {
-        let cell = cell_of(rows)?;
-        assert_eq!(rt; steps_guessed(cell.as_slice())?, count);
+        let cell = cell_of(&rt, rows);
+        assert_eq!(rt; steps_guessed(&rt, cell.as_slice()), count);
     }
-    Ok(())
 }
 
 #[test]
-fn the_guess_is_the_ring_of_a_round_cell(rt: HostRuntime) -> Result<(), Fail> {
-    let cell = round_cell()?;
+fn the_guess_is_the_ring_of_a_round_cell(rt: HostRuntime) {
+    let cell = round_cell(&rt);
     assert_eq!(rt; cell.len(), 32);
-    assert_eq!(rt; steps_guessed(cell.as_slice())?, 32);
-    Ok(())
+    assert_eq!(rt; steps_guessed(&rt, cell.as_slice()), 32);
 }
 
 #[test]
-fn a_cell_that_touches_a_height_is_flat(rt: HostRuntime) -> Result<(), Fail> {
+fn a_cell_that_touches_a_height_is_flat(rt: HostRuntime) {
     let cases: [(&[Row], usize); 4] = [
         // in an edge, in a corner of two or of three planes, and along all of the upper side
         (&[(1, 0, 1, -3), (-1, 0, 1, -3), (0, 1, 0, 5)], 2),
@@ -219,11 +212,10 @@ fn a_cell_that_touches_a_height_is_flat(rt: HostRuntime) -> Result<(), Fail> {
         (&[(1, 0, 0, 0), (0, 0, -1, 3)], 1),
     ];
     for (rows, count) in cases {
-        let cell = cell_of(rows)?;
+        let cell = cell_of(&rt, rows);
         let Slice::Flat(terms) = slice(cell.as_slice(), 3) else {
-            return Err("no certificate")?;
+            panic!(rt; "no certificate");
         };
         assert_eq!(rt; terms.items().len(), count);
     }
-    Ok(())
 }

@@ -9,7 +9,6 @@ use rp_report::{Answer, write_answer};
 use rp_space::{IntBox, Name};
 use std::alloc::{AllocError, Global};
 use std::process::Abort;
-use std::test::Fail;
 use std::thread::Threads;
 
 /// A machine for a script of a version that has answered no line yet.
@@ -20,39 +19,33 @@ fn opened(alloc: Global, version: Version) -> Result<Machine, AllocError>
 }
 
 /// The text of an answer.
-fn text_of(alloc: Global, answer: &Answer, brief: bool) -> Result<Vec<u8>, AllocError> {
+fn text_of(rt: &impl Abort, alloc: Global, answer: &Answer, brief: bool) -> Vec<u8> {
     let mut text = Vec::new(alloc);
-    write_answer(answer, brief, &mut text)?;
-    Ok(text)
+    write_answer(answer, brief, &mut text).expect(rt, "no memory");
+    text
 }
 
 /// Takes one line: the echo and the verdict lines of its answer.
-fn told<R: Threads + Sync>(
+fn told<R: Abort + Threads + Sync>(
     rt: &R,
     alloc: Global,
     machine: &mut Machine,
     n: u32,
     line: &str,
-) -> Result<Vec<u8>, AllocError>
+) -> Vec<u8>
     requires { IsLaterThan n (state_of_parts machine.old.state) }
-    ensures { OnOk result (IsLaterThan (n + 1) (state_of_parts machine.new.state)) }
+    ensures { IsLaterThan (n + 1) (state_of_parts machine.new.state) }
 {
-    let answer = machine.step(rt, alloc, n, line.as_bytes())?;
-    text_of(alloc, &answer, true)
+    let answer = machine
+        .step(rt, alloc, n, line.as_bytes())
+        .expect(rt, "no memory");
+    text_of(rt, alloc, &answer, true)
 }
 
 /// Compares the text of the answer to a line.
-fn expect_text(
-    rt: &impl Abort,
-    alloc: Global,
-    text: &[u8],
-    n: u32,
-    line: &str,
-    verdicts: &str,
-) -> Result<(), AllocError> {
-    let want = format!(in alloc; "> {n} {line}\n{verdicts}\n")?;
+fn expect_text(rt: &impl Abort, alloc: Global, text: &[u8], n: u32, line: &str, verdicts: &str) {
+    let want = format!(in alloc; "> {n} {line}\n{verdicts}\n").expect(rt, "no memory");
     assert_eq!(rt; text, want.as_bytes(), "on {line:?}");
-    Ok(())
 }
 
 /// Takes one line, and compares the verdict lines of its answer.
@@ -63,35 +56,25 @@ fn expect_told<R: Abort + Threads + Sync>(
     n: u32,
     line: &str,
     verdicts: &str,
-) -> Result<(), AllocError>
+)
     requires { IsLaterThan n (state_of_parts machine.old.state) }
-    ensures { OnOk result (IsLaterThan (n + 1) (state_of_parts machine.new.state)) }
+    ensures { IsLaterThan (n + 1) (state_of_parts machine.new.state) }
 {
-    let text = told(rt, alloc, machine, n, line)?;
-    expect_text(rt, alloc, &text, n, line, verdicts)
+    let text = told(rt, alloc, machine, n, line);
+    expect_text(rt, alloc, &text, n, line, verdicts);
 }
 
 /// Takes one line in the opening state, and compares the verdict lines of its answer.
-fn expect_alone<R: Abort + Threads + Sync>(
-    rt: &R,
-    alloc: Global,
-    line: &str,
-    verdicts: &str,
-) -> Result<(), AllocError> {
-    let mut machine = opened(alloc, Version::One)?;
-    expect_told(rt, alloc, &mut machine, 1, line, verdicts)
+fn expect_alone<R: Abort + Threads + Sync>(rt: &R, alloc: Global, line: &str, verdicts: &str) {
+    let mut machine = opened(alloc, Version::One).expect(rt, "no memory");
+    expect_told(rt, alloc, &mut machine, 1, line, verdicts);
 }
 
 /// Takes each line in the opening state, and compares the verdict lines of its answer.
-fn expect_each<R: Abort + Threads + Sync>(
-    rt: &R,
-    alloc: Global,
-    rows: &[(&str, &str)],
-) -> Result<(), AllocError> {
+fn expect_each<R: Abort + Threads + Sync>(rt: &R, alloc: Global, rows: &[(&str, &str)]) {
     for (line, verdicts) in rows {
-        expect_alone(rt, alloc, line, verdicts)?;
+        expect_alone(rt, alloc, line, verdicts);
     }
-    Ok(())
 }
 
 /// Takes lines in turn, of which the first has the number, and compares the verdict lines of each answer.
@@ -101,32 +84,27 @@ fn expect_from<R: Abort + Threads + Sync>(
     machine: &mut Machine,
     first: u32,
     rows: &[(&str, &str)],
-) -> Result<(), AllocError>
+)
     requires later { IsLaterThan first (state_of_parts machine.old.state) }
     requires few { first + length rows.now < 100000 }
 {
     let mut n = first;
     for (line, verdicts) in rows {
-        expect_told(rt, alloc, machine, n, line, verdicts)?;
+        expect_told(rt, alloc, machine, n, line, verdicts);
         n += 1;
     }
-    Ok(())
 }
 
 /// Takes lines in turn in the opening state, and compares the verdict lines of each answer.
-fn expect_in_turn<R: Abort + Threads + Sync>(
-    rt: &R,
-    alloc: Global,
-    rows: &[(&str, &str)],
-) -> Result<(), AllocError>
+fn expect_in_turn<R: Abort + Threads + Sync>(rt: &R, alloc: Global, rows: &[(&str, &str)])
     requires { length rows.now < 1000 }
 {
-    let mut machine = opened(alloc, Version::One)?;
-    expect_from(rt, alloc, &mut machine, 1, rows)
+    let mut machine = opened(alloc, Version::One).expect(rt, "no memory");
+    expect_from(rt, alloc, &mut machine, 1, rows);
 }
 
 #[test]
-fn each_boundary_point_has_one_owner(rt: HostRuntime) -> Result<(), Fail> {
+fn each_boundary_point_has_one_owner(rt: HostRuntime) {
     let rows = [
         ("member half 1 0 0 0 0 5 5 1", "= yes"),
         ("member not half 1 0 0 0 0 5 5 1", "= no"),
@@ -138,12 +116,11 @@ fn each_boundary_point_has_one_owner(rt: HostRuntime) -> Result<(), Fail> {
         ("member all 16777216 0 0 1", "= no"),
         ("member not all 16777216 0 0 1", "= no"),
     ];
-    expect_each(&rt, rt.alloc(), &rows)?;
-    Ok(())
+    expect_each(&rt, rt.alloc(), &rows);
 }
 
 #[test]
-fn regions_are_combined_as_sets(rt: HostRuntime) -> Result<(), Fail> {
+fn regions_are_combined_as_sets(rt: HostRuntime) {
     let rows = [
         ("member and box 0 0 0 9 9 9 box 5 5 5 8 8 8 4 6 6 1", "= no"),
         ("member or box 0 0 0 9 9 9 box 5 5 5 8 8 8 4 6 6 1", "= yes"),
@@ -164,12 +141,11 @@ fn regions_are_combined_as_sets(rt: HostRuntime) -> Result<(), Fail> {
         ("show none", "= parts 0"),
         ("show not half 1 0 0 0", "= parts 1\n= part (-1 0 0 0)"),
     ];
-    expect_each(&rt, rt.alloc(), &rows)?;
-    Ok(())
+    expect_each(&rt, rt.alloc(), &rows);
 }
 
 #[test]
-fn names_stand_for_their_regions(rt: HostRuntime) -> Result<(), Fail> {
+fn names_stand_for_their_regions(rt: HostRuntime) {
     let rows = [
         ("let low = box 0 0 0 4 4 4", "= ok"),
         ("let high = minus box 0 0 0 4 4 8 name low", "= ok"),
@@ -183,12 +159,11 @@ fn names_stand_for_their_regions(rt: HostRuntime) -> Result<(), Fail> {
             "= parts 1\n= part (0 0 -1 8) (1 0 0 0) (-1 0 0 4) (0 1 0 0) (0 -1 0 4) (0 0 1 -4)",
         ),
     ];
-    expect_in_turn(&rt, rt.alloc(), &rows)?;
-    Ok(())
+    expect_in_turn(&rt, rt.alloc(), &rows);
 }
 
 #[test]
-fn refused_lines_leave_the_names_as_they_were(rt: HostRuntime) -> Result<(), Fail> {
+fn refused_lines_leave_the_names_as_they_were(rt: HostRuntime) {
     let rows = [
         ("let a = box 0 0 0 1 1 1", "= ok"),
         ("let a = all", "= refused known a"),
@@ -205,12 +180,11 @@ fn refused_lines_leave_the_names_as_they_were(rt: HostRuntime) -> Result<(), Fai
         ("let b = all", "= ok"),
         ("let b = all all", "= refused syntax"),
     ];
-    expect_in_turn(&rt, rt.alloc(), &rows)?;
-    Ok(())
+    expect_in_turn(&rt, rt.alloc(), &rows);
 }
 
 #[test]
-fn two_regions_are_compared(rt: HostRuntime) -> Result<(), Fail> {
+fn two_regions_are_compared(rt: HostRuntime) {
     let rows = [
         ("let a = box 0 0 0 10 10 10", "= ok"),
         ("let b = box 10 0 0 20 10 10", "= ok"),
@@ -233,12 +207,11 @@ fn two_regions_are_compared(rt: HostRuntime) -> Result<(), Fail> {
         ("equal name a name b", "= no"),
         ("equal or name a name b box 0 0 0 20 10 10", "= yes"),
     ];
-    expect_in_turn(&rt, rt.alloc(), &rows)?;
-    Ok(())
+    expect_in_turn(&rt, rt.alloc(), &rows);
 }
 
 #[test]
-fn pieces_are_told_by_the_numbers_of_parts(rt: HostRuntime) -> Result<(), Fail> {
+fn pieces_are_told_by_the_numbers_of_parts(rt: HostRuntime) {
     let rows = [
         ("pieces none", "= pieces 0"),
         ("pieces all", "= pieces 1\n= piece 1"),
@@ -256,12 +229,11 @@ fn pieces_are_told_by_the_numbers_of_parts(rt: HostRuntime) -> Result<(), Fail> 
         ),
         ("pieces name a", "= refused unknown a"),
     ];
-    expect_each(&rt, rt.alloc(), &rows)?;
-    Ok(())
+    expect_each(&rt, rt.alloc(), &rows);
 }
 
 #[test]
-fn comparisons_are_refused_in_order(rt: HostRuntime) -> Result<(), Fail> {
+fn comparisons_are_refused_in_order(rt: HostRuntime) {
     let rows = [
         ("rcc none all", "= refused emptyregion 1"),
         ("rcc none none", "= refused emptyregion 1"),
@@ -272,24 +244,22 @@ fn comparisons_are_refused_in_order(rt: HostRuntime) -> Result<(), Fail> {
         ("within lot c name b", "= refused unknown c"),
         ("equal all name b", "= refused unknown b"),
     ];
-    expect_each(&rt, rt.alloc(), &rows)?;
-    Ok(())
+    expect_each(&rt, rt.alloc(), &rows);
 }
 
 #[test]
-fn lines_that_are_no_command_are_refused(rt: HostRuntime) -> Result<(), Fail> {
+fn lines_that_are_no_command_are_refused(rt: HostRuntime) {
     let rows = [
         ("member half 1 0 0 0 0 5 5", "= refused syntax"),
         ("member half 0 0 0 0 0 5 5 1", "= refused zero"),
         ("member half 1 0 0 0 0 5 5 0", "= refused range"),
         ("member half 16777217 0 0 0 0 5 5 1", "= refused range"),
     ];
-    expect_each(&rt, rt.alloc(), &rows)?;
-    Ok(())
+    expect_each(&rt, rt.alloc(), &rows);
 }
 
 #[test]
-fn coordinates_are_read_by_the_version(rt: HostRuntime) -> Result<(), Fail> {
+fn coordinates_are_read_by_the_version(rt: HostRuntime) {
     let rows = [
         (
             "member box 0.000 0.000 0.000 0.010 0.010 0.010 0.005 0.003 0.005 9",
@@ -308,13 +278,12 @@ fn coordinates_are_read_by_the_version(rt: HostRuntime) -> Result<(), Fail> {
         ("rp 2", "= refused syntax"),
     ];
     let alloc = rt.alloc();
-    let mut machine = opened(alloc, Version::Two)?;
-    expect_from(&rt, alloc, &mut machine, 1, &rows)?;
-    Ok(())
+    let mut machine = opened(alloc, Version::Two).expect(&rt, "no memory");
+    expect_from(&rt, alloc, &mut machine, 1, &rows);
 }
 
 #[test]
-fn prisms_have_the_points_below_an_odd_number_of_edges(rt: HostRuntime) -> Result<(), Fail> {
+fn prisms_have_the_points_below_an_odd_number_of_edges(rt: HostRuntime) {
     let rows = [
         (
             "show prism 0 10 4 0 0 10 0 10 10 0 10",
@@ -330,12 +299,11 @@ fn prisms_have_the_points_below_an_odd_number_of_edges(rt: HostRuntime) -> Resul
         ("member prism 0 10 4 0 0 10 10 10 0 0 10 5 5 5 1", "= yes"),
         ("show prism 0 10 2 0 0 1 1", "= refused range"),
     ];
-    expect_each(&rt, rt.alloc(), &rows)?;
-    Ok(())
+    expect_each(&rt, rt.alloc(), &rows);
 }
 
 #[test]
-fn sections_are_rings_or_flat(rt: HostRuntime) -> Result<(), Fail> {
+fn sections_are_rings_or_flat(rt: HostRuntime) {
     let rows = [
         (
             "section box 0 0 0 10 10 10 5",
@@ -353,12 +321,11 @@ fn sections_are_rings_or_flat(rt: HostRuntime) -> Result<(), Fail> {
         ("section name a 5", "= refused unknown a"),
         ("section all 16777216", "= refused range"),
     ];
-    expect_each(&rt, rt.alloc(), &rows)?;
-    Ok(())
+    expect_each(&rt, rt.alloc(), &rows);
 }
 
 #[test]
-fn chains_of_lots_are_shortest(rt: HostRuntime) -> Result<(), Fail> {
+fn chains_of_lots_are_shortest(rt: HostRuntime) {
     let rows = [
         ("register a box 0 0 0 10 10 10", "= ok"),
         ("register b box 10 0 0 20 10 10", "= ok"),
@@ -380,33 +347,31 @@ fn chains_of_lots_are_shortest(rt: HostRuntime) -> Result<(), Fail> {
         ("access a r", "= refused layers r"),
         ("access r r", "= access 0\n= parcel r\n= level 0 r"),
     ];
-    expect_in_turn(&rt, rt.alloc(), &rows)?;
-    Ok(())
+    expect_in_turn(&rt, rt.alloc(), &rows);
 }
 
 /// The union of 512 boxes of one unit along the axis of x, with a gap of one unit between each two.
-fn boxes_apart(alloc: Global) -> Result<String, AllocError> {
+fn boxes_apart(rt: &impl Abort, alloc: Global) -> String {
     let mut text = String::new(alloc);
     for i in 0..512u32 {
         let node = if i < 511 { "or " } else { "" };
-        let next = format!(in alloc; "{node}box {} 0 0 {} 1 1 ", 2 * i, 2 * i + 1)?;
-        text.push_str(next.as_str())?;
+        let next = format!(in alloc; "{node}box {} 0 0 {} 1 1 ", 2 * i, 2 * i + 1).expect(
+            rt,
+            "no memory",
+        );
+        text.push_str(next.as_str()).expect(rt, "no memory");
     }
-    Ok(text)
+    text
 }
 
 /// Keeps the union of the 512 boxes under the name `a`, by line 1.
-fn keep_boxes<R: Abort + Threads + Sync>(
-    rt: &R,
-    alloc: Global,
-    machine: &mut Machine,
-) -> Result<(), AllocError>
+fn keep_boxes<R: Abort + Threads + Sync>(rt: &R, alloc: Global, machine: &mut Machine)
     requires { IsLaterThan 1 (state_of_parts machine.old.state) }
-    ensures { OnOk result (IsLaterThan 2 (state_of_parts machine.new.state)) }
+    ensures { IsLaterThan 2 (state_of_parts machine.new.state) }
 {
-    let boxes = boxes_apart(alloc)?;
-    let line = format!(in alloc; "let a = {}", boxes.as_str().trim_end())?;
-    expect_told(rt, alloc, machine, 1, line.as_str(), "= ok")
+    let boxes = boxes_apart(rt, alloc);
+    let line = format!(in alloc; "let a = {}", boxes.as_str().trim_end()).expect(rt, "no memory");
+    expect_told(rt, alloc, machine, 1, line.as_str(), "= ok");
 }
 
 /// Keeps a region under the name `n` with the number of the line, by that line.
@@ -416,12 +381,12 @@ fn keep_numbered<R: Abort + Threads + Sync>(
     machine: &mut Machine,
     n: u32,
     region: &str,
-) -> Result<(), AllocError>
+)
     requires { IsLaterThan n (state_of_parts machine.old.state) }
-    ensures { OnOk result (IsLaterThan (n + 1) (state_of_parts machine.new.state)) }
+    ensures { IsLaterThan (n + 1) (state_of_parts machine.new.state) }
 {
-    let line = format!(in alloc; "let n{n} = {region}")?;
-    expect_told(rt, alloc, machine, n, line.as_str(), "= ok")
+    let line = format!(in alloc; "let n{n} = {region}").expect(rt, "no memory");
+    expect_told(rt, alloc, machine, n, line.as_str(), "= ok");
 }
 
 /// Keeps a region under so many names, by lines of which the first has the number.
@@ -432,29 +397,28 @@ fn keep_many<R: Abort + Threads + Sync>(
     first: u32,
     count: u32,
     region: &str,
-) -> Result<(), AllocError>
+)
     requires later { IsLaterThan first (state_of_parts machine.old.state) }
     requires few { first + count < 100000 }
-    ensures { OnOk result (IsLaterThan (first + count) (state_of_parts machine.new.state)) }
+    ensures { IsLaterThan (first + count) (state_of_parts machine.new.state) }
 {
     for i in 0..count {
-        keep_numbered(rt, alloc, machine, first + i, region)?;
+        keep_numbered(rt, alloc, machine, first + i, region);
     }
-    Ok(())
 }
 
 /// The machine that has the union of the 512 boxes under the name `a`.
-fn with_boxes<R: Abort + Threads + Sync>(rt: &R, alloc: Global) -> Result<Machine, AllocError>
-    ensures { IfOk result (λ m. IsLaterThan 2 (state_of_parts m.state)) }
+fn with_boxes<R: Abort + Threads + Sync>(rt: &R, alloc: Global) -> Machine
+    ensures { IsLaterThan 2 (state_of_parts result.state) }
 {
-    let mut machine = opened(alloc, Version::One)?;
-    keep_boxes(rt, alloc, &mut machine)?;
-    Ok(machine)
+    let mut machine = opened(alloc, Version::One).expect(rt, "no memory");
+    keep_boxes(rt, alloc, &mut machine);
+    machine
 }
 
 #[test]
-fn regions_have_at_most_1024_parts(rt: HostRuntime) -> Result<(), Fail> {
-    let mut machine = with_boxes(&rt, rt.alloc())?;
+fn regions_have_at_most_1024_parts(rt: HostRuntime) {
+    let mut machine = with_boxes(&rt, rt.alloc());
     let rows = [
         ("let b = or name a name a", "= ok"),
         ("let c = or name b all", "= refused limit"),
@@ -462,56 +426,53 @@ fn regions_have_at_most_1024_parts(rt: HostRuntime) -> Result<(), Fail> {
         ("let c = and name b name a", "= refused limit"),
         ("empty name b", "= no"),
     ];
-    expect_from(&rt, rt.alloc(), &mut machine, 2, &rows)?;
-    Ok(())
+    expect_from(&rt, rt.alloc(), &mut machine, 2, &rows);
 }
 
 /// The machine that has the 512 boxes under `a`, and 1,024 parts under each of 63 more names.
-fn with_many_parts<R: Abort + Threads + Sync>(rt: &R, alloc: Global) -> Result<Machine, AllocError>
-    ensures { IfOk result (λ m. IsLaterThan 65 (state_of_parts m.state)) }
+fn with_many_parts<R: Abort + Threads + Sync>(rt: &R, alloc: Global) -> Machine
+    ensures { IsLaterThan 65 (state_of_parts result.state) }
 {
-    let mut machine = with_boxes(rt, alloc)?;
-    keep_many(rt, alloc, &mut machine, 2, 63, "or name a name a")?;
-    Ok(machine)
+    let mut machine = with_boxes(rt, alloc);
+    keep_many(rt, alloc, &mut machine, 2, 63, "or name a name a");
+    machine
 }
 
 #[test]
-fn names_keep_at_most_65536_parts(rt: HostRuntime) -> Result<(), Fail> {
-    let mut machine = with_many_parts(&rt, rt.alloc())?;
+fn names_keep_at_most_65536_parts(rt: HostRuntime) {
+    let mut machine = with_many_parts(&rt, rt.alloc());
     let rows = [
         ("let c = or name a all", "= refused limit"),
         ("let c = name a", "= ok"),
         ("let d = all", "= refused limit"),
         ("let d = none", "= ok"),
     ];
-    expect_from(&rt, rt.alloc(), &mut machine, 65, &rows)?;
-    Ok(())
+    expect_from(&rt, rt.alloc(), &mut machine, 65, &rows);
 }
 
 /// The machine that has 65,536 names.
-fn with_many_names<R: Abort + Threads + Sync>(rt: &R, alloc: Global) -> Result<Machine, AllocError>
-    ensures { IfOk result (λ m. IsLaterThan 65537 (state_of_parts m.state)) }
+fn with_many_names<R: Abort + Threads + Sync>(rt: &R, alloc: Global) -> Machine
+    ensures { IsLaterThan 65537 (state_of_parts result.state) }
 {
-    let mut machine = opened(alloc, Version::One)?;
-    keep_many(rt, alloc, &mut machine, 1, 65536, "none")?;
-    Ok(machine)
+    let mut machine = opened(alloc, Version::One).expect(rt, "no memory");
+    keep_many(rt, alloc, &mut machine, 1, 65536, "none");
+    machine
 }
 
 #[test]
-fn there_are_at_most_65536_names(rt: HostRuntime) -> Result<(), Fail> {
-    let mut machine = with_many_names(&rt, rt.alloc())?;
+fn there_are_at_most_65536_names(rt: HostRuntime) {
+    let mut machine = with_many_names(&rt, rt.alloc());
     let rows = [
         ("let n65536 = none", "= refused known n65536"),
         ("let n65537 = none", "= refused limit"),
         ("empty name n65536", "= yes"),
         ("empty name n65537", "= refused unknown n65537"),
     ];
-    expect_from(&rt, rt.alloc(), &mut machine, 65537, &rows)?;
-    Ok(())
+    expect_from(&rt, rt.alloc(), &mut machine, 65537, &rows);
 }
 
 #[test]
-fn live_lots_of_one_layer_are_apart(rt: HostRuntime) -> Result<(), Fail> {
+fn live_lots_of_one_layer_are_apart(rt: HostRuntime) {
     let rows = [
         ("register a box 0 0 0 10 10 10", "= ok"),
         ("layer rights", "= ok"),
@@ -527,12 +488,11 @@ fn live_lots_of_one_layer_are_apart(rt: HostRuntime) -> Result<(), Fail> {
         ),
         ("audit", "= clear 2"),
     ];
-    expect_in_turn(&rt, rt.alloc(), &rows)?;
-    Ok(())
+    expect_in_turn(&rt, rt.alloc(), &rows);
 }
 
 #[test]
-fn the_register_refuses_in_order(rt: HostRuntime) -> Result<(), Fail> {
+fn the_register_refuses_in_order(rt: HostRuntime) {
     let rows = [
         ("register a box 0 0 0 10 10 10", "= ok"),
         ("register b box 10 0 0 20 10 10", "= ok"),
@@ -579,12 +539,11 @@ fn the_register_refuses_in_order(rt: HostRuntime) -> Result<(), Fail> {
             "= parcels 3\n= lot a born 1 live\n= lot b born 2 live\n= lot r born 25 live layer rights",
         ),
     ];
-    expect_in_turn(&rt, rt.alloc(), &rows)?;
-    Ok(())
+    expect_in_turn(&rt, rt.alloc(), &rows);
 }
 
 #[test]
-fn lots_come_and_go(rt: HostRuntime) -> Result<(), Fail> {
+fn lots_come_and_go(rt: HostRuntime) {
     let rows = [
         ("register a box 0 0 0 10 10 10", "= ok"),
         ("register b box 10 0 0 20 10 10", "= ok"),
@@ -610,34 +569,26 @@ fn lots_come_and_go(rt: HostRuntime) -> Result<(), Fail> {
         ("register b2 all", "= refused known b2"),
         ("audit", "= clear 2"),
     ];
-    expect_in_turn(&rt, rt.alloc(), &rows)?;
-    Ok(())
+    expect_in_turn(&rt, rt.alloc(), &rows);
 }
 
 #[test]
-fn live_lots_are_counted(rt: HostRuntime) -> Result<(), Fail> {
-    let mut machine = opened(rt.alloc(), Version::One)?;
+fn live_lots_are_counted(rt: HostRuntime) {
+    let mut machine = opened(rt.alloc(), Version::One).expect(&rt, "no memory");
     let line = "register a box 0 0 0 10 10 10";
-    expect_told(&rt, rt.alloc(), &mut machine, 1, line, "= ok")?;
+    expect_told(&rt, rt.alloc(), &mut machine, 1, line, "= ok");
     assert_eq!(rt; machine.count_live(), 1);
-    Ok(())
 }
 
 /// Compares how many parts the form of the outside of a box has.
-fn expect_six_parts(
-    rt: &impl Abort,
-    alloc: Global,
-    machine: &Machine,
-    work: &mut Work,
-) -> Result<(), Fail> {
+fn expect_six_parts(rt: &impl Abort, alloc: Global, machine: &Machine, work: &mut Work) {
     let block = Expr::Block(IntBox {
         lo: [0; 3],
         hi: [4, 4, 4],
     });
-    let region = Expr::Not(Box::new(alloc, block)?);
-    let form = machine.form(alloc, &region, work)?;
+    let region = Expr::Not(Box::new(alloc, block).expect(rt, "no memory"));
+    let form = machine.form(alloc, &region, work).expect(rt, "no form");
     assert_eq!(rt; form.parts().len(), 6);
-    Ok(())
 }
 
 /// Compares why a name that stands for nothing has no form.
@@ -648,44 +599,40 @@ fn expect_unknown(rt: &impl Abort, alloc: Global, machine: &Machine, work: &mut 
 }
 
 #[test]
-fn the_form_of_an_expression_is_made_test_by_test(rt: HostRuntime) -> Result<(), Fail> {
-    let machine = Machine::new(rt.alloc(), Version::One)?;
+fn the_form_of_an_expression_is_made_test_by_test(rt: HostRuntime) {
+    let machine = Machine::new(rt.alloc(), Version::One).expect(&rt, "no memory");
     let mut work = Work::new(rt.alloc());
-    expect_six_parts(&rt, rt.alloc(), &machine, &mut work)?;
+    expect_six_parts(&rt, rt.alloc(), &machine, &mut work);
     assert_eq!(rt; work.tests(), 7);
     expect_unknown(&rt, rt.alloc(), &machine, &mut work);
     assert_eq!(rt; work.tests(), 7);
-    Ok(())
 }
 
 /// The answer to a line in the opening state.
-fn answer_alone<R: Threads + Sync>(
-    rt: &R,
-    alloc: Global,
-    line: &[u8],
-) -> Result<Answer, AllocError> {
-    opened(alloc, Version::One)?.step(rt, alloc, 1, line)
+fn answer_alone<R: Abort + Threads + Sync>(rt: &R, alloc: Global, line: &[u8]) -> Answer {
+    opened(alloc, Version::One)
+        .expect(rt, "no memory")
+        .step(rt, alloc, 1, line)
+        .expect(rt, "no memory")
 }
 
 /// The answer to a line of one byte more than a line may have.
-fn answer_to_long<R: Threads + Sync>(rt: &R, alloc: Global) -> Result<Answer, AllocError> {
-    let line = vec![in alloc; b'x'; 65537]?;
+fn answer_to_long<R: Abort + Threads + Sync>(rt: &R, alloc: Global) -> Answer {
+    let line = vec![in alloc; b'x'; 65537].expect(rt, "no memory");
     answer_alone(rt, alloc, &line)
 }
 
 #[test]
-fn lines_that_are_too_long_are_not_echoed(rt: HostRuntime) -> Result<(), Fail> {
-    let answer = answer_to_long(&rt, rt.alloc())?;
+fn lines_that_are_too_long_are_not_echoed(rt: HostRuntime) {
+    let answer = answer_to_long(&rt, rt.alloc());
     assert_eq!(rt; answer.n, 1);
     assert!(rt; answer.echo.items().is_empty());
-    let text = text_of(rt.alloc(), &answer, false)?;
+    let text = text_of(&rt, rt.alloc(), &answer, false);
     assert_eq!(rt; text.as_slice(), b"> 1\n= refused long\n".as_slice());
-    Ok(())
 }
 
 #[test]
-fn blank_lines_say_nothing(rt: HostRuntime) -> Result<(), Fail> {
-    let answer = answer_alone(&rt, rt.alloc(), b"# south")?;
+fn blank_lines_say_nothing(rt: HostRuntime) {
+    let answer = answer_alone(&rt, rt.alloc(), b"# south");
     assert!(rt; answer.verdicts.items().is_empty());
-    Ok(())
 }

@@ -2,7 +2,6 @@ use rp_io::{
     Failed, IntakeFault, MemorySink, MemorySource, QuietSink, QuietSource, Sink, Source, read_whole,
 };
 use std::process::Abort;
-use std::test::Fail;
 
 mod standard;
 mod told;
@@ -47,9 +46,9 @@ fn quiet_source_gives_what_the_buffer_holds(rt: HostRuntime) {
 }
 
 #[test]
-fn memory_sink_cuts_listed_puts_and_what_does_not_fit(rt: HostRuntime) -> Result<(), Fail> {
+fn memory_sink_cuts_listed_puts_and_what_does_not_fit(rt: HostRuntime) {
     let failing = [(3, 3), (3, 9), (6, 9)];
-    let mut sink = MemorySink::new(rt.alloc(), 14, &failing)?;
+    let mut sink = MemorySink::new(rt.alloc(), 14, &failing).expect(&rt, "no memory");
     for (piece, want, bytes) in [
         (b"one\n".as_slice(), Ok(()), b"one\n".as_slice()),
         (b"two\n", Ok(()), b"one\ntwo\n"),
@@ -63,16 +62,15 @@ fn memory_sink_cuts_listed_puts_and_what_does_not_fit(rt: HostRuntime) -> Result
         expect_put(&rt, &mut sink, piece, want);
         assert_eq!(rt; sink.bytes(), bytes);
     }
-    let mut short = MemorySink::new(rt.alloc(), 5, &[])?;
+    let mut short = MemorySink::new(rt.alloc(), 5, &[]).expect(&rt, "no memory");
     expect_put(&rt, &mut short, b"abc", Ok(()));
     expect_put(&rt, &mut short, b"def", Err(Failed));
     assert_eq!(rt; short.bytes(), b"abcde".as_slice());
-    Ok(())
 }
 
 #[test]
-fn quiet_sink_keeps_what_fits_and_goes_on(rt: HostRuntime) -> Result<(), Fail> {
-    let mut sink = QuietSink::new(rt.alloc(), 5)?;
+fn quiet_sink_keeps_what_fits_and_goes_on(rt: HostRuntime) {
+    let mut sink = QuietSink::new(rt.alloc(), 5).expect(&rt, "no memory");
     for (piece, bytes) in [
         (b"abc".as_slice(), b"abc".as_slice()),
         (b"def", b"abcde"),
@@ -81,13 +79,12 @@ fn quiet_sink_keeps_what_fits_and_goes_on(rt: HostRuntime) -> Result<(), Fail> {
         expect_put(&rt, &mut sink, piece, Ok(()));
         assert_eq!(rt; sink.bytes(), bytes);
     }
-    Ok(())
 }
 
 #[test]
-fn a_source_is_read_whole_up_to_its_limit(rt: HostRuntime) -> Result<(), Fail> {
+fn a_source_is_read_whole_up_to_its_limit(rt: HostRuntime) {
     let mut source = MemorySource::new(b"abcdefghij", 4, &[]);
-    let whole = read_whole(rt.alloc(), &mut source, 10)?;
+    let whole = read_whole(rt.alloc(), &mut source, 10).expect(&rt, "not read");
     assert_eq!(rt; whole.as_slice(), b"abcdefghij".as_slice());
     let mut longer = QuietSource::new(b"abcdefghij");
     let past = read_whole(rt.alloc(), &mut longer, 9).err();
@@ -95,5 +92,4 @@ fn a_source_is_read_whole_up_to_its_limit(rt: HostRuntime) -> Result<(), Fail> {
     let mut failing = MemorySource::new(b"abcdefghij", 4, &[3]);
     let failed = read_whole(rt.alloc(), &mut failing, 10).err();
     assert_eq!(rt; failed, Some(IntakeFault::Failed));
-    Ok(())
 }

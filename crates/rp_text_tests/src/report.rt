@@ -6,9 +6,8 @@ use rp_report::{
     write_verdict,
 };
 use rp_space::{Half, Halves, Inside, IntBox, Name, Names, Numbers, Outside, Point, Term};
-use std::alloc::{AllocError, Global};
+use std::alloc::Global;
 use std::process::Abort;
-use std::test::Fail;
 
 /// Writes the answer with one verdict, and compares its text.
 fn expect_text(
@@ -17,16 +16,18 @@ fn expect_text(
     (n, echo): (u32, &[u8]),
     verdict: Verdict,
     want: &[u8],
-) -> Result<(), AllocError> {
-    let answer = Answer::with_verdict(alloc, n, echo, Proofs::new(alloc), verdict)?;
+) {
+    let answer = Answer::with_verdict(alloc, n, echo, Proofs::new(alloc), verdict).expect(
+        rt,
+        "no memory",
+    );
     let mut out = Vec::new(alloc);
-    write_answer(&answer, false, &mut out)?;
+    write_answer(&answer, false, &mut out).expect(rt, "no memory");
     assert_eq!(rt; out.as_slice(), want);
-    Ok(())
 }
 
 #[test]
-fn each_verdict_has_its_line(rt: HostRuntime) -> Result<(), Fail> {
+fn each_verdict_has_its_line(rt: HostRuntime) {
     for (verdict, want) in [
         (Verdict::Yes, b"> 7 all\n= yes\n".as_slice()),
         (Verdict::No, b"> 7 all\n= no\n"),
@@ -43,23 +44,21 @@ fn each_verdict_has_its_line(rt: HostRuntime) -> Result<(), Fail> {
         (Verdict::Parts(0), b"> 7 all\n= parts 0\n"),
         (Verdict::Parts(1024), b"> 7 all\n= parts 1024\n"),
     ] {
-        expect_text(&rt, rt.alloc(), (7, b"all"), verdict, want)?;
+        expect_text(&rt, rt.alloc(), (7, b"all"), verdict, want);
     }
-    Ok(())
 }
 
 #[test]
-fn a_verdict_is_written_alone(rt: HostRuntime) -> Result<(), Fail> {
+fn a_verdict_is_written_alone(rt: HostRuntime) {
     let mut out = Vec::new(rt.alloc());
-    write_verdict(&Verdict::Pieces(3), &mut out)?;
-    write_verdict(&Verdict::Refused(Refusal::Gap), &mut out)?;
+    write_verdict(&Verdict::Pieces(3), &mut out).expect(&rt, "no memory");
+    write_verdict(&Verdict::Refused(Refusal::Gap), &mut out).expect(&rt, "no memory");
     assert_eq!(rt; out.as_slice(), b"= pieces 3= refused gap".as_slice());
-    Ok(())
 }
 
 #[test]
-fn each_refusal_has_its_words(rt: HostRuntime) -> Result<(), Fail> {
-    let name = Name::new(b"west").ok_or("no name")?;
+fn each_refusal_has_its_words(rt: HostRuntime) {
+    let name = Name::new(b"west").expect(&rt, "no name");
     for (refusal, want) in [
         (
             Refusal::Bad(Why::Syntax),
@@ -81,14 +80,13 @@ fn each_refusal_has_its_words(rt: HostRuntime) -> Result<(), Fail> {
         ),
     ] {
         let verdict = Verdict::Refused(refusal);
-        expect_text(&rt, rt.alloc(), (7, b"all"), verdict, want)?;
+        expect_text(&rt, rt.alloc(), (7, b"all"), verdict, want);
     }
-    Ok(())
 }
 
 #[test]
-fn each_verdict_of_the_register_has_its_line(rt: HostRuntime) -> Result<(), Fail> {
-    let name = Name::new(b"west").ok_or("no name")?;
+fn each_verdict_of_the_register_has_its_line(rt: HostRuntime) {
+    let name = Name::new(b"west").expect(&rt, "no name");
     for (verdict, want) in [
         (
             Verdict::Parcel(name),
@@ -104,14 +102,13 @@ fn each_verdict_of_the_register_has_its_line(rt: HostRuntime) -> Result<(), Fail
         (Verdict::NoAccess, b"> 7 all\n= noaccess\n"),
         (Verdict::Level(3, name), b"> 7 all\n= level 3 west\n"),
     ] {
-        expect_text(&rt, rt.alloc(), (7, b"all"), verdict, want)?;
+        expect_text(&rt, rt.alloc(), (7, b"all"), verdict, want);
     }
-    Ok(())
 }
 
 #[test]
-fn each_refusal_of_the_register_has_its_words(rt: HostRuntime) -> Result<(), Fail> {
-    let name = Name::new(b"west").ok_or("no name")?;
+fn each_refusal_of_the_register_has_its_words(rt: HostRuntime) {
+    let name = Name::new(b"west").expect(&rt, "no name");
     for (refusal, want) in [
         (
             Refusal::Repeated(name),
@@ -138,9 +135,8 @@ fn each_refusal_of_the_register_has_its_words(rt: HostRuntime) -> Result<(), Fai
         (Refusal::Gap, b"> 7 all\n= refused gap\n"),
     ] {
         let verdict = Verdict::Refused(refusal);
-        expect_text(&rt, rt.alloc(), (7, b"all"), verdict, want)?;
+        expect_text(&rt, rt.alloc(), (7, b"all"), verdict, want);
     }
-    Ok(())
 }
 
 /// Writes the line of a lot with this layer, this end and these origins, and compares its text.
@@ -150,81 +146,89 @@ fn expect_lot(
     (layer, ended): (&[u8], Option<u32>),
     origins: Names,
     want: &[u8],
-) -> Result<(), Fail> {
+) {
     let lot = LotLine {
-        id: Name::new(b"west").ok_or("no name")?,
-        layer: Name::new(layer).ok_or("no name")?,
+        id: Name::new(b"west").expect(rt, "no name"),
+        layer: Name::new(layer).expect(rt, "no name"),
         born: 3,
         ended,
         origins,
     };
-    expect_text(rt, alloc, (7, b"list"), Verdict::Lot(lot), want)?;
-    Ok(())
+    expect_text(rt, alloc, (7, b"list"), Verdict::Lot(lot), want);
 }
 
 #[test]
-fn a_live_lot_of_the_first_layer_has_the_shortest_line(rt: HostRuntime) -> Result<(), Fail> {
+fn a_live_lot_of_the_first_layer_has_the_shortest_line(rt: HostRuntime) {
     let origins = Names::new(rt.alloc());
     let want = b"> 7 list\n= lot west born 3 live\n";
-    expect_lot(&rt, rt.alloc(), (b"base", None), origins, want)
+    expect_lot(&rt, rt.alloc(), (b"base", None), origins, want);
 }
 
 #[test]
-fn a_lot_line_tells_end_layer_and_origins(rt: HostRuntime) -> Result<(), Fail> {
+fn a_lot_line_tells_end_layer_and_origins(rt: HostRuntime) {
     let mut origins = Names::new(rt.alloc());
-    origins.push(Name::new(b"east").ok_or("no name")?)?;
-    origins.push(Name::new(b"base").ok_or("no name")?)?;
+    origins
+        .push(Name::new(b"east").expect(&rt, "no name"))
+        .expect(&rt, "no memory");
+    origins
+        .push(Name::new(b"base").expect(&rt, "no name"))
+        .expect(&rt, "no memory");
     let want = b"> 7 list\n= lot west born 3 ended 12 layer rights from east base\n";
-    expect_lot(&rt, rt.alloc(), (b"rights", Some(12)), origins, want)
+    expect_lot(&rt, rt.alloc(), (b"rights", Some(12)), origins, want);
 }
 
 #[test]
-fn parts_stand_below_their_number(rt: HostRuntime) -> Result<(), Fail> {
-    let near = Half::new(-1, 0, 0, 10).ok().ok_or("no half-space")?;
-    let right = Half::new(0, 1, 0, 0).ok().ok_or("no half-space")?;
+fn parts_stand_below_their_number(rt: HostRuntime) {
+    let near = Half::new(-1, 0, 0, 10).expect(&rt, "no half-space");
+    let right = Half::new(0, 1, 0, 0).expect(&rt, "no half-space");
     let mut verdicts = Verdicts::new(rt.alloc());
-    verdicts.push(Verdict::Parts(1))?;
-    verdicts.push(Verdict::Part(Halves::copy_of(rt.alloc(), &[near, right])?))?;
+    verdicts.push(Verdict::Parts(1)).expect(&rt, "no memory");
+    verdicts
+        .push(Verdict::Part(Halves::copy_of(rt.alloc(), &[near, right]).expect(&rt, "no memory")))
+        .expect(&rt, "no memory");
     let answer = Answer::with_verdicts(
         rt.alloc(),
         7,
         b"show q",
         Proofs::new(rt.alloc()),
         verdicts,
-    )?;
+    ).expect(&rt, "no memory");
     let mut out = Vec::new(rt.alloc());
-    write_answer(&answer, false, &mut out)?;
+    write_answer(&answer, false, &mut out).expect(&rt, "no memory");
     assert_eq!(rt;
         out.as_slice(),
         b"> 7 show q\n= parts 1\n= part (-1 0 0 10) (0 1 0 0)\n".as_slice()
     );
-    Ok(())
 }
 
 #[test]
-fn pieces_stand_below_their_number(rt: HostRuntime) -> Result<(), Fail> {
+fn pieces_stand_below_their_number(rt: HostRuntime) {
     let mut verdicts = Verdicts::new(rt.alloc());
-    verdicts.push(Verdict::Pieces(2))?;
-    verdicts.push(Verdict::Piece(Numbers::copy_of(rt.alloc(), &[1, 3])?))?;
-    verdicts.push(Verdict::Piece(Numbers::copy_of(rt.alloc(), &[2])?))?;
+    verdicts.push(Verdict::Pieces(2)).expect(&rt, "no memory");
+    verdicts
+        .push(Verdict::Piece(Numbers::copy_of(rt.alloc(), &[1, 3]).expect(&rt, "no memory")))
+        .expect(&rt, "no memory");
+    verdicts
+        .push(Verdict::Piece(Numbers::copy_of(rt.alloc(), &[2]).expect(&rt, "no memory")))
+        .expect(&rt, "no memory");
     let answer = Answer::with_verdicts(
         rt.alloc(),
         7,
         b"pieces q",
         Proofs::new(rt.alloc()),
         verdicts,
-    )?;
+    )
+    .expect(&rt, "no memory");
     let mut out = Vec::new(rt.alloc());
-    write_answer(&answer, false, &mut out)?;
+    write_answer(&answer, false, &mut out).expect(&rt, "no memory");
     assert_eq!(rt;
         out.as_slice(),
         b"> 7 pieces q\n= pieces 2\n= piece 1 3\n= piece 2\n".as_slice()
     );
-    Ok(())
 }
 
 #[test]
-fn a_part_of_all_points_has_its_word_alone(rt: HostRuntime) -> Result<(), Fail> {
+fn a_part_of_all_points_has_its_word_alone(rt: HostRuntime) {
     let all = Verdict::Part(Halves::new(rt.alloc()));
     expect_text(
         &rt,
@@ -232,21 +236,19 @@ fn a_part_of_all_points_has_its_word_alone(rt: HostRuntime) -> Result<(), Fail> 
         (7, b"show all"),
         all,
         b"> 7 show all\n= part\n",
-    )?;
-    Ok(())
+    );
 }
 
 #[test]
-fn past_a_limit_nothing_but_the_refusal_is_told(rt: HostRuntime) -> Result<(), Fail> {
-    let answer = Answer::past_limit(rt.alloc(), 7, b"show q")?;
+fn past_a_limit_nothing_but_the_refusal_is_told(rt: HostRuntime) {
+    let answer = Answer::past_limit(rt.alloc(), 7, b"show q").expect(&rt, "no memory");
     let mut out = Vec::new(rt.alloc());
-    write_answer(&answer, false, &mut out)?;
+    write_answer(&answer, false, &mut out).expect(&rt, "no memory");
     assert_eq!(rt; out.as_slice(), b"> 7 show q\n= refused limit\n".as_slice());
-    Ok(())
 }
 
 #[test]
-fn without_echo_the_number_stands_alone(rt: HostRuntime) -> Result<(), Fail> {
+fn without_echo_the_number_stands_alone(rt: HostRuntime) {
     let verdict = Verdict::Refused(Refusal::Bad(Why::Long));
     expect_text(
         &rt,
@@ -254,33 +256,24 @@ fn without_echo_the_number_stands_alone(rt: HostRuntime) -> Result<(), Fail> {
         (4294967295, b""),
         verdict,
         b"> 4294967295\n= refused long\n",
-    )?;
-    Ok(())
+    );
 }
 
 #[test]
-fn a_blank_answer_has_no_text(rt: HostRuntime) -> Result<(), Fail> {
+fn a_blank_answer_has_no_text(rt: HostRuntime) {
     let mut out = Vec::new(rt.alloc());
-    write_answer(&Answer::blank(rt.alloc(), 3), false, &mut out)?;
+    write_answer(&Answer::blank(rt.alloc(), 3), false, &mut out).expect(&rt, "no memory");
     assert!(rt; out.is_empty());
-    Ok(())
 }
 
 /// Writes an answer with the proof line, full or brief, and compares its text.
-fn expect_proof(
-    rt: &impl Abort,
-    alloc: Global,
-    proof: Proof,
-    brief: bool,
-    want: &[u8],
-) -> Result<(), Fail> {
+fn expect_proof(rt: &impl Abort, alloc: Global, proof: Proof, brief: bool, want: &[u8]) {
     let mut proofs = Proofs::new(alloc);
-    proofs.push(proof)?;
-    let answer = Answer::with_verdict(alloc, 7, b"q", proofs, Verdict::No)?;
+    proofs.push(proof).expect(rt, "no memory");
+    let answer = Answer::with_verdict(alloc, 7, b"q", proofs, Verdict::No).expect(rt, "no memory");
     let mut out = Vec::new(alloc);
-    write_answer(&answer, brief, &mut out)?;
+    write_answer(&answer, brief, &mut out).expect(rt, "no memory");
     assert_eq!(rt; out.as_slice(), want);
-    Ok(())
 }
 
 /// The list of two points.
@@ -306,12 +299,12 @@ fn terms(first: (i128, Half), second: (i128, Half)) -> Outside {
 }
 
 #[test]
-fn points_are_told_in_parentheses(rt: HostRuntime) -> Result<(), Fail> {
-    let origin = Point::new(0, 0, 0, 1).ok().ok_or("no point")?;
-    let above = Point::new(0, 0, 10, 1).ok().ok_or("no point")?;
-    let beside = Point::new(10, 0, 0, 1).ok().ok_or("no point")?;
+fn points_are_told_in_parentheses(rt: HostRuntime) {
+    let origin = Point::new(0, 0, 0, 1).expect(&rt, "no point");
+    let above = Point::new(0, 0, 10, 1).expect(&rt, "no point");
+    let beside = Point::new(10, 0, 0, 1).expect(&rt, "no point");
     let far = -2535301200456458802993406410751;
-    let outermost = Point::new(far, 1, 0, 1).ok().ok_or("no point")?;
+    let outermost = Point::new(far, 1, 0, 1).expect(&rt, "no point");
     for (proof, want) in [
         (
             Proof::In(points(origin, above)),
@@ -323,16 +316,15 @@ fn points_are_told_in_parentheses(rt: HostRuntime) -> Result<(), Fail> {
             b"> 7 q\n  at (-2535301200456458802993406410751 1 0 1)\n= no\n",
         ),
     ] {
-        expect_proof(&rt, rt.alloc(), proof, false, want)?;
+        expect_proof(&rt, rt.alloc(), proof, false, want);
     }
-    Ok(())
 }
 
 #[test]
-fn multiples_and_boxes_are_told(rt: HostRuntime) -> Result<(), Fail> {
-    let above = Half::new(1, 0, 0, 0).ok().ok_or("no half-space")?;
-    let near = Half::new(-1, 0, 0, 10).ok().ok_or("no half-space")?;
-    let past = Half::new(1, 0, 0, -11).ok().ok_or("no half-space")?;
+fn multiples_and_boxes_are_told(rt: HostRuntime) {
+    let above = Half::new(1, 0, 0, 0).expect(&rt, "no half-space");
+    let near = Half::new(-1, 0, 0, 10).expect(&rt, "no half-space");
+    let past = Half::new(1, 0, 0, -11).expect(&rt, "no half-space");
     let most = 37778931862957161709567;
     let block = IntBox {
         lo: [4, 0, 0],
@@ -357,28 +349,27 @@ fn multiples_and_boxes_are_told(rt: HostRuntime) -> Result<(), Fail> {
         ),
         (Proof::Bounds(block), b"> 7 q\n  box 4 0 0 10 10 10\n= no\n"),
     ] {
-        expect_proof(&rt, rt.alloc(), proof, false, want)?;
+        expect_proof(&rt, rt.alloc(), proof, false, want);
     }
-    Ok(())
 }
 
 #[test]
-fn a_brief_answer_leaves_proof_lines_out(rt: HostRuntime) -> Result<(), Fail> {
-    let origin = Point::new(0, 0, 0, 1).ok().ok_or("no point")?;
-    expect_proof(&rt, rt.alloc(), Proof::At(origin), true, b"> 7 q\n= no\n")
+fn a_brief_answer_leaves_proof_lines_out(rt: HostRuntime) {
+    let origin = Point::new(0, 0, 0, 1).expect(&rt, "no point");
+    expect_proof(&rt, rt.alloc(), Proof::At(origin), true, b"> 7 q\n= no\n");
 }
 
 /// Reads a proof line, writes it in an answer, and compares the text.
-fn expect_read(rt: &impl Abort, alloc: Global, line: &[u8]) -> Result<(), Fail> {
-    let proof = read_proof(line).ok_or("no proof line")?;
-    let mut want = Vec::from_slice(alloc, b"> 7 q\n")?;
-    want.extend_from_slice(line)?;
-    want.extend_from_slice(b"\n= no\n")?;
-    expect_proof(rt, alloc, proof, false, want.as_slice())
+fn expect_read(rt: &impl Abort, alloc: Global, line: &[u8]) {
+    let proof = read_proof(line).expect(rt, "no proof line");
+    let mut want = Vec::from_slice(alloc, b"> 7 q\n").expect(rt, "no memory");
+    want.extend_from_slice(line).expect(rt, "no memory");
+    want.extend_from_slice(b"\n= no\n").expect(rt, "no memory");
+    expect_proof(rt, alloc, proof, false, want.as_slice());
 }
 
 #[test]
-fn proof_lines_are_read_back(rt: HostRuntime) -> Result<(), Fail> {
+fn proof_lines_are_read_back(rt: HostRuntime) {
     for line in [
         b"  in (0 0 0 1)".as_slice(),
         b"  in (0 0 0 1) (0 0 10 1) (-1 2 -3 4) (5 0 0 1)",
@@ -390,9 +381,8 @@ fn proof_lines_are_read_back(rt: HostRuntime) -> Result<(), Fail> {
         b"  box -16777216 0 0 16777216 10 10",
         b"  box 0 0 0 0 0 0",
     ] {
-        expect_read(&rt, rt.alloc(), line)?;
+        expect_read(&rt, rt.alloc(), line);
     }
-    Ok(())
 }
 
 /// Expects that a line is no proof line.
@@ -401,7 +391,7 @@ fn expect_no_proof(rt: &impl Abort, line: &[u8]) {
 }
 
 #[test]
-fn other_spellings_are_no_proof_lines(rt: HostRuntime) -> Result<(), Fail> {
+fn other_spellings_are_no_proof_lines(rt: HostRuntime) {
     for line in [
         b"".as_slice(),
         b"  in",
@@ -433,11 +423,10 @@ fn other_spellings_are_no_proof_lines(rt: HostRuntime) -> Result<(), Fail> {
     ] {
         expect_no_proof(&rt, line);
     }
-    Ok(())
 }
 
 #[test]
-fn what_passes_a_bound_is_no_proof_line(rt: HostRuntime) -> Result<(), Fail> {
+fn what_passes_a_bound_is_no_proof_line(rt: HostRuntime) {
     for line in [
         b"  at (2 0 0 2)".as_slice(),
         b"  at (0 0 0 0)",
@@ -459,21 +448,20 @@ fn what_passes_a_bound_is_no_proof_line(rt: HostRuntime) -> Result<(), Fail> {
     ] {
         expect_no_proof(&rt, line);
     }
-    Ok(())
 }
 
 /// A line with a number of so many digits between two texts.
-fn with_digits(alloc: Global, front: &[u8], count: u32, end: &[u8]) -> Result<Vec<u8>, AllocError> {
-    let mut line = Vec::from_slice(alloc, front)?;
+fn with_digits(rt: &impl Abort, alloc: Global, front: &[u8], count: u32, end: &[u8]) -> Vec<u8> {
+    let mut line = Vec::from_slice(alloc, front).expect(rt, "no memory");
     for _ in 0..count {
-        line.push(b'9')?;
+        line.push(b'9').expect(rt, "no memory");
     }
-    line.extend_from_slice(end)?;
-    Ok(line)
+    line.extend_from_slice(end).expect(rt, "no memory");
+    line
 }
 
 #[test]
-fn numbers_of_any_length_are_read(rt: HostRuntime) -> Result<(), Fail> {
+fn numbers_of_any_length_are_read(rt: HostRuntime) {
     for (front, end) in [
         (b"  at (".as_slice(), b" 0 0 1)".as_slice()),
         (b"  at (-", b" 0 0 1)"),
@@ -481,16 +469,15 @@ fn numbers_of_any_length_are_read(rt: HostRuntime) -> Result<(), Fail> {
         (b"  drop (1 0 0 ", b") 1*(1 0 0 0)"),
         (b"  box 0 0 0 1 1 ", b""),
     ] {
-        let line = with_digits(rt.alloc(), front, 10000, end)?;
+        let line = with_digits(&rt, rt.alloc(), front, 10000, end);
         expect_no_proof(&rt, line.as_slice());
     }
-    let line = with_digits(rt.alloc(), b"> ", 10000, b" x")?;
+    let line = with_digits(&rt, rt.alloc(), b"> ", 10000, b" x");
     assert!(rt; read_echo(line.as_slice()).is_none());
-    Ok(())
 }
 
 #[test]
-fn echoes_give_number_and_place(rt: HostRuntime) -> Result<(), Fail> {
+fn echoes_give_number_and_place(rt: HostRuntime) {
     for (line, want) in [
         (b"> 1".as_slice(), Some((1, None))),
         (b"> 1 ", Some((1, Some(4)))),
@@ -513,20 +500,22 @@ fn echoes_give_number_and_place(rt: HostRuntime) -> Result<(), Fail> {
     ] {
         assert_eq!(rt; read_echo(line), want, "{line:?}");
     }
-    Ok(())
 }
 
 /// Reads a line of a slice, writes it as a verdict, and compares the text.
-fn expect_slice(rt: &impl Abort, alloc: Global, line: &[u8]) -> Result<(), Fail> {
-    let slice = read_slice(line).ok_or("no slice")?;
+fn expect_slice(rt: &impl Abort, alloc: Global, line: &[u8]) {
+    let slice = read_slice(line).expect(rt, "no slice");
     let mut out = Vec::new(alloc);
-    write_verdict(&Verdict::Slice(Box::new(alloc, slice)?), &mut out)?;
+    write_verdict(
+        &Verdict::Slice(Box::new(alloc, slice).expect(rt, "no memory")),
+        &mut out,
+    )
+    .expect(rt, "no memory");
     assert_eq!(rt; out.as_slice(), line);
-    Ok(())
 }
 
 #[test]
-fn lines_of_slices_are_read_back(rt: HostRuntime) -> Result<(), Fail> {
+fn lines_of_slices_are_read_back(rt: HostRuntime) {
     for line in [
         b"= ring (1 0 0) (0 0 5 1) (0 1 0) (10 0 5 1) (-1 0 10) (10 10 5 1) (0 -1 10) (0 10 5 1)".as_slice(),
         b"= ring (1 0 0) (0 0 1 1) (0 1 0) (1 0 1 1) (-2 -3 2) (0 2 3 3)",
@@ -534,9 +523,8 @@ fn lines_of_slices_are_read_back(rt: HostRuntime) -> Result<(), Fail> {
         b"= flat 1*(0 0 -1 10)",
         b"= flat 1*(1 0 0 0) 37778931862957161709567*(-1 0 0 0) 2*(0 1 0 0)",
     ] {
-        expect_slice(&rt, rt.alloc(), line)?;
+        expect_slice(&rt, rt.alloc(), line);
     }
-    Ok(())
 }
 
 /// Expects that a line shows no slice.

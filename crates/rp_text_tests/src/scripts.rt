@@ -4,11 +4,11 @@ use rp_scripts::make::make;
 use rp_scripts::spell::spell;
 use rp_scripts::upgrade::upgrade;
 use rp_scripts::{Building, MadeTask, Task, listed_task};
-use std::alloc::{AllocError, Global};
-use std::test::Fail;
+use std::alloc::Global;
+use std::process::Abort;
 
 #[test]
-fn spells_each_command(rt: HostRuntime) -> Result<(), Fail> {
+fn spells_each_command(rt: HostRuntime) {
     let spelled = "member half 1 0 0 -2 1 2 3 1\n";
     // With whether some line is bad.
     let rows = [
@@ -26,16 +26,15 @@ fn spells_each_command(rt: HostRuntime) -> Result<(), Fail> {
         ("rp 2\n", false, "rp 2\n"),
     ];
     for (script, want, spelling) in rows {
-        let mut sink = QuietSink::new(rt.alloc(), 1000)?;
+        let mut sink = QuietSink::new(rt.alloc(), 1000).expect(&rt, "no memory");
         let has_bad_line = spell(rt.alloc(), script.as_bytes(), &mut sink);
         assert_eq!(rt; has_bad_line, Ok(want), "on {script:?}");
         assert_eq!(rt; sink.bytes(), spelling.as_bytes(), "on {script:?}");
     }
-    Ok(())
 }
 
 #[test]
-fn upgrades_scripts(rt: HostRuntime) -> Result<(), Fail> {
+fn upgrades_scripts(rt: HostRuntime) {
     // With whether some line is bad.
     let rows = [
         (
@@ -52,16 +51,15 @@ fn upgrades_scripts(rt: HostRuntime) -> Result<(), Fail> {
         ("", false, "rp 2\n"),
     ];
     for (script, want, upgraded) in rows {
-        let mut sink = QuietSink::new(rt.alloc(), 1000)?;
+        let mut sink = QuietSink::new(rt.alloc(), 1000).expect(&rt, "no memory");
         let has_bad_line = upgrade(rt.alloc(), script.as_bytes(), &mut sink);
         assert_eq!(rt; has_bad_line, Ok(want), "on {script:?}");
         assert_eq!(rt; sink.bytes(), upgraded.as_bytes(), "on {script:?}");
     }
-    Ok(())
 }
 
 #[test]
-fn makes_scripts_from_their_seeds(rt: HostRuntime) -> Result<(), Fail> {
+fn makes_scripts_from_their_seeds(rt: HostRuntime) {
     let rows = [
         (
             Building {
@@ -79,30 +77,31 @@ fn makes_scripts_from_their_seeds(rt: HostRuntime) -> Result<(), Fail> {
         ),
     ];
     for (building, want) in rows {
-        let mut sink = QuietSink::new(rt.alloc(), 1000)?;
+        let mut sink = QuietSink::new(rt.alloc(), 1000).expect(&rt, "no memory");
         let made = make(rt.alloc(), building, &mut sink);
         assert_eq!(rt; made, Ok(()), "on {building:?}");
         assert_eq!(rt; sink.bytes(), want.as_bytes(), "on {building:?}");
     }
-    Ok(())
 }
 
 /// The task that words name.
-fn task_of(alloc: Global, texts: &[&str]) -> Result<Option<Task>, AllocError> {
+fn task_of(rt: &impl Abort, alloc: Global, texts: &[&str]) -> Option<Task> {
     let mut words = Vec::new(alloc);
     for text in texts {
-        words.push(String::from_str(alloc, text)?)?;
+        words
+            .push(String::from_str(alloc, text).expect(rt, "no memory"))
+            .expect(rt, "no memory");
     }
-    Ok(listed_task(&words))
+    listed_task(&words)
 }
 
 #[test]
-fn numbers_of_words_have_one_spelling_and_bounds(rt: HostRuntime) -> Result<(), Fail> {
+fn numbers_of_words_have_one_spelling_and_bounds(rt: HostRuntime) {
     let greatest = Building {
         storeys: 1000,
         seed: u64::MAX,
     };
-    let task = task_of(rt.alloc(), &["trial", "1000", "18446744073709551615"])?;
+    let task = task_of(&rt, rt.alloc(), &["trial", "1000", "18446744073709551615"]);
     assert_eq!(rt; task, Some(Task::Made(MadeTask::Try, greatest)));
     let rows = [
         ("0", "0"),
@@ -119,9 +118,8 @@ fn numbers_of_words_have_one_spelling_and_bounds(rt: HostRuntime) -> Result<(), 
     ];
     for (storeys, seed) in rows {
         for word in ["make", "trial"] {
-            let task = task_of(rt.alloc(), &[word, storeys, seed])?;
+            let task = task_of(&rt, rt.alloc(), &[word, storeys, seed]);
             assert_eq!(rt; task, None, "on {word} {storeys:?} {seed:?}");
         }
     }
-    Ok(())
 }

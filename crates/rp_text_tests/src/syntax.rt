@@ -1,9 +1,8 @@
 use rp_command::{Command, Expr, Line, Version, Why};
 use rp_spelling::write_command;
 use rp_syntax::read_line;
-use std::alloc::{AllocError, Global};
+use std::alloc::Global;
 use std::process::Abort;
-use std::test::Fail;
 
 /// Reads a line of a version that is a command, writes the command in another version, and compares its spelling.
 fn expect_written(
@@ -13,59 +12,45 @@ fn expect_written(
     into: Version,
     line: &[u8],
     want: &[u8],
-) -> Result<(), AllocError> {
-    match read_line(alloc, from, line)? {
+) {
+    match read_line(alloc, from, line).expect(rt, "no memory") {
         Line::Cmd(command) => {
             let mut out = Vec::new(alloc);
-            write_command(into, &command, &mut out)?;
+            write_command(into, &command, &mut out).expect(rt, "no memory");
             assert_eq!(rt; out.as_slice(), want);
         }
         _ => panic!(rt; "no command: {line:?}"),
     }
-    Ok(())
 }
 
 /// Reads a line of version 1 that is a command, writes the command, and compares its spelling.
-fn expect_spelling(
-    rt: &impl Abort,
-    alloc: Global,
-    line: &[u8],
-    want: &[u8],
-) -> Result<(), AllocError> {
-    expect_written(rt, alloc, Version::One, Version::One, line, want)
+fn expect_spelling(rt: &impl Abort, alloc: Global, line: &[u8], want: &[u8]) {
+    expect_written(rt, alloc, Version::One, Version::One, line, want);
 }
 
 /// Reads a line of a version that is no command, and compares why.
-fn expect_refused(
-    rt: &impl Abort,
-    alloc: Global,
-    version: Version,
-    line: &[u8],
-    why: Why,
-) -> Result<(), AllocError> {
-    match read_line(alloc, version, line)? {
+fn expect_refused(rt: &impl Abort, alloc: Global, version: Version, line: &[u8], why: Why) {
+    match read_line(alloc, version, line).expect(rt, "no memory") {
         Line::Bad(got) => assert_eq!(rt; got, why, "{line:?}"),
         _ => panic!(rt; "not refused: {line:?}"),
     }
-    Ok(())
 }
 
 /// Reads a line of version 1 that is no command, and compares why.
-fn expect_refusal(rt: &impl Abort, alloc: Global, line: &[u8], why: Why) -> Result<(), AllocError> {
-    expect_refused(rt, alloc, Version::One, line, why)
+fn expect_refusal(rt: &impl Abort, alloc: Global, line: &[u8], why: Why) {
+    expect_refused(rt, alloc, Version::One, line, why);
 }
 
 /// Appends a word so many times, each with a space behind it.
-fn repeat(word: &[u8], count: u32, line: &mut Vec<u8>) -> Result<(), AllocError> {
+fn repeat(rt: &impl Abort, word: &[u8], count: u32, line: &mut Vec<u8>) {
     for _ in 0..count {
-        line.extend_from_slice(word)?;
-        line.push(b' ')?;
+        line.extend_from_slice(word).expect(rt, "no memory");
+        line.push(b' ').expect(rt, "no memory");
     }
-    Ok(())
 }
 
 #[test]
-fn every_command_is_read_and_written(rt: HostRuntime) -> Result<(), Fail> {
+fn every_command_is_read_and_written(rt: HostRuntime) {
     for line in [
         b"let a = half 1 0 0 -2".as_slice(),
         b"let let = name let",
@@ -103,13 +88,12 @@ fn every_command_is_read_and_written(rt: HostRuntime) -> Result<(), Fail> {
         b"section none 16777215",
         b"access a b",
     ] {
-        expect_spelling(&rt, rt.alloc(), line, line)?;
+        expect_spelling(&rt, rt.alloc(), line, line);
     }
-    Ok(())
 }
 
 #[test]
-fn half_spaces_and_points_are_spelled_in_lowest_terms(rt: HostRuntime) -> Result<(), Fail> {
+fn half_spaces_and_points_are_spelled_in_lowest_terms(rt: HostRuntime) {
     for (line, want) in [
         (
             b"member half 2 0 0 -4 2 4 6 2".as_slice(),
@@ -124,48 +108,50 @@ fn half_spaces_and_points_are_spelled_in_lowest_terms(rt: HostRuntime) -> Result
         (b"empty half 0 0 0 -9", b"empty half 0 0 0 -1"),
         (b"empty box 2 2 2 4 4 4", b"empty box 2 2 2 4 4 4"),
     ] {
-        expect_spelling(&rt, rt.alloc(), line, want)?;
+        expect_spelling(&rt, rt.alloc(), line, want);
     }
-    Ok(())
 }
 
 #[test]
-fn a_spelling_comes_behind_what_is_there(rt: HostRuntime) -> Result<(), Fail> {
+fn a_spelling_comes_behind_what_is_there(rt: HostRuntime) {
     let alloc = rt.alloc();
-    let mut out = Vec::from_slice(alloc, b"> ")?;
-    match read_line(alloc, Version::One, b"retire p")? {
-        Line::Cmd(command) => write_command(Version::One, &command, &mut out)?,
+    let mut out = Vec::from_slice(alloc, b"> ").expect(&rt, "no memory");
+    match read_line(alloc, Version::One, b"retire p").expect(&rt, "no memory") {
+        Line::Cmd(command) => write_command(Version::One, &command, &mut out).expect(
+            &rt,
+            "no memory",
+        ),
         _ => panic!(rt; "no command"),
     }
     assert_eq!(rt; out.as_slice(), b"> retire p".as_slice());
-    Ok(())
 }
 
 #[test]
-fn a_line_gives_the_parts_of_its_command(rt: HostRuntime) -> Result<(), Fail> {
-    match read_line(rt.alloc(), Version::One, b"show minus all none")? {
+fn a_line_gives_the_parts_of_its_command(rt: HostRuntime) {
+    match read_line(rt.alloc(), Version::One, b"show minus all none").expect(&rt, "no memory") {
         Line::Cmd(Command::Show(Expr::Minus(first, second))) => {
             assert!(rt; matches!(*first, Expr::All));
             assert!(rt; matches!(*second, Expr::Nothing));
         }
         _ => panic!(rt; "no difference"),
     }
-    Ok(())
 }
 
 #[test]
-fn empty_lines_and_notes_are_blank(rt: HostRuntime) -> Result<(), Fail> {
+fn empty_lines_and_notes_are_blank(rt: HostRuntime) {
     for line in [b"".as_slice(), b"#", b"# note", b"#empty all"] {
         assert!(rt;
-            matches!(read_line(rt.alloc(), Version::Two, line)?, Line::Blank),
+            matches!(
+                read_line(rt.alloc(), Version::Two, line).expect(&rt, "no memory"),
+                Line::Blank
+            ),
             "{line:?}"
         );
     }
-    Ok(())
 }
 
 #[test]
-fn words_that_fit_no_place_are_syntax(rt: HostRuntime) -> Result<(), Fail> {
+fn words_that_fit_no_place_are_syntax(rt: HostRuntime) {
     for line in [
         b"walk".as_slice(),
         b" ",
@@ -195,26 +181,25 @@ fn words_that_fit_no_place_are_syntax(rt: HostRuntime) -> Result<(), Fail> {
         b"subdivide p 1",
         b"consolidate q 2 a",
     ] {
-        expect_refusal(&rt, rt.alloc(), line, Why::Syntax)?;
+        expect_refusal(&rt, rt.alloc(), line, Why::Syntax);
     }
     expect_spelling(
         &rt,
         rt.alloc(),
         b"retire a2345678901234567890123456789012",
         b"retire a2345678901234567890123456789012",
-    )?;
-    Ok(())
+    );
 }
 
 #[test]
-fn numbers_keep_the_bounds_of_their_places(rt: HostRuntime) -> Result<(), Fail> {
+fn numbers_keep_the_bounds_of_their_places(rt: HostRuntime) {
     for line in [
         b"member half -16777215 16777216 -16777216 -844424930131968 0 0 0 1".as_slice(),
         b"member all 2535301200456458802993406410751 0 0 1",
         b"member all 1 0 -2535301200456458802993406410751 1",
         b"member all 0 1 0 37778931862957161709567",
     ] {
-        expect_spelling(&rt, rt.alloc(), line, line)?;
+        expect_spelling(&rt, rt.alloc(), line, line);
     }
     for line in [
         b"member half 16777217 16777216 16777216 844424930131968 0 0 0 1".as_slice(),
@@ -239,71 +224,66 @@ fn numbers_keep_the_bounds_of_their_places(rt: HostRuntime) -> Result<(), Fail> 
         b"section all -16777217",
         b"at 340282366920938463463374607431768211456 0 0 1",
     ] {
-        expect_refusal(&rt, rt.alloc(), line, Why::Range)?;
+        expect_refusal(&rt, rt.alloc(), line, Why::Range);
     }
-    Ok(())
 }
 
 #[test]
-fn four_zeros_are_no_half_space(rt: HostRuntime) -> Result<(), Fail> {
+fn four_zeros_are_no_half_space(rt: HostRuntime) {
     for line in [
         b"member half 0 0 0 0 0 0 0 1".as_slice(),
         b"empty half 0 0 0 0",
         b"equal half 0 0 0 0 x",
     ] {
-        expect_refusal(&rt, rt.alloc(), line, Why::Zero)?;
+        expect_refusal(&rt, rt.alloc(), line, Why::Zero);
     }
-    Ok(())
 }
 
 #[test]
-fn a_number_may_have_many_digits(rt: HostRuntime) -> Result<(), Fail> {
+fn a_number_may_have_many_digits(rt: HostRuntime) {
     let alloc = rt.alloc();
     for (digit, why) in [(b'1', Why::Range), (b'0', Why::Syntax)] {
-        let mut line = Vec::from_slice(alloc, b"at ")?;
+        let mut line = Vec::from_slice(alloc, b"at ").expect(&rt, "no memory");
         for _ in 0..60000 {
-            line.push(digit)?;
+            line.push(digit).expect(&rt, "no memory");
         }
-        line.extend_from_slice(b" 0 0 1")?;
-        expect_refusal(&rt, alloc, line.as_slice(), why)?;
+        line.extend_from_slice(b" 0 0 1").expect(&rt, "no memory");
+        expect_refusal(&rt, alloc, line.as_slice(), why);
     }
-    Ok(())
 }
 
 #[test]
-fn nodes_of_a_line_are_counted_together(rt: HostRuntime) -> Result<(), Fail> {
+fn nodes_of_a_line_are_counted_together(rt: HostRuntime) {
     let alloc = rt.alloc();
     for (first, second, is_read) in [(511, 511, true), (511, 512, false), (0, 1023, false)] {
-        let mut line = Vec::from_slice(alloc, b"equal ")?;
-        repeat(b"not", first, &mut line)?;
-        line.extend_from_slice(b"all ")?;
-        repeat(b"not", second, &mut line)?;
-        line.extend_from_slice(b"all")?;
+        let mut line = Vec::from_slice(alloc, b"equal ").expect(&rt, "no memory");
+        repeat(&rt, b"not", first, &mut line);
+        line.extend_from_slice(b"all ").expect(&rt, "no memory");
+        repeat(&rt, b"not", second, &mut line);
+        line.extend_from_slice(b"all").expect(&rt, "no memory");
         if is_read {
-            expect_spelling(&rt, alloc, line.as_slice(), line.as_slice())?;
+            expect_spelling(&rt, alloc, line.as_slice(), line.as_slice());
         } else {
-            expect_refusal(&rt, alloc, line.as_slice(), Why::Nodes)?;
+            expect_refusal(&rt, alloc, line.as_slice(), Why::Nodes);
         }
     }
-    Ok(())
 }
 
 #[test]
-fn expressions_nest_below_the_limit_of_nodes(rt: HostRuntime) -> Result<(), Fail> {
+fn expressions_nest_below_the_limit_of_nodes(rt: HostRuntime) {
     let alloc = rt.alloc();
-    let mut line = Vec::from_slice(alloc, b"empty ")?;
-    repeat(b"not", 1023, &mut line)?;
-    line.extend_from_slice(b"all")?;
-    expect_spelling(&rt, alloc, line.as_slice(), line.as_slice())?;
-    let mut line = Vec::from_slice(alloc, b"empty ")?;
-    repeat(b"not", 1024, &mut line)?;
-    line.extend_from_slice(b"all")?;
-    expect_refusal(&rt, alloc, line.as_slice(), Why::Nodes)?;
-    Ok(())
+    let mut line = Vec::from_slice(alloc, b"empty ").expect(&rt, "no memory");
+    repeat(&rt, b"not", 1023, &mut line);
+    line.extend_from_slice(b"all").expect(&rt, "no memory");
+    expect_spelling(&rt, alloc, line.as_slice(), line.as_slice());
+    let mut line = Vec::from_slice(alloc, b"empty ").expect(&rt, "no memory");
+    repeat(&rt, b"not", 1024, &mut line);
+    line.extend_from_slice(b"all").expect(&rt, "no memory");
+    expect_refusal(&rt, alloc, line.as_slice(), Why::Nodes);
 }
 
 #[test]
-fn coordinates_of_version_2_are_decimals(rt: HostRuntime) -> Result<(), Fail> {
+fn coordinates_of_version_2_are_decimals(rt: HostRuntime) {
     let alloc = rt.alloc();
     for line in [
         b"member box 0.000 0.000 0.000 0.010 0.010 0.010 0.005 0.003 0.005 9".as_slice(),
@@ -317,7 +297,7 @@ fn coordinates_of_version_2_are_decimals(rt: HostRuntime) -> Result<(), Fail> {
         b"asof 16777216 0.001 0.000 0.000 2",
         b"consolidate q 2 a b",
     ] {
-        expect_written(&rt, alloc, Version::Two, Version::Two, line, line)?;
+        expect_written(&rt, alloc, Version::Two, Version::Two, line, line);
     }
     for line in [
         b"member all 5 0.000 0.000 1".as_slice(),
@@ -333,7 +313,7 @@ fn coordinates_of_version_2_are_decimals(rt: HostRuntime) -> Result<(), Fail> {
         b"empty half 1.000 0 0 0",
         b"show prism 0.000 1.000 3.000 0.000 0.000 1.000 1.000 2.000 2.000",
     ] {
-        expect_refused(&rt, alloc, Version::Two, line, Why::Syntax)?;
+        expect_refused(&rt, alloc, Version::Two, line, Why::Syntax);
     }
     for line in [
         b"empty box 0.000 0.000 0.000 16777.217 0.001 0.001".as_slice(),
@@ -342,13 +322,12 @@ fn coordinates_of_version_2_are_decimals(rt: HostRuntime) -> Result<(), Fail> {
         b"at 1329227995784915872903807060280344576.000 0.000 0.000 1",
         b"show prism 0.000 1.000 3 0.000 8388.609 1.000 1.000 2.000 2.000",
     ] {
-        expect_refused(&rt, alloc, Version::Two, line, Why::Range)?;
+        expect_refused(&rt, alloc, Version::Two, line, Why::Range);
     }
-    Ok(())
 }
 
 #[test]
-fn a_command_of_version_1_is_spelled_in_version_2(rt: HostRuntime) -> Result<(), Fail> {
+fn a_command_of_version_1_is_spelled_in_version_2(rt: HostRuntime) {
     for (line, want) in [
         (
             b"member box 0 0 0 10 10 10 5 3 5 9".as_slice(),
@@ -364,20 +343,18 @@ fn a_command_of_version_1_is_spelled_in_version_2(rt: HostRuntime) -> Result<(),
             b"show prism 0.000 0.010 3 0.000 0.000 1.000 0.000 0.007 -0.008",
         ),
     ] {
-        expect_written(&rt, rt.alloc(), Version::One, Version::Two, line, want)?;
-        expect_written(&rt, rt.alloc(), Version::Two, Version::Two, want, want)?;
+        expect_written(&rt, rt.alloc(), Version::One, Version::Two, line, want);
+        expect_written(&rt, rt.alloc(), Version::Two, Version::Two, want, want);
     }
-    Ok(())
 }
 
 #[test]
-fn a_line_is_long_above_its_limit(rt: HostRuntime) -> Result<(), Fail> {
+fn a_line_is_long_above_its_limit(rt: HostRuntime) {
     let alloc = rt.alloc();
     for (version, limit) in [(Version::One, 65536), (Version::Two, 262144)] {
-        let mut line = vec![in alloc; b'a'; limit]?;
-        expect_refused(&rt, alloc, version, line.as_slice(), Why::Syntax)?;
-        line.push(b'a')?;
-        expect_refused(&rt, alloc, version, line.as_slice(), Why::Long)?;
+        let mut line = vec![in alloc; b'a'; limit].expect(&rt, "no memory");
+        expect_refused(&rt, alloc, version, line.as_slice(), Why::Syntax);
+        line.push(b'a').expect(&rt, "no memory");
+        expect_refused(&rt, alloc, version, line.as_slice(), Why::Long);
     }
-    Ok(())
 }

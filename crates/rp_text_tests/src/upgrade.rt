@@ -1,9 +1,8 @@
 use rp_command::Version;
 use rp_upgrade::upgrade_line;
-use std::test::Fail;
 
 #[test]
-fn lines_of_both_versions_are_upgraded(rt: HostRuntime) -> Result<(), Fail> {
+fn lines_of_both_versions_are_upgraded(rt: HostRuntime) {
     // What is there already stays in front.
     let rows = [
         (
@@ -40,10 +39,9 @@ fn lines_of_both_versions_are_upgraded(rt: HostRuntime) -> Result<(), Fail> {
     ];
     for (version, line, good, want) in rows {
         let mut out = Vec::new(rt.alloc());
-        out.push(b'>')?;
-        let answer = upgrade_line(rt.alloc(), version, line, &mut out)?;
+        out.push(b'>').expect(&rt, "no memory");
+        let answer = upgrade_line(rt.alloc(), version, line, &mut out).expect(&rt, "no memory");
         assert_eq!(rt; answer, good, "on {line:?}");
         assert_eq!(rt; out.as_slice(), want, "on {line:?}");
     }
-    Ok(())
 }

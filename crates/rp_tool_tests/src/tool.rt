@@ -8,18 +8,19 @@ ghost use Rattle.rp_tool.specs.Status.{HasWritten, most_input_bytes, reads_input
 use rp_io::{MemorySink, MemorySource, QuietSink, QuietSource};
 use rp_tool::status::{DONE, OUT_OF_MEMORY, PUT_FAILED, READ_FAILED, REFUSED, TOO_LONG, UNLISTED};
 use rp_tool::tool;
-use std::alloc::{AllocError, Global};
+use std::alloc::Global;
 use std::process::Abort;
-use std::test::Fail;
 use std::thread::Threads;
 
 /// Words of a command line.
-fn words_of(alloc: Global, texts: &[&str]) -> Result<Vec<String>, AllocError> {
+fn words_of(rt: &impl Abort, alloc: Global, texts: &[&str]) -> Vec<String> {
     let mut words = Vec::new(alloc);
     for text in texts {
-        words.push(String::from_str(alloc, text)?)?;
+        words
+            .push(String::from_str(alloc, text).expect(rt, "no memory"))
+            .expect(rt, "no memory");
     }
-    Ok(words)
+    words
 }
 
 /// The status of the tool over a source and a sink that never fail: neither a read nor a put is to blame. With status 0 or
@@ -67,26 +68,29 @@ fn memory_status<R: Threads + Sync>(
 }
 
 /// The status and the output of the tool on an input of one piece, with room for 10,000 bytes of output.
-fn run_on<R: Threads + Sync>(
+fn run_on<R: Abort + Threads + Sync>(
     rt: &R,
     alloc: Global,
     texts: &[&str],
     input: &[u8],
-) -> Result<(u8, Vec<u8>), AllocError> {
-    let words = words_of(alloc, texts)?;
+) -> (u8, Vec<u8>) {
+    let words = words_of(rt, alloc, texts);
     let mut source = QuietSource::new(input);
-    let mut sink = QuietSink::new(alloc, 10_000)?;
+    let mut sink = QuietSink::new(alloc, 10_000).expect(rt, "no memory");
     let status = quiet_status(rt, alloc, &words, &mut source, &mut sink);
-    Ok((status, Vec::from_slice(alloc, sink.bytes())?))
+    (
+        status,
+        Vec::from_slice(alloc, sink.bytes()).expect(rt, "no memory"),
+    )
 }
 
 /// The report of a script of one line.
-fn report_of(alloc: Global, line: &str, verdict: &str) -> Result<String, AllocError> {
-    format!(in alloc; "> 1 {line}\n{verdict}\n")
+fn report_of(rt: &impl Abort, alloc: Global, line: &str, verdict: &str) -> String {
+    format!(in alloc; "> 1 {line}\n{verdict}\n").expect(rt, "no memory")
 }
 
 #[test]
-fn reports_the_worked_rows(rt: HostRuntime) -> Result<(), Fail> {
+fn reports_the_worked_rows(rt: HostRuntime) {
     let yes = "> 1 member half 1 0 0 0 0 5 5 1\n= yes\n";
     let rows = [
         ("member half 1 0 0 0 0 5 5 1\n", yes),
@@ -120,15 +124,14 @@ fn reports_the_worked_rows(rt: HostRuntime) -> Result<(), Fail> {
         ),
     ];
     for (script, report) in rows {
-        let (status, told) = run_on(&rt, rt.alloc(), &["run"], script.as_bytes())?;
+        let (status, told) = run_on(&rt, rt.alloc(), &["run"], script.as_bytes());
         assert_eq!(rt; status, DONE, "on {script:?}");
         assert_eq!(rt; told.as_slice(), report.as_bytes(), "on {script:?}");
     }
-    Ok(())
 }
 
 #[test]
-fn answers_within_the_bounds_and_refuses_past_them(rt: HostRuntime) -> Result<(), Fail> {
+fn answers_within_the_bounds_and_refuses_past_them(rt: HostRuntime) {
     let rows = [
         (
             "member half 16777216 16777216 16777216 844424930131968 0 0 0 1",
@@ -174,8 +177,8 @@ fn answers_within_the_bounds_and_refuses_past_them(rt: HostRuntime) -> Result<()
         ("empty name a", "= refused unknown a"),
     ];
     for (line, verdict) in rows {
-        let report = report_of(rt.alloc(), line, verdict)?;
-        let (status, told) = run_on(&rt, rt.alloc(), &["run"], line.as_bytes())?;
+        let report = report_of(&rt, rt.alloc(), line, verdict);
+        let (status, told) = run_on(&rt, rt.alloc(), &["run"], line.as_bytes());
         assert_eq!(rt; told.as_slice(), report.as_bytes(), "on {line:?}");
         assert_eq!(rt;
             status == REFUSED,
@@ -183,31 +186,29 @@ fn answers_within_the_bounds_and_refuses_past_them(rt: HostRuntime) -> Result<()
             "on {line:?}"
         );
     }
-    Ok(())
 }
 
 #[test]
-fn refuses_too_many_nodes_and_long_lines(rt: HostRuntime) -> Result<(), Fail> {
+fn refuses_too_many_nodes_and_long_lines(rt: HostRuntime) {
     let alloc = rt.alloc();
-    let mut nodes = String::from_str(alloc, "empty")?;
+    let mut nodes = String::from_str(alloc, "empty").expect(&rt, "no memory");
     for _ in 0..1024 {
-        nodes.push_str(" not")?;
+        nodes.push_str(" not").expect(&rt, "no memory");
     }
-    nodes.push_str(" all")?;
-    let report = report_of(alloc, nodes.as_str(), "= refused nodes")?;
-    let (status, told) = run_on(&rt, alloc, &["run"], nodes.as_bytes())?;
+    nodes.push_str(" all").expect(&rt, "no memory");
+    let report = report_of(&rt, alloc, nodes.as_str(), "= refused nodes");
+    let (status, told) = run_on(&rt, alloc, &["run"], nodes.as_bytes());
     assert_eq!(rt; status, REFUSED);
     assert_eq!(rt; told.as_slice(), report.as_bytes());
 
-    let long = vec![in alloc; b'a'; 65_537]?;
-    let (status, told) = run_on(&rt, alloc, &["run"], &long)?;
+    let long = vec![in alloc; b'a'; 65_537].expect(&rt, "no memory");
+    let (status, told) = run_on(&rt, alloc, &["run"], &long);
     assert_eq!(rt; status, REFUSED);
     assert_eq!(rt; told.as_slice(), b"> 1\n= refused long\n".as_slice());
-    Ok(())
 }
 
 #[test]
-fn reports_scripts_of_version_two(rt: HostRuntime) -> Result<(), Fail> {
+fn reports_scripts_of_version_two(rt: HostRuntime) {
     let rows = [
         (
             "rp 2\nmember box 0.000 0.000 0.000 0.010 0.010 0.010 0.005 0.003 0.005 9\n\n",
@@ -236,15 +237,14 @@ fn reports_scripts_of_version_two(rt: HostRuntime) -> Result<(), Fail> {
         ("rp 2\r", REFUSED, "> 1 rp 2\r\n= refused syntax\n"),
     ];
     for (script, want, report) in rows {
-        let (status, told) = run_on(&rt, rt.alloc(), &["run"], script.as_bytes())?;
+        let (status, told) = run_on(&rt, rt.alloc(), &["run"], script.as_bytes());
         assert_eq!(rt; status, want, "on {script:?}");
         assert_eq!(rt; told.as_slice(), report.as_bytes(), "on {script:?}");
     }
-    Ok(())
 }
 
 #[test]
-fn brief_reports_tell_no_proof_line(rt: HostRuntime) -> Result<(), Fail> {
+fn brief_reports_tell_no_proof_line(rt: HostRuntime) {
     let rows = [
         (
             "empty box 0 0 0 0 10 10\n",
@@ -264,15 +264,14 @@ fn brief_reports_tell_no_proof_line(rt: HostRuntime) -> Result<(), Fail> {
         ("", DONE, ""),
     ];
     for (script, want, report) in rows {
-        let (status, told) = run_on(&rt, rt.alloc(), &["run", "brief"], script.as_bytes())?;
+        let (status, told) = run_on(&rt, rt.alloc(), &["run", "brief"], script.as_bytes());
         assert_eq!(rt; status, want, "on {script:?}");
         assert_eq!(rt; told.as_slice(), report.as_bytes(), "on {script:?}");
     }
-    Ok(())
 }
 
 #[test]
-fn checks_reports(rt: HostRuntime) -> Result<(), Fail> {
+fn checks_reports(rt: HostRuntime) {
     let rows = [
         ("", "accepted\n"),
         (
@@ -305,7 +304,7 @@ fn checks_reports(rt: HostRuntime) -> Result<(), Fail> {
         ("> 1 member all 0.000 0.000 0.000 1\n= yes\n", "wrong 2\n"),
     ];
     for (report, want) in rows {
-        let (status, told) = run_on(&rt, rt.alloc(), &["check"], report.as_bytes())?;
+        let (status, told) = run_on(&rt, rt.alloc(), &["check"], report.as_bytes());
         let accepted = want == "accepted\n";
         assert_eq!(rt;
             status,
@@ -314,49 +313,41 @@ fn checks_reports(rt: HostRuntime) -> Result<(), Fail> {
         );
         assert_eq!(rt; told.as_slice(), want.as_bytes(), "on {report:?}");
     }
-    Ok(())
 }
 
 /// Has the report of a script checked, which must be accepted.
-fn expect_accepted<R: Abort + Threads + Sync>(
-    rt: &R,
-    alloc: Global,
-    script: &[u8],
-) -> Result<(), AllocError> {
-    let (_, report) = run_on(rt, alloc, &["run"], script)?;
-    let (status, told) = run_on(rt, alloc, &["check"], &report)?;
+fn expect_accepted<R: Abort + Threads + Sync>(rt: &R, alloc: Global, script: &[u8]) {
+    let (_, report) = run_on(rt, alloc, &["run"], script);
+    let (status, told) = run_on(rt, alloc, &["check"], &report);
     assert_eq!(rt; status, DONE);
     assert_eq!(rt; told.as_slice(), b"accepted\n".as_slice());
-    Ok(())
 }
 
 #[test]
-fn accepts_what_was_written(rt: HostRuntime) -> Result<(), Fail> {
+fn accepts_what_was_written(rt: HostRuntime) {
     let alloc = rt.alloc();
     let script =
         "let a = box 0 0 0 10 10 10\nshow minus name a box 0 0 0 4 10 10\nwalk\n\nregister lot-7 name a\nregister lot-8 name a\ncut lot-7 half 1 0 0 -5 east west\nneighbours east\n";
-    let (_, upgraded) = run_on(&rt, alloc, &["upgrade"], script.as_bytes())?;
-    expect_accepted(&rt, alloc, script.as_bytes())?;
-    expect_accepted(&rt, alloc, &upgraded)?;
-    Ok(())
+    let (_, upgraded) = run_on(&rt, alloc, &["upgrade"], script.as_bytes());
+    expect_accepted(&rt, alloc, script.as_bytes());
+    expect_accepted(&rt, alloc, &upgraded);
 }
 
 #[test]
-fn counts_in_the_report_of_a_made_script(rt: HostRuntime) -> Result<(), Fail> {
+fn counts_in_the_report_of_a_made_script(rt: HostRuntime) {
     // Nothing is read, so what the source has is no matter.
-    let (status, told) = run_on(&rt, rt.alloc(), &["trial", "1", "0"], b"walk\n")?;
+    let (status, told) = run_on(&rt, rt.alloc(), &["trial", "1", "0"], b"walk\n");
     assert_eq!(rt; status, DONE);
     assert_eq!(rt;
         told.as_slice(),
         b"lines 5\nrefused 0\nlive 2\nproofs 16\n".as_slice()
     );
-    Ok(())
 }
 
 #[test]
-fn stops_where_a_read_or_a_put_fails(rt: HostRuntime) -> Result<(), Fail> {
+fn stops_where_a_read_or_a_put_fails(rt: HostRuntime) {
     let alloc = rt.alloc();
-    let words = words_of(alloc, &["run"])?;
+    let words = words_of(&rt, alloc, &["run"]);
     // The number of the read that fails; that of the put that fails, and the bytes that it appends. No call has number 0.
     let rows = [
         ([1], [(0, 0)], READ_FAILED, ""),
@@ -383,31 +374,30 @@ fn stops_where_a_read_or_a_put_fails(rt: HostRuntime) -> Result<(), Fail> {
     ];
     for (reads, puts, want, written) in rows {
         let mut source = MemorySource::new(b"empty box 0 0 0 0 10 10\n", 10, &reads);
-        let mut sink = MemorySink::new(alloc, 1000, &puts)?;
+        let mut sink = MemorySink::new(alloc, 1000, &puts).expect(&rt, "no memory");
         let status = memory_status(&rt, alloc, &words, &mut source, &mut sink);
         assert_eq!(rt; status, want, "on {reads:?} {puts:?}");
         assert_eq!(rt; sink.bytes(), written.as_bytes(), "on {reads:?} {puts:?}");
     }
-    Ok(())
 }
 
 /// The status of the tool over a sink whose put of this number fails, counted from 1.
-fn status_where_a_put_fails<R: Threads + Sync>(
+fn status_where_a_put_fails<R: Abort + Threads + Sync>(
     rt: &R,
     alloc: Global,
     texts: &[&str],
     input: &[u8],
     number: u32,
-) -> Result<u8, AllocError> {
-    let words = words_of(alloc, texts)?;
+) -> u8 {
+    let words = words_of(rt, alloc, texts);
     let failing = [(number, 0)];
     let mut source = MemorySource::new(input, 1000, &[]);
-    let mut sink = MemorySink::new(alloc, 10_000, &failing)?;
-    Ok(memory_status(rt, alloc, &words, &mut source, &mut sink))
+    let mut sink = MemorySink::new(alloc, 10_000, &failing).expect(rt, "no memory");
+    memory_status(rt, alloc, &words, &mut source, &mut sink)
 }
 
 #[test]
-fn there_is_one_put_for_each_line(rt: HostRuntime) -> Result<(), Fail> {
+fn there_is_one_put_for_each_line(rt: HostRuntime) {
     let alloc = rt.alloc();
     let script = b"rp 2\nmember all 0.000 0.000 0.000 1\n\nempty none\nno command\n";
     let report = b"> 1 member all 0 0 0 1\n= yes\n";
@@ -426,72 +416,67 @@ fn there_is_one_put_for_each_line(rt: HostRuntime) -> Result<(), Fail> {
     ];
     for (texts, input, lines) in rows {
         let lines = u32::from(lines);
-        let whole = status_where_a_put_fails(&rt, alloc, texts, input, lines + 1)?;
+        let whole = status_where_a_put_fails(&rt, alloc, texts, input, lines + 1);
         assert!(rt; whole <= REFUSED, "one put more, on {texts:?}");
         if lines > 0 {
-            let cut = status_where_a_put_fails(&rt, alloc, texts, input, lines)?;
+            let cut = status_where_a_put_fails(&rt, alloc, texts, input, lines);
             assert_eq!(rt; cut, PUT_FAILED, "the last put, on {texts:?}");
         }
     }
-    Ok(())
 }
 
 #[test]
-fn puts_the_mark_by_itself(rt: HostRuntime) -> Result<(), Fail> {
+fn puts_the_mark_by_itself(rt: HostRuntime) {
     let rows = [
         ("run", "> 0 rp 2\n"),
         ("script", "rp 2\n"),
         ("upgrade", "rp 2\n"),
     ];
     for (word, written) in rows {
-        let words = words_of(rt.alloc(), &[word])?;
+        let words = words_of(&rt, rt.alloc(), &[word]);
         let mut source = MemorySource::new(b"rp 2\nempty none\n", 10, &[]);
-        let mut sink = MemorySink::new(rt.alloc(), 1000, &[(2, 0)])?;
+        let mut sink = MemorySink::new(rt.alloc(), 1000, &[(2, 0)]).expect(&rt, "no memory");
         let status = memory_status(&rt, rt.alloc(), &words, &mut source, &mut sink);
         assert_eq!(rt; status, PUT_FAILED, "on {word}");
         assert_eq!(rt; sink.bytes(), written.as_bytes(), "on {word}");
     }
-    Ok(())
 }
 
 #[test]
-fn knows_no_other_words(rt: HostRuntime) -> Result<(), Fail> {
+fn knows_no_other_words(rt: HostRuntime) {
     let script = b"member half 1 0 0 0 0 5 5 1\n";
-    let (unknown, first) = run_on(&rt, rt.alloc(), &["walk"], script)?;
-    let (longer, second) = run_on(&rt, rt.alloc(), &["run", "brief", "now"], script)?;
-    let (none, third) = run_on(&rt, rt.alloc(), &[], script)?;
+    let (unknown, first) = run_on(&rt, rt.alloc(), &["walk"], script);
+    let (longer, second) = run_on(&rt, rt.alloc(), &["run", "brief", "now"], script);
+    let (none, third) = run_on(&rt, rt.alloc(), &[], script);
     assert_eq!(rt; (unknown, longer, none), (UNLISTED, UNLISTED, UNLISTED));
     assert_eq!(rt; (first.len(), second.len(), third.len()), (0, 0, 0));
-    Ok(())
 }
 
 /// The status and the count of bytes put, on so many line ends.
-fn status_on_line_ends<R: Threads + Sync>(
+fn status_on_line_ends<R: Abort + Threads + Sync>(
     rt: &R,
     alloc: Global,
     word: &str,
     count: usize,
-) -> Result<(u8, usize), AllocError> {
-    let input = vec![in alloc; b'\n'; count]?;
-    let (status, told) = run_on(rt, alloc, &[word], &input)?;
-    Ok((status, told.len()))
+) -> (u8, usize) {
+    let input = vec![in alloc; b'\n'; count].expect(rt, "no memory");
+    let (status, told) = run_on(rt, alloc, &[word], &input);
+    (status, told.len())
 }
 
 #[test]
-fn takes_sixteen_million_bytes_and_no_more(rt: HostRuntime) -> Result<(), Fail> {
+fn takes_sixteen_million_bytes_and_no_more(rt: HostRuntime) {
     for (count, want) in [(16_777_216, DONE), (16_777_217, TOO_LONG)] {
-        let (status, length) = status_on_line_ends(&rt, rt.alloc(), "run", count)?;
+        let (status, length) = status_on_line_ends(&rt, rt.alloc(), "run", count);
         assert_eq!(rt; status, want);
         assert_eq!(rt; length, 0);
     }
-    Ok(())
 }
 
 #[test]
-fn checks_longer_reports_than_scripts(rt: HostRuntime) -> Result<(), Fail> {
-    let (status, length) = status_on_line_ends(&rt, rt.alloc(), "check", 16_777_217)?;
+fn checks_longer_reports_than_scripts(rt: HostRuntime) {
+    let (status, length) = status_on_line_ends(&rt, rt.alloc(), "check", 16_777_217);
     // An empty line is no line of a report.
     assert_eq!(rt; status, REFUSED);
     assert_eq!(rt; length, b"wrong 1\n".len());
-    Ok(())
 }
