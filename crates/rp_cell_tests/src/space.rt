@@ -67,7 +67,8 @@ fn a_name_is_a_key(rt: HostRuntime) {
     assert!(rt; east == again);
     assert!(rt; east != west);
     let mut numbers = HashMap::new(rt.alloc());
-    numbers.insert(east, 7).expect(&rt, "no memory");
+    let added: Result<_, _> = numbers.insert(east, 7);
+    added.expect(&rt, "no memory");
     assert_eq!(rt; numbers.get(&again).copied(), Some(7));
     assert_eq!(rt; numbers.get(&west).copied(), None);
 }

@@ -527,9 +527,7 @@ fn the_first_slice_that_does_not_pass_is_wrong(rt: HostRuntime) {
         ),
     ];
     for (report, number) in table {
-        assert_eq!(rt;
-            slices_of_two(rt.alloc(), 5, report),
-            Ok((Err(Stopped::Wrong), number))
-        );
+        let found = slices_of_two(&rt, rt.alloc(), 5, report);
+        assert_eq!(rt; found, (Err(Stopped::Wrong), number));
     }
 }

@@ -30,8 +30,9 @@ fn with_plot(rt: &impl Abort, alloc: Global) -> History
         layer: name(b"land"),
         origins: Names::new(alloc),
     };
-    let noted = history.note(alloc, 1, &[birth], &[]);
-    noted.expect(rt, "no memory");
+    history
+        .note(alloc, 1, &[birth], &[])
+        .expect(rt, "no memory");
     history
 }
 
@@ -42,8 +43,7 @@ fn box_of_plot(rt: &impl Abort, alloc: Global) -> LotBoxes
 {
     let hull = bounds(0).union(&bounds(10));
     let mut boxes = LotBoxes::new(alloc);
-    let added = boxes.add_all(alloc, 0, &[hull]);
-    added.expect(rt, "no memory");
+    boxes.add_all(alloc, 0, &[hull]).expect(rt, "no memory");
     boxes
 }
 

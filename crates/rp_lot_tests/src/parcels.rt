@@ -54,12 +54,38 @@ const FAR: IntBox = IntBox {
 /// As many tests as may be counted.
 const MAX_TESTS: u64 = 65536;
 
+/// The region of a cell.
+fn cell_region(rt: &impl Abort, alloc: Global, cell: &[Half]) -> Region
+    requires { length cell.now ≤ 64 }
+{
+    let mut work = Work::new(alloc);
+    Region::of_cell(alloc, cell, &mut work).expect(rt, "no region of a cell")
+}
+
 /// The region of a box.
 fn region(rt: &impl Abort, alloc: Global, bounds: &IntBox) -> Region
     requires { is_box_in_bounds (integer_box bounds.now) ≡ true }
 {
+    cell_region(rt, alloc, &box_halves(bounds))
+}
+
+/// Registers a region at the line, in a layer.
+fn register_in<R: Abort, W: Watch>(
+    rt: &R,
+    alloc: Global,
+    watch: &W,
+    parcels: &mut Parcels,
+    line: u32,
+    layer: Name,
+    id: Name,
+    region: Region,
+)
+    requires { IsLater line parcels.old }
+    ensures { IsLater (line + 1) parcels.new }
+{
     let mut work = Work::new(alloc);
-    Region::of_cell(alloc, &box_halves(bounds), &mut work).expect(rt, "no region of a box")
+    let done = parcels.register(alloc, watch, line, layer, id, region, &mut work);
+    done.expect(rt, "a region is not registered");
 }
 
 /// Registers a region at the line, in the layer `land`.
@@ -75,9 +101,7 @@ fn register<R: Abort, W: Watch>(
     requires { IsLater line parcels.old }
     ensures { IsLater (line + 1) parcels.new }
 {
-    let mut work = Work::new(alloc);
-    let done = parcels.register(alloc, watch, line, name(b"land"), id, region, &mut work);
-    done.expect(rt, "a region is not registered");
+    register_in(rt, alloc, watch, parcels, line, name(b"land"), id, region);
 }
 
 /// Registers a box at the line.
@@ -339,9 +363,7 @@ fn slice(rt: &impl Abort, alloc: Global, x: u32) -> Region {
     });
     let west = Half::new(1, 0, 0, -(x as i64)).expect(rt, "no side in the west");
     let east = Half::new(-1, 0, 0, x as i64 + 1).expect(rt, "no side in the east");
-    let cell = [west, east, south, north, bottom, top];
-    let mut work = Work::new(alloc);
-    Region::of_cell(alloc, &cell, &mut work).expect(rt, "no unit box")
+    cell_region(rt, alloc, &[west, east, south, north, bottom, top])
 }
 
 /// The name of a box in a row, or of a side of it.
@@ -413,8 +435,7 @@ fn parcel_items_meet_in_neighbours(rt: HostRuntime) {
 /// The half-space askew of the points whose x and y together are at least so much.
 fn askew(rt: &impl Abort, alloc: Global, least: i32) -> Region {
     let half = Half::new(1, 1, 0, -(least as i64)).expect(rt, "no half-space askew");
-    let mut work = Work::new(alloc);
-    Region::of_cell(alloc, &[half], &mut work).expect(rt, "no region askew")
+    cell_region(rt, alloc, &[half])
 }
 
 /// Registers a box at the line, and cuts it askew at the next one.
@@ -536,9 +557,7 @@ fn storey(rt: &impl Abort, alloc: Global, i: u32) -> Region
     let low = 3000 * i as i64;
     let floor = Half::new(0, 0, 1, -low).expect(rt, "no floor");
     let ceiling = Half::new(0, 0, -1, low + 3000).expect(rt, "no ceiling");
-    let cell = [west, east, south, north, floor, ceiling];
-    let mut work = Work::new(alloc);
-    Region::of_cell(alloc, &cell, &mut work).expect(rt, "no storey")
+    cell_region(rt, alloc, &[west, east, south, north, floor, ceiling])
 }
 
 /// What cuts that storey in two.
@@ -547,8 +566,7 @@ fn cut_of(rt: &impl Abort, alloc: Global, i: u32) -> Region
 {
     let (a, b, d) = CUTS[i as usize];
     let half = Half::new(a, b, 0, d).expect(rt, "no half-space that cuts");
-    let mut work = Work::new(alloc);
-    Region::of_cell(alloc, &[half], &mut work).expect(rt, "no region that cuts")
+    cell_region(rt, alloc, &[half])
 }
 
 /// Registers the next storey, and cuts it in two.
@@ -642,17 +660,8 @@ fn four_plots(rt: &impl Abort, alloc: Global) -> Parcels {
     register_box(rt, alloc, &mut parcels, 2, name(b"b"), &WEST);
     register_box(rt, alloc, &mut parcels, 3, name(b"c"), &FAR);
     let region = region(rt, alloc, &PLOT);
-    let mut work = Work::new(alloc);
-    let done = parcels.register(
-        alloc,
-        &Quiet,
-        4,
-        name(b"air"),
-        name(b"d"),
-        region,
-        &mut work,
-    );
-    done.expect(rt, "a region is not registered");
+    let (air, d) = (name(b"air"), name(b"d"));
+    register_in(rt, alloc, &Quiet, &mut parcels, 4, air, d, region);
     parcels
 }
 

@@ -9,6 +9,13 @@ use rp_space::{Half, Halves, Inside, IntBox, Name, Names, Numbers, Outside, Poin
 use std::alloc::Global;
 use std::process::Abort;
 
+/// Writes an answer, full or brief, and compares its text.
+fn expect_answer(rt: &impl Abort, alloc: Global, answer: &Answer, brief: bool, want: &[u8]) {
+    let mut out = Vec::new(alloc);
+    write_answer(answer, brief, &mut out).expect(rt, "no memory");
+    assert_eq!(rt; out.as_slice(), want);
+}
+
 /// Writes the answer with one verdict, and compares its text.
 fn expect_text(
     rt: &impl Abort,
@@ -17,13 +24,21 @@ fn expect_text(
     verdict: Verdict,
     want: &[u8],
 ) {
-    let answer = Answer::with_verdict(alloc, n, echo, Proofs::new(alloc), verdict).expect(
-        rt,
-        "no memory",
-    );
-    let mut out = Vec::new(alloc);
-    write_answer(&answer, false, &mut out).expect(rt, "no memory");
-    assert_eq!(rt; out.as_slice(), want);
+    let answer = Answer::with_verdict(alloc, n, echo, Proofs::new(alloc), verdict);
+    let answer = answer.expect(rt, "no memory");
+    expect_answer(rt, alloc, &answer, false, want);
+}
+
+/// Adds a verdict.
+fn add(rt: &impl Abort, verdicts: &mut Verdicts, verdict: Verdict) {
+    verdicts.push(verdict).expect(rt, "no memory");
+}
+
+/// Writes the answer to line 7 with some verdicts, and compares its text.
+fn expect_verdicts(rt: &impl Abort, alloc: Global, echo: &[u8], verdicts: Verdicts, want: &[u8]) {
+    let answer = Answer::with_verdicts(alloc, 7, echo, Proofs::new(alloc), verdicts);
+    let answer = answer.expect(rt, "no memory");
+    expect_answer(rt, alloc, &answer, false, want);
 }
 
 #[test]
@@ -166,13 +181,9 @@ fn a_live_lot_of_the_first_layer_has_the_shortest_line(rt: HostRuntime) {
 
 #[test]
 fn a_lot_line_tells_end_layer_and_origins(rt: HostRuntime) {
-    let mut origins = Names::new(rt.alloc());
-    origins
-        .push(Name::new(b"east").expect(&rt, "no name"))
-        .expect(&rt, "no memory");
-    origins
-        .push(Name::new(b"base").expect(&rt, "no name"))
-        .expect(&rt, "no memory");
+    let east = Name::new(b"east").expect(&rt, "no name");
+    let base = Name::new(b"base").expect(&rt, "no name");
+    let origins = Names::copy_of(rt.alloc(), &[east, base]).expect(&rt, "no memory");
     let want = b"> 7 list\n= lot west born 3 ended 12 layer rights from east base\n";
     expect_lot(&rt, rt.alloc(), (b"rights", Some(12)), origins, want);
 }
@@ -181,50 +192,24 @@ fn a_lot_line_tells_end_layer_and_origins(rt: HostRuntime) {
 fn parts_stand_below_their_number(rt: HostRuntime) {
     let near = Half::new(-1, 0, 0, 10).expect(&rt, "no half-space");
     let right = Half::new(0, 1, 0, 0).expect(&rt, "no half-space");
+    let part = Halves::copy_of(rt.alloc(), &[near, right]).expect(&rt, "no memory");
     let mut verdicts = Verdicts::new(rt.alloc());
-    verdicts.push(Verdict::Parts(1)).expect(&rt, "no memory");
-    verdicts
-        .push(Verdict::Part(Halves::copy_of(rt.alloc(), &[near, right]).expect(&rt, "no memory")))
-        .expect(&rt, "no memory");
-    let answer = Answer::with_verdicts(
-        rt.alloc(),
-        7,
-        b"show q",
-        Proofs::new(rt.alloc()),
-        verdicts,
-    ).expect(&rt, "no memory");
-    let mut out = Vec::new(rt.alloc());
-    write_answer(&answer, false, &mut out).expect(&rt, "no memory");
-    assert_eq!(rt;
-        out.as_slice(),
-        b"> 7 show q\n= parts 1\n= part (-1 0 0 10) (0 1 0 0)\n".as_slice()
-    );
+    add(&rt, &mut verdicts, Verdict::Parts(1));
+    add(&rt, &mut verdicts, Verdict::Part(part));
+    let want = b"> 7 show q\n= parts 1\n= part (-1 0 0 10) (0 1 0 0)\n";
+    expect_verdicts(&rt, rt.alloc(), b"show q", verdicts, want);
 }
 
 #[test]
 fn pieces_stand_below_their_number(rt: HostRuntime) {
+    let first = Numbers::copy_of(rt.alloc(), &[1, 3]).expect(&rt, "no memory");
+    let second = Numbers::copy_of(rt.alloc(), &[2]).expect(&rt, "no memory");
     let mut verdicts = Verdicts::new(rt.alloc());
-    verdicts.push(Verdict::Pieces(2)).expect(&rt, "no memory");
-    verdicts
-        .push(Verdict::Piece(Numbers::copy_of(rt.alloc(), &[1, 3]).expect(&rt, "no memory")))
-        .expect(&rt, "no memory");
-    verdicts
-        .push(Verdict::Piece(Numbers::copy_of(rt.alloc(), &[2]).expect(&rt, "no memory")))
-        .expect(&rt, "no memory");
-    let answer = Answer::with_verdicts(
-        rt.alloc(),
-        7,
-        b"pieces q",
-        Proofs::new(rt.alloc()),
-        verdicts,
-    )
-    .expect(&rt, "no memory");
-    let mut out = Vec::new(rt.alloc());
-    write_answer(&answer, false, &mut out).expect(&rt, "no memory");
-    assert_eq!(rt;
-        out.as_slice(),
-        b"> 7 pieces q\n= pieces 2\n= piece 1 3\n= piece 2\n".as_slice()
-    );
+    add(&rt, &mut verdicts, Verdict::Pieces(2));
+    add(&rt, &mut verdicts, Verdict::Piece(first));
+    add(&rt, &mut verdicts, Verdict::Piece(second));
+    let want = b"> 7 pieces q\n= pieces 2\n= piece 1 3\n= piece 2\n";
+    expect_verdicts(&rt, rt.alloc(), b"pieces q", verdicts, want);
 }
 
 #[test]
@@ -242,9 +227,8 @@ fn a_part_of_all_points_has_its_word_alone(rt: HostRuntime) {
 #[test]
 fn past_a_limit_nothing_but_the_refusal_is_told(rt: HostRuntime) {
     let answer = Answer::past_limit(rt.alloc(), 7, b"show q").expect(&rt, "no memory");
-    let mut out = Vec::new(rt.alloc());
-    write_answer(&answer, false, &mut out).expect(&rt, "no memory");
-    assert_eq!(rt; out.as_slice(), b"> 7 show q\n= refused limit\n".as_slice());
+    let want = b"> 7 show q\n= refused limit\n";
+    expect_answer(&rt, rt.alloc(), &answer, false, want);
 }
 
 #[test]
@@ -261,9 +245,8 @@ fn without_echo_the_number_stands_alone(rt: HostRuntime) {
 
 #[test]
 fn a_blank_answer_has_no_text(rt: HostRuntime) {
-    let mut out = Vec::new(rt.alloc());
-    write_answer(&Answer::blank(rt.alloc(), 3), false, &mut out).expect(&rt, "no memory");
-    assert!(rt; out.is_empty());
+    let answer = Answer::blank(rt.alloc(), 3);
+    expect_answer(&rt, rt.alloc(), &answer, false, b"");
 }
 
 /// Writes an answer with the proof line, full or brief, and compares its text.
@@ -271,9 +254,7 @@ fn expect_proof(rt: &impl Abort, alloc: Global, proof: Proof, brief: bool, want:
     let mut proofs = Proofs::new(alloc);
     proofs.push(proof).expect(rt, "no memory");
     let answer = Answer::with_verdict(alloc, 7, b"q", proofs, Verdict::No).expect(rt, "no memory");
-    let mut out = Vec::new(alloc);
-    write_answer(&answer, brief, &mut out).expect(rt, "no memory");
-    assert_eq!(rt; out.as_slice(), want);
+    expect_answer(rt, alloc, &answer, brief, want);
 }
 
 /// The list of two points.

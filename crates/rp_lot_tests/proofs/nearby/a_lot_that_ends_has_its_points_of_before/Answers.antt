@@ -8,7 +8,7 @@ use Rattle.rp_lot_tests.proofs.nearby.a_lot_that_ends_has_its_points_of_before.G
 behind_one : (n : ℕ) (ids : List Label) (old new : List (Lot (Unit {0}))) (k : ℕ) → length old ≡ 1 → new ≡ map (ended_at n ids) old → length new ≤ k → 1 ≤ k
 behind_one n ids old new k one is f = let many = ap length is ∙ length-map old (ended_at n ids) in omega (arith, one, many, f)
 
-pub count_near-requires : goal.count_near-requires
-count_near-requires g c k f =
-    let behind = behind_one 2 (c.in_ok-name.field-0 ∷ []) c.in_ok-history.history c.end.new.self k c.in_ok-history.ensures.one c.end.ensures.lots f in
-    c.end_all.ensures.live.rest k behind ∙ c.in_ok-boxes.ensures.live k behind
+pub count_near-near-requires : goal.count_near-near-requires
+count_near-near-requires g c k f =
+    let behind = behind_one 2 (c.name.result ∷ []) c.with_plot-history.result c.end.new.self k c.with_plot-history.ensures.one c.end.ensures.lots f in
+    c.end_all.ensures.live.rest k behind ∙ c.box_of_plot-boxes.ensures.live k behind

@@ -24,8 +24,8 @@ second_number x y = by (label_eq y x) refl
     by true e = let here = number_here y x (y ∷ []) e in omega (arith, here)
     by false e = let later = number_later y x (y ∷ []) e in let here = number_here y y [] ((bytes_eq-Decides y y).1 refl) in omega (arith, later, here)
 
-pub along-requires-clause-from_there : goal.along-requires-clause-from_there
-along-requires-clause-from_there g c = first_number c.in_ok-first.first c.in_ok-second.second
+pub along-access-requires-clause-from_there : goal.along-access-requires-clause-from_there
+along-access-requires-clause-from_there g c = first_number c.name-first.result c.name-second.result
 
-pub along-requires-clause-to_there : goal.along-requires-clause-to_there
-along-requires-clause-to_there g c = second_number c.in_ok-first.first c.in_ok-second.second
+pub along-access-requires-clause-to_there : goal.along-access-requires-clause-to_there
+along-access-requires-clause-to_there g c = second_number c.name-first.result c.name-second.result
