@@ -8,10 +8,7 @@
 //! room for it.
 
 mod check;
-mod run;
 pub mod status;
-mod summary;
 mod top;
-mod trial;
 
 pub use top::tool;

@@ -11,10 +11,10 @@ ghost use Rattle.rp_tool.specs.Check.{IsWrittenReport};
 ghost use Rattle.rp_tool.specs.Status.{IsFrontOf, IsOutputOf, most_input_bytes, reads_input, status_of_fault, status_of_intake, status_of_made, status_of_output};
 
 use crate::check::check;
-use crate::run::run;
 use crate::status::{DONE, OUT_OF_MEMORY, PUT_FAILED, READ_FAILED, REFUSED, TOO_LONG, UNLISTED};
-use crate::trial::trial;
 use rp_io::{IntakeFault, Sink, Source, read_whole};
+use rp_runner::run::run;
+use rp_runner::trial::trial;
 use rp_scripts::make::make;
 use rp_scripts::spell::spell;
 use rp_scripts::upgrade::upgrade;

@@ -2,7 +2,7 @@ use Rattle.std.proofs.Common.{◌≡◌, ℕ, ◌+◌, List, ◌++◌, OnOk, ap,
 use Rattle.rp_reports.specs.Machine.{after_line, step_answer}
 use Rattle.rp_scripts.specs.Made.{made_line}
 use Rattle.rp_scripts.specs.Trial.{counted}
-use Rattle.rp_tool.proofs.summary.count_made.Goals as goal
+use Rattle.rp_runner.proofs.summary.count_made.Goals as goal
 
 pub returns-clause-counted : goal.returns-clause-counted
 returns-clause-counted g c =

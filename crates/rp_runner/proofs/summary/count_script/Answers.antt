@@ -6,7 +6,7 @@ use Rattle.rp_reports.specs.Made.{made_script}
 use Rattle.rp_scripts.specs.Made.{made_line}
 use Rattle.rp_scripts.proofs.MadeLemmas.{length-made}
 use Rattle.rp_scripts.proofs.TrialLemmas.{HasCounted-start, HasCounted-more, HasCounted-counts, HasCounted-state}
-use Rattle.rp_tool.proofs.summary.count_script.Goals as goal
+use Rattle.rp_runner.proofs.summary.count_script.Goals as goal
 
 pub loop-line-init : goal.loop-line-init
 loop-line-init g c =

@@ -9,7 +9,7 @@ use Rattle.rp_scripts.specs.declared.fault.OutputFault.TheVariants.{Put, Memory}
 use Rattle.rp_scripts.specs.Output.{HasOutputCause}
 use Rattle.rp_scripts.proofs.SinkLemmas.{OnErr-holds}
 use Rattle.rp_scripts.proofs.RunLemmas.{HasTold-start, HasTold-more, PutsFront-mark, PutsFront-nothing, PutsFront-run, PutsOutput-run}
-use Rattle.rp_tool.proofs.run.run.Goals as goal
+use Rattle.rp_runner.proofs.run.run.Goals as goal
 
 pub loop-line-init : goal.loop-line-init
 loop-line-init g c =

@@ -4,7 +4,7 @@ use Rattle.rp_model.specs.states.Sound.{IsLaterThan}
 use Rattle.rp_reports.specs.Made.{made_script}
 use Rattle.rp_scripts.specs.Trial.{AreBounded}
 use Rattle.rp_scripts.proofs.TrialLemmas.{HasCounted}
-use Rattle.rp_tool.proofs.summary.count_script.Given as goal
+use Rattle.rp_runner.proofs.summary.count_script.Given as goal
 
 abbrev pub invariant-loop-line : goal.invariant-loop-line
 invariant-loop-line g l =

@@ -5,7 +5,7 @@ use Rattle.rp_reports.specs.Text.{text_of_lines}
 use Rattle.rp_scripts.specs.Trial.{summary_lines}
 use Rattle.rp_scripts.proofs.SinkLemmas.{AppendsPrefix-nothing, OnErr-holds}
 use Rattle.rp_scripts.proofs.TrialLemmas.{summary-text}
-use Rattle.rp_tool.proofs.trial.trial.Goals as goal
+use Rattle.rp_runner.proofs.trial.trial.Goals as goal
 
 pub returns-clause-summary : goal.returns-clause-summary
 returns-clause-summary g c =

@@ -6,7 +6,7 @@ use Rattle.rp_reports.specs.Text.{Answer, answer_lines, text_of_lines}
 use Rattle.rp_report.specs.Views.{answer_of}
 use Rattle.rp_scripts.proofs.RunLemmas.{PutsAnswer-told}
 use Rattle.rp_scripts.proofs.SinkLemmas.{AppendsPrefix-nothing, OnErr-holds}
-use Rattle.rp_tool.proofs.run.run_line.Goals as goal
+use Rattle.rp_runner.proofs.run.run_line.Goals as goal
 
 pub returns-clause-answer : goal.returns-clause-answer
 returns-clause-answer g c =
