@@ -1,9 +1,10 @@
 ghost use Rattle.std.specs.Prelude.{◌≡◌, ◌+◌, ◌≤◌, length, IfErr, IfOk, OnErr, OnOk};
 ghost use Rattle.rp_io.specs.Bytes.{AppendsPrefix};
 ghost use Rattle.rp_reports.specs.Output.{most_script_bytes};
-ghost use Rattle.rp_model.specs.states.State.{state_of_parts};
+ghost use Rattle.rp_model.specs.states.State.{opening, state_of_parts};
 ghost use Rattle.rp_model.specs.states.Sound.{IsLaterThan};
 ghost use Rattle.rp_reports.specs.Machine.{after_line, step_answer};
+ghost use Rattle.rp_reports.specs.Report.{script_version};
 ghost use Rattle.rp_reports.specs.Text.{answer_lines, text_of_lines};
 ghost use Rattle.rp_scripts.specs.Output.{PutsAnswer, PutsFront, PutsOutput, HasOutputCause, report_task};
 
@@ -39,6 +40,38 @@ fn run_line<R: Threads + Sync, K: Sink>(
     put_answer(&answer, brief, text, sink)
 }
 
+/// Puts the report of a script by a machine of its version that has answered no line yet. So the machine, which is large,
+/// is held where no step can fail.
+fn put_report<R: Threads + Sync, K: Sink>(
+    rt: &R,
+    alloc: Global,
+    machine: &mut Machine,
+    script: &[u8],
+    brief: bool,
+    sink: &mut K,
+) -> Result<bool, OutputFault>
+    requires short { length script.now ≤ most_script_bytes }
+    requires opened { machine.old ≡ record { version = script_version script.now; state = opening } }
+    ensures counts { K.faults sink.old ≤ K.faults sink.new }
+    ensures report { IfOk result (λ refused.
+        PutsOutput (report_task brief) script.now (K.said sink.old) (K.said sink.new) refused) }
+    ensures front { OnErr result (PutsFront (report_task brief) script.now (K.said sink.old) (K.said sink.new)) }
+    ensures cause { IfErr result (HasOutputCause (K.faults sink.old) (K.faults sink.new)) }
+{
+    let (version, body) = split_mark(script);
+    put_mark(version, b"> 0 rp 2\n", sink)?;
+    let mut text = Vec::new(alloc);
+    let mut rest = body;
+    let mut number = 1;
+    let mut refused = false;
+    while let Some((line, behind)) = next_line(rest) {
+        refused |= run_line(rt, alloc, machine, number, line, brief, &mut text, sink)?;
+        rest = behind;
+        number += 1;
+    }
+    Ok(refused)
+}
+
 /// Puts the report of a script, answer by answer, full or without the proof lines: one machine answers the lines of its
 /// body in order. The report of a script of version 2 begins with the line `> 0 rp 2`. Answers whether something was
 /// refused.
@@ -56,26 +89,7 @@ pub fn run<R: Threads + Sync, K: Sink>(
     ensures front { OnErr result (PutsFront (report_task brief) script.now (K.said sink.old) (K.said sink.new)) }
     ensures cause { IfErr result (HasOutputCause (K.faults sink.old) (K.faults sink.new)) }
 {
-    let (version, body) = split_mark(script);
+    let (version, _) = split_mark(script);
     let mut machine = Machine::new(alloc, version)?;
-    put_mark(version, b"> 0 rp 2\n", sink)?;
-    let mut text = Vec::new(alloc);
-    let mut rest = body;
-    let mut number = 1;
-    let mut refused = false;
-    while let Some((line, behind)) = next_line(rest) {
-        refused |= run_line(
-            rt,
-            alloc,
-            &mut machine,
-            number,
-            line,
-            brief,
-            &mut text,
-            sink,
-        )?;
-        rest = behind;
-        number += 1;
-    }
-    Ok(refused)
+    put_report(rt, alloc, &mut machine, script, brief, sink)
 }

@@ -83,6 +83,21 @@ fn count_script<R: Threads + Sync>(
     Ok(counts)
 }
 
+/// The summary of the report of a building's script, by a machine that answered no line yet.
+fn summary_by<R: Threads + Sync>(
+    rt: &R,
+    alloc: Global,
+    building: Building,
+    machine: &mut Machine,
+) -> Result<Summary, AllocError>
+    requires { machine.old ≡ record { version = one; state = opening } }
+    ensures { let script = made_script building.storeys building.seed in IfOk result (λ s. s ≡ summary_of script (run_from opening 1 script)) }
+{
+    let counts = count_script(rt, alloc, building, machine)?;
+    let live = machine.count_live();
+    Ok(Summary { counts, live })
+}
+
 /// The summary of the report of a building's script, which is of version 1. Answers `AllocError` only for
 /// want of memory.
 pub fn summary_of<R: Threads + Sync>(
@@ -93,7 +108,5 @@ pub fn summary_of<R: Threads + Sync>(
     ensures { let script = made_script building.storeys building.seed in IfOk result (λ s. s ≡ summary_of script (run_from opening 1 script)) }
 {
     let mut machine = Machine::new(alloc, Version::One)?;
-    let counts = count_script(rt, alloc, building, &mut machine)?;
-    let live = machine.count_live();
-    Ok(Summary { counts, live })
+    summary_by(rt, alloc, building, &mut machine)
 }

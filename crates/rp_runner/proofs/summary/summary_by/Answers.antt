@@ -1,6 +1,6 @@
 use Rattle.rp_reports.specs.Made.{made_script}
 use Rattle.rp_scripts.proofs.TrialLemmas.{summary-counted}
-use Rattle.rp_runner.proofs.summary.summary_of.Goals as goal
+use Rattle.rp_runner.proofs.summary.summary_by.Goals as goal
 
 pub returns : goal.returns
 returns g c =

@@ -3,7 +3,7 @@ use Rattle.rp_reports.specs.Output.{most_script_bytes}
 use Rattle.rp_model.specs.states.State.{state_of_parts}
 use Rattle.rp_model.specs.states.Sound.{IsLaterThan}
 use Rattle.rp_scripts.proofs.RunLemmas.{HasTold}
-use Rattle.rp_runner.proofs.run.run.Given as goal
+use Rattle.rp_runner.proofs.run.put_report.Given as goal
 
 abbrev pub invariant-loop-line : goal.invariant-loop-line
 invariant-loop-line g l =
