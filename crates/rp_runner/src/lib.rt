@@ -3,7 +3,7 @@
 //!
 //! [`run::run`] puts the report of a script to a sink, full or brief, and tells whether something was refused.
 //! [`trial::trial`] runs the script of a building and puts the summary of its report; neither the script nor the report
-//! is held whole.
+//! is held whole. Both fail only where a put did, or for want of memory; then a front of their text was put.
 
 pub mod run;
 mod summary;

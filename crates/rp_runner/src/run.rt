@@ -40,8 +40,7 @@ fn run_line<R: Threads + Sync, K: Sink>(
     put_answer(&answer, brief, text, sink)
 }
 
-/// Puts the report of a script by a machine of its version that has answered no line yet. So the machine, which is large,
-/// is held where no step can fail.
+/// Puts the report of a script by a machine of its version that has answered no line yet.
 fn put_report<R: Threads + Sync, K: Sink>(
     rt: &R,
     alloc: Global,
@@ -74,7 +73,7 @@ fn put_report<R: Threads + Sync, K: Sink>(
 
 /// Puts the report of a script, answer by answer, full or without the proof lines: one machine answers the lines of its
 /// body in order. The report of a script of version 2 begins with the line `> 0 rp 2`. Answers whether something was
-/// refused.
+/// refused; `Put` only where a put failed, `Memory` only for want of memory, and then a front of the report was put.
 pub fn run<R: Threads + Sync, K: Sink>(
     rt: &R,
     alloc: Global,
