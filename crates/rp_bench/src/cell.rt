@@ -11,13 +11,20 @@ use std::io::{BufRead, BufReader, Read};
 /// The most half-spaces of a cell.
 const MOST_HALVES: usize = 64;
 
+/// The half-space of which a line asks whether it has a point.
+fn half_asked(line: &Line) -> Option<Half> {
+    match line {
+        Line::Cmd(Command::Empty(Expr::Half(half))) => Some(*half),
+        _ => None,
+    }
+}
+
 /// The half-space of a line that reads `empty half A B C D`.
 fn half_of_line(alloc: Global, line: &[u8]) -> Result<Option<Half>, AllocError> {
     let read = read_line(alloc, Version::One, line)?;
-    match &read {
-        Line::Cmd(Command::Empty(Expr::Half(half))) => Ok(Some(*half)),
-        _ => Ok(None),
-    }
+    let half = half_asked(&read);
+    drop(read);
+    Ok(half)
 }
 
 /// The half-spaces of an input, one a line. A line that has none and a half-space past the 64th are errors, which name

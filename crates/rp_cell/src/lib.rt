@@ -47,4 +47,4 @@ pub use decide::{
 };
 pub use held::Held;
 pub use side_proofs::SideProofs;
-pub use slimming::{Cell, Drops, Slimmed, slim};
+pub use slimming::{Cell, DroppedHalf, Drops, Slimmed, slim};

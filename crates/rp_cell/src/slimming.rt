@@ -14,12 +14,32 @@ use crate::others::outside_of;
 use rp_elim::first_outside_through;
 use rp_space::{Half, Listed, Outside, joined, keep_bounds};
 use std::alloc::{AllocError, Global};
+use std::marker::Model;
 
 /// A cell, as a list of half-spaces.
 pub type Cell = Listed<Half>;
 
-/// Half-spaces that were dropped from a cell, each with the multiples that show that it adds nothing.
-pub type Drops = Listed<(Half, Outside)>;
+/// A half-space that was dropped from a cell, with the multiples that show that it adds nothing.
+#[derive(Debug, Drop)]
+pub struct DroppedHalf {
+    /// The half-space.
+    pub half: Half,
+    /// The multiples.
+    pub terms: Outside,
+}
+
+impl Model for DroppedHalf {
+    ghost use Rattle.std.specs.Prelude.{List};
+    ghost use Rattle.rp_geometry.specs.Geometry.{HalfSpace};
+    ghost use Rattle.rp_geometry.specs.searches.Certificate.{Multiple};
+
+    ghost Value = { HalfSpace × List Multiple };
+
+    ghost view = { λ d. (d.half, d.terms) };
+}
+
+/// Half-spaces that were dropped from a cell.
+pub type Drops = Listed<DroppedHalf>;
 
 /// A slim cell, and what was dropped on the way to it.
 #[derive(Debug, Drop)]
@@ -59,7 +79,7 @@ impl Held {
             let half = cell[i];
             match self.drop_proof(i, &half, kept.items(), &cell[i + 1..]) {
                 None => kept.push(half)?,
-                Some(terms) => dropped.push((half, terms))?,
+                Some(terms) => dropped.push(DroppedHalf { half, terms })?,
             }
         }
         Ok(Slimmed { kept, dropped })

@@ -1,6 +1,6 @@
 use rp_cell::{
-    Cell, Drops, Held, SideProofs, Sides, Slimmed, Strict, Weak, box_of, decide_strict,
-    decide_weak, sides_of, slim,
+    Cell, DroppedHalf, Drops, Held, SideProofs, Sides, Slimmed, Strict, Weak, box_of,
+    decide_strict, decide_weak, sides_of, slim,
 };
 use rp_space::{Half, IntBox, Outside, Term, box_halves};
 use std::process::Abort;
@@ -155,7 +155,7 @@ fn a_half_space_of_all_points_is_dropped(rt: HostRuntime) {
     let slimmed = slim(rt.alloc(), &cell).expect(&rt, "no memory");
     assert_eq!(rt; slimmed.kept.items().len(), 0);
     assert_eq!(rt; slimmed.dropped.items().len(), 1);
-    for (half, terms) in slimmed.dropped.items() {
+    for DroppedHalf { half, terms } in slimmed.dropped.items() {
         assert_eq!(rt; *half, all);
         assert_eq!(rt; terms.items(), [term(&rt, 1, (0, 0, 0, -1))].as_slice());
     }

@@ -16,10 +16,10 @@ use Rattle.rp_algebra.proofs.Options.{none_not_some, same_some}
 use Rattle.rp_algebra.proofs.Reify.{by_ring_at, reify}
 use Rattle.rp_algebra.proofs.Tests.{and_first, and_second, and_true, zero_is, is_zero_true, nonnegative_is, is_nonnegative_true, false_not_true, false_unless, same_test}
 use Rattle.rp_algebra.proofs.Listed.{all_pass, of_all, all_of, all_append}
-use Rattle.rp_geometry.specs.Geometry.{RationalPoint, HalfSpace, IsHalfSpace, half_space_of, side_value, IsPoint, IsKeptPoint, point_eq}
+use Rattle.rp_geometry.specs.Geometry.{RationalPoint, HalfSpace, IsHalfSpace, half_space_of, owns_boundary, side_value, IsPoint, IsKeptPoint, point_eq}
 use Rattle.rp_geometry.specs.laws.CellLaws.{AreHalfSpaces}
 use Rattle.rp_geometry.specs.laws.SectionLaws.{IsSmallTrace}
-use Rattle.rp_geometry.specs.sections.Trace.{IsHeight, IsAtHeight, Trace, has_trace, trace_at, trace_eq, trace_value, is_at_height, holds_level, cube_sides, with_sides}
+use Rattle.rp_geometry.specs.sections.Trace.{IsHeight, IsAtHeight, Trace, offset_at, has_trace, trace_at, trace_eq, trace_value, is_at_height, level_point, holds_level, cube_sides, with_sides}
 use Rattle.rp_geometry.specs.sections.Ring.{RingStep, is_step, is_trace_of, is_lowest_point, all_traces_hold, all_levels_hold}
 use Rattle.rp_ring.proofs.Traces.{direction_of, trace_at-is, side_of_trace, trace_from, trace_eq-to, is_trace_of-to}
 use Rattle.rp_ring.proofs.Small.{trace_is_small_spec}
@@ -58,6 +58,15 @@ short_is v f = to_z-of_z w32 v f
 -- its size
 pub short_within : (v : ℤ) → FitsSigned w32 v → IsWithin (2 ^ 31) (to_z w32 (of_z w32 v))
 short_within v f = subst (IsWithin (2 ^ 31)) (sym (to_z-of_z w32 v f)) (record { abs_le = (let h = f.sfits in omega (arith, ints, h)) })
+
+-- ---- levels
+
+-- a half-space holds the point of a height on the axis by its offset there
+pub level_by_offset : (z : ℤ) (h : HalfSpace) → holds_level z h ≡ (is_positive (offset_at z h) || (is_zero (offset_at z h) && owns_boundary h))
+level_by_offset z h = ap (λ (v : ℤ). is_positive v || (is_zero v && owns_boundary h)) value
+  where
+    value : side_value h (level_point z) ≡ offset_at z h
+    value = by_ring_at (h.a ∷ h.b ∷ h.c ∷ h.d ∷ z ∷ []) (search reify depth 40 fits 100000) tt
 
 -- ---- divisors
 

@@ -1,6 +1,6 @@
 //! Traces: what half-spaces leave on the plane of a height.
 ghost use Rattle.std.specs.Prelude.{◌≡◌, ◌^◌, ◌&&◌, ◌||◌, ◌<◌, true, false, not, pos, IfSome, [], ◌∷◌};
-ghost use Rattle.rp_algebra.specs.Integer.{gcd_of, reduced_by, is_zero};
+ghost use Rattle.rp_algebra.specs.Integer.{gcd_of, reduced_by, is_zero, is_positive};
 ghost use Rattle.rp_algebra.specs.Within.{IsWithin};
 ghost use Rattle.rp_geometry.specs.Geometry.{owns_boundary};
 ghost use Rattle.rp_geometry.specs.sections.Trace.{IsHeight, has_trace, offset_at, holds_level, trace_of};
@@ -46,7 +46,13 @@ pub fn holds_level(half: &Half, z: i32) -> bool
     requires { IsHeight z }
     ensures { result ≡ holds_level z half.now }
 {
-    let value = offset_at(half, z);
+    holds_by(half, offset_at(half, z))
+}
+
+/// Whether a half-space holds a point at which it has this value.
+fn holds_by(half: &Half, value: i64) -> bool
+    ensures { result ≡ (is_positive value || (is_zero value && owns_boundary half.now)) }
+{
     value > 0 || (value == 0 && owns_boundary(half))
 }
 

@@ -44,9 +44,7 @@ pub(crate) fn cut(
     }
     check_room(register, inner.items().len() + outer.items().len())?;
     let layer = history.layer_of(&id);
-    let mut born = Listed::new(alloc);
-    born.push(born_of(alloc, layer, id, first, inner)?)?;
-    born.push(born_of(alloc, layer, id, second, outer)?)?;
+    let born = sides_born(alloc, layer, id, first, inner, second, outer)?;
     Ok(Reply::Changed(replaced(alloc, id, born)?))
 }
 
@@ -107,6 +105,24 @@ fn born_of(
     let origins = Names::copy_of(alloc, &[origin])?;
     let birth = Birth { id, layer, origins };
     Ok(Born { birth, form })
+}
+
+/// The two sides of a cut, born of a lot, in a layer. Answers `AllocError` only for want of memory.
+fn sides_born(
+    alloc: Global,
+    layer: Name,
+    origin: Name,
+    first: Name,
+    inner: Form,
+    second: Name,
+    outer: Form,
+) -> Result<Listed<Born>, AllocError>
+    ensures { IfOk result (λ list. map new_lot_of list.items ≡ new_lot layer first inner.items (origin ∷ []) ∷ new_lot layer second outer.items (origin ∷ []) ∷ []) }
+{
+    let mut born = Listed::new(alloc);
+    born.push(born_of(alloc, layer, origin, first, inner)?)?;
+    born.push(born_of(alloc, layer, origin, second, outer)?)?;
+    Ok(born)
 }
 
 /// Children that are born of a lot, in a layer, in order. Answers `AllocError` only for want of memory.

@@ -1,5 +1,6 @@
 -- What a walk over whole answers of a report has come to.
 use Rattle.std.specs.Prelude.{◌≡◌, ℕ, List, Result, Ok, Err, Option, option_map}
+use Rattle.rp_language.specs.Grammar.{Version, Reading, reading}
 use Rattle.rp_walks.specs.Walk.{Outcome, done, stopped, line_wrong}
 use Rattle.rp_reports.specs.Check.{Trail}
 use Rattle.rp_reports.specs.ProofText.{Echo}
@@ -26,3 +27,7 @@ Answers view (Err e) new o = HaltsBy e o
 -- an echo, by its number and its text
 abbrev pub echo_with : ℕ × Option (Bor (List ℕ)) → Echo
 echo_with r = record { number = r.0; text = option_map (λ text. text.now) r.1 }
+
+-- some line reads so
+abbrev pub IsRead : Reading → Type 0
+IsRead r = (v : Version) × (line : List ℕ) × (reading v line ≡ r)

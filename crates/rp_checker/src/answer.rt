@@ -2,7 +2,7 @@
 ghost use Rattle.std.specs.Prelude.{◌≡◌, ◌+◌, ◌<◌, ◌∷◌, [], ℕ, Ok, length, map, IfOk, is_none, option_map};
 ghost use Rattle.std.specs.List.{AllByRecursion};
 ghost use Rattle.rp_command.specs.Versions.{version_of};
-ghost use Rattle.rp_command.specs.Views.{child_of, command_of, expression_of, fault_of};
+ghost use Rattle.rp_command.specs.Views.{child_of, command_of, expression_of, fault_of, line_of};
 ghost use Rattle.rp_geometry.specs.sections.Trace.{IsHeight};
 ghost use Rattle.rp_language.specs.Expression.{IsKeptExpression, expressions_of, first_unknown_among, heights_of, HasFewChildren};
 ghost use Rattle.rp_language.specs.Grammar.{bad, reading};
@@ -12,7 +12,7 @@ ghost use Rattle.rp_model.specs.states.Sound.{IsLaterThan};
 ghost use Rattle.rp_reports.specs.Check.{Trail as ModelTrail, limit_allowed, follow_walk, follow_command, follow_fault, follow_text, follow_echo, next_echo, follow_answer};
 ghost use Rattle.rp_walks.specs.Walk.{Outcome};
 ghost use Rattle.rp_tests.specs.Comes.{StopsBy};
-ghost use Rattle.rp_checker.specs.Answers.{Answers, echo_with};
+ghost use Rattle.rp_checker.specs.Answers.{Answers, IsRead, echo_with};
 ghost use Rattle.rp_register.specs.Kept.{IsSoundOnLines, ComesFromKnown};
 ghost use Rattle.rp_register.specs.Replies.{change_in, Replies};
 
@@ -212,6 +212,29 @@ fn follow_command(
     follow_row(alloc, register, n, allowed, row, trail)
 }
 
+/// The answer to an echo, which is the next line, with a text that reads so. A text that is blank or too long is wrong there.
+fn follow_read(
+    alloc: Global,
+    register: &mut Register,
+    n: u32,
+    line: &Line,
+    trail: &mut Trail<'_>,
+) -> Result<(), Halt>
+    requires later { IsLaterThan n (state_of_parts register.old) }
+    requires left { 0 < length trail.old.lines }
+    requires read { IsRead (line_of line.now) }
+    ensures { Answers (λ _. register.new) result trail.new (follow_text n register.old (line_of line.now) trail.old) }
+{
+    match line {
+        Line::Blank => Err(Halt::Wrong(trail.number())),
+        Line::Bad(why) => follow_bad(alloc, *why, trail),
+        Line::Cmd(command) => {
+            trail.take();
+            follow_command(alloc, register, n, command, trail)
+        }
+    }
+}
+
 /// The answer to an echo with a text, which is the next line, and is read by the version. A text that is blank or too long is wrong there.
 fn follow_text(
     alloc: Global,
@@ -226,14 +249,9 @@ fn follow_text(
     ensures { Answers (λ _. register.new) result trail.new (follow_text n register.old (reading (version_of version) text.now) trail.old) }
 {
     let line = read_line(alloc, version, text)?;
-    match line {
-        Line::Blank => Err(Halt::Wrong(trail.number())),
-        Line::Bad(why) => follow_bad(alloc, why, trail),
-        Line::Cmd(command) => {
-            trail.take();
-            follow_command(alloc, register, n, &command, trail)
-        }
-    }
+    let followed = follow_read(alloc, register, n, &line, trail);
+    drop(line);
+    followed
 }
 
 /// The answer to an echo, which is the next line, with its text or without one.

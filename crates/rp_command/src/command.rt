@@ -3,7 +3,7 @@
 use rp_space::{Corners, Half, IntBox, Listed, Name, Names, Point};
 
 /// An expression for a region. Half-spaces are in lowest terms.
-#[derive(Debug, Drop)]
+#[derive(Drop)]
 pub enum Expr {
     /// The points that a half-space holds.
     Half(Half),
@@ -33,7 +33,6 @@ pub enum Expr {
 pub type Entries = Listed<(Name, Expr)>;
 
 /// A command of a script. Each has the words of its line, in order.
-#[derive(Debug, Drop)]
 pub enum Command {
     /// Gives a name to a region.
     Let(Name, Expr),
@@ -85,6 +84,54 @@ pub enum Command {
     Access(Name, Name),
 }
 
+// A derived drop stands in line, with the variants of each expression, in every function that holds a command or a line;
+// this one is a call there.
+impl Drop for Command {
+    fn drop(self) {
+        match self {
+            Command::Let(_, region) => drop(region),
+            Command::Member(region, _) => drop(region),
+            Command::Empty(region) => drop(region),
+            Command::Pieces(region) => drop(region),
+            Command::Show(region) => drop(region),
+            Command::Equal(a, b) => {
+                drop(a);
+                drop(b);
+            }
+            Command::Within(a, b) => {
+                drop(a);
+                drop(b);
+            }
+            Command::Overlap(a, b) => {
+                drop(a);
+                drop(b);
+            }
+            Command::Contact(a, b) => {
+                drop(a);
+                drop(b);
+            }
+            Command::Rcc(a, b) => {
+                drop(a);
+                drop(b);
+            }
+            Command::Register(_, region) => drop(region),
+            Command::Cut(_, region, _, _) => drop(region),
+            Command::Subdivide(_, entries) => drop(entries),
+            Command::Consolidate(_, ids) => drop(ids),
+            Command::Section(region, _) => drop(region),
+            Command::Retire(_) => {}
+            Command::Neighbours(_) => {}
+            Command::History(_) => {}
+            Command::At(_) => {}
+            Command::Asof(_, _) => {}
+            Command::Audit => {}
+            Command::List => {}
+            Command::Layer(_) => {}
+            Command::Access(_, _) => {}
+        }
+    }
+}
+
 /// Why a line is no command: its first fault in reading order.
 #[derive(Clone, Copy, Debug, PartialEq, Eq)]
 pub enum Why {
@@ -101,7 +148,7 @@ pub enum Why {
 }
 
 /// What a line reads as.
-#[derive(Debug, Drop)]
+#[derive(Drop)]
 pub enum Line {
     /// The line is empty or a note.
     Blank,

@@ -1,16 +1,18 @@
 //! Access from one parcel to another, from each to one in contact with it.
-ghost use Rattle.std.specs.Prelude.{◌≡◌, ◌≤◌, [], IfOk};
+ghost use Rattle.std.specs.Prelude.{◌≡◌, ◌<◌, ◌≤◌, [], length, IfOk};
+ghost use Rattle.std.specs.List.{AllByRecursion};
 ghost use Rattle.rp_walks.specs.Walk.{first_tester};
-ghost use Rattle.rp_model.specs.states.State.{ids_of};
+ghost use Rattle.rp_model.specs.states.State.{ids_of, place_among, most_kept_parts};
 ghost use Rattle.rp_model.specs.commands.Row.{row_access};
 ghost use Rattle.rp_history.specs.Lots.{lots_in};
 ghost use Rattle.rp_nearby.specs.Near.{lots_at, AreWithin};
-ghost use Rattle.rp_parcels.specs.Access.{access_reply};
+ghost use Rattle.rp_parcels.specs.Access.{access_reply, IsToldBy};
+ghost use Rattle.rp_parcels.specs.Touching.{AreRising, IsPairOf};
 ghost use Rattle.rp_parcels.specs.Rows.{Answers};
 
 use crate::fault::ParcelFault;
 use crate::links::{met_pairs, numbered_pairs};
-use crate::pairs::append_all;
+use crate::pairs::{Judged, Pair, append_all};
 use crate::parcels::Parcels;
 use rp_boxindex::Watch;
 use rp_nearby::{Access, Reach};
@@ -44,12 +46,35 @@ impl Parcels {
         let places = self.live_places(alloc, Some(layer))?;
         let near = self.later_pairs(alloc, watch, &places, Reach::Touch)?;
         let all = self.judge_counted(rt, alloc, watch, grain, &near, Reach::Touch, work)?;
-        let numbers = numbered_pairs(alloc, &places, &near.pairs)?;
-        let met = met_pairs(alloc, &numbers, &all)?;
-        let ids = self.ids_at(alloc, &places)?;
-        let told = Access::along(alloc, ids.items(), &met, &from, &to)?;
+        let told = self.told_access(alloc, &places, &near.pairs, &all, &from, &to)?;
         append_all(alloc, work, all)?;
         Ok(told)
+    }
+
+    /// Access from one of the parcels of some rising places to another, by what the tests of pairs of them have shown.
+    /// Answers `AllocError` only for want of memory.
+    fn told_access(
+        &self,
+        alloc: Global,
+        places: &[usize],
+        pairs: &[Pair],
+        all: &[Judged],
+        from: &Name,
+        to: &Name,
+    ) -> Result<Access, AllocError>
+        requires places { AreWithin self.now places.now }
+        requires few { length places.now ≤ most_kept_parts }
+        requires rising { AreRising places.now }
+        requires pairs { AllByRecursion (IsPairOf places.now) pairs.now }
+        requires each { length pairs.now ≡ length all.now }
+        requires from_there { place_among from.now (ids_of (lots_at self.now places.now)) < length (ids_of (lots_at self.now places.now)) }
+        requires to_there { place_among to.now (ids_of (lots_at self.now places.now)) < length (ids_of (lots_at self.now places.now)) }
+        ensures { IfOk result (IsToldBy (ids_of (lots_at self.now places.now)) places.now pairs.now all.now from.now to.now) }
+    {
+        let numbers = numbered_pairs(alloc, places, pairs)?;
+        let met = met_pairs(alloc, &numbers, all)?;
+        let ids = self.ids_at(alloc, places)?;
+        Access::along(alloc, ids.items(), &met, from, to)
     }
 
     /// The ids of the parcels at some places. Answers `AllocError` only for want of memory.

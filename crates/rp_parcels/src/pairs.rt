@@ -16,21 +16,21 @@ use std::alloc::{AllocError, Global};
 use std::thread::Threads;
 
 /// Two parcels, by their places among all.
-#[derive(Clone, Copy, Debug)]
+#[derive(Clone, Copy)]
 pub(crate) struct Pair {
     pub first: usize,
     pub second: usize,
 }
 
 /// Pairs of parcels, and how many pairs of their parts may meet.
-#[derive(Debug, Drop)]
+#[derive(Drop)]
 pub(crate) struct NearPairs {
     pub tests: u64,
     pub pairs: Vec<Pair>,
 }
 
 /// What the tests of a pair have shown: whether the two meet, and the proof lines. The id is that of the second parcel.
-#[derive(Debug, Drop)]
+#[derive(Drop)]
 pub(crate) struct Judged {
     pub id: Name,
     pub meets: bool,

@@ -35,6 +35,16 @@ fn name_of(region: &Expr) -> Option<Name> {
     }
 }
 
+/// The section that a line asks for by what it reads as, if it asks for one.
+fn section_of(alloc: Global, number: u32, line: &Line) -> Result<Section, LineFault> {
+    match line {
+        Line::Cmd(Command::Section(region, z)) => {
+            Ok(Section::new(alloc, number, *z, name_of(region)))
+        }
+        _ => Err(LineFault::Refused(Cause::Echo)),
+    }
+}
+
 /// The section that a line asks for, if it asks for one.
 fn asked_section(
     alloc: Global,
@@ -42,12 +52,10 @@ fn asked_section(
     number: u32,
     line: &[u8],
 ) -> Result<Section, LineFault> {
-    match read_line(alloc, version, line)? {
-        Line::Cmd(Command::Section(region, z)) => {
-            Ok(Section::new(alloc, number, z, name_of(&region)))
-        }
-        _ => Err(LineFault::Refused(Cause::Echo)),
-    }
+    let read = read_line(alloc, version, line)?;
+    let section = section_of(alloc, number, &read);
+    drop(read);
+    section
 }
 
 /// How many slices a verdict says that there are.

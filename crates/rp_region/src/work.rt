@@ -18,7 +18,7 @@ ghost use Rattle.rp_region.specs.Stops.{TakesOver};
 use crate::fault::OpFault;
 use crate::part::Part;
 use rp_cell::{
-    Drops, Held, SideProofs, Sides, Slimmed, Strict, Weak, decide_strict, decide_weak,
+    DroppedHalf, Drops, Held, SideProofs, Sides, Slimmed, Strict, Weak, decide_strict, decide_weak,
     refute_strict, refute_weak,
 };
 use rp_cert::{Proof, Proofs};
@@ -320,7 +320,7 @@ impl Work {
     fn tell_drops(&mut self, dropped: Drops) -> Result<(), AllocError>
         ensures { Makes (λ x. x) (op_result result) self.old self.new (telling (map drop_line_of dropped.items)) }
     {
-        for (half, terms) in dropped.into_items() {
+        for DroppedHalf { half, terms } in dropped.into_items() {
             self.tell(Proof::Dropped(half, terms))?;
         }
         Ok(())

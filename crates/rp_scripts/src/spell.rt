@@ -79,7 +79,9 @@ fn spell_line<K: Sink>(
     ensures cause { IfErr result (HasOutputCause (K.faults sink.old) (K.faults sink.new)) }
 {
     let read = read_line(alloc, version, line)?;
-    put_read(alloc, version, &read, sink)
+    let bad = put_read(alloc, version, &read, sink);
+    drop(read);
+    bad
 }
 
 /// Puts every command of a script in its one spelling of the script's version, one put for each, behind the line `rp 2` in

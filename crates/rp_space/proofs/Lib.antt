@@ -8,3 +8,4 @@ mod Named
 mod Negative
 pub mod Positive
 mod Sides
+pub mod Sums

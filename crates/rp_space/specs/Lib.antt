@@ -7,4 +7,5 @@ pub mod MadePoint
 pub mod NameBytes
 pub mod PairMinors
 pub mod PositivePoint
+pub mod ShortNumbers
 pub mod TwoHalfSpaces

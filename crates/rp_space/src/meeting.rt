@@ -5,6 +5,7 @@ ghost use Rattle.rp_algebra.specs.Within.{IsWithin};
 ghost use Rattle.rp_geometry.specs.Geometry.{IsPoint, IsSmallPoint, point_of, reduced_point, side_value};
 ghost use Rattle.rp_geometry.specs.searches.Vertex.{det2, cramer_point, meeting_point};
 ghost use Rattle.rp_space.specs.PositivePoint.{positive_point};
+ghost use Rattle.rp_space.specs.ShortNumbers.{AreShort};
 ghost use Rattle.rp_space.specs.TwoHalfSpaces.{two_of};
 
 use crate::half::Half;
@@ -184,10 +185,7 @@ impl Pair {
 
 /// The 2 by 2 determinant with the rows (a, b) and (c, d).
 fn minor(a: i64, b: i64, c: i64, d: i64) -> i128
-    requires a_small { IsWithin (2 ^ 50) a }
-    requires b_small { IsWithin (2 ^ 50) b }
-    requires c_small { IsWithin (2 ^ 50) c }
-    requires d_small { IsWithin (2 ^ 50) d }
+    requires { AreShort a b c d }
     ensures { result ≡ det2 a b c d }
 {
     a as i128 * d as i128 - b as i128 * c as i128

@@ -2,3 +2,5 @@ mod MadeLemmas
 mod NumberLemmas
 mod ManyLemmas
 mod WordLemmas
+mod KeywordLemmas
+mod ExpressionLemmas

@@ -1,4 +1,7 @@
 -- The keywords of the code as those of the grammar.
+use Rattle.std.specs.Prelude.{ℕ, List, map}
+use denote.Ref.{Bor}
+use Rattle.rp_language.specs.Grammar.{Word}
 use Rattle.rp_language.specs.Grammar.{Node as ModelNode, half_node, box_node, all_node, none_node, and_node, or_node, minus_node, not_node, name_node, lot_node, prism_node}
 use Rattle.rp_language.specs.Grammar.{Verb as ModelVerb, let_verb, member_verb, empty_verb, pieces_verb, show_verb, equal_verb, within_verb, overlap_verb, contact_verb, rcc_verb, register_verb, cut_verb, subdivide_verb, consolidate_verb, retire_verb, neighbours_verb, history_verb, at_verb, asof_verb, audit_verb, list_verb, layer_verb, section_verb, access_verb}
 use Rattle.rp_syntax.specs.declared.keywords.Node.{Node}
@@ -46,3 +49,7 @@ verb_of verbs.List = list_verb
 verb_of verbs.Layer = layer_verb
 verb_of verbs.Section = section_verb
 verb_of verbs.Access = access_verb
+
+-- the words of a table in the code, with what they stand for
+abbrev pub words_in : {A : Type 0} → List (Bor (List ℕ) × A) → List (Word × A)
+words_in table = map (λ entry. (entry.0.now, entry.1)) table

@@ -1,8 +1,9 @@
 //! Whole commands.
-ghost use Rattle.std.specs.Prelude.{map};
+ghost use Rattle.std.specs.Prelude.{◌≡◌, IfOk, map};
 ghost use Rattle.rp_command.specs.Versions.{version_of};
 ghost use Rattle.rp_command.specs.Views.{expression_of, child_of, command_of};
-ghost use Rattle.rp_language.specs.Grammar.{keyword, verb_table, verb_words, equals_word, let_words, member_words, cut_words, subdivide_words, consolidate_words, as_of_words, many, child, name, command_words};
+ghost use Rattle.rp_language.specs.Expression.{Expression, Command as Asked, register};
+ghost use Rattle.rp_language.specs.Grammar.{keyword, verb_table, verb_words, equals_word, let_words, member_words, on_two_expressions, on_name_and_expression, cut_words, subdivide_words, consolidate_words, as_of_words, section_words, access_words, many, child, name, end_of_line, command_words};
 ghost use Rattle.rp_syntax.specs.Keywords.{verb_of};
 ghost use Rattle.rp_syntax.specs.Reads.{Reads};
 
@@ -62,6 +63,28 @@ impl<'a> Words<'a> {
         let region = self.expression(alloc, version)?;
         let point = self.point(version)?;
         Ok(Command::Member(region, point))
+    }
+
+    /// Two expressions, of which a command may be made.
+    fn two_expressions(
+        &mut self,
+        alloc: Global,
+        version: Version,
+    ) -> Result<(Expr, Expr), ReadFault>
+        ensures { (of : Expression → Expression → Asked) → Reads (λ both. of (expression_of both.0) (expression_of both.1)) result self.new (on_two_expressions (version_of version) of self.old) }
+    {
+        let first = self.expression(alloc, version)?;
+        let second = self.expression(alloc, version)?;
+        Ok((first, second))
+    }
+
+    /// What follows the word `register`.
+    fn registration(&mut self, alloc: Global, version: Version) -> Result<Command, ReadFault>
+        ensures { Reads command_of result self.new (on_name_and_expression (version_of version) register self.old) }
+    {
+        let id = self.name()?;
+        let region = self.expression(alloc, version)?;
+        Ok(Command::Register(id, region))
     }
 
     /// What follows the word `cut`.
@@ -142,6 +165,24 @@ impl<'a> Words<'a> {
         Ok(Command::Asof(line, point))
     }
 
+    /// What follows the word `section`.
+    fn section(&mut self, alloc: Global, version: Version) -> Result<Command, ReadFault>
+        ensures { Reads command_of result self.new (section_words (version_of version) self.old) }
+    {
+        let region = self.expression(alloc, version)?;
+        let z = self.height(version)?;
+        Ok(Command::Section(region, z))
+    }
+
+    /// What follows the word `access`.
+    fn access(&mut self) -> Result<Command, ReadFault>
+        ensures { Reads command_of result self.new (access_words self.old) }
+    {
+        let from = self.name()?;
+        let to = self.name()?;
+        Ok(Command::Access(from, to))
+    }
+
     /// What follows the word of a command.
     fn command_for(
         &mut self,
@@ -154,47 +195,53 @@ impl<'a> Words<'a> {
         match verb {
             Verb::Let => self.definition(alloc, version),
             Verb::Member => self.member(alloc, version),
-            Verb::Empty => Ok(Command::Empty(self.expression(alloc, version)?)),
-            Verb::Pieces => Ok(Command::Pieces(self.expression(alloc, version)?)),
-            Verb::Show => Ok(Command::Show(self.expression(alloc, version)?)),
-            Verb::Equal => Ok(Command::Equal(
-                self.expression(alloc, version)?,
-                self.expression(alloc, version)?,
-            )),
-            Verb::Within => Ok(Command::Within(
-                self.expression(alloc, version)?,
-                self.expression(alloc, version)?,
-            )),
-            Verb::Overlap => Ok(Command::Overlap(
-                self.expression(alloc, version)?,
-                self.expression(alloc, version)?,
-            )),
-            Verb::Contact => Ok(Command::Contact(
-                self.expression(alloc, version)?,
-                self.expression(alloc, version)?,
-            )),
-            Verb::Rcc => Ok(Command::Rcc(
-                self.expression(alloc, version)?,
-                self.expression(alloc, version)?,
-            )),
-            Verb::Register => Ok(Command::Register(self.name()?, self.expression(alloc, version)?)),
+            Verb::Empty => self.expression(alloc, version).map(Command::Empty),
+            Verb::Pieces => self.expression(alloc, version).map(Command::Pieces),
+            Verb::Show => self.expression(alloc, version).map(Command::Show),
+            Verb::Equal => {
+                let (first, second) = self.two_expressions(alloc, version)?;
+                Ok(Command::Equal(first, second))
+            }
+            Verb::Within => {
+                let (first, second) = self.two_expressions(alloc, version)?;
+                Ok(Command::Within(first, second))
+            }
+            Verb::Overlap => {
+                let (first, second) = self.two_expressions(alloc, version)?;
+                Ok(Command::Overlap(first, second))
+            }
+            Verb::Contact => {
+                let (first, second) = self.two_expressions(alloc, version)?;
+                Ok(Command::Contact(first, second))
+            }
+            Verb::Rcc => {
+                let (first, second) = self.two_expressions(alloc, version)?;
+                Ok(Command::Rcc(first, second))
+            }
+            Verb::Register => self.registration(alloc, version),
             Verb::Cut => self.cut(alloc, version),
             Verb::Subdivide => self.subdivision(alloc, version),
             Verb::Consolidate => self.consolidation(alloc),
-            Verb::Retire => Ok(Command::Retire(self.name()?)),
-            Verb::Neighbours => Ok(Command::Neighbours(self.name()?)),
-            Verb::History => Ok(Command::History(self.name()?)),
-            Verb::At => Ok(Command::At(self.point(version)?)),
+            Verb::Retire => self.name().map(Command::Retire),
+            Verb::Neighbours => self.name().map(Command::Neighbours),
+            Verb::History => self.name().map(Command::History),
+            Verb::At => self.point(version).map(Command::At),
             Verb::Asof => self.as_of(version),
             Verb::Audit => Ok(Command::Audit),
             Verb::List => Ok(Command::List),
-            Verb::Layer => Ok(Command::Layer(self.name()?)),
-            Verb::Section => {
-                let region = self.expression(alloc, version)?;
-                Ok(Command::Section(region, self.height(version)?))
-            }
-            Verb::Access => Ok(Command::Access(self.name()?, self.name()?)),
+            Verb::Layer => self.name().map(Command::Layer),
+            Verb::Section => self.section(alloc, version),
+            Verb::Access => self.access(),
         }
+    }
+
+    /// What was read, if the line ends behind it.
+    fn last<T: Drop>(&self, read: T) -> Result<T, ReadFault>
+        ensures same { IfOk result (λ given. given ≡ read) }
+        ensures end { Reads (λ _. tt) result self.now (end_of_line self.now) }
+    {
+        self.end()?;
+        Ok(read)
     }
 
     /// A whole command.
@@ -204,7 +251,6 @@ impl<'a> Words<'a> {
     {
         let verb = self.verb()?;
         let command = self.command_for(alloc, version, verb)?;
-        self.end()?;
-        Ok(command)
+        self.last(command)
     }
 }

@@ -1,7 +1,8 @@
 //! Expressions in prefix form.
 ghost use Rattle.rp_command.specs.Versions.{version_of};
 ghost use Rattle.rp_command.specs.Views.{expression_of};
-ghost use Rattle.rp_language.specs.Grammar.{keyword, node_table, expression, expression_within};
+ghost use Rattle.rp_language.specs.Expression.{intersection, union, difference, opposite as opposite_of};
+ghost use Rattle.rp_language.specs.Grammar.{Place, keyword, node_table, expression, expression_within, gives};
 ghost use Rattle.rp_syntax.specs.Keywords.{node_of};
 ghost use Rattle.rp_syntax.specs.Reads.{Reads};
 
@@ -13,6 +14,34 @@ use std::alloc::Global;
 
 /// One level more than there may be nodes: each level counts a node, so this is never passed.
 const MAX_LEVELS: u32 = 1025;
+
+/// What two regions have in common.
+fn both(alloc: Global, first: Expr, second: Expr) -> Result<Expr, ReadFault>
+    ensures { (place : Place) → Reads expression_of result place (gives (intersection (expression_of first) (expression_of second)) place) }
+{
+    Ok(Expr::And(Box::new(alloc, first)?, Box::new(alloc, second)?))
+}
+
+/// The points of either region.
+fn either(alloc: Global, first: Expr, second: Expr) -> Result<Expr, ReadFault>
+    ensures { (place : Place) → Reads expression_of result place (gives (union (expression_of first) (expression_of second)) place) }
+{
+    Ok(Expr::Or(Box::new(alloc, first)?, Box::new(alloc, second)?))
+}
+
+/// The rest of a region outside another one.
+fn rest(alloc: Global, first: Expr, second: Expr) -> Result<Expr, ReadFault>
+    ensures { (place : Place) → Reads expression_of result place (gives (difference (expression_of first) (expression_of second)) place) }
+{
+    Ok(Expr::Minus(Box::new(alloc, first)?, Box::new(alloc, second)?))
+}
+
+/// The points that are not in a region.
+fn opposite(alloc: Global, operand: Expr) -> Result<Expr, ReadFault>
+    ensures { (place : Place) → Reads expression_of result place (gives (opposite_of (expression_of operand)) place) }
+{
+    Ok(Expr::Not(Box::new(alloc, operand)?))
+}
 
 impl<'a> Words<'a> {
     /// The next word, which begins a node.
@@ -49,34 +78,34 @@ impl<'a> Words<'a> {
         let node = self.node()?;
         self.count_node()?;
         match node {
-            Node::Half => Ok(Expr::Half(self.half()?)),
-            Node::Block => Ok(Expr::Block(self.block(version)?)),
+            Node::Half => self.half().map(Expr::Half),
+            Node::Block => self.block(version).map(Expr::Block),
             Node::Prism => {
                 let (low, high, corners) = self.prism(alloc, version)?;
                 Ok(Expr::Prism(low, high, corners))
             }
             Node::All => Ok(Expr::All),
             Node::Nothing => Ok(Expr::Nothing),
-            Node::Name => Ok(Expr::Name(self.name()?)),
-            Node::Lot => Ok(Expr::Lot(self.name()?)),
+            Node::Name => self.name().map(Expr::Name),
+            Node::Lot => self.name().map(Expr::Lot),
             Node::And => {
                 let first = self.expression_within(alloc, version, room - 1)?;
                 let second = self.expression_within(alloc, version, room - 1)?;
-                Ok(Expr::And(Box::new(alloc, first)?, Box::new(alloc, second)?))
+                both(alloc, first, second)
             }
             Node::Or => {
                 let first = self.expression_within(alloc, version, room - 1)?;
                 let second = self.expression_within(alloc, version, room - 1)?;
-                Ok(Expr::Or(Box::new(alloc, first)?, Box::new(alloc, second)?))
+                either(alloc, first, second)
             }
             Node::Minus => {
                 let first = self.expression_within(alloc, version, room - 1)?;
                 let second = self.expression_within(alloc, version, room - 1)?;
-                Ok(Expr::Minus(Box::new(alloc, first)?, Box::new(alloc, second)?))
+                rest(alloc, first, second)
             }
             Node::Not => {
                 let operand = self.expression_within(alloc, version, room - 1)?;
-                Ok(Expr::Not(Box::new(alloc, operand)?))
+                opposite(alloc, operand)
             }
         }
     }

@@ -128,10 +128,11 @@ fn a_spelling_comes_behind_what_is_there(rt: HostRuntime) {
 
 #[test]
 fn a_line_gives_the_parts_of_its_command(rt: HostRuntime) {
-    match read_line(rt.alloc(), Version::One, b"show minus all none").expect(&rt, "no memory") {
+    let read = read_line(rt.alloc(), Version::One, b"show minus all none").expect(&rt, "no memory");
+    match &read {
         Line::Cmd(Command::Show(Expr::Minus(first, second))) => {
-            assert!(rt; matches!(*first, Expr::All));
-            assert!(rt; matches!(*second, Expr::Nothing));
+            assert!(rt; matches!(**first, Expr::All));
+            assert!(rt; matches!(**second, Expr::Nothing));
         }
         _ => panic!(rt; "no difference"),
     }

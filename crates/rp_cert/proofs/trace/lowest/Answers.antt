@@ -1,11 +1,24 @@
-use Rattle.std.proofs.Common.{◌≡◌, ◌^◌, [], ◌∷◌, sym, subst, ◌∙◌}
+use Rattle.std.proofs.Common.{◌≡◌, ℕ, ℤ, ◌^◌, to_z, of_z, [], ◌∷◌, sym, subst, ◌∙◌}
 use mir.Syntax.{w32, w64, w128}
 use Rattle.rp_algebra.specs.Integer.{gcd_of, reduced_by}
 use Rattle.rp_algebra.specs.Within.{IsWithin}
 use Rattle.rp_algebra.proofs.LowestTerms.{quotient_within}
-use Rattle.rp_algebra.proofs.Machine.{written, held, is_by, read_is}
+use Rattle.rp_algebra.proofs.Machine.{written, held, fits_by, is_by, read_is}
 use Rattle.rp_geometry.specs.sections.Trace.{trace_of}
 use Rattle.rp_cert.proofs.trace.lowest.Goals as goal
+
+-- a quotient of a number that is read is as small as the number
+small_quotient : (m g : ℕ) {v q : ℤ} → q ≡ reduced_by g (to_z w128 (of_z w128 (to_z w64 (of_z w64 v)))) → to_z w128 (of_z w128 (to_z w64 (of_z w64 v))) ≡ v → IsWithin m v → IsWithin m q
+small_quotient m g {v = v} e r h = subst (IsWithin m) (sym (e ∙ (λ i. reduced_by g (r i)))) (quotient_within m g v h)
+
+pub overflow_cast-result : goal.overflow_cast-result
+overflow_cast-result c = let a = c.requires.a_small in fits_by (written w128 _ (held (small_quotient (2 ^ 24) _ c.quotient.ensures (is_by (written w128 _ (written w64 _ (held a))) tt) a))) tt
+
+pub overflow_cast-result-2 : goal.overflow_cast-result-2
+overflow_cast-result-2 c = let b = c.requires.b_small in fits_by (written w128 _ (held (small_quotient (2 ^ 24) _ c.quotient-2.ensures (is_by (written w128 _ (written w64 _ (held b))) tt) b))) tt
+
+pub overflow_cast-result-3 : goal.overflow_cast-result-3
+overflow_cast-result-3 c = let d = c.requires.d_small in fits_by (written w128 _ (held (small_quotient (2 ^ 50) _ c.quotient-3.ensures (is_by (written w128 _ (written w64 _ (held d))) tt) d))) tt
 
 pub returns : goal.returns
 returns c =

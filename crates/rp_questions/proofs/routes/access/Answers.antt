@@ -10,8 +10,21 @@ use Rattle.rp_tests.specs.Comes.{StopsBy}
 use Rattle.rp_report.specs.Views.{verdict_of}
 use Rattle.rp_register.specs.declared.parcel.Parcel.{Parcel}
 use Rattle.rp_register.specs.There.{lots_here}
-use Rattle.rp_questions.proofs.Accessed.{links_stop, access_told, numbers_there}
+use Rattle.rp_questions.proofs.Accessed.{count_stops, links_stop, access_told, numbers_there}
 use Rattle.rp_questions.proofs.routes.access.Goals as goal
+
+pub returns-in_err-count_tests : goal.returns-in_err-count_tests
+returns-in_err-count_tests c =
+    let p = err_from_is_err_and c.from_residual-in_err-count_tests.result c.from_residual-in_err-count_tests.ensures.1 in
+    let s = c.args.register.now in
+    let lots = c.in_ok-lots.lots.items in
+    let t = c.args.trail.now in
+    let u = c.count_tests.new.trail in
+    let e = c.in_err-count_tests.field-0.0 in
+    let many = ap (λ (ls : List (Lot (Unit {0}))). count_among touching_pair (lot_parts ls)) c.in_ok-lots.ensures.value ∙ sym c.in_ok-later.ensures.pairs.0 in
+    rw (p.1, p.2)
+    (count_stops s c.args.from c.args.to c.in-Ok.layer lots t c.in-Ok.ensures.passes c.in-Ok.ensures.layer c.in_ok-lots.ensures.value e u
+    (subst (λ (n : ℕ). StopsBy e u (follow_count n t)) (sym many) c.in_err-count_tests.ensures))
 
 pub returns-in_err-links_among : goal.returns-in_err-links_among
 returns-in_err-links_among c =

@@ -1,13 +1,11 @@
 use Rattle.std.proofs.Common.{◌≡◌, ℕ, ◌<◌, ◌≤◌, List, [], map, length, Some, refl, sym, ap, ap₂, ◌∙◌, subst, arith}
 use Rattle.std.specs.List.{AllByRecursion}
 use Rattle.std.proofs.lemmas.Result.{err_from_is_err_and}
-use Rattle.rp_algebra.proofs.Listed.{all_map}
 use Rattle.rp_language.specs.Name.{Label}
 use Rattle.rp_walks.specs.Walk.{done, Work, first_tester}
-use Rattle.rp_model.specs.states.State.{ids_of, place_among, most_kept_parts}
+use Rattle.rp_model.specs.states.State.{ids_of, place_among}
 use Rattle.rp_model.specs.commands.Verdict.{Verdict}
 use Rattle.rp_model.specs.commands.Row.{access_by_links, reply_lines, row_access}
-use Rattle.rp_access.specs.Chain.{IsBelow}
 use Rattle.rp_region.specs.Makes.{work_after}
 use Rattle.rp_region.proofs.Left.{not_begun}
 use Rattle.rp_history.specs.Lots.{lots_in}
@@ -20,9 +18,8 @@ use Rattle.rp_parcels.specs.Touching.{places_among, AreRising, IsPairOf, AreBelo
 use Rattle.rp_parcels.specs.Behind.{live_places, tests_behind, ArePairsBehind}
 use Rattle.rp_parcels.proofs.Checked.{names_fail}
 use Rattle.rp_parcels.proofs.Counted.{counted_fault}
-use Rattle.rp_parcels.proofs.Linked.{judged_places, ids_counted, among_within, among_there, numbers_are}
+use Rattle.rp_parcels.proofs.Linked.{judged_places, among_within, among_there, numbers_are}
 use Rattle.rp_parcels.proofs.Paired.{places_within, all_rise, layer_paired}
-use Rattle.rp_parcels.proofs.Numbers.{meeting_below}
 use Rattle.rp_parcels.proofs.Accessed.{access_tells, access_fails, count_fails, access_given_up, lines_cut, row_walked, numbers_there}
 use Rattle.rp_parcels.proofs.parcels.Parcels.access.Goals as goal
 
@@ -71,11 +68,17 @@ returns-in_err-all g c =
           (c.in_ok-near.ensures.tests.0 ∙ ap (tests_behind Touch lots) (c.deref.ensures.value ∙ c.in_ok-places.ensures.places)) c.in_err-all.field-0.0 c.judge_counted.new.work c.in_err-all.ensures.counted);
     }
 
-pub numbered_pairs-requires-clause-rising : goal.numbered_pairs-requires-clause-rising
-numbered_pairs-requires-clause-rising g c = subst AreRising (sym (c.deref-2.ensures.value ∙ c.in_ok-places.ensures.places)) (all_rise c.args.self.now (Some c.in_ok-layer.layer))
+pub told_access-requires-clause-places : goal.told_access-requires-clause-places
+told_access-requires-clause-places g c = subst (AreWithin c.args.self.now) (sym (c.deref-2.ensures.value ∙ c.in_ok-places.ensures.places)) (places_within c.args.self.now (Some c.in_ok-layer.layer))
 
-pub numbered_pairs-requires-clause-there : goal.numbered_pairs-requires-clause-there
-numbered_pairs-requires-clause-there g c =
+pub told_access-requires-clause-few : goal.told_access-requires-clause-few
+told_access-requires-clause-few g c = omega (arith, ap length c.deref-2.ensures.value, c.in_ok-places.ensures.few)
+
+pub told_access-requires-clause-rising : goal.told_access-requires-clause-rising
+told_access-requires-clause-rising g c = subst AreRising (sym (c.deref-2.ensures.value ∙ c.in_ok-places.ensures.places)) (all_rise c.args.self.now (Some c.in_ok-layer.layer))
+
+pub told_access-requires-clause-pairs : goal.told_access-requires-clause-pairs
+told_access-requires-clause-pairs g c =
     let lots = c.args.self.now in
     let y = c.in_ok-layer.layer in
     let places = live_places (Some y) 0 lots in
@@ -83,74 +86,16 @@ numbered_pairs-requires-clause-there g c =
     let pairs = c.deref-3.ensures.value ∙ layer_paired lots y c.live_places.ensures.sound 0 lots refl c.in_ok-near.near.pairs.items behind in
     subst (λ ks. AllByRecursion (IsPairOf ks) c.deref-3.result.now) (sym (c.deref-2.ensures.value ∙ c.in_ok-places.ensures.places)) (subst (AllByRecursion (IsPairOf places)) (sym pairs) (among_there lots places))
 
-pub returns-in_err-numbers : goal.returns-in_err-numbers
-returns-in_err-numbers g c =
-    let p = err_from_is_err_and c.from_residual-in_err-numbers.result c.from_residual-in_err-numbers.ensures.1 in
+pub told_access-requires-clause-from_there : goal.told_access-requires-clause-from_there
+told_access-requires-clause-from_there g c =
     let lots = c.args.self.now in
-    record {
-      row = rw (p.1, p.2)
-          (access_given_up lots c.args.from c.args.to c.in_ok-layer.layer (c.in_ok-layer.ensures.checks (lots_in [] lots) c.history.ensures.value) (c.in_ok-layer.ensures.layer (lots_in [] lots) c.history.ensures.value) c.in_ok-near.near.tests c.args.work.now c.judge_counted.new.work
-          (c.in_ok-near.ensures.tests.0 ∙ ap (tests_behind Touch lots) (c.deref.ensures.value ∙ c.in_ok-places.ensures.places)) c.in_ok-all.ensures.counted);
-    }
-
-pub met_pairs-requires-clause-below : goal.met_pairs-requires-clause-below
-met_pairs-requires-clause-below g c =
-    let few : length c.deref-2.result.now ≤ most_kept_parts = omega (arith, ap length c.deref-2.ensures.value, c.in_ok-places.ensures.few) in
-    subst (AllByRecursion (AreBelow most_kept_parts)) (sym c.deref-4.ensures.value)
-    (all_map (AreBelow (length c.deref-2.result.now)) (AreBelow most_kept_parts) (λ q h. (omega (arith, h.0, few), omega (arith, h.1, few))) c.in_ok-numbers.numbers.items c.in_ok-numbers.ensures.below)
-
-pub returns-in_err-met : goal.returns-in_err-met
-returns-in_err-met g c =
-    let p = err_from_is_err_and c.from_residual-in_err-met.result c.from_residual-in_err-met.ensures.1 in
-    let lots = c.args.self.now in
-    record {
-      row = rw (p.1, p.2)
-          (access_given_up lots c.args.from c.args.to c.in_ok-layer.layer (c.in_ok-layer.ensures.checks (lots_in [] lots) c.history.ensures.value) (c.in_ok-layer.ensures.layer (lots_in [] lots) c.history.ensures.value) c.in_ok-near.near.tests c.args.work.now c.judge_counted.new.work
-          (c.in_ok-near.ensures.tests.0 ∙ ap (tests_behind Touch lots) (c.deref.ensures.value ∙ c.in_ok-places.ensures.places)) c.in_ok-all.ensures.counted);
-    }
-
-pub ids_at-requires : goal.ids_at-requires
-ids_at-requires g c = subst (AreWithin c.args.self.now) (sym (c.deref-6.ensures.value ∙ c.in_ok-places.ensures.places)) (places_within c.args.self.now (Some c.in_ok-layer.layer))
-
-pub returns-in_err-ids : goal.returns-in_err-ids
-returns-in_err-ids g c =
-    let p = err_from_is_err_and c.from_residual-in_err-ids.result c.from_residual-in_err-ids.ensures.1 in
-    let lots = c.args.self.now in
-    record {
-      row = rw (p.1, p.2)
-          (access_given_up lots c.args.from c.args.to c.in_ok-layer.layer (c.in_ok-layer.ensures.checks (lots_in [] lots) c.history.ensures.value) (c.in_ok-layer.ensures.layer (lots_in [] lots) c.history.ensures.value) c.in_ok-near.near.tests c.args.work.now c.judge_counted.new.work
-          (c.in_ok-near.ensures.tests.0 ∙ ap (tests_behind Touch lots) (c.deref.ensures.value ∙ c.in_ok-places.ensures.places)) c.in_ok-all.ensures.counted);
-    }
-
-pub along-requires-clause-few : goal.along-requires-clause-few
-along-requires-clause-few g c =
-    let lots = c.args.self.now in
-    let y = c.in_ok-layer.layer in
-    let places = live_places (Some y) 0 lots in
-    let ids = c.items.ensures ∙ c.in_ok-ids.ensures ∙ ap (λ (ks : List ℕ). ids_of (lots_at lots ks)) (c.deref-6.ensures.value ∙ c.in_ok-places.ensures.places) in
-    omega (arith, ap length ids, ids_counted lots places (places_within lots (Some y)), ap length c.in_ok-places.ensures.places, c.in_ok-places.ensures.few)
-
-pub along-requires-clause-below : goal.along-requires-clause-below
-along-requires-clause-below g c =
-    let lots = c.args.self.now in
-    let y = c.in_ok-layer.layer in
-    let places = live_places (Some y) 0 lots in
-    let ids = c.items.ensures ∙ c.in_ok-ids.ensures ∙ ap (λ (ks : List ℕ). ids_of (lots_at lots ks)) (c.deref-6.ensures.value ∙ c.in_ok-places.ensures.places) in
-    let many : length c.deref-2.result.now ≡ length c.items.result.now = ap length (c.deref-2.ensures.value ∙ c.in_ok-places.ensures.places) ∙ sym (ap length ids ∙ ids_counted lots places (places_within lots (Some y))) in
-    subst (λ n. AllByRecursion (IsBelow n) c.deref-7.result.now) many
-    (subst (AllByRecursion (IsBelow (length c.deref-2.result.now))) (sym (c.deref-7.ensures.value ∙ c.in_ok-met.ensures))
-    (meeting_below (length c.deref-2.result.now) c.deref-4.result.now c.deref-5.result.now (subst (AllByRecursion (AreBelow (length c.deref-2.result.now))) (sym c.deref-4.ensures.value) c.in_ok-numbers.ensures.below)))
-
-pub along-requires-clause-from_there : goal.along-requires-clause-from_there
-along-requires-clause-from_there g c =
-    let lots = c.args.self.now in
-    let ids = c.items.ensures ∙ c.in_ok-ids.ensures ∙ ap (λ (ks : List ℕ). ids_of (lots_at lots ks)) (c.deref-6.ensures.value ∙ c.in_ok-places.ensures.places) in
+    let ids = ap (λ (ks : List ℕ). ids_of (lots_at lots ks)) (c.deref-2.ensures.value ∙ c.in_ok-places.ensures.places) in
     subst (λ (xs : List Label). place_among c.args.from xs < length xs) (sym ids) (numbers_there lots c.args.from c.args.to c.in_ok-layer.layer (c.in_ok-layer.ensures.checks (lots_in [] lots) c.history.ensures.value) (c.in_ok-layer.ensures.layer (lots_in [] lots) c.history.ensures.value)).0
 
-pub along-requires-clause-to_there : goal.along-requires-clause-to_there
-along-requires-clause-to_there g c =
+pub told_access-requires-clause-to_there : goal.told_access-requires-clause-to_there
+told_access-requires-clause-to_there g c =
     let lots = c.args.self.now in
-    let ids = c.items.ensures ∙ c.in_ok-ids.ensures ∙ ap (λ (ks : List ℕ). ids_of (lots_at lots ks)) (c.deref-6.ensures.value ∙ c.in_ok-places.ensures.places) in
+    let ids = ap (λ (ks : List ℕ). ids_of (lots_at lots ks)) (c.deref-2.ensures.value ∙ c.in_ok-places.ensures.places) in
     subst (λ (xs : List Label). place_among c.args.to xs < length xs) (sym ids) (numbers_there lots c.args.from c.args.to c.in_ok-layer.layer (c.in_ok-layer.ensures.checks (lots_in [] lots) c.history.ensures.value) (c.in_ok-layer.ensures.layer (lots_in [] lots) c.history.ensures.value)).1
 
 pub returns-in_err-told : goal.returns-in_err-told
@@ -183,16 +128,16 @@ returns g c =
     let behind = subst (λ (ks : List ℕ). ArePairsBehind Touch lots ks c.in_ok-near.near.pairs.items) (c.deref.ensures.value ∙ c.in_ok-places.ensures.places) c.in_ok-near.ensures.pairs in
     let pairs = layer_paired lots y c.live_places.ensures.sound 0 lots refl c.in_ok-near.near.pairs.items behind in
     let all : c.in_ok-all.all.items ≡ judged_places lots (places_among lots places) = c.in_ok-all.ensures.shown ∙ ap (judged_places lots) pairs in
-    let ns = c.in_ok-numbers.numbers.items in
+    let told = c.in_ok-told.ensures in
+    let ns = told.numbers in
     let here = c.deref-2.ensures.value ∙ c.in_ok-places.ensures.places in
-    let below = subst (λ ks. AllByRecursion (AreBelow (length ks)) ns) here c.in_ok-numbers.ensures.below in
-    let same = subst (λ ks. map (placed ks) ns ≡ places_among lots places) here (c.in_ok-numbers.ensures.placed ∙ c.deref-3.ensures.value ∙ pairs) in
-    let numbers = numbers_are lots places (all_rise lots (Some y)) ns below same in
-    let met = c.deref-7.ensures.value ∙ c.in_ok-met.ensures ∙ ap₂ links_that_meet (c.deref-4.ensures.value ∙ numbers) (c.deref-5.ensures.value ∙ all) in
-    let ids = c.items.ensures ∙ c.in_ok-ids.ensures ∙ ap (λ (ks : List ℕ). ids_of (lots_at lots ks)) (c.deref-6.ensures.value ∙ c.in_ok-places.ensures.places) in
-    let told = c.in_ok-told.ensures ∙ ap₂ (λ (xs : List Label) (ls : List (ℕ × ℕ)). access_by_links xs ls c.args.from c.args.to) ids met in
+    let below = subst (λ ks. AllByRecursion (AreBelow (length ks)) ns) here told.below in
+    let same = subst (λ ks. map (placed ks) ns ≡ places_among lots places) here (told.placed ∙ c.deref-3.ensures.value ∙ pairs) in
+    let links = ap₂ links_that_meet (numbers_are lots places (all_rise lots (Some y)) ns below same) (c.deref-4.ensures.value ∙ all) in
+    let ids = ap (λ (ks : List ℕ). ids_of (lots_at lots ks)) here in
+    let says = told.told ∙ ap₂ (λ (xs : List Label) (ls : List (ℕ × ℕ)). access_by_links xs ls c.args.from c.args.to) ids links in
     record {
       row = row_walked lots c.args.from c.args.to y (c.in_ok-layer.ensures.checks (lots_in [] lots) c.history.ensures.value) (c.in_ok-layer.ensures.layer (lots_in [] lots) c.history.ensures.value) c.in_ok-near.near.tests c.args.work.now c.judge_counted.new.work
           (c.in_ok-near.ensures.tests.0 ∙ ap (tests_behind Touch lots) (c.deref.ensures.value ∙ c.in_ok-places.ensures.places)) c.in_ok-all.ensures.counted
-          ∙ ap₂ (λ (vs : List Verdict) (u : Work). done (reply_lines vs) u) (sym told) (ap (with_all_lines c.judge_counted.new.work) (sym all) ∙ ap work_after c.in_ok-append_all.ensures);
+          ∙ ap₂ (λ (vs : List Verdict) (u : Work). done (reply_lines vs) u) (sym says) (ap (with_all_lines c.judge_counted.new.work) (sym all) ∙ ap work_after c.in_ok-append_all.ensures);
     }

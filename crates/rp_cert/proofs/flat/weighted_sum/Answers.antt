@@ -1,0 +1,25 @@
+use Rattle.std.proofs.Common.{◌*◌, ◌^◌, arith, to_z, of_z}
+use mir.Syntax.{w32, w128}
+use Rattle.rp_algebra.specs.Within.{IsWithin}
+use Rattle.rp_algebra.proofs.Machine.{sum, written, held, fits_by, is_by}
+use Rattle.rp_space.proofs.Sums.{sum_more, size_more}
+use Rattle.rp_cert.specs.LevelNumbers.{number_at}
+use Rattle.rp_cert.proofs.flat.weighted_sum.Goals as goal
+
+-- the sum of fewer than three multiples
+small_sum : (c : goal.After-multiple-sum) → IsWithin (2 * (2 ^ 75 * 2 ^ 50)) (to_z w128 c.loop-term.sum-bits)
+small_sum c = let size = c.loop-term.invariant.small in record { abs_le = omega (arith, size, c.loop-term-test.true, c.requires.few) }
+
+pub overflow_add-sum : goal.overflow_add-sum
+overflow_add-sum c = fits_by (sum (held (small_sum c)) (written w128 _ (held c.multiple-sum.ensures.small))) tt
+
+pub loop-term-preserved : goal.loop-term-preserved
+loop-term-preserved c =
+    let i = c.loop-term.term-index in
+    let before = to_z w128 c.loop-term.sum-bits in
+    let more = c.multiple-sum in
+    let is = is_by (written w128 _ (sum (held (small_sum c)) (written w128 _ (held more.ensures.small)))) tt in
+    record {
+      whole = rw is (sum_more (number_at c.args.which (to_z w32 (of_z w32 c.args.z))) c.args.terms.now i c.term-item.result before more.result c.loop-term-test.true c.term-item.is more.ensures.value c.loop-term.invariant.whole);
+      small = rw is (size_more (2 ^ 75 * 2 ^ 50) i before more.result c.loop-term.invariant.small more.ensures.small);
+    }
