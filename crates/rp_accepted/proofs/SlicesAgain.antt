@@ -15,7 +15,7 @@ use Rattle.rp_geometry.specs.sections.Slice.{Slice, ring, flat, is_slice, slice_
 use Rattle.rp_geometry.specs.laws.SectionLaws.{SliceIsFound, IsSmallTrace, RingIsKept, RingIsShort, greatest_trace_offset}
 use Rattle.rp_geometry.specs.parts.Parts.{AreKeptHalfSpaces, IsCheckedPart, most_half_spaces}
 use Rattle.rp_geometry.proofs.Kept.{are_half_spaces, kept_together, kept_box}
-use Rattle.rp_alternative.proofs.Tests.{listed-to}
+use Rattle.rp_convex.proofs.Tests.{listed-to}
 use Rattle.rp_language.specs.Name.{label_eq}
 use Rattle.rp_language.specs.Grammar.{Word}
 use Rattle.rp_model.specs.commands.Verdict.{Verdict}

@@ -9,9 +9,9 @@ use Rattle.rp_geometry.specs.searches.Vertex.{vertices}
 use Rattle.rp_geometry.specs.sets.Shape.{shape_of_cell}
 use Rattle.rp_geometry.specs.sets.Sets.{IsNonempty, IsWithin, SameMembers}
 use Rattle.rp_convex.proofs.Held.{in_cell_is_member, member_in_cell}
-use Rattle.rp_corners.proofs.Standing.{listed_contains, contains_listed}
-use Rattle.rp_part.proofs.Boxes.{vertex_within, vertices_within}
-use Rattle.rp_part.proofs.LeastBox.{least_box_is_least_spec}
+use Rattle.rp_convex.proofs.Standing.{listed_contains, contains_listed}
+use Rattle.rp_parts.proofs.Boxes.{vertex_within, vertices_within}
+use Rattle.rp_parts.proofs.LeastBox.{least_box_is_least_spec}
 use Rattle.rp_clip.specs.Tables.{AreVertices}
 use Rattle.rp_vertex.proofs.InBounds.{vertex_in_cube, vertices_in_bounds}
 

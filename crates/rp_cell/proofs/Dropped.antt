@@ -18,7 +18,7 @@ use Rattle.rp_geometry.specs.parts.PartTest.{has_member}
 use Rattle.rp_geometry.proofs.Complement.{complement_is_half_space}
 use Rattle.rp_convex.proofs.Inside.{member_moves_inside_spec}
 use Rattle.rp_convex.proofs.InsideFound.{strict_of, inside_some, inside_is_found_spec}
-use Rattle.rp_corners.proofs.Standing.{listed_contains, contains_listed}
+use Rattle.rp_convex.proofs.Standing.{listed_contains, contains_listed}
 use Rattle.rp_clip.specs.Faces.{HasSide}
 use Rattle.rp_cell.specs.Slimming.{tested, IsTested, IsDropProof}
 use Rattle.rp_cell.proofs.Across.{across, across_point, complement_across, positive_across}

@@ -6,7 +6,7 @@ use Rattle.std.proofs.lemmas.Grind.{common_steps}
 use Rattle.std.proofs.lemmas.List.{map-append, take_more}
 use Rattle.rp_algebra.proofs.Listed.{Listed, listed_left, listed_right, listed_cases, all_append}
 use Rattle.rp_algebra.proofs.Lists.{drop_item}
-use Rattle.rp_corners.proofs.Standing.{listed_contains, contains_listed}
+use Rattle.rp_convex.proofs.Standing.{listed_contains, contains_listed}
 use Rattle.rp_geometry.specs.Geometry.{RationalPoint, HalfSpace, IsKeptHalfSpace, complement}
 use Rattle.rp_geometry.specs.parts.Parts.{AreKeptHalfSpaces}
 use Rattle.rp_geometry.specs.parts.PartTest.{has_member, Slimmed, slim_from, slimmed}

@@ -8,16 +8,16 @@ use Rattle.rp_geometry.specs.searches.Certificate.{Multiple, is_inside_certifica
 use Rattle.rp_geometry.specs.laws.CellLaws.{AreHalfSpaces, IsSolution}
 use Rattle.rp_convex.proofs.Certified.{inside_certificate_shows_member_spec}
 use Rattle.rp_convex.proofs.Inside.{member_moves_inside_spec}
-use Rattle.rp_alternative.proofs.Never.{never_both}
+use Rattle.rp_convex.proofs.Never.{never_both}
 use Rattle.rp_geometry.specs.sections.Trace.{IsHeight}
 use Rattle.rp_geometry.specs.sections.Ring.{RingStep, is_ring}
 use Rattle.rp_geometry.specs.sections.Slice as model
-use Rattle.rp_ring.proofs.Center.{ring_shows_member_spec}
-use Rattle.rp_ring.proofs.Closure.{closure_is_on_the_left_spec}
-use Rattle.rp_ring.proofs.Corners.{ends_are_the_corners_spec}
-use Rattle.rp_ring.proofs.Holding.{ring_holds_the_members_spec}
-use Rattle.rp_ring.proofs.Never.{never_flat}
-use Rattle.rp_ring.proofs.Unique.{ring_is_the_only_one_spec}
+use Rattle.rp_slice.proofs.Center.{ring_shows_member_spec}
+use Rattle.rp_slice.proofs.Closure.{closure_is_on_the_left_spec}
+use Rattle.rp_slice.proofs.Corners.{ends_are_the_corners_spec}
+use Rattle.rp_slice.proofs.Holding.{ring_holds_the_members_spec}
+use Rattle.rp_slice.proofs.Never.{never_flat}
+use Rattle.rp_slice.proofs.Unique.{ring_is_the_only_one_spec}
 use Rattle.rp_cert.specs.Section.{RingShows, Shows}
 
 -- points that pass show a member

@@ -21,8 +21,8 @@ use Rattle.rp_geometry.specs.laws.CellLaws.{AreHalfSpaces}
 use Rattle.rp_geometry.specs.laws.SectionLaws.{IsSmallTrace}
 use Rattle.rp_geometry.specs.sections.Trace.{IsHeight, IsAtHeight, Trace, offset_at, has_trace, trace_at, trace_eq, trace_value, is_at_height, level_point, holds_level, cube_sides, with_sides}
 use Rattle.rp_geometry.specs.sections.Ring.{RingStep, is_step, is_trace_of, is_lowest_point, all_traces_hold, all_levels_hold}
-use Rattle.rp_ring.proofs.Traces.{direction_of, trace_at-is, side_of_trace, trace_from, trace_eq-to, is_trace_of-to}
-use Rattle.rp_ring.proofs.Small.{trace_is_small_spec}
+use Rattle.rp_slice.proofs.Traces.{direction_of, trace_at-is, side_of_trace, trace_from, trace_eq-to, is_trace_of-to}
+use Rattle.rp_slice.proofs.Small.{trace_is_small_spec}
 use Rattle.rp_cert.specs.Section.{trace_if, turn_from}
 
 -- ---- traces

@@ -17,7 +17,7 @@ use Rattle.rp_model.specs.commands.Rule.{formed_by, rule_without_limits, change_
 use Rattle.rp_reports.specs.Check.{Trail, line_tester}
 use Rattle.rp_reports.specs.laws.CheckLaws.{TellsTruth}
 use Rattle.rp_reports.specs.laws.RowLaws.{IsSoundChange, IsRightReply}
-use Rattle.rp_runs.proofs.Rows.{line_rows, followed_row_tells_truth_spec}
+use Rattle.rp_run_laws.proofs.Rows.{line_rows, followed_row_tells_truth_spec}
 use Rattle.rp_states.proofs.Computed.{reply_plain}
 use Rattle.rp_states.proofs.Listing.{all_mapped}
 use Rattle.rp_states.proofs.Parted.{parts_are_sound, read_plain, same_lots}

@@ -11,13 +11,13 @@ use Rattle.rp_reports.specs.Output.{most_script_bytes, report_lines}
 use Rattle.rp_reports.specs.Report.{IsReport, report_mark, version_by, body_of}
 use Rattle.rp_reports.specs.Text.{text_of_lines}
 use Rattle.rp_reports.specs.laws.CheckLaws.{WrittenReportIsAccepted}
-use Rattle.rp_runs.proofs.Rows.{followed_row_tells_truth_spec}
+use Rattle.rp_run_laws.proofs.Rows.{followed_row_tells_truth_spec}
 use Rattle.rp_accepted.proofs.FirstWrong.{finds_first_wrong_spec}
 use Rattle.rp_accepted.proofs.GoneWrong.{found_after, find_next, DonePast, answer_past}
 use Rattle.rp_accepted.proofs.ReportTaken.{body_few}
-use Rattle.rp_true_report.proofs.Accepted.{accepted_is_true_spec}
-use Rattle.rp_true_report.proofs.Answered.{Agrees, TellsNext, answer_told}
-use Rattle.rp_true_report.proofs.Followed.{Comes}
+use Rattle.rp_run_laws.proofs.Accepted.{accepted_is_true_spec}
+use Rattle.rp_run_laws.proofs.Answered.{Agrees, TellsNext, answer_told}
+use Rattle.rp_run_laws.proofs.Followed.{Comes}
 use Rattle.rp_follow.specs.Lines.{next_line}
 use Rattle.rp_checker.specs.Answers.{IsWrongAt}
 use Rattle.rp_checker.specs.Found.{found_of, TellsRight}

@@ -13,7 +13,7 @@ use crate::halt::Halt;
 use rp_command::Version;
 use rp_follow::Trail;
 use rp_register::Register;
-use rp_true_report::every_report_is_accepted;
+use rp_run_laws::every_report_is_accepted;
 use std::alloc::{AllocError, Global};
 
 /// The line that begins a report of the second version. It is no answer.

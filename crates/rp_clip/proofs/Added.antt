@@ -8,10 +8,10 @@ use Rattle.rp_algebra.proofs.Options.{same_some}
 use Rattle.rp_geometry.specs.Geometry.{RationalPoint, HalfSpace, IsHalfSpace}
 use Rattle.rp_geometry.specs.searches.Vertex.{meeting_point}
 use Rattle.rp_convex.proofs.Vertex.{AreTightAt, tight_symmetric}
-use Rattle.rp_corners.specs.Edges.{IsCrossing, IsKeptVertex}
-use Rattle.rp_corners.proofs.Corners.{meeting_is, is_meeting}
-use Rattle.rp_corners.proofs.Edges.{vertices_follow_edges_spec}
-use Rattle.rp_corners.proofs.Standing.{listed_contains, contains_listed}
+use Rattle.rp_convex.specs.Edges.{IsCrossing, IsKeptVertex}
+use Rattle.rp_convex.proofs.Corners.{meeting_is, is_meeting}
+use Rattle.rp_convex.proofs.Edges.{vertices_follow_edges_spec}
+use Rattle.rp_convex.proofs.Standing.{listed_contains, contains_listed}
 use Rattle.rp_clip.specs.Clipped.{Clipped, clipped, HasVertices}
 use Rattle.rp_clip.specs.Crossings.{HasMeetings, with_one, IsKeptTable, IsCrossedAll, IsRefilled}
 use Rattle.rp_clip.specs.Masks.{half_at, mask_of, IsIn}

@@ -9,9 +9,9 @@ use Rattle.rp_algebra.proofs.Lists.{get_some}
 use Rattle.rp_geometry.specs.Geometry.{RationalPoint, HalfSpace, with_cube}
 use Rattle.rp_geometry.specs.searches.Vertex.{meeting_point, vertices, first_vertex}
 use Rattle.rp_geometry.specs.laws.CellLaws.{AreHalfSpaces}
-use Rattle.rp_corners.specs.Bases.{Places, IsBefore, IsFirstBasis, IsGreedyBasis, IsPassingVertex}
-use Rattle.rp_corners.proofs.Bases.{greedy_basis_is_first_spec, vertex_has_greedy_basis_spec}
-use Rattle.rp_corners.proofs.Least.{before_other, first_vertex_has_least_basis_spec, no_first_where_none_passes_spec}
+use Rattle.rp_convex.specs.Bases.{Places, IsBefore, IsFirstBasis, IsGreedyBasis, IsPassingVertex}
+use Rattle.rp_convex.proofs.Bases.{greedy_basis_is_first_spec, vertex_has_greedy_basis_spec}
+use Rattle.rp_convex.proofs.Least.{before_other, first_vertex_has_least_basis_spec, no_first_where_none_passes_spec}
 use Rattle.rp_clip.specs.Clipped.{HasVertices}
 use Rattle.rp_clip.specs.Firsts.{is_off_mask, is_off, AreOn, HasFirst, IsBasisBefore, IsBehind, IsBetter, IsFirstAt, on, without, higher, worse, better}
 use Rattle.rp_clip.specs.Masks.{mask_of}

@@ -23,8 +23,8 @@ use Rattle.rp_convex.proofs.Inside.{member_moves_inside_spec}
 use Rattle.rp_convex.proofs.InsideFound.{IsStrict, strict_is_weak, strict_of, greater_positive}
 use Rattle.rp_convex.proofs.Move.{IsWeak}
 use Rattle.rp_convex.proofs.Vertex.{weak_true, vertex_is_as_great_spec}
-use Rattle.rp_corners.proofs.Corners.{vertex_corner}
-use Rattle.rp_corners.proofs.Standing.{contains_listed, listed_contains}
+use Rattle.rp_convex.proofs.Corners.{vertex_corner}
+use Rattle.rp_convex.proofs.Standing.{contains_listed, listed_contains}
 use Rattle.rp_clip.specs.Clipped.{HasVertices}
 use Rattle.rp_clip.specs.Faces.{common_with, common_of, HasSide}
 use Rattle.rp_clip.specs.Masks.{half_at, mask_of, IsIn}

@@ -13,11 +13,11 @@ use Rattle.rp_algebra.proofs.Numbers.{zero_or_not}
 use Rattle.rp_geometry.specs.Geometry.{RationalPoint, HalfSpace, IsPoint, SamePlace, side_value, with_cube, cube_half_spaces, reduced_point}
 use Rattle.rp_geometry.specs.searches.Vertex.{meeting_point, vertices}
 use Rattle.rp_convex.proofs.LowestOne.{lowest_terms_are_one_spec}
-use Rattle.rp_corners.specs.Edges.{PassesThroughBoth, IsCrossedEdge}
-use Rattle.rp_corners.proofs.Between.{crossing, crossing_weak}
-use Rattle.rp_corners.proofs.Corners.{meeting_is, is_meeting, vertex_corner}
-use Rattle.rp_corners.proofs.Edges.{not_parallel, apart, at_crossing, vertices_follow_edges_spec, crossing_keeps_planes_spec}
-use Rattle.rp_corners.proofs.Standing.{listed_contains, contains_listed}
+use Rattle.rp_convex.specs.Edges.{PassesThroughBoth, IsCrossedEdge}
+use Rattle.rp_convex.proofs.Between.{crossing, crossing_weak}
+use Rattle.rp_convex.proofs.Corners.{meeting_is, is_meeting, vertex_corner}
+use Rattle.rp_convex.proofs.Edges.{not_parallel, apart, at_crossing, vertices_follow_edges_spec, crossing_keeps_planes_spec}
+use Rattle.rp_convex.proofs.Standing.{listed_contains, contains_listed}
 use Rattle.rp_clip.specs.Masks.{half_at, is_through, mask_of, IsIn, HasHalfSpaces}
 use Rattle.rp_clip.specs.Meetings.{ArePlaces, IsFirstMet}
 use Rattle.rp_clip.specs.Tables.{Rows, AreDifferentVertices, HasMoreVertices, IsTable, IsPut}

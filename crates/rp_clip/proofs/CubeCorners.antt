@@ -8,7 +8,7 @@ use Rattle.rp_algebra.specs.Integer.{int_eq, gcd_of, gcd}
 use Rattle.rp_algebra.proofs.Options.{none_not_some, same_some}
 use Rattle.rp_algebra.proofs.Tests.{false_not_true, and_true, and_first, and_second}
 use Rattle.rp_algebra.proofs.Filter.{passes_some}
-use Rattle.rp_corners.proofs.Standing.{contains_listed}
+use Rattle.rp_convex.proofs.Standing.{contains_listed}
 use Rattle.rp_clip.specs.Clipped.{HasVertices}
 use Rattle.rp_clip.specs.Masks.{mask_of}
 use Rattle.rp_clip.specs.Tables.{Rows, AreDistinct, AreDifferentVertices}

@@ -7,7 +7,7 @@ use Rattle.rp_algebra.proofs.Listed.{place_of}
 use Rattle.rp_algebra.proofs.Options.{same_some}
 use Rattle.rp_algebra.proofs.Lists.{get_some}
 use Rattle.rp_geometry.specs.Geometry.{RationalPoint, HalfSpace, side_value}
-use Rattle.rp_corners.proofs.Standing.{contains_listed}
+use Rattle.rp_convex.proofs.Standing.{contains_listed}
 use Rattle.rp_clip.specs.Masks.{mask_of}
 use Rattle.rp_clip.specs.Crossings.{HasSides, IsAbove, IsBelow, AreAllBelow, IsBetween, HasMeetings, HasMeetingsOf, IsGrown, IsCrossed, IsCrossedFrom, IsCrossedAbove, IsCrossedAll}
 use Rattle.rp_clip.specs.Sides.{side_of}

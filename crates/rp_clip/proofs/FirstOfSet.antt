@@ -11,9 +11,9 @@ use Rattle.rp_geometry.specs.Geometry.{RationalPoint, HalfSpace, side_value, wit
 use Rattle.rp_geometry.specs.searches.Vertex.{meeting_weight, meeting_point}
 use Rattle.rp_convex.proofs.Meeting.{meets}
 use Rattle.rp_convex.proofs.OnlyOne.{no_meeting}
-use Rattle.rp_corners.specs.Bases.{Places, IsBefore, PassesAt, IsBasis, IsGreedyBasis}
-use Rattle.rp_corners.proofs.Bases.{vertex_has_greedy_basis_spec}
-use Rattle.rp_corners.proofs.Edges.{not_parallel}
+use Rattle.rp_convex.specs.Bases.{Places, IsBefore, PassesAt, IsBasis, IsGreedyBasis}
+use Rattle.rp_convex.proofs.Bases.{vertex_has_greedy_basis_spec}
+use Rattle.rp_convex.proofs.Edges.{not_parallel}
 use Rattle.rp_clip.specs.Firsts.{IsBasisBefore}
 use Rattle.rp_clip.specs.Masks.{half_at, mask_of, IsIn, HasHalfSpaces, IsLowestFrom}
 use Rattle.rp_clip.specs.Meetings.{ArePlaces, AreBefore, IsFirstOfSet, IsVertexSet, IsThree}

@@ -19,8 +19,8 @@ use Rattle.rp_algebra.proofs.Filter.{some_passes, passes_some, kept, keeps}
 use Rattle.rp_convex.proofs.Move.{IsWeak}
 use Rattle.rp_convex.proofs.Progress.{stays_flat, flat_not_positive}
 use Rattle.rp_convex.proofs.Vertex.{weak_is}
-use Rattle.rp_corners.proofs.Corners.{meeting_is}
-use Rattle.rp_corners.proofs.Standing.{listed_contains, contains_listed}
+use Rattle.rp_convex.proofs.Corners.{meeting_is}
+use Rattle.rp_convex.proofs.Standing.{listed_contains, contains_listed}
 use Rattle.rp_clip.specs.Firsts.{is_off_mask, is_off}
 use Rattle.rp_clip.specs.Masks.{half_at, bits_of, is_through, mask_of, IsIn, HasHalfSpaces}
 use Rattle.rp_clip.proofs.Crossed.{listed_at, at_listed}

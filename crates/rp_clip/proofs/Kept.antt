@@ -6,7 +6,7 @@ use Rattle.rp_algebra.proofs.Numbers.{above_not_zero}
 use Rattle.rp_algebra.proofs.Options.{same_some}
 use Rattle.rp_algebra.proofs.Lists.{map_get, take_all}
 use Rattle.rp_geometry.specs.Geometry.{RationalPoint, HalfSpace, side_value, reduced_point}
-use Rattle.rp_corners.proofs.Edges.{vertices_follow_edges_spec}
+use Rattle.rp_convex.proofs.Edges.{vertices_follow_edges_spec}
 use Rattle.rp_clip.specs.Masks.{mask_of}
 use Rattle.rp_clip.specs.Crossings.{HasSides, AreAllBelow, with_one, IsKeptTable}
 use Rattle.rp_clip.specs.Sides.{side_of, is_not_below, is_below, with_kept, kept_planes}

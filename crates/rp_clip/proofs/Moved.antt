@@ -10,7 +10,7 @@ use Rattle.rp_algebra.proofs.Options.{none_not_some, same_some}
 use Rattle.rp_geometry.specs.Geometry.{RationalPoint, HalfSpace, IsHalfSpace, cube_half_spaces, with_cube}
 use Rattle.rp_geometry.specs.searches.Vertex.{vertices}
 use Rattle.rp_geometry.specs.laws.CellLaws.{AreHalfSpaces}
-use Rattle.rp_corners.proofs.Corners.{vertex_corner, corner_vertex}
+use Rattle.rp_convex.proofs.Corners.{vertex_corner, corner_vertex}
 use Rattle.rp_clip.specs.Masks.{is_through, mask_of, IsIn}
 use Rattle.rp_clip.specs.Polygons.{Covers, IsSorted, IsRenamed}
 use Rattle.rp_clip.proofs.Filled.{place_in}

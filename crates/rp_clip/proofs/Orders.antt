@@ -8,7 +8,7 @@ use Rattle.std.proofs.lemmas.Nat.{shl_whole, one_shl}
 use Rattle.std.proofs.lemmas.Nat.Bits.{bit_at-zero, bit_at_ones, bit_at_set_same, bit_at_set_other, bit_at_cat_low, bit_at_cat_high}
 use Rattle.rp_algebra.proofs.Options.{same_some}
 use Rattle.rp_algebra.proofs.Lists.{take_all}
-use Rattle.rp_corners.proofs.Standing.{contains_listed}
+use Rattle.rp_convex.proofs.Standing.{contains_listed}
 use Rattle.rp_clip.specs.Masks.{IsIn}
 use Rattle.rp_clip.specs.Polygons.{Covers, IsRenamed}
 use Rattle.rp_clip.proofs.HalfAt.{get_below}

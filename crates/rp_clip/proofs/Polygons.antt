@@ -12,9 +12,9 @@ use Rattle.rp_algebra.proofs.Numbers.{above_not_zero}
 use Rattle.rp_algebra.proofs.Options.{none_not_some, same_some}
 use Rattle.rp_algebra.proofs.Lists.{get_some, take_all}
 use Rattle.rp_geometry.specs.Geometry.{RationalPoint, HalfSpace, IsHalfSpace, IsPoint, side_value, reduced_point}
-use Rattle.rp_corners.specs.Edges.{IsCrossing, IsKeptVertex}
-use Rattle.rp_corners.proofs.Edges.{vertices_follow_edges_spec, crossing_keeps_planes_spec}
-use Rattle.rp_corners.proofs.Standing.{listed_contains, contains_listed}
+use Rattle.rp_convex.specs.Edges.{IsCrossing, IsKeptVertex}
+use Rattle.rp_convex.proofs.Edges.{vertices_follow_edges_spec, crossing_keeps_planes_spec}
+use Rattle.rp_convex.proofs.Standing.{listed_contains, contains_listed}
 use Rattle.rp_clip.specs.Clipped.{HasVertices}
 use Rattle.rp_clip.specs.Crossings.{with_one, IsCrossedAll, IsRefilled}
 use Rattle.rp_clip.specs.Masks.{mask_of, IsIn}

@@ -7,7 +7,7 @@ use Rattle.rp_algebra.proofs.Tests.{false_not_true}
 use Rattle.rp_algebra.proofs.Lists.{get_left}
 use Rattle.rp_geometry.specs.Geometry.{RationalPoint, HalfSpace, cube_half_spaces}
 use Rattle.rp_geometry.specs.searches.Vertex.{vertices}
-use Rattle.rp_corners.specs.Bases.{Places, IsBefore}
+use Rattle.rp_convex.specs.Bases.{Places, IsBefore}
 use Rattle.rp_clip.specs.Firsts.{is_off, AreOn, IsBehind}
 use Rattle.rp_clip.specs.Masks.{mask_of, IsIn}
 use Rattle.rp_clip.specs.Polygons.{IsPolygon, AreOnPlane}

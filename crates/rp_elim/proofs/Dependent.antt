@@ -11,8 +11,8 @@ use Rattle.rp_geometry.specs.searches.Certificate.{Multiple, is_balanced, is_con
 use Rattle.rp_geometry.specs.searches.Vertex.{det2, meeting_weight}
 use Rattle.rp_geometry.specs.searches.Elimination.{multiple_of, half_spaces_of, minors_of_two, minors_of_three, normal_terms, is_refutation, terms_if, refutation_of_one, refutation_of_two, refutation_of_three}
 use Rattle.rp_geometry.proofs.Weights.{weight_exchanged, weight_turned}
-use Rattle.rp_alternative.proofs.Lowest.{half_spaces_of-normal}
-use Rattle.rp_alternative.proofs.Tests.{Balanced, balanced-to}
+use Rattle.rp_convex.proofs.LowestMultiples.{half_spaces_of-normal}
+use Rattle.rp_convex.proofs.Tests.{Balanced, balanced-to}
 use Rattle.rp_elim.specs.declared.placed.Placed.{Placed}
 use Rattle.rp_elim.specs.Axes.{is_without_normal, are_parallel}
 use Rattle.rp_elim.specs.HeldFast.{two_in_order, three_in_order}

@@ -10,7 +10,7 @@ use Rattle.rp_algebra.proofs.Numbers.{above_not_zero}
 use Rattle.rp_algebra.proofs.Tests.{and_first, and_second, at_most_is}
 use Rattle.rp_geometry.specs.searches.Certificate.{Multiple, is_multiplier}
 use Rattle.rp_geometry.specs.searches.Elimination.{factors_of}
-use Rattle.rp_alternative.proofs.Tests.{multiplier-to}
+use Rattle.rp_convex.proofs.Tests.{multiplier-to}
 
 -- the divisor is above 0
 pub divisor_above : (ts : List Multiple) → 0 < length ts → list_all (λ t. is_multiplier t.factor) ts ≡ true → 0 < gcd_of (factors_of ts)

@@ -6,8 +6,8 @@ use Rattle.rp_geometry.specs.Geometry.{RationalPoint, HalfSpace}
 use Rattle.rp_geometry.specs.searches.Certificate.{Multiple, is_outside_certificate}
 use Rattle.rp_geometry.specs.searches.Elimination.{first_outside}
 use Rattle.rp_geometry.specs.laws.CellLaws.{AreHalfSpaces, IsSolution}
-use Rattle.rp_alternative.proofs.Alternative.{solution_or_certificate_spec}
-use Rattle.rp_alternative.proofs.Found.{outside_is_found_spec}
+use Rattle.rp_convex.proofs.Alternative.{solution_or_certificate_spec}
+use Rattle.rp_convex.proofs.OutsideFound.{outside_is_found_spec}
 
 -- what is found is an outside certificate
 pub found_passes : (strict : Bool) (cell : List HalfSpace) → AreHalfSpaces cell → (r : Option (List Multiple)) → r ≡ first_outside strict cell → IfSome r (λ terms. IsTrue (is_outside_certificate strict cell terms))

@@ -8,7 +8,7 @@ use Rattle.rp_algebra.proofs.Tests.{and_first, and_second, and_true, false_not_t
 use Rattle.rp_geometry.specs.Geometry.{HalfSpace}
 use Rattle.rp_geometry.specs.searches.Certificate.{Multiple, is_balanced, is_contradiction}
 use Rattle.rp_geometry.specs.searches.Elimination.{half_spaces_of, minors_of_two, normal_terms, is_refutation, refutation_of_two}
-use Rattle.rp_alternative.proofs.Lowest.{half_spaces_of-normal}
+use Rattle.rp_convex.proofs.LowestMultiples.{half_spaces_of-normal}
 use Rattle.rp_elim.specs.Axes.{are_opposed, may_cancel}
 use Rattle.rp_elim.proofs.Dependent.{not_given, balance_of, two_halves}
 

@@ -13,9 +13,9 @@ use Rattle.rp_algebra.proofs.Listed.{list_all_true, list_all_is}
 use Rattle.rp_geometry.specs.Geometry.{HalfSpace}
 use Rattle.rp_geometry.specs.searches.Certificate.{Multiple, weighted_sum, is_balanced, is_contradiction, is_multiplier}
 use Rattle.rp_geometry.specs.searches.Elimination.{factors_of, reduced_terms, is_refutation, terms_if}
-use Rattle.rp_alternative.proofs.Combination.{ArePositive}
-use Rattle.rp_alternative.proofs.Tests.{multiplier-to}
-use Rattle.rp_alternative.proofs.Lowest.{divided, divided_positive, weighted_sum-divided}
+use Rattle.rp_convex.proofs.Combination.{ArePositive}
+use Rattle.rp_convex.proofs.Tests.{multiplier-to}
+use Rattle.rp_convex.proofs.LowestMultiples.{divided, divided_positive, weighted_sum-divided}
 
 -- ---- a number and its positive multiple
 module _ (g : ℕ) (p : 0 < g) (s t : ℤ) (e : pos g *ℤ s ≡ t) where

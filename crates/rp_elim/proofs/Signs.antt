@@ -8,8 +8,8 @@ use Rattle.rp_algebra.proofs.LowestTerms.{exact_quotient, quotient_of_zero}
 use Rattle.rp_algebra.proofs.Tests.{and_first, and_second, and_true, false_unless, false_not_true, positive_is, is_positive_true}
 use Rattle.rp_geometry.specs.searches.Certificate.{Multiple, is_balanced, is_contradiction, is_multiplier}
 use Rattle.rp_geometry.specs.searches.Elimination.{factors_of, reduced_terms, negated_terms, normal_terms, is_refutation, terms_if}
-use Rattle.rp_alternative.proofs.Tests.{multiplier-from, multiplier-to}
-use Rattle.rp_alternative.proofs.Lowest.{divided, negated_small}
+use Rattle.rp_convex.proofs.Tests.{multiplier-from, multiplier-to}
+use Rattle.rp_convex.proofs.LowestMultiples.{divided, negated_small}
 use Rattle.rp_elim.specs.Factors.{AreFactorsSmall}
 
 -- a number whose negative is a multiplier is below 0

@@ -4,7 +4,7 @@
 //! That a list of half-spaces has a solution or multiples that add up to a contradiction, and never both, is Farkas'
 //! lemma (1902) for weak sides and Motzkin's theorem of the alternative (1936) for strict ones. That four multiples are
 //! enough is Carathéodory's theorem (1911), which says here what Helly's (1923) says: where each four of the
-//! half-spaces have a common point, all have one. The laws are those of `rp_alternative`, where they are proved by
+//! half-spaces have a common point, all have one. The laws are those of `rp_convex`, where they are proved by
 //! adding one half-space after the other, and not by eliminating one unknown after the other.
 //!
 //! So the sets of one, two, three and four half-spaces of a cell and the cube are tried, in the order of their places

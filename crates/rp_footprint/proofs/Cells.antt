@@ -11,7 +11,7 @@ use Rattle.rp_geometry.specs.parts.Trapezoid.{least_y}
 use Rattle.rp_space.specs.Corners.{polygon_corner, polygon_corners, prism_of}
 use Rattle.rp_space.specs.declared.corner.Corner.{Corner as Written}
 use Rattle.rp_footprint.specs.Cells.{no_corner, edge_at, trapezoid_by, trapezoid_at, cell_under, cell_by, AreNear, AreHeights}
-use Rattle.rp_prism.proofs.Ends.{both_ends, least_is_near}
+use Rattle.rp_parts.proofs.Ends.{both_ends, least_is_near}
 
 -- ---- left and right
 

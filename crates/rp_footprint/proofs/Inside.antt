@@ -10,8 +10,8 @@ use Rattle.rp_geometry.proofs.SameMembers.{cube_point_is_point}
 use Rattle.rp_space.specs.Corners.{polygon_corners, prism_of}
 use Rattle.rp_space.specs.declared.corner.Corner.{Corner as Written}
 use Rattle.rp_footprint.specs.Cells.{no_corner, edge_at, trapezoid_by, trapezoid_at, cell_holds}
-use Rattle.rp_prism.proofs.Parity.{differ, parity}
-use Rattle.rp_prism.proofs.Together.{in_trapezoid, trapezoids_together}
+use Rattle.rp_parts.proofs.Parity.{differ, parity}
+use Rattle.rp_parts.proofs.Together.{in_trapezoid, trapezoids_together}
 use Rattle.rp_footprint.proofs.Cells.{edges_as_many}
 
 -- the point is in the trapezoid of an edge

@@ -8,7 +8,7 @@ use Rattle.rp_space.specs.MadeHalfSpace.{made_half_space}
 use Rattle.rp_space.specs.declared.half.HalfFault.{HalfFault}
 use Rattle.rp_space.specs.declared.half.HalfFault.TheVariants.{Range, Zero}
 use Rattle.rp_footprint.specs.Cells.{AreInOrder, AreHeights, box_under, cell_under}
-use Rattle.rp_prism.proofs.Ends.{IsNearby, nearby, AreEnds, IsSmallLine, line_is_small, line_not_zero}
+use Rattle.rp_parts.proofs.Ends.{IsNearby, nearby, AreEnds, IsSmallLine, line_is_small, line_not_zero}
 
 -- a left and a right corner within their bounds are ends
 pub ends_in_order : (l r : Corner) → AreInOrder l r → AreEnds IsNearby l r

@@ -6,7 +6,7 @@ ghost use Rattle.rp_geometry.specs.sets.Shape.{Shape, is_member};
 ghost use Rattle.rp_geometry.specs.parts.Trapezoid.{least_y};
 ghost use Rattle.rp_space.specs.Corners.{polygon_corner, polygon_corners, prism_of};
 ghost use Rattle.rp_footprint.specs.Cells.{AreHeights, AreInOrder, AreNear, cell_by, cell_holds, cell_under, edge_at, trapezoid_at};
-ghost use Rattle.rp_prism.proofs.Parity.{differ};
+ghost use Rattle.rp_parts.proofs.Parity.{differ};
 
 use crate::line::below_line;
 use rp_space::{Corner, Half, IntBox, Point, box_halves};

@@ -13,10 +13,10 @@ use Rattle.rp_walks.specs.FormLaws.{IfDone, IsMadeOf, AnswersRightly, PrismIsRig
 use Rattle.rp_walks.proofs.Outcomes.{weaker_done, then_done}
 use Rattle.rp_algebra.proofs.Listed.{all_append}
 use Rattle.rp_geometry.proofs.Members.{cell_passes_as}
-use Rattle.rp_prism.proofs.Parity.{differ, differ_false, parity}
-use Rattle.rp_prism.proofs.Ends.{IsNearby, AreNear, ends_of, edges_near}
-use Rattle.rp_prism.proofs.Trapezoids.{trapezoid_kept}
-use Rattle.rp_prism.proofs.Together.{in_trapezoid, trapezoids_together}
+use Rattle.rp_parts.proofs.Parity.{differ, differ_false, parity}
+use Rattle.rp_parts.proofs.Ends.{IsNearby, AreNear, ends_of, edges_near}
+use Rattle.rp_parts.proofs.Trapezoids.{trapezoid_kept}
+use Rattle.rp_parts.proofs.Together.{in_trapezoid, trapezoids_together}
 use Rattle.rp_forms.proofs.Alike.{parts_append}
 use Rattle.rp_forms.proofs.Walks.{few_done}
 use Rattle.rp_forms.proofs.Made.{AreMade, made_as, are_of, made_of, made_alone}

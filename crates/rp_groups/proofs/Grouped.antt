@@ -8,10 +8,10 @@ use Rattle.rp_algebra.proofs.Listed.{Listed, first, later, all_of, of_all, all_m
 use Rattle.rp_geometry.specs.sets.Pieces.{first_number, first_numbers}
 use Rattle.rp_geometry.specs.parts.Groups.{groups_of}
 use Rattle.rp_geometry.specs.laws.PieceLaws.{IsJoined, itself}
-use Rattle.rp_one_piece.proofs.Growth.{joined_on, joined_end, joined_back}
-use Rattle.rp_one_piece.proofs.Grouped.{of_classes, groups_are_joined_spec}
-use Rattle.rp_one_piece.proofs.Partition.{Holds, holds_later, AreDisjoint, has_first}
-use Rattle.rp_one_piece.proofs.Rising.{Rises}
+use Rattle.rp_parts.proofs.Growth.{joined_on, joined_end, joined_back}
+use Rattle.rp_parts.proofs.Grouped.{of_classes, groups_are_joined_spec}
+use Rattle.rp_parts.proofs.Partition.{Holds, holds_later, AreDisjoint, has_first}
+use Rattle.rp_parts.proofs.Rising.{Rises}
 use Rattle.rp_groups.specs.Forest.{IsForest}
 use Rattle.rp_groups.specs.Lists.{with_number}
 use Rattle.rp_groups.proofs.Trees.{above}

@@ -4,7 +4,7 @@ use Rattle.std.proofs.lemmas.Bool.{cases_eq, cases_order}
 use Rattle.std.proofs.lemmas.List.{length-set, get_or-set_same, get_or-set_other, get_or_past, take_at, take_more}
 use Rattle.std.specs.List.{AllByRecursion}
 use Rattle.rp_geometry.specs.laws.PieceLaws.{IsJoined, itself, further}
-use Rattle.rp_one_piece.proofs.Growth.{joined_on, joined_end, joined_back}
+use Rattle.rp_parts.proofs.Growth.{joined_on, joined_end, joined_back}
 use Rattle.rp_groups.specs.Forest.{AreLow, IsForest}
 use Rattle.rp_groups.specs.Lists.{IsWithin}
 use Rattle.rp_groups.proofs.Ways.{joined_more, joined_last, Meets, joined_cases}

@@ -7,7 +7,7 @@ use Rattle.rp_algebra.proofs.Tests.{and_first, and_second, and_true}
 use Rattle.rp_geometry.specs.parts.Groups.{is_linked}
 use Rattle.rp_geometry.specs.laws.PieceLaws.{IsJoined, itself, further}
 use Rattle.rp_algebra.proofs.Filter.{some_passes, passes_some}
-use Rattle.rp_one_piece.proofs.Growth.{joined_on, joined_end, joined_back}
+use Rattle.rp_parts.proofs.Growth.{joined_on, joined_end, joined_back}
 
 -- ---- one link more
 

@@ -6,8 +6,8 @@ use Rattle.rp_geometry.specs.sets.Sets.{IsEmpty}
 use Rattle.rp_geometry.specs.laws.CellLaws.{IsSolution}
 use Rattle.rp_geometry.specs.parts.Parts.{IsPart}
 use Rattle.rp_geometry.proofs.Kept.{part_is_checked}
-use Rattle.rp_contact.proofs.Meeting.{boxes_of_overlap_meet_spec}
-use Rattle.rp_contact.proofs.Pairs.{overlap_is_member}
+use Rattle.rp_parts.proofs.Meeting.{boxes_of_overlap_meet_spec}
+use Rattle.rp_parts.proofs.Pairs.{overlap_is_member}
 use Rattle.rp_forms.proofs.Touch.{boxes_touch}
 
 -- no member, where the boxes share no more than boundary

@@ -11,7 +11,7 @@ use Rattle.rp_reports.specs.Output.{Task, try_script, IsOutput, is_refused_line}
 use Rattle.rp_reports.specs.Report.{script_mark, report_mark, version_by, marked, script_version, script_body}
 use Rattle.rp_reports.specs.Text.{text_of_lines}
 use Rattle.rp_reports.specs.laws.RunLaws.{state_of_run}
-use Rattle.rp_runs.proofs.Rows.{first_rows, meets_rule}
+use Rattle.rp_run_laws.proofs.Rows.{first_rows, meets_rule}
 use Rattle.rp_states.proofs.Computed.{opening_sound, report_is_computed_spec, step_is_computed_spec}
 use Rattle.rp_states.proofs.Plain.{live_same}
 use Rattle.rp_states.proofs.Steps.{steps_keep_soundness_spec}

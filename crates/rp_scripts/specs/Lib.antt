@@ -4,3 +4,4 @@ pub mod Output
 pub mod Task
 pub mod Trial
 pub mod TrialReport
+pub mod Upgraded

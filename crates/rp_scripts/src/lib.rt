@@ -2,7 +2,8 @@
 //! What is done with a script without the machine that answers it and without the check of a report.
 //!
 //! A script is cut into its lines ([`next_line`]) behind the mark of its version ([`split_mark`]). It is put with each
-//! command in its one spelling ([`spell::spell`]), as one of version 2 ([`upgrade::upgrade`]), or made from a seed
+//! command in its one spelling ([`spell::spell`]), as one of version 2 ([`upgrade::upgrade`], line by line
+//! [`upgrade_line`]), or made from a seed
 //! ([`make::make`]). Beside that stand what the words of a command line ask for ([`listed_task`]), how the answer to a
 //! line is put ([`put_answer`]), and what is counted in answers ([`Counts`]).
 //!
@@ -24,6 +25,7 @@ pub mod spell;
 mod task;
 mod text;
 pub mod upgrade;
+mod upgraded;
 
 pub use answer::put_answer;
 pub use building::Building;
@@ -35,3 +37,4 @@ pub use mark::{put_mark, split_mark};
 pub use output::put_lines;
 pub use task::{GivenTask, MadeTask, Task, listed_task};
 pub use text::write_count;
+pub use upgraded::upgrade_line;

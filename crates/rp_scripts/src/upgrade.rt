@@ -11,9 +11,9 @@ ghost use Rattle.rp_scripts.specs.Output.{PutsFront, PutsLines, PutsOutput, HasO
 use crate::fault::OutputFault;
 use crate::lines::next_line;
 use crate::mark::{put_mark, split_mark};
+use crate::upgraded::upgrade_line;
 use rp_command::Version;
 use rp_io::Sink;
-use rp_upgrade::upgrade_line;
 use std::alloc::Global;
 
 /// Puts the line that takes the place of one line of a script of a version, by way of a buffer for its text. Answers

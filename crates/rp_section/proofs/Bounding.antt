@@ -20,11 +20,11 @@ use Rattle.rp_geometry.specs.laws.SectionLaws.{level_plane}
 use Rattle.rp_convex.proofs.Lowest.{reduced_is}
 use Rattle.rp_convex.proofs.Reduced.{same_sign_reduced}
 use Rattle.rp_convex.proofs.Signs.{HaveSameSign}
-use Rattle.rp_ring.proofs.Traces.{direction_of, trace_at-is, side_of_trace, trace_from, trace_listed}
-use Rattle.rp_ring.proofs.Turns.{onward, backward, joins}
-use Rattle.rp_ring.proofs.Rings.{IsRingOf}
-use Rattle.rp_ring.proofs.Unique.{HasEdge, edge_at_two, end_spot}
-use Rattle.rp_ring.proofs.Spots.{IsSpot, cross_turned}
+use Rattle.rp_slice.proofs.Traces.{direction_of, trace_at-is, side_of_trace, trace_from, trace_listed}
+use Rattle.rp_slice.proofs.Turns.{onward, backward, joins}
+use Rattle.rp_slice.proofs.Rings.{IsRingOf}
+use Rattle.rp_slice.proofs.Unique.{HasEdge, edge_at_two, end_spot}
+use Rattle.rp_slice.proofs.Spots.{IsSpot, cross_turned}
 use Rattle.rp_slice.proofs.RingFound.{meeting_is, meeting_plain, normal_above, normal_below, normal_zero, edge_is, is_edge, crossing_first, crossing_second, negated_value}
 use Rattle.rp_slice.proofs.Sizes.{parallel_none, traces_meet_where_planes_do_spec}
 use Rattle.rp_cert.proofs.Traced.{side_sign}

@@ -11,8 +11,8 @@ use Rattle.rp_geometry.specs.searches.Certificate.{Multiple, weighted_sum, is_mu
 use Rattle.rp_geometry.specs.searches.Elimination.{factors_of, reduced_terms, negated_terms, normal_terms}
 use Rattle.rp_geometry.specs.sections.Trace.{has_trace, offset_at}
 use Rattle.rp_geometry.specs.sections.Flat.{is_level_kind, is_trace_kind, is_flat_refutation, flat_terms_if}
-use Rattle.rp_alternative.proofs.Combination.{ArePositive}
-use Rattle.rp_alternative.proofs.Lowest.{divided, divided_positive, weighted_sum-divided, negated_small}
+use Rattle.rp_convex.proofs.Combination.{ArePositive}
+use Rattle.rp_convex.proofs.LowestMultiples.{divided, divided_positive, weighted_sum-divided, negated_small}
 use Rattle.rp_elim.specs.Factors.{AreFactorsSmall}
 use Rattle.rp_elim.proofs.Scaled.{same_zero, same_at_most, positive_multipliers}
 use Rattle.rp_elim.proofs.Signs.{negated_multipliers, from_quotients, small_multipliers, below}

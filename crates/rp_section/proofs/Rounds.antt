@@ -6,8 +6,8 @@ use Rattle.rp_geometry.specs.Geometry.{RationalPoint, HalfSpace}
 use Rattle.rp_geometry.specs.sections.Trace.{Trace, with_sides, traces}
 use Rattle.rp_geometry.specs.sections.Ring.{RingStep, Turn, turn_of, turns_to, turns_of, cross, trace_meeting, corners, edges_among}
 use Rattle.rp_geometry.specs.laws.SectionLaws.{IsRing, level_plane}
-use Rattle.rp_ring.proofs.Rings.{IsRingOf, ring_to}
-use Rattle.rp_ring.proofs.Unique.{SameEdges, same_edges, EndsAt, ends_at, have_directions}
+use Rattle.rp_slice.proofs.Rings.{IsRingOf, ring_to}
+use Rattle.rp_slice.proofs.Unique.{SameEdges, same_edges, EndsAt, ends_at, have_directions}
 use Rattle.rp_slice.proofs.RingFound.{meeting_is, as_steps, as_edge, edge_as, as_rising, edge_direction, edges_found}
 use Rattle.rp_section.specs.declared.side.Side.{Side}
 use Rattle.rp_section.specs.Sides.{bounds_of, side_step, side_steps_to, side_steps, sides_of}

@@ -9,8 +9,8 @@ use Rattle.rp_geometry.specs.sections.Trace.{IsHeight}
 use Rattle.rp_geometry.specs.sections.Ring.{RingStep, is_ring, ring_of}
 use Rattle.rp_geometry.specs.sections.Flat.{first_flat}
 use Rattle.rp_geometry.specs.sections.Slice as model
-use Rattle.rp_ring.proofs.Center.{ring_shows_member_spec}
-use Rattle.rp_ring.proofs.Never.{never_flat}
+use Rattle.rp_slice.proofs.Center.{ring_shows_member_spec}
+use Rattle.rp_slice.proofs.Never.{never_flat}
 use Rattle.rp_slice.proofs.RingFound.{slice_is_found_spec, none_ring}
 use Rattle.rp_cert.specs.declared.slice.Slice.{Slice}
 use Rattle.rp_cert.specs.declared.slice.Slice.TheVariants.{Ring, Flat}

@@ -16,16 +16,16 @@ use Rattle.rp_geometry.specs.laws.CellLaws.{AreHalfSpaces, StandAt, ComesBefore,
 use Rattle.rp_geometry.specs.laws.SectionLaws.{RefuteFlat, IsFirstFlat, FirstFlatIsFirst}
 use Rattle.rp_geometry.specs.sections.Trace.{has_trace, holds_level, with_sides}
 use Rattle.rp_geometry.specs.sections.Flat.{is_level_kind, is_trace_kind, flat_terms_if, flat_of_one, flat_of_two, flat_of_three, first_flat}
-use Rattle.rp_alternative.proofs.Combination.{Among, none, skip, take, IsSmall, ArePositive}
-use Rattle.rp_alternative.proofs.Sums.{length-half_spaces}
-use Rattle.rp_alternative.proofs.Dropped.{among_among}
-use Rattle.rp_alternative.proofs.Lowest.{half_spaces_of-normal}
-use Rattle.rp_alternative.proofs.Places.{places, shifted, length-places, rising_places, stand_places, embed, among_length, among_whole}
-use Rattle.rp_alternative.proofs.Levels.{first_sub, first_of-is, first_of_pairs-is, first_of_triples-is, missed_sub, FirstSub, found_sub, hit_sub}
-use Rattle.rp_alternative.proofs.Unique.{IsLowest}
-use Rattle.rp_alternative.proofs.Tests.{balanced-from}
-use Rattle.rp_alternative.proofs.Values.{refutation_of, value_of, hit_refute}
-use Rattle.rp_alternative.proofs.First.{part_before, IsFirstIn, first-found}
+use Rattle.rp_convex.proofs.Combination.{Among, none, skip, take, IsSmall, ArePositive}
+use Rattle.rp_convex.proofs.Sums.{length-half_spaces}
+use Rattle.rp_convex.proofs.Dropped.{among_among}
+use Rattle.rp_convex.proofs.LowestMultiples.{half_spaces_of-normal}
+use Rattle.rp_convex.proofs.OutsidePlaces.{places, shifted, length-places, rising_places, stand_places, embed, among_length, among_whole}
+use Rattle.rp_convex.proofs.Levels.{first_sub, first_of-is, first_of_pairs-is, first_of_triples-is, missed_sub, FirstSub, found_sub, hit_sub}
+use Rattle.rp_convex.proofs.Unique.{IsLowest}
+use Rattle.rp_convex.proofs.Tests.{balanced-from}
+use Rattle.rp_convex.proofs.Values.{refutation_of, value_of, hit_refute}
+use Rattle.rp_convex.proofs.First.{part_before, IsFirstIn, first-found}
 use Rattle.rp_slice.proofs.Planar.{plane_by, plane, planes, planar, planar_of, RefutesFlat, flat_refutation-to, traces_to, planar_a, planar_b, planar_c, planar_d, positive_planar, factors_of-planar}
 use Rattle.rp_slice.proofs.Hand.{one_is, two_is, three_is, four_is, two_by-of}
 use Rattle.rp_slice.proofs.FlatFound.{small_planes, planar_found, given_is}

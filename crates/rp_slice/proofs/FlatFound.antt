@@ -18,18 +18,18 @@ use Rattle.rp_geometry.specs.sections.Trace.{IsHeight, Trace, has_trace, offset_
 use Rattle.rp_geometry.specs.laws.SectionLaws.{HasMemberAt, MemberOrFlat, FindsFlat, FlatIsFound}
 use Rattle.rp_geometry.specs.sections.Flat.{is_one_to_three, is_level_kind, is_trace_kind, is_flat, is_flat_refutation, flat_terms_if, flat_of_one, flat_of_two, flat_of_three, first_flat}
 use Rattle.rp_geometry.proofs.Bounds.{cube_bounds}
-use Rattle.rp_alternative.proofs.Combination.{Among, IsSmall}
-use Rattle.rp_alternative.proofs.Sums.{length-half_spaces}
-use Rattle.rp_alternative.proofs.Lowest.{AreFactorsSmall, half_spaces_of-normal}
-use Rattle.rp_alternative.proofs.Searched.{found_one, found_two, found_three}
-use Rattle.rp_alternative.proofs.Found.{passed, missed, not_missed, refuting}
-use Rattle.rp_alternative.proofs.Weak.{Point, offset_side, point_or_refutation}
-use Rattle.rp_alternative.proofs.Alternative.{great, strict_offset, terms-from, strict_side, greater}
-use Rattle.rp_alternative.proofs.Tests.{listed-from}
-use Rattle.rp_ring.proofs.Traces.{traces, trace_in, value_of_factor}
-use Rattle.rp_ring.proofs.Rings.{LevelsHold}
-use Rattle.rp_ring.proofs.Never.{never_flat}
-use Rattle.rp_ring.proofs.Center.{IsWithinAll, within_is_member}
+use Rattle.rp_convex.proofs.Combination.{Among, IsSmall}
+use Rattle.rp_convex.proofs.Sums.{length-half_spaces}
+use Rattle.rp_convex.proofs.LowestMultiples.{AreFactorsSmall, half_spaces_of-normal}
+use Rattle.rp_convex.proofs.Searched.{found_one, found_two, found_three}
+use Rattle.rp_convex.proofs.OutsideFound.{passed, missed, not_missed, refuting}
+use Rattle.rp_convex.proofs.Weak.{Point, offset_side, point_or_refutation}
+use Rattle.rp_convex.proofs.Alternative.{great, strict_offset, terms-from, strict_side, greater}
+use Rattle.rp_convex.proofs.Tests.{listed-from}
+use Rattle.rp_slice.proofs.Traces.{traces, trace_in, value_of_factor}
+use Rattle.rp_slice.proofs.Rings.{LevelsHold}
+use Rattle.rp_slice.proofs.Never.{never_flat}
+use Rattle.rp_slice.proofs.Center.{IsWithinAll, within_is_member}
 use Rattle.rp_slice.proofs.Planar.{plane_by, plane, planes, planar, planar_of, plane_is, RefutesFlat, flat_refutation-to}
 use Rattle.rp_slice.proofs.Hand.{search_is, two_by-of}
 

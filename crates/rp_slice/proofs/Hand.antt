@@ -14,9 +14,9 @@ use Rattle.rp_geometry.specs.searches.Vertex.{det2, det3}
 use Rattle.rp_geometry.specs.searches.Elimination.{multiple_of, half_spaces_of, normal_terms, minors_of_two, minors_on_axes, minors_of_three, minors_of_four, is_refutation, terms_if, refutation_of_one, refutation_of_two, refutation_of_three, refutation_of_four, first_refutation}
 use Rattle.rp_geometry.specs.sections.Trace.{has_trace, holds_level, with_sides}
 use Rattle.rp_geometry.specs.sections.Flat.{is_trace_kind, is_flat_refutation, flat_terms_if, flat_of_one, flat_of_two, flat_of_three, first_flat}
-use Rattle.rp_alternative.proofs.Relations.{two_by, three_by}
-use Rattle.rp_alternative.proofs.Lowest.{half_spaces_of-normal}
-use Rattle.rp_ring.proofs.Traces.{direction_of}
+use Rattle.rp_convex.proofs.Relations.{two_by, three_by}
+use Rattle.rp_convex.proofs.LowestMultiples.{half_spaces_of-normal}
+use Rattle.rp_slice.proofs.Traces.{direction_of}
 use Rattle.rp_slice.proofs.Planar.{plane_by, plane, planes, planar, planar_of, plane_is, third_by, IsNowhere, nowhere_by, flat_refutation-to, flat_refutation-from, refutation_to, HaveTraces, tests_agree, given, normal-planar, none_of_zero, flat_none_of_zero, flat_none}
 
 module _ (z : ℤ) where

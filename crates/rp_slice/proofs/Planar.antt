@@ -14,9 +14,9 @@ use Rattle.rp_geometry.specs.searches.Certificate.{Multiple, weighted_sum, is_ba
 use Rattle.rp_geometry.specs.searches.Elimination.{multiple_of, factors_of, half_spaces_of, reduced_terms, negated_terms, normal_terms, is_refutation, terms_if}
 use Rattle.rp_geometry.specs.sections.Trace.{has_trace, offset_at, holds_level}
 use Rattle.rp_geometry.specs.sections.Flat.{is_level_kind, is_trace_kind, is_flat_refutation, flat_terms_if}
-use Rattle.rp_alternative.proofs.Combination.{ArePositive}
-use Rattle.rp_alternative.proofs.Lowest.{divided, Refutes, refutation-from, half_spaces_of-normal}
-use Rattle.rp_alternative.proofs.Tests.{balanced-to}
+use Rattle.rp_convex.proofs.Combination.{ArePositive}
+use Rattle.rp_convex.proofs.LowestMultiples.{divided, Refutes, refutation-from, half_spaces_of-normal}
+use Rattle.rp_convex.proofs.Tests.{balanced-to}
 
 -- ---- the half-spaces on the plane
 

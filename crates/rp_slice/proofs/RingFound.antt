@@ -24,15 +24,15 @@ use Rattle.rp_geometry.proofs.Points.{point_eq-to, point_eq-same}
 use Rattle.rp_convex.proofs.LowestOne.{lowest_terms_are_one_spec}
 use Rattle.rp_convex.proofs.Triples.{found_two}
 use Rattle.rp_convex.proofs.Firsts.{from_two}
-use Rattle.rp_ring.proofs.Traces.{IsDirection}
-use Rattle.rp_ring.proofs.Turns.{onward, backward, joins}
-use Rattle.rp_ring.proofs.Rings.{IsLowestPoint, IsRingOf, ring_to, on_edge}
-use Rattle.rp_ring.proofs.Support.{no_change, meet_once}
-use Rattle.rp_ring.proofs.Angles.{HaveDirections, before_chain, before_rest, rising_rest}
-use Rattle.rp_ring.proofs.Unique.{HasEdge, edge_at_two, end_spot, SameEdges, same_edges, EndsAt, ends_at, have_directions, ring_is_the_only_one_spec}
-use Rattle.rp_ring.proofs.Spots.{IsSpot, reduced_lowest, reduced_height, cross_turned}
-use Rattle.rp_ring.proofs.Center.{ring_shows_member_spec}
-use Rattle.rp_ring.proofs.Never.{never_flat}
+use Rattle.rp_slice.proofs.Traces.{IsDirection}
+use Rattle.rp_slice.proofs.Turns.{onward, backward, joins}
+use Rattle.rp_slice.proofs.Rings.{IsLowestPoint, IsRingOf, ring_to, on_edge}
+use Rattle.rp_slice.proofs.Support.{no_change, meet_once}
+use Rattle.rp_slice.proofs.Angles.{HaveDirections, before_chain, before_rest, rising_rest}
+use Rattle.rp_slice.proofs.Unique.{HasEdge, edge_at_two, end_spot, SameEdges, same_edges, EndsAt, ends_at, have_directions, ring_is_the_only_one_spec}
+use Rattle.rp_slice.proofs.Spots.{IsSpot, reduced_lowest, reduced_height, cross_turned}
+use Rattle.rp_slice.proofs.Center.{ring_shows_member_spec}
+use Rattle.rp_slice.proofs.Never.{never_flat}
 use Rattle.rp_slice.proofs.FlatFound.{found_is_flat, finds_flat}
 use Rattle.rp_slice.proofs.FlatFirst.{first_flat_is_first_spec}
 use Rattle.rp_slice.proofs.Walks.{member_has_ring_spec}

@@ -9,8 +9,8 @@ use Rattle.rp_geometry.specs.sets.Shape.{Part, IsMember, passes, shape_of_cell, 
 use Rattle.rp_geometry.specs.sections.Trace.{IsHeight, IsAtHeight}
 use Rattle.rp_geometry.specs.sections.Slice.{IsInSlice, IsInSlices, Slice, is_slice}
 use Rattle.rp_geometry.specs.laws.SectionLaws.{SlicesShowTheMembers}
-use Rattle.rp_ring.proofs.Never.{never_flat}
-use Rattle.rp_ring.proofs.Holding.{ring_holds_the_members_spec}
+use Rattle.rp_slice.proofs.Never.{never_flat}
+use Rattle.rp_slice.proofs.Holding.{ring_holds_the_members_spec}
 
 module _ (z : ℤ) (hz : IsHeight z) (p : RationalPoint) (w : IsPoint p) (hp : IsAtHeight z p) (c : is_cube_point p ≡ true) where
   -- one slice

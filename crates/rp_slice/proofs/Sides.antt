@@ -8,11 +8,11 @@ use Rattle.rp_algebra.proofs.Listed.{Listed, first, later}
 use Rattle.rp_geometry.specs.Geometry.{RationalPoint, HalfSpace, IsPoint, reduced_point}
 use Rattle.rp_geometry.specs.sections.Trace.{Trace, trace_of, trace_value, with_sides}
 use Rattle.rp_geometry.specs.sections.Ring.{cross}
-use Rattle.rp_ring.proofs.Traces.{IsDirection, traces, trace_in}
-use Rattle.rp_ring.proofs.Support.{change, turning, change_from_zero}
-use Rattle.rp_ring.proofs.Center.{IsWithinAll}
-use Rattle.rp_ring.proofs.Unique.{same_line}
-use Rattle.rp_ring.proofs.Spots.{IsWeakAt, IsSpot, weak_of, Ahead, ahead_own, ahead_above, ahead_parallel, cross_turned, other_factor, FirstMet, first_met, met_point, met_spot, met_ahead, met_zero}
+use Rattle.rp_slice.proofs.Traces.{IsDirection, traces, trace_in}
+use Rattle.rp_slice.proofs.Support.{change, turning, change_from_zero}
+use Rattle.rp_slice.proofs.Center.{IsWithinAll}
+use Rattle.rp_slice.proofs.Unique.{same_line}
+use Rattle.rp_slice.proofs.Spots.{IsWeakAt, IsSpot, weak_of, Ahead, ahead_own, ahead_above, ahead_parallel, cross_turned, other_factor, FirstMet, first_met, met_point, met_spot, met_ahead, met_zero}
 
 -- ---- of the traces that are 0 at a point, the last in the turn from e
 

@@ -15,13 +15,13 @@ use Rattle.rp_geometry.specs.sections.Ring.{RingStep, turn_of, cross, crossing, 
 use Rattle.rp_convex.proofs.Meeting.{meets}
 use Rattle.rp_convex.proofs.OnlyOne.{no_meeting}
 use Rattle.rp_convex.proofs.Sizes.{meeting_point_is_small_spec}
-use Rattle.rp_ring.proofs.Traces.{direction_of, IsTraceAt, trace_at-is, side_of_trace, trace_from}
-use Rattle.rp_ring.proofs.Small.{trace_is_small_spec}
-use Rattle.rp_ring.proofs.Turns.{onward, joins}
-use Rattle.rp_ring.proofs.Rings.{IsLowestPoint, IsRingOf, ring_to}
-use Rattle.rp_ring.proofs.Angles.{HaveDirections, not_before_itself, before_rest, rising_rest}
-use Rattle.rp_ring.proofs.Spots.{reduced_lowest}
-use Rattle.rp_ring.proofs.Unique.{have_directions}
+use Rattle.rp_slice.proofs.Traces.{direction_of, IsTraceAt, trace_at-is, side_of_trace, trace_from}
+use Rattle.rp_slice.proofs.Small.{trace_is_small_spec}
+use Rattle.rp_slice.proofs.Turns.{onward, joins}
+use Rattle.rp_slice.proofs.Rings.{IsLowestPoint, IsRingOf, ring_to}
+use Rattle.rp_slice.proofs.Angles.{HaveDirections, not_before_itself, before_rest, rising_rest}
+use Rattle.rp_slice.proofs.Spots.{reduced_lowest}
+use Rattle.rp_slice.proofs.Unique.{have_directions}
 use Rattle.rp_slice.proofs.FlatFound.{with_sides_bounds}
 use Rattle.rp_slice.proofs.Walks.{count_by, count, AllDirections, count_less, all_directions}
 use Rattle.rp_slice.proofs.RingFound.{meeting_is, normal_above, normal_below, normal_zero}

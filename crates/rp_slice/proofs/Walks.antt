@@ -11,13 +11,13 @@ use Rattle.rp_geometry.specs.Geometry.{RationalPoint, HalfSpace}
 use Rattle.rp_geometry.specs.laws.SectionLaws.{MemberHasRing}
 use Rattle.rp_geometry.specs.sections.Trace.{Trace, trace_value, with_sides}
 use Rattle.rp_geometry.specs.sections.Ring.{RingStep, Turn, turn_of, turns_to, turns_of, cross, is_upper, is_before_by, is_angle_before, angles_rise}
-use Rattle.rp_ring.proofs.Traces.{IsDirection, traces, trace_in}
-use Rattle.rp_ring.proofs.Rings.{IsStep, IsTurn, IsRingOf, ring_from}
-use Rattle.rp_ring.proofs.Owned.{IsFirst}
-use Rattle.rp_ring.proofs.Angles.{upper_to, lower_to, half_chain, before_chain, not_before_itself}
-use Rattle.rp_ring.proofs.Center.{IsWithinAll}
+use Rattle.rp_slice.proofs.Traces.{IsDirection, traces, trace_in}
+use Rattle.rp_slice.proofs.Rings.{IsStep, IsTurn, IsRingOf, ring_from}
+use Rattle.rp_slice.proofs.Owned.{IsFirst}
+use Rattle.rp_slice.proofs.Angles.{upper_to, lower_to, half_chain, before_chain, not_before_itself}
+use Rattle.rp_slice.proofs.Center.{IsWithinAll}
 use Rattle.rp_slice.proofs.FlatFound.{member_is_open}
-use Rattle.rp_ring.proofs.Spots.{ahead_own, ahead_rises, cross_turned}
+use Rattle.rp_slice.proofs.Spots.{ahead_own, ahead_rises, cross_turned}
 use Rattle.rp_slice.proofs.Sides.{Side, Advance, some_side, next_side, none_between, same_direction}
 
 -- ---- how many traces have a greater angle

@@ -1,8 +1,39 @@
 #![tactic(auto)]
-//! Laws of horizontal sections: at a height a cell has a ring or a flat certificate, and the searches find it.
+//! Laws of horizontal sections: what a ring and a flat certificate show of the members of a cell at a height, that there is
+//! one of the two, and that the searches find it.
 //! Each function is a law over the definitions of `rp_geometry`: its contract is the law, and its body is empty.
 
-ghost use Rattle.rp_geometry.specs.laws.SectionLaws.{FirstFlatIsFirst, FlatIsFound, MemberHasRing, MemberOrFlat, RingIsFound, RingIsKept, RingIsShort, SliceIsFound, SlicesShowTheMembers, TracesMeetWherePlanesDo};
+ghost use Rattle.rp_geometry.specs.laws.SectionLaws.{ClosureIsOnTheLeft, EndsAreTheCorners, FirstFlatIsFirst, FlatIsFound, MemberHasRing, MemberOrFlat, RingHoldsTheMembers, RingIsFound, RingIsKept, RingIsShort, RingIsTheOnlyOne, RingShowsMember, SliceIsFound, SlicesShowTheMembers, TraceIsSmall, TracesMeetWherePlanesDo};
+
+/// At a height of the cube the trace of a half-space keeps the bounds of traces.
+pub fn trace_is_small()
+    ensures { TraceIsSmall }
+{}
+
+/// A cell has at most one ring at a height.
+pub fn ring_is_the_only_one()
+    ensures { RingIsTheOnlyOne }
+{}
+
+/// A cell with a ring at a height has a member there.
+pub fn ring_shows_member()
+    ensures { RingShowsMember }
+{}
+
+/// Where there is a ring, the members at the height are exactly the cube points there that all edges hold.
+pub fn ring_holds_the_members()
+    ensures { RingHoldsTheMembers }
+{}
+
+/// The ends of a ring are all corners of the closure of the section, and no other points.
+pub fn ends_are_the_corners()
+    ensures { EndsAreTheCorners }
+{}
+
+/// From each end of a ring to the next the closure lies on the left.
+pub fn closure_is_on_the_left()
+    ensures { ClosureIsOnTheLeft }
+{}
 
 /// At a height a cell has a member or a flat certificate of at most three terms, and never both.
 pub fn member_or_flat()

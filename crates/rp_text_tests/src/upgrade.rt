@@ -1,5 +1,5 @@
 use rp_command::Version;
-use rp_upgrade::upgrade_line;
+use rp_scripts::upgrade_line;
 
 #[test]
 fn lines_of_both_versions_are_upgraded(rt: HostRuntime) {

@@ -12,9 +12,9 @@ use Rattle.rp_geometry.specs.laws.CellLaws.{AreHalfSpaces, IsSolution}
 use Rattle.rp_geometry.specs.parts.Parts.{AreKeptHalfSpaces}
 use Rattle.rp_reports.specs.Check.{without, dropped_by}
 use Rattle.rp_convex.proofs.Inside.{member_moves_inside_spec}
-use Rattle.rp_alternative.proofs.Tests.{half_space_eq-to, listed-to}
-use Rattle.rp_alternative.proofs.Alternative.{solution_or_certificate_spec}
-use Rattle.rp_contact.proofs.Regions.{cell_append}
+use Rattle.rp_convex.proofs.Tests.{half_space_eq-to, listed-to}
+use Rattle.rp_convex.proofs.Alternative.{solution_or_certificate_spec}
+use Rattle.rp_parts.proofs.Regions.{cell_append}
 use Rattle.rp_geometry.proofs.Kept.{are_half_spaces, kept_together, kept_complement}
 use Rattle.rp_forms.proofs.Alike.{Alike, fails_empty, complement_alone}
 

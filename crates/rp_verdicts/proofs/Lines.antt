@@ -28,7 +28,7 @@ use Rattle.rp_geometry.proofs.Boxes.{box_holds}
 use Rattle.rp_convex.proofs.Certified.{inside_certificate_shows_member_spec}
 use Rattle.rp_convex.proofs.Cube.{cube_half_spaces_hold_cube_spec}
 use Rattle.rp_convex.proofs.Held.{in_cell_is_member}
-use Rattle.rp_alternative.proofs.Tests.{listed-to}
+use Rattle.rp_convex.proofs.Tests.{listed-to}
 use Rattle.rp_geometry.proofs.Members.{member_in_cube, member_passes}
 use Rattle.rp_geometry.proofs.Kept.{are_half_spaces, kept_box, part_is_checked}
 use Rattle.rp_forms.proofs.Alike.{Alike, same_of_alike, one_part}

@@ -14,7 +14,7 @@ use Rattle.rp_algebra.proofs.Tests.{and_first, and_second, false_not_true}
 use Rattle.rp_geometry.specs.Geometry.{RationalPoint, HalfSpace, IsPoint, complement, side_value}
 use Rattle.rp_geometry.specs.searches.Vertex.{meeting_point, vertex_at}
 use Rattle.rp_convex.proofs.Vertex.{weak_is}
-use Rattle.rp_corners.proofs.Corners.{meeting_is, passed_choice}
+use Rattle.rp_convex.proofs.Corners.{meeting_is, passed_choice}
 use Rattle.rp_vertex.specs.Parallel.{have_same_normal, is_further, cuts_off}
 use Rattle.rp_vertex.proofs.Span.{side_complement_of}
 

@@ -12,8 +12,8 @@ use Rattle.rp_algebra.proofs.Tests.{and_first, and_second, negative_is, positive
 use Rattle.rp_geometry.specs.Geometry.{RationalPoint, HalfSpace, all_nonnegative, cube_bound, cube_half_spaces, half_space_of, side_value, with_cube}
 use Rattle.rp_geometry.specs.searches.Vertex.{any_point, meeting_point, vertex_at, vertex_if}
 use Rattle.rp_convex.proofs.Vertex.{weak_is}
-use Rattle.rp_corners.proofs.Corners.{meeting_is, passed_choice}
-use Rattle.rp_corners.proofs.Standing.{contains_listed, listed_contains}
+use Rattle.rp_convex.proofs.Corners.{meeting_is, passed_choice}
+use Rattle.rp_convex.proofs.Standing.{contains_listed, listed_contains}
 use Rattle.rp_space.specs.TwoHalfSpaces.{TwoHalfSpaces}
 use Rattle.rp_vertex.specs.Joined.{HasCube}
 use Rattle.rp_vertex.specs.Line.{HoldsVertices, IsBetween, IsInCube, IsLeft, IsNothingLeft, IsSpan}

@@ -12,8 +12,8 @@ use Rattle.rp_convex.proofs.Lowest.{reduced_is}
 use Rattle.rp_convex.proofs.Meeting.{meets}
 use Rattle.rp_convex.proofs.Places.{same_side, nonnegative_same}
 use Rattle.rp_convex.proofs.Reduced.{same_reduced}
-use Rattle.rp_corners.proofs.Between.{crossing, meeting_at_crossing, side_between}
-use Rattle.rp_corners.proofs.Corners.{meeting_is}
+use Rattle.rp_convex.proofs.Between.{crossing, meeting_at_crossing, side_between}
+use Rattle.rp_convex.proofs.Corners.{meeting_is}
 use Rattle.rp_space.specs.TwoHalfSpaces.{TwoHalfSpaces}
 use Rattle.rp_vertex.specs.Line.{IsBetween, IsLeft, IsNothingLeft, IsSpan, MeetAt}
 use Rattle.rp_vertex.specs.declared.line.Span.{Span}

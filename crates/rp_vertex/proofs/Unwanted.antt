@@ -5,11 +5,11 @@ use Rattle.std.proofs.lemmas.Bool.{or_cases}
 use Rattle.rp_algebra.specs.Integer.{is_positive}
 use Rattle.rp_algebra.proofs.Numbers.{nonpos_of_zero}
 use Rattle.rp_algebra.proofs.Tests.{and_first, and_second, false_not_true, is_positive_false}
-use Rattle.rp_alternative.proofs.Tests.{half_space_eq-to}
+use Rattle.rp_convex.proofs.Tests.{half_space_eq-to}
 use Rattle.rp_geometry.specs.Geometry.{RationalPoint, HalfSpace, half_space_eq, side_value}
 use Rattle.rp_geometry.specs.searches.Search.{first_of, first_of_pairs}
 use Rattle.rp_geometry.specs.searches.Vertex.{lifts, meeting_point, vertex_at}
-use Rattle.rp_corners.proofs.Corners.{IsMeeting, meeting_is, passed_choice}
+use Rattle.rp_convex.proofs.Corners.{IsMeeting, meeting_is, passed_choice}
 use Rattle.rp_vertex.specs.Parallel.{cuts_off, is_cut_off}
 use Rattle.rp_vertex.specs.Wanted.{are_among, is_wanted, lie_within}
 use Rattle.rp_vertex.specs.declared.search.Wanted.{Wanted}

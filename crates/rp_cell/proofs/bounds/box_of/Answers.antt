@@ -1,7 +1,7 @@
 use Rattle.std.proofs.Common.{sym, subst, ap, ◌∙◌}
 use Rattle.rp_geometry.specs.Geometry.{IntegerBox}
 use Rattle.rp_geometry.specs.parts.LeastBox.{IsLeastBox, least_box}
-use Rattle.rp_part.proofs.LeastBox.{least_box_is_least_spec}
+use Rattle.rp_parts.proofs.LeastBox.{least_box_is_least_spec}
 use Rattle.rp_cell.proofs.bounds.box_of.Goals as goal
 
 pub returns-clause-value : goal.returns-clause-value

@@ -3,7 +3,7 @@ use mir.Syntax.{w32}
 use Rattle.rp_algebra.specs.Within.{IsWithin}
 use Rattle.rp_algebra.proofs.Machine.{code, fits_by, is_by, within_by, read_is}
 use Rattle.rp_geometry.specs.searches.Certificate.{Multiple, is_multiplier}
-use Rattle.rp_ring.proofs.Small.{height_within}
+use Rattle.rp_slice.proofs.Small.{height_within}
 use Rattle.rp_space.proofs.Sums.{multiplier_within}
 use Rattle.rp_cert.specs.LevelNumbers.{number_at}
 use Rattle.rp_cert.proofs.flat.multiple.Goals as goal

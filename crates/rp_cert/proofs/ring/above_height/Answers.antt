@@ -1,6 +1,6 @@
 use Rattle.std.proofs.Common.{◌∙◌, ◌-ℤ◌, ◌*ℤ◌}
 use Rattle.rp_algebra.proofs.Machine.{code, fits_by, is_by}
-use Rattle.rp_ring.proofs.Small.{height_within}
+use Rattle.rp_slice.proofs.Small.{height_within}
 use Rattle.rp_cert.proofs.ring.above_height.Goals as goal
 
 pub overflow_mul-result : goal.overflow_mul-result

@@ -5,7 +5,7 @@ use Rattle.rp_algebra.proofs.Machine.{read_is}
 use Rattle.rp_geometry.specs.Geometry.{HalfSpace}
 use Rattle.rp_geometry.specs.sections.Trace.{has_trace, holds_level, with_sides}
 use Rattle.rp_geometry.specs.sections.Ring.{is_step, all_levels_hold}
-use Rattle.rp_ring.proofs.Small.{height_within}
+use Rattle.rp_slice.proofs.Small.{height_within}
 use Rattle.rp_cert.proofs.Traced.{small_edges, levels_of_cell}
 use Rattle.rp_cert.proofs.Walks.{many_true}
 use Rattle.rp_cert.proofs.ring.is_ring.Goals as goal

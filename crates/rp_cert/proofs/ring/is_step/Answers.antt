@@ -4,7 +4,7 @@ use Rattle.rp_algebra.specs.Integer.{is_zero}
 use Rattle.rp_algebra.proofs.Machine.{read_is}
 use Rattle.rp_geometry.specs.sections.Trace.{with_sides}
 use Rattle.rp_geometry.specs.sections.Ring.{is_step, is_trace_of, all_traces_hold}
-use Rattle.rp_ring.proofs.Small.{height_within}
+use Rattle.rp_slice.proofs.Small.{height_within}
 use Rattle.rp_cert.proofs.Traced.{equal_by_difference, kept_lowest}
 use Rattle.rp_cert.proofs.ring.is_step.Goals as goal
 

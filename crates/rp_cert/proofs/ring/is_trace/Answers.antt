@@ -2,7 +2,7 @@ use Rattle.std.proofs.Common.{ℤ, ◌&&◌, sym, ap, ◌∙◌}
 use mir.Syntax.{w32}
 use Rattle.rp_algebra.proofs.Machine.{read_is}
 use Rattle.rp_geometry.specs.sections.Trace.{trace_eq, trace_at}
-use Rattle.rp_ring.proofs.Small.{height_within}
+use Rattle.rp_slice.proofs.Small.{height_within}
 use Rattle.rp_cert.specs.Section.{trace_if}
 use Rattle.rp_cert.proofs.Traced.{given_trace, other_direction}
 use Rattle.rp_cert.proofs.ring.is_trace.Goals as goal

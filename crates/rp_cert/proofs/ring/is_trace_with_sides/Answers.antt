@@ -5,7 +5,7 @@ use Rattle.rp_algebra.proofs.Machine.{read_is}
 use Rattle.rp_geometry.specs.Geometry.{HalfSpace}
 use Rattle.rp_geometry.specs.sections.Trace.{has_trace, trace_eq, trace_at, cube_sides}
 use Rattle.rp_geometry.specs.sections.Ring.{is_trace_of}
-use Rattle.rp_ring.proofs.Small.{height_within}
+use Rattle.rp_slice.proofs.Small.{height_within}
 use Rattle.rp_cert.proofs.ring.is_trace_with_sides.Goals as goal
 
 pub returns-else-is_trace_of : goal.returns-else-is_trace_of

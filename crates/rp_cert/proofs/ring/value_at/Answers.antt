@@ -2,8 +2,8 @@ use Rattle.std.proofs.Common.{◌+ℤ◌, ◌*ℤ◌, sym, ◌∙◌}
 use mir.Syntax.{w32}
 use Rattle.rp_algebra.proofs.Machine.{code, fits_by, is_by, read_is}
 use Rattle.rp_geometry.specs.sections.Trace.{offset_at}
-use Rattle.rp_ring.proofs.Small.{height_within}
-use Rattle.rp_ring.proofs.Traces.{side_at_height}
+use Rattle.rp_slice.proofs.Small.{height_within}
+use Rattle.rp_slice.proofs.Traces.{side_at_height}
 use Rattle.rp_cert.proofs.ring.value_at.Goals as goal
 
 pub overflow_mul-result : goal.overflow_mul-result

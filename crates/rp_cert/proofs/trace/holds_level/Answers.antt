@@ -4,7 +4,7 @@ use Rattle.rp_algebra.specs.Integer.{is_zero, is_positive}
 use Rattle.rp_algebra.proofs.Machine.{read_is}
 use Rattle.rp_geometry.specs.Geometry.{owns_boundary}
 use Rattle.rp_geometry.specs.sections.Trace.{offset_at}
-use Rattle.rp_ring.proofs.Small.{height_within}
+use Rattle.rp_slice.proofs.Small.{height_within}
 use Rattle.rp_cert.proofs.Traced.{level_by_offset}
 use Rattle.rp_cert.proofs.trace.holds_level.Goals as goal
 

@@ -1,7 +1,7 @@
 use Rattle.std.proofs.Common.{◌∙◌}
 use Rattle.rp_algebra.proofs.Machine.{code, fits_by, is_by, within_by}
 use Rattle.rp_geometry.specs.sections.Trace.{offset_at}
-use Rattle.rp_ring.proofs.Small.{height_within}
+use Rattle.rp_slice.proofs.Small.{height_within}
 use Rattle.rp_cert.proofs.trace.offset_at.Goals as goal
 
 pub overflow_mul-result : goal.overflow_mul-result

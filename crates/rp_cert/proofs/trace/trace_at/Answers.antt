@@ -6,7 +6,7 @@ use Rattle.rp_algebra.proofs.Machine.{read_is}
 use Rattle.rp_geometry.specs.Geometry.{HalfSpace}
 use Rattle.rp_geometry.specs.sections.Trace.{Trace, trace_of, trace_at, offset_at}
 use Rattle.rp_geometry.specs.laws.SectionLaws.{IsSmallTrace}
-use Rattle.rp_ring.proofs.Small.{height_within, trace_is_small_spec}
+use Rattle.rp_slice.proofs.Small.{height_within, trace_is_small_spec}
 use Rattle.rp_cert.proofs.Traced.{traced}
 use Rattle.rp_cert.proofs.trace.trace_at.Goals as goal
 

@@ -7,7 +7,7 @@ use Rattle.rp_reports.specs.Output.{is_bad_reading}
 use Rattle.rp_reports.specs.Text.{text_of_lines}
 use Rattle.rp_reports.specs.Upgrade.{upgraded_line}
 use Rattle.rp_command.specs.Versions.{version_of}
-use Rattle.rp_upgrade.specs.Upgraded.{upgraded_text}
+use Rattle.rp_scripts.specs.Upgraded.{upgraded_text}
 use Rattle.rp_scripts.proofs.SinkLemmas.{AppendsPrefix-nothing, OnErr-holds}
 use Rattle.rp_scripts.proofs.upgrade.put_upgraded.Goals as goal
 

@@ -2,7 +2,7 @@ use Rattle.std.proofs.Common.{◌++◌, take, ◌∙◌}
 use mir.Syntax.{w32}
 use Rattle.rp_algebra.proofs.Machine.{read_is}
 use Rattle.rp_geometry.specs.sections.Flat.{first_flat}
-use Rattle.rp_ring.proofs.Small.{height_within}
+use Rattle.rp_slice.proofs.Small.{height_within}
 use Rattle.rp_section.specs.FlatList.{flat_in}
 use Rattle.rp_section.proofs.flat.first_flat.Goals as goal
 

@@ -6,7 +6,7 @@ use Rattle.rp_geometry.specs.searches.Certificate.{Multiple, is_multiplier}
 use Rattle.rp_geometry.specs.searches.Elimination.{reduced_terms}
 use Rattle.rp_geometry.specs.sections.Flat.{flat_terms_if}
 use Rattle.rp_elim.proofs.Signs.{negated_multipliers}
-use Rattle.rp_ring.proofs.Small.{height_within}
+use Rattle.rp_slice.proofs.Small.{height_within}
 use Rattle.rp_section.proofs.Flats.{normal_negated, no_flat}
 use Rattle.rp_section.proofs.flat.flat.Goals as goal
 

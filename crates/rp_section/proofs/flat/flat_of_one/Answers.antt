@@ -4,7 +4,7 @@ use Rattle.rp_algebra.specs.Integer.{gcd, gcd_of}
 use Rattle.rp_algebra.proofs.Machine.{read_is}
 use Rattle.rp_geometry.specs.searches.Elimination.{multiple_of, reduced_terms}
 use Rattle.rp_geometry.specs.sections.Flat.{flat_terms_if, flat_of_one}
-use Rattle.rp_ring.proofs.Small.{height_within}
+use Rattle.rp_slice.proofs.Small.{height_within}
 use Rattle.rp_section.proofs.flat.flat_of_one.Goals as goal
 
 pub returns : goal.returns

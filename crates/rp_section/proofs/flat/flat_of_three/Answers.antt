@@ -3,7 +3,7 @@ use mir.Syntax.{w32}
 use Rattle.rp_algebra.proofs.Machine.{read_is}
 use Rattle.rp_geometry.specs.searches.Elimination.{normal_terms}
 use Rattle.rp_geometry.specs.sections.Flat.{flat_terms_if, flat_of_three}
-use Rattle.rp_ring.proofs.Small.{height_within}
+use Rattle.rp_slice.proofs.Small.{height_within}
 use Rattle.rp_section.proofs.flat.flat_of_three.Goals as goal
 
 pub returns : goal.returns

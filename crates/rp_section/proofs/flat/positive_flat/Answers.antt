@@ -1,7 +1,7 @@
 use Rattle.std.proofs.Common.{ℤ, Some, sym, ap, ◌∙◌}
 use mir.Syntax.{w32}
 use Rattle.rp_algebra.proofs.Machine.{read_is}
-use Rattle.rp_ring.proofs.Small.{height_within}
+use Rattle.rp_slice.proofs.Small.{height_within}
 use Rattle.rp_cert.specs.Section.{cancels_at}
 use Rattle.rp_section.proofs.Flats.{flat_given, flat_none}
 use Rattle.rp_section.proofs.flat.positive_flat.Goals as goal

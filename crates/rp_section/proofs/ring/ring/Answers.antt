@@ -3,7 +3,7 @@ use mir.Syntax.{w32}
 use Rattle.rp_algebra.proofs.Machine.{read_is}
 use Rattle.rp_geometry.specs.sections.Trace.{with_sides}
 use Rattle.rp_geometry.specs.laws.SectionLaws.{level_plane}
-use Rattle.rp_ring.proofs.Small.{height_within}
+use Rattle.rp_slice.proofs.Small.{height_within}
 use Rattle.rp_section.specs.Sides.{sides_of, bounds_of, side_steps}
 use Rattle.rp_section.proofs.Rounds.{steps_are_ring}
 use Rattle.rp_section.proofs.ring.ring.Goals as goal

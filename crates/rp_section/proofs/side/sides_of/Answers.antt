@@ -2,7 +2,7 @@ use Rattle.std.proofs.Common.{◌++◌, take, sym, ◌∙◌}
 use mir.Syntax.{w32}
 use Rattle.rp_algebra.proofs.Machine.{read_is}
 use Rattle.rp_geometry.specs.sections.Trace.{cube_sides}
-use Rattle.rp_ring.proofs.Small.{height_within}
+use Rattle.rp_slice.proofs.Small.{height_within}
 use Rattle.rp_section.specs.Sides.{sides_of}
 use Rattle.rp_section.proofs.Listing.{sides_append}
 use Rattle.rp_section.proofs.side.sides_of.Goals as goal

@@ -3,7 +3,7 @@ use mir.Syntax.{w32}
 use Rattle.rp_algebra.proofs.Machine.{read_is}
 use Rattle.rp_geometry.specs.sections.Ring.{is_ring}
 use Rattle.rp_geometry.specs.sections.Flat.{first_flat}
-use Rattle.rp_ring.proofs.Small.{height_within}
+use Rattle.rp_slice.proofs.Small.{height_within}
 use Rattle.rp_cert.specs.declared.slice.Slice.TheVariants.{Ring, Flat}
 use Rattle.rp_section.proofs.Sliced.{ring_value, flat_value, none_value, slice_right, slice_shows, slice_flat}
 use Rattle.rp_section.proofs.slices.slice.Goals as goal

@@ -2,7 +2,7 @@ use Rattle.std.proofs.Common.{List, ◌∙◌, sym, subst}
 use Rattle.rp_geometry.specs.Geometry.{HalfSpace, IntegerBox}
 use Rattle.rp_geometry.specs.laws.CellLaws.{AreHalfSpaces}
 use Rattle.rp_geometry.specs.parts.LeastBox.{IsLeastBox}
-use Rattle.rp_part.proofs.LeastBox.{least_box_is_least_spec}
+use Rattle.rp_parts.proofs.LeastBox.{least_box_is_least_spec}
 use Rattle.rp_cell.proofs.Boxed.{same_least}
 use Rattle.rp_cell.proofs.held.Held.sides.Goals as goal
 

@@ -1,0 +1,5 @@
+use Rattle.rp_parts.proofs.Trapezoids.{trapezoid_is_kept_spec}
+use Rattle.rp_parts.proofs.trapezoid_is_kept.Goals as goal
+
+pub returns : goal.returns
+returns c = trapezoid_is_kept_spec

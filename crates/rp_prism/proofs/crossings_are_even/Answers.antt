@@ -1,5 +1,0 @@
-use Rattle.rp_prism.proofs.Parity.{crossings_are_even_spec}
-use Rattle.rp_prism.proofs.crossings_are_even.Goals as goal
-
-pub returns : goal.returns
-returns c = crossings_are_even_spec

@@ -1,5 +1,0 @@
-use Rattle.rp_prism.proofs.Trapezoids.{trapezoid_is_kept_spec}
-use Rattle.rp_prism.proofs.trapezoid_is_kept.Goals as goal
-
-pub returns : goal.returns
-returns c = trapezoid_is_kept_spec

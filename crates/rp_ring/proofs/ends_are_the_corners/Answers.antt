@@ -1,5 +1,0 @@
-use Rattle.rp_ring.proofs.Corners.{ends_are_the_corners_spec}
-use Rattle.rp_ring.proofs.ends_are_the_corners.Goals as goal
-
-pub returns : goal.returns
-returns c = ends_are_the_corners_spec

@@ -1,5 +1,0 @@
-use Rattle.rp_ring.proofs.Holding.{ring_holds_the_members_spec}
-use Rattle.rp_ring.proofs.ring_holds_the_members.Goals as goal
-
-pub returns : goal.returns
-returns c = ring_holds_the_members_spec
