@@ -1,9 +1,0 @@
-pub mod Corners
-pub mod Fills
-pub mod Frames
-pub mod Labels
-pub mod Lengths
-pub mod Paths
-pub mod Rings
-pub mod Rounding
-pub mod Sections

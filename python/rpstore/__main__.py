@@ -1,0 +1,131 @@
+"""What surrounds the store: looks at its lots, takes them into a GIS, explains refusals, makes scripts of plans.
+
+FILE is a script, which the store then runs and checks, or a report; where none is named, it is standard input. docs/gis.md
+has an example of each word.
+
+status 0    all was written, and no line was refused
+status 1    explain: some line was refused; plan: --leave-out left features out; else: the file is no report, or the
+            report is not accepted or shows nothing
+status 2    the words are not known
+status 3    the input could not be read
+status 4    plan: some feature cannot be registered; each is named, and nothing was written
+status 5    the store, a package or a grid is missing
+status 6    the report has more than 67,108,864 bytes
+"""
+import argparse
+import io
+import json
+import os
+import sys
+from decimal import Decimal, InvalidOperation
+
+from . import Fault, explain, gis, lots, plan, view
+
+GEOJSON = {"sections": gis.sections, "lots": gis.footprints, "faces": gis.faces}
+
+
+def decimal(word):
+    try:
+        number = Decimal(word)
+    except InvalidOperation:
+        raise argparse.ArgumentTypeError(f"{word!a} is no number")
+    if not number.is_finite() or abs(number) > 10**9 or number * 1000 % 1:
+        raise argparse.ArgumentTypeError("metres with at most three digits behind the point are wanted")
+    return number
+
+
+def parser():
+    made = argparse.ArgumentParser(prog="rpstore-gis", description=__doc__, formatter_class=argparse.RawDescriptionHelpFormatter)
+    words = made.add_subparsers(dest="word", required=True, metavar="WORD")
+
+    def add(word, says):
+        found = words.add_parser(word, help=says, description=says)
+        found.add_argument("file", nargs="?", metavar="FILE")
+        if word != "plan":
+            found.add_argument("--origin", nargs=2, type=decimal, metavar=("E", "N"), help="the local origin, in metres of the map; of a script "
+                               "the note `# Local origin: E .., N ..` is read where this is not given")
+            found.add_argument("--epsg", type=int, metavar="NUMBER", help="the grid of the map; of a script the note `# Grid: EPSG:..` is read")
+            found.add_argument("--store", metavar="PROGRAM", help="the store, in the place of ./rpstore beside this (or RPSTORE)")
+            found.add_argument("--unchecked", action="store_true", help="take a report without having the store check it")
+            found.add_argument("--names", action="store_true", help="of a script: show the regions that `let` names, too")
+        found.add_argument("-o", "--output", metavar="PATH", help="where to write, in the place of standard output")
+        return found
+
+    page = add("view", "one page that shows lots in a browser")
+    page.add_argument("--title", help="the head of the page (the name of the file)")
+    page.add_argument("--storey", type=decimal, default=Decimal(2), metavar="METRES", help="lots whose lowest heights are less than this apart are "
+                      "of one storey (2)")
+    add("sections", "GeoJSON of the `section` lines of a report: one area for each, with lot, height and area")
+    add("lots", "GeoJSON of what each lot covers in plan, with its heights, area and volume")
+    add("faces", "GeoJSON of the boundary of each lot, as polygons with heights")
+    add("city", "CityJSON 2.0 of the lots, as solids")
+    add("explain", "a sentence for each refused line")
+    made_plan = add("plan", "a script that registers the polygons of a plan, in any format that GDAL reads")
+    made_plan.add_argument("--layer", help="the layer of the plan, where it has several")
+    made_plan.add_argument("--id", default="id", metavar="NAME", help="the property with the id; for id also the id of the feature itself")
+    made_plan.add_argument("--number", action="store_true", help="take the place in the plan, 1, 2, .., for the id; wants --prefix")
+    made_plan.add_argument("--prefix", default="", metavar="LETTERS", help="put this before each id, and _ in the place of each / in it")
+    made_plan.add_argument("--floor", default="base", metavar="WHAT", help="the lower height: a number for all, or the property with it (base)")
+    made_plan.add_argument("--top", default="height", metavar="WHAT", help="the upper height, likewise (height)")
+    made_plan.add_argument("--from", dest="source", metavar="CRS", help="the grid of the plan, where its file does not say or says it wrongly")
+    made_plan.add_argument("--to", metavar="CRS", help="the grid of the register, as EPSG:25832; needed where the plan has degrees")
+    made_plan.add_argument("--origin", nargs=2, type=decimal, metavar=("E", "N"), help="the local origin; without it one is chosen: 0 0 if all "
+                           "points are near enough, else whole kilometres near the middle")
+    made_plan.add_argument("--leave-out", action="store_true", help="leave out the features that cannot be registered, each with a note")
+    return made
+
+
+def opened(path):
+    try:
+        return io.BytesIO(sys.stdin.buffer.read()) if path is None else open(path, "rb")
+    except OSError as error:
+        raise Fault(f"the input cannot be read: {error.strerror}", 3)
+
+
+def explained(file, options):
+    text = file.read()
+    place = lots.place_of(text, options)
+    store = lots.program(options.store)
+    if not lots.is_report(text):
+        text = lots.run(store, text, "run")
+    elif b"\n  " in text and not options.unchecked:
+        # A brief report shows no points, and `check` takes full ones alone.
+        lots.accepted(lots.checked(text, store))
+    sentences = list(explain.explained(io.BytesIO(text), place))
+    return int(bool(sentences)), "".join(f"{sentence}\n" for sentence in sentences), []
+
+
+def answer(options):
+    """The status, the text, and lines for standard error."""
+    if options.word == "plan":
+        return plan.script_of(options.file or "/vsistdin/", options)
+    with opened(options.file) as file:
+        if options.word == "explain":
+            return explained(file, options)
+        seen = lots.load(file, options)
+    if options.word == "view":
+        title = options.title or (os.path.basename(options.file) if options.file else "lots")
+        return 0, view.page(seen, title, int(options.storey * 1000)), []
+    if options.word == "city":
+        return 0, json.dumps(gis.city(seen), separators=(",", ":")) + "\n", []
+    return 0, json.dumps(GEOJSON[options.word](seen)) + "\n", []
+
+
+def main(words=None):
+    options = parser().parse_args(words)
+    try:
+        status, text, said = answer(options)
+        if text:
+            with open(options.output, "w", encoding="utf-8") if options.output else sys.stdout as out:
+                out.write(text)
+    except Fault as fault:
+        status, said = fault.status, [str(fault)]
+    except BrokenPipeError:
+        return 4
+    for line in said:
+        print(f"rpstore-gis: {line}", file=sys.stderr)
+    return status
+
+
+if __name__ == "__main__":
+    sys.exit(main())

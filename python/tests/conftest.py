@@ -1,0 +1,39 @@
+"""What the tests have in common: the repository, and the store, without which its tests are skipped."""
+import io
+import os
+import subprocess
+from argparse import Namespace
+from pathlib import Path
+
+import pytest
+from rpstore import lots
+
+ROOT = Path(__file__).resolve().parents[2]
+PROGRAM = os.environ.get("RPSTORE", str(ROOT / "crates/rp_cli/out/rp_cli"))
+
+
+@pytest.fixture(scope="session")
+def root():
+    return ROOT
+
+
+@pytest.fixture(scope="session")
+def store():
+    """Runs the store over a text, with words, and gives what it writes."""
+    if not os.access(PROGRAM, os.X_OK):
+        pytest.skip(f"the store {PROGRAM} is not built")
+
+    def run(text, *words):
+        return subprocess.run([PROGRAM, *(words or ["run"])], input=text.encode(), stdout=subprocess.PIPE).stdout
+
+    return run
+
+
+@pytest.fixture(scope="session")
+def seen(store):
+    """What a script shows, checked by the store."""
+    def load(text, **given):
+        options = Namespace(**{"origin": None, "epsg": None, "unchecked": False, "store": PROGRAM, "names": False, **given})
+        return lots.load(io.BytesIO(text.encode()), options)
+
+    return load
