@@ -11,6 +11,7 @@ use Rattle.rp_algebra.specs.Integer.{int_eq, is_zero, is_positive, is_nonnegativ
 use Rattle.rp_algebra.specs.Within.{IsWithin}
 use Rattle.rp_algebra.proofs.IntLaws.{linear, le_of_mul_le_left_ℤ, mul_nonneg_ℤ, nonneg_of_pos_ℤ}
 use Rattle.rp_algebra.proofs.Divisors.{gcd_of-cons, gcd_of-one, gcd_of-positive, gcd_of-at_most_head, gcd-zero}
+use Rattle.rp_algebra.proofs.Machine.{read_is}
 use Rattle.rp_algebra.proofs.Numbers.{zero_or_not}
 use Rattle.rp_algebra.proofs.Options.{none_not_some, same_some}
 use Rattle.rp_algebra.proofs.Reify.{by_ring_at, reify}
@@ -22,7 +23,7 @@ use Rattle.rp_geometry.specs.laws.SectionLaws.{IsSmallTrace}
 use Rattle.rp_geometry.specs.sections.Trace.{IsHeight, IsAtHeight, Trace, offset_at, has_trace, trace_at, trace_eq, trace_value, is_at_height, level_point, holds_level, cube_sides, with_sides}
 use Rattle.rp_geometry.specs.sections.Ring.{RingStep, is_step, is_trace_of, is_lowest_point, all_traces_hold, all_levels_hold}
 use Rattle.rp_slice.proofs.Traces.{direction_of, trace_at-is, side_of_trace, trace_from, trace_eq-to, is_trace_of-to}
-use Rattle.rp_slice.proofs.Small.{trace_is_small_spec}
+use Rattle.rp_slice.proofs.Small.{height_within, trace_is_small_spec}
 use Rattle.rp_cert.specs.Section.{trace_if, turn_from}
 
 -- ---- traces
@@ -58,6 +59,20 @@ short_is v f = to_z-of_z w32 v f
 -- its size
 pub short_within : (v : ℤ) → FitsSigned w32 v → IsWithin (2 ^ 31) (to_z w32 (of_z w32 v))
 short_within v f = subst (IsWithin (2 ^ 31)) (sym (to_z-of_z w32 v f)) (record { abs_le = (let h = f.sfits in omega (arith, ints, h)) })
+
+-- ---- heights
+
+-- a height, as it is passed on
+pub read_height : (z : ℤ) → IsHeight z → to_z w32 (of_z w32 z) ≡ z
+read_height z h = read_is w32 (height_within z h) tt
+
+-- it is a height
+pub passed_height : (z : ℤ) → IsHeight z → IsHeight (to_z w32 (of_z w32 z))
+passed_height z h = subst IsHeight (sym (read_height z h)) h
+
+-- a point of the height is a point of the height that is passed on
+pub passed_there : (z : ℤ) (p : RationalPoint) → IsHeight z → IsAtHeight z p → IsAtHeight (to_z w32 (of_z w32 z)) p
+passed_there z p h e = subst (λ (v : ℤ). IsAtHeight v p) (sym (read_height z h)) e
 
 -- ---- levels
 
@@ -104,6 +119,10 @@ equal_by_difference u v =
     same_test (is_zero (u -ℤ v)) (int_eq u v)
     (λ e. (Decides-int_eq u v).1 (let d = zero_is (u -ℤ v) e in omega (arith, linear, d)))
     (λ e. is_zero_true (u -ℤ v) (let d = (Decides-int_eq u v).0 e in omega (arith, linear, d)))
+
+-- two numbers whose difference is 0 are one
+pub same_by_difference : (u v : ℤ) → is_zero (u -ℤ v) ≡ true → u ≡ v
+same_by_difference u v e = (Decides-int_eq u v).0 (sym (equal_by_difference u v) ∙ e)
 
 -- the points of the program are in lowest terms
 pub kept_lowest : (p : RationalPoint) → IsKeptPoint p → is_lowest_point p ≡ true

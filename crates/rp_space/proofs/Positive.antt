@@ -1,5 +1,5 @@
 -- A common point with a positive weight, and the same point in lowest terms.
-use Rattle.std.proofs.Common.{◌≡◌, true, false, refl}
+use Rattle.std.proofs.Common.{◌≡◌, pos, true, false, refl}
 use Rattle.std.specs.Prelude.{Some, None, option_map}
 use Rattle.rp_algebra.specs.Integer.{is_zero, is_positive}
 use Rattle.rp_geometry.specs.Geometry.{RationalPoint, reduced_point}
@@ -17,3 +17,7 @@ reduced_positive p =
           option_map reduced_point (elim b [ true ↦ Some p | false ↦ Some (negated_point p) ])
           ≡ elim b [ true ↦ Some (reduced_point p) | false ↦ Some (reduced_point (negated_point p)) ]) [ true ↦ refl | false ↦ refl ]
     ]
+
+-- a weight of 0 leaves no point
+pub none_at_zero : (p : RationalPoint) → p.w ≡ pos 0 → None ≡ positive_point p
+none_at_zero p e = rw e refl

@@ -1,12 +1,12 @@
 -- The half-spaces of the sides of a box are in lowest terms as they stand.
 use Rattle.std.proofs.Common.{◌≡◌, ℕ, ◌≤◌, ℤ, pos, negsuc, neg_ℤ, ◌-ℤ◌, nat_abs, to_z, of_z, true, false, [], ◌∷◌, refl, sym, ap, ◌∙◌, subst, arith}
-use Rattle.std.specs.Int.RustNames.{unsigned_abs}
+use Rattle.std.specs.Int.RustNames.{unsigned_abs, FitsSigned}
 use mir.Syntax.{w32, w64}
 use Rattle.std.proofs.lemmas.Int.{ints}
 use Rattle.std.proofs.lemmas.Bool.{and_parts}
 use Rattle.rp_algebra.specs.Integer.{gcd, gcd_of}
 use Rattle.rp_algebra.proofs.Divisors.{gcd_of-four, gcd-zero, gcd-at_most_right, gcd-positive_right}
-use Rattle.rp_algebra.proofs.Machine.{code, is_by}
+use Rattle.rp_algebra.proofs.Machine.{at_most, code, fits_by, is_by, literal, negation, sum, written}
 use Rattle.rp_geometry.specs.Geometry.{IntegerBox, HalfSpace, half_space_of, is_within_bound, is_half_space_in_bounds, is_zero_half_space, is_box_in_bounds, IsKeptHalfSpace}
 use Rattle.rp_geometry.proofs.InLowestTerms.{size_within}
 use Rattle.rp_space.proofs.Kept.{kept_half_space, lowest_by_one}
@@ -72,6 +72,14 @@ lower_number v h = is_by (search code depth 30 fits 100000) tt ∙ from_zero v
 -- a number of a box, as the machine widens it
 pub upper_number : (v : ℤ) → unsigned_abs v ≤ 16777216 → to_z w64 (of_z w64 (to_z w32 (of_z w32 v))) ≡ v
 upper_number v h = is_by (search code depth 30 fits 100000) tt
+
+-- a number of a box fits 64 bits
+pub upper_fits : (v : ℤ) → unsigned_abs v ≤ 16777216 → FitsSigned w64 (to_z w32 (of_z w32 v))
+upper_fits v h = fits_by (written w32 v (at_most h)) tt
+
+-- and so does its negative
+pub lower_fits : (v : ℤ) → unsigned_abs v ≤ 16777216 → FitsSigned w64 (pos 0 -ℤ to_z w64 (of_z w64 (to_z w32 (of_z w32 v))))
+lower_fits v h = fits_by (sum (literal 0) (negation (written w64 _ (written w32 v (at_most h))))) tt
 
 -- the negative is as small
 small_negative : (v : ℤ) → unsigned_abs v ≤ 16777216 → unsigned_abs (neg_ℤ v) ≤ 16777216

@@ -1,8 +1,35 @@
 use Rattle.std.proofs.Common.{◌∙◌, pos, negsuc, [], ◌∷◌}
 use Rattle.rp_geometry.specs.Geometry.{half_space_of}
 use Rattle.rp_space.specs.Boxes.{integer_box}
-use Rattle.rp_space.proofs.Sides.{box_is_small, lower_number, upper_number, lower_x, lower_y, lower_z, upper_x, upper_y, upper_z}
+use Rattle.rp_space.proofs.Sides.{box_is_small, lower_fits, lower_number, upper_fits, upper_number, lower_x, lower_y, lower_z, upper_x, upper_y, upper_z}
 use Rattle.rp_space.proofs.bounds.box_halves.Goals as goal
+
+pub overflow_cast-x1 : goal.overflow_cast-x1
+overflow_cast-x1 c = upper_fits (integer_box c.args.b.now).x1 (box_is_small (integer_box c.args.b.now) c.requires).x1
+
+pub overflow_sub-x1 : goal.overflow_sub-x1
+overflow_sub-x1 c = lower_fits (integer_box c.args.b.now).x1 (box_is_small (integer_box c.args.b.now) c.requires).x1
+
+pub overflow_cast-x2 : goal.overflow_cast-x2
+overflow_cast-x2 c = upper_fits (integer_box c.args.b.now).x2 (box_is_small (integer_box c.args.b.now) c.requires).x2
+
+pub overflow_cast-y1 : goal.overflow_cast-y1
+overflow_cast-y1 c = upper_fits (integer_box c.args.b.now).y1 (box_is_small (integer_box c.args.b.now) c.requires).y1
+
+pub overflow_sub-y1 : goal.overflow_sub-y1
+overflow_sub-y1 c = lower_fits (integer_box c.args.b.now).y1 (box_is_small (integer_box c.args.b.now) c.requires).y1
+
+pub overflow_cast-y2 : goal.overflow_cast-y2
+overflow_cast-y2 c = upper_fits (integer_box c.args.b.now).y2 (box_is_small (integer_box c.args.b.now) c.requires).y2
+
+pub overflow_cast-z1 : goal.overflow_cast-z1
+overflow_cast-z1 c = upper_fits (integer_box c.args.b.now).z1 (box_is_small (integer_box c.args.b.now) c.requires).z1
+
+pub overflow_sub-z1 : goal.overflow_sub-z1
+overflow_sub-z1 c = lower_fits (integer_box c.args.b.now).z1 (box_is_small (integer_box c.args.b.now) c.requires).z1
+
+pub overflow_cast-z2 : goal.overflow_cast-z2
+overflow_cast-z2 c = upper_fits (integer_box c.args.b.now).z2 (box_is_small (integer_box c.args.b.now) c.requires).z2
 
 pub of_side-requires : goal.of_side-requires
 of_side-requires c = lower_x (integer_box c.args.b.now).x1 (box_is_small (integer_box c.args.b.now) c.requires).x1

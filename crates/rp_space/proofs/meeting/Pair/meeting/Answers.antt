@@ -1,11 +1,11 @@
-use Rattle.std.proofs.Common.{◌≡◌, ap, ◌∙◌, rules}
-use Rattle.std.specs.Prelude.{None, option_map}
+use Rattle.std.proofs.Common.{ap, sym, ◌∙◌, to_z}
+use Rattle.std.specs.Prelude.{option_map}
 use mir.Syntax.{w128}
 use Rattle.rp_algebra.proofs.Machine.{read_is}
 use Rattle.rp_geometry.specs.Geometry.{point_of, reduced_point}
 use Rattle.rp_geometry.specs.searches.Vertex.{cramer_point, meeting_point}
 use Rattle.rp_space.specs.PositivePoint.{positive_point}
-use Rattle.rp_space.proofs.Positive.{reduced_positive}
+use Rattle.rp_space.proofs.Positive.{reduced_positive, none_at_zero}
 use Rattle.rp_space.proofs.meeting.Pair.meeting.Goals as goal
 
 pub returns-clause-value : goal.returns-clause-value
@@ -21,9 +21,17 @@ unfolding meeting_point
 returns-clause-in_lowest_terms c =
     ap (option_map reduced_point) (returns-clause-value c) ∙ reduced_positive (cramer_point c.args.self.now.first c.args.self.now.second c.args.h.now)
 
+pub returns-then-weight-eq0-clause-value : goal.returns-then-weight-eq0-clause-value
+returns-then-weight-eq0-clause-value c =
+    let w = c.weight-weight.ensures in
+    none_at_zero (cramer_point c.args.self.now.first c.args.self.now.second c.args.h.now)
+    (sym w.value ∙ sym (read_is w128 w.small tt) ∙ ap (to_z w128) c.if-weight-eq0.true)
+
+pub returns-then-weight-eq0-clause-point : goal.returns-then-weight-eq0-clause-point
+returns-then-weight-eq0-clause-point c = tt
+
 pub returns-then-weight-eq0-clause-in_lowest_terms : goal.returns-then-weight-eq0-clause-in_lowest_terms
 unfolding meeting_point
 returns-then-weight-eq0-clause-in_lowest_terms c =
-    let p = cramer_point c.args.self.now.first c.args.self.now.second c.args.h.now in
-    let none : None ≡ positive_point p = search rules in
-    ap (option_map reduced_point) none ∙ reduced_positive p
+    ap (option_map reduced_point) (returns-then-weight-eq0-clause-value c)
+    ∙ reduced_positive (cramer_point c.args.self.now.first c.args.self.now.second c.args.h.now)
