@@ -3,4 +3,3 @@ mod NumberLemmas
 mod ManyLemmas
 mod WordLemmas
 mod KeywordLemmas
-mod ExpressionLemmas

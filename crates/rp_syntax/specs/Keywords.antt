@@ -6,6 +6,8 @@ use Rattle.rp_language.specs.Grammar.{Node as ModelNode, half_node, box_node, al
 use Rattle.rp_language.specs.Grammar.{Verb as ModelVerb, let_verb, member_verb, empty_verb, pieces_verb, show_verb, equal_verb, within_verb, overlap_verb, contact_verb, rcc_verb, register_verb, cut_verb, subdivide_verb, consolidate_verb, retire_verb, neighbours_verb, history_verb, at_verb, asof_verb, audit_verb, list_verb, layer_verb, section_verb, access_verb}
 use Rattle.rp_syntax.specs.declared.keywords.Node.{Node}
 use Rattle.rp_syntax.specs.declared.keywords.Node.TheVariants as nodes
+use Rattle.rp_syntax.specs.declared.keywords.Comparison.{Comparison}
+use Rattle.rp_syntax.specs.declared.keywords.Comparison.TheVariants as comparisons
 use Rattle.rp_syntax.specs.declared.keywords.Verb.{Verb}
 use Rattle.rp_syntax.specs.declared.keywords.Verb.TheVariants as verbs
 
@@ -23,6 +25,14 @@ node_of nodes.Name = name_node
 node_of nodes.Lot = lot_node
 node_of nodes.Prism = prism_node
 
+-- the command of the grammar that compares two regions
+abbrev pub comparison_of : Comparison → ModelVerb
+comparison_of comparisons.Equal = equal_verb
+comparison_of comparisons.Within = within_verb
+comparison_of comparisons.Overlap = overlap_verb
+comparison_of comparisons.Contact = contact_verb
+comparison_of comparisons.Rcc = rcc_verb
+
 -- the command of the grammar
 abbrev pub verb_of : Verb → ModelVerb
 verb_of verbs.Let = let_verb
@@ -30,11 +40,7 @@ verb_of verbs.Member = member_verb
 verb_of verbs.Empty = empty_verb
 verb_of verbs.Pieces = pieces_verb
 verb_of verbs.Show = show_verb
-verb_of verbs.Equal = equal_verb
-verb_of verbs.Within = within_verb
-verb_of verbs.Overlap = overlap_verb
-verb_of verbs.Contact = contact_verb
-verb_of verbs.Rcc = rcc_verb
+verb_of (verbs.Compare c) = comparison_of c
 verb_of verbs.Register = register_verb
 verb_of verbs.Cut = cut_verb
 verb_of verbs.Subdivide = subdivide_verb

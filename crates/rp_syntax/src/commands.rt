@@ -1,14 +1,14 @@
 //! Whole commands.
 ghost use Rattle.std.specs.Prelude.{◌≡◌, IfOk, map};
 ghost use Rattle.rp_command.specs.Versions.{version_of};
-ghost use Rattle.rp_command.specs.Views.{expression_of, child_of, command_of};
-ghost use Rattle.rp_language.specs.Expression.{Expression, Command as Asked, register};
-ghost use Rattle.rp_language.specs.Grammar.{keyword, verb_table, verb_words, equals_word, let_words, member_words, on_two_expressions, on_name_and_expression, cut_words, subdivide_words, consolidate_words, as_of_words, section_words, access_words, many, child, name, end_of_line, command_words};
-ghost use Rattle.rp_syntax.specs.Keywords.{verb_of};
+ghost use Rattle.rp_command.specs.Views.{child_of, command_of};
+ghost use Rattle.rp_language.specs.Expression.{register};
+ghost use Rattle.rp_language.specs.Grammar.{keyword, verb_table, verb_words, equals_word, let_words, member_words, on_name_and_expression, cut_words, subdivide_words, consolidate_words, as_of_words, section_words, access_words, many, child, name, end_of_line, command_words};
+ghost use Rattle.rp_syntax.specs.Keywords.{comparison_of, verb_of};
 ghost use Rattle.rp_syntax.specs.Reads.{Reads};
 
 use crate::fault::ReadFault;
-use crate::keywords::{Verb, verb_for};
+use crate::keywords::{Comparison, Verb, verb_for};
 use crate::words::Words;
 use rp_command::{Command, Entries, Expr, Version, Why};
 use rp_space::{Name, Names};
@@ -65,17 +65,24 @@ impl<'a> Words<'a> {
         Ok(Command::Member(region, point))
     }
 
-    /// Two expressions, of which a command may be made.
-    fn two_expressions(
+    /// Two expressions, and a command that compares them.
+    fn comparison(
         &mut self,
         alloc: Global,
         version: Version,
-    ) -> Result<(Expr, Expr), ReadFault>
-        ensures { (of : Expression → Expression → Asked) → Reads (λ both. of (expression_of both.0) (expression_of both.1)) result self.new (on_two_expressions (version_of version) of self.old) }
+        how: Comparison,
+    ) -> Result<Command, ReadFault>
+        ensures { Reads command_of result self.new (verb_words (version_of version) (comparison_of how) self.old) }
     {
         let first = self.expression(alloc, version)?;
         let second = self.expression(alloc, version)?;
-        Ok((first, second))
+        Ok(match how {
+            Comparison::Equal => Command::Equal(first, second),
+            Comparison::Within => Command::Within(first, second),
+            Comparison::Overlap => Command::Overlap(first, second),
+            Comparison::Contact => Command::Contact(first, second),
+            Comparison::Rcc => Command::Rcc(first, second),
+        })
     }
 
     /// What follows the word `register`.
@@ -198,26 +205,7 @@ impl<'a> Words<'a> {
             Verb::Empty => self.expression(alloc, version).map(Command::Empty),
             Verb::Pieces => self.expression(alloc, version).map(Command::Pieces),
             Verb::Show => self.expression(alloc, version).map(Command::Show),
-            Verb::Equal => {
-                let (first, second) = self.two_expressions(alloc, version)?;
-                Ok(Command::Equal(first, second))
-            }
-            Verb::Within => {
-                let (first, second) = self.two_expressions(alloc, version)?;
-                Ok(Command::Within(first, second))
-            }
-            Verb::Overlap => {
-                let (first, second) = self.two_expressions(alloc, version)?;
-                Ok(Command::Overlap(first, second))
-            }
-            Verb::Contact => {
-                let (first, second) = self.two_expressions(alloc, version)?;
-                Ok(Command::Contact(first, second))
-            }
-            Verb::Rcc => {
-                let (first, second) = self.two_expressions(alloc, version)?;
-                Ok(Command::Rcc(first, second))
-            }
+            Verb::Compare(how) => self.comparison(alloc, version, how),
             Verb::Register => self.registration(alloc, version),
             Verb::Cut => self.cut(alloc, version),
             Verb::Subdivide => self.subdivision(alloc, version),

@@ -1,8 +1,8 @@
 //! Expressions in prefix form.
 ghost use Rattle.rp_command.specs.Versions.{version_of};
 ghost use Rattle.rp_command.specs.Views.{expression_of};
-ghost use Rattle.rp_language.specs.Expression.{intersection, union, difference, opposite as opposite_of};
-ghost use Rattle.rp_language.specs.Grammar.{Place, keyword, node_table, expression, expression_within, gives};
+ghost use Rattle.rp_language.specs.Expression.{Expression, intersection, union, difference, opposite};
+ghost use Rattle.rp_language.specs.Grammar.{keyword, node_table, expression, expression_within, node_words, one_operand, two_operands};
 ghost use Rattle.rp_syntax.specs.Keywords.{node_of};
 ghost use Rattle.rp_syntax.specs.Reads.{Reads};
 
@@ -14,34 +14,6 @@ use std::alloc::Global;
 
 /// One level more than there may be nodes: each level counts a node, so this is never passed.
 const MAX_LEVELS: u32 = 1025;
-
-/// What two regions have in common.
-fn both(alloc: Global, first: Expr, second: Expr) -> Result<Expr, ReadFault>
-    ensures { (place : Place) → Reads expression_of result place (gives (intersection (expression_of first) (expression_of second)) place) }
-{
-    Ok(Expr::And(Box::new(alloc, first)?, Box::new(alloc, second)?))
-}
-
-/// The points of either region.
-fn either(alloc: Global, first: Expr, second: Expr) -> Result<Expr, ReadFault>
-    ensures { (place : Place) → Reads expression_of result place (gives (union (expression_of first) (expression_of second)) place) }
-{
-    Ok(Expr::Or(Box::new(alloc, first)?, Box::new(alloc, second)?))
-}
-
-/// The rest of a region outside another one.
-fn rest(alloc: Global, first: Expr, second: Expr) -> Result<Expr, ReadFault>
-    ensures { (place : Place) → Reads expression_of result place (gives (difference (expression_of first) (expression_of second)) place) }
-{
-    Ok(Expr::Minus(Box::new(alloc, first)?, Box::new(alloc, second)?))
-}
-
-/// The points that are not in a region.
-fn opposite(alloc: Global, operand: Expr) -> Result<Expr, ReadFault>
-    ensures { (place : Place) → Reads expression_of result place (gives (opposite_of (expression_of operand)) place) }
-{
-    Ok(Expr::Not(Box::new(alloc, operand)?))
-}
 
 impl<'a> Words<'a> {
     /// The next word, which begins a node.
@@ -64,6 +36,7 @@ impl<'a> Words<'a> {
     }
 
     /// An expression of less than so many levels.
+    #[cycle(expression)]
     fn expression_within(
         &mut self,
         alloc: Global,
@@ -77,36 +50,88 @@ impl<'a> Words<'a> {
         }
         let node = self.node()?;
         self.count_node()?;
+        self.behind(alloc, version, room - 1, node)
+    }
+
+    /// What follows the word of a node. Its operands have less than so many levels.
+    #[cycle(expression)]
+    fn behind(
+        &mut self,
+        alloc: Global,
+        version: Version,
+        room: u32,
+        node: Node,
+    ) -> Result<Expr, ReadFault>
+        ensures { Reads expression_of result self.new (node_words (version_of version) (expression_within (version_of version) room) (node_of node) self.old) }
+    {
         match node {
             Node::Half => self.half().map(Expr::Half),
             Node::Block => self.block(version).map(Expr::Block),
-            Node::Prism => {
-                let (low, high, corners) = self.prism(alloc, version)?;
-                Ok(Expr::Prism(low, high, corners))
-            }
+            Node::Prism => self.prism(alloc, version),
             Node::All => Ok(Expr::All),
             Node::Nothing => Ok(Expr::Nothing),
             Node::Name => self.name().map(Expr::Name),
             Node::Lot => self.name().map(Expr::Lot),
-            Node::And => {
-                let first = self.expression_within(alloc, version, room - 1)?;
-                let second = self.expression_within(alloc, version, room - 1)?;
-                both(alloc, first, second)
-            }
-            Node::Or => {
-                let first = self.expression_within(alloc, version, room - 1)?;
-                let second = self.expression_within(alloc, version, room - 1)?;
-                either(alloc, first, second)
-            }
-            Node::Minus => {
-                let first = self.expression_within(alloc, version, room - 1)?;
-                let second = self.expression_within(alloc, version, room - 1)?;
-                rest(alloc, first, second)
-            }
-            Node::Not => {
-                let operand = self.expression_within(alloc, version, room - 1)?;
-                opposite(alloc, operand)
-            }
+            Node::And => self.intersection(alloc, version, room),
+            Node::Or => self.union(alloc, version, room),
+            Node::Minus => self.difference(alloc, version, room),
+            Node::Not => self.opposite(alloc, version, room),
         }
+    }
+
+    /// Two operands of less than so many levels, of which a node may be made.
+    #[cycle(expression)]
+    fn operands(
+        &mut self,
+        alloc: Global,
+        version: Version,
+        room: u32,
+    ) -> Result<(Expr, Expr), ReadFault>
+        ensures { (of : Expression → Expression → Expression) → Reads (λ both. of (expression_of both.0) (expression_of both.1)) result self.new (two_operands (expression_within (version_of version) room) of self.old) }
+    {
+        let first = self.expression_within(alloc, version, room)?;
+        let second = self.expression_within(alloc, version, room)?;
+        Ok((first, second))
+    }
+
+    /// What two operands have in common.
+    #[cycle(expression)]
+    fn intersection(
+        &mut self,
+        alloc: Global,
+        version: Version,
+        room: u32,
+    ) -> Result<Expr, ReadFault>
+        ensures { Reads expression_of result self.new (two_operands (expression_within (version_of version) room) intersection self.old) }
+    {
+        let (first, second) = self.operands(alloc, version, room)?;
+        Ok(Expr::And(Box::new(alloc, first)?, Box::new(alloc, second)?))
+    }
+
+    /// The points of either operand.
+    #[cycle(expression)]
+    fn union(&mut self, alloc: Global, version: Version, room: u32) -> Result<Expr, ReadFault>
+        ensures { Reads expression_of result self.new (two_operands (expression_within (version_of version) room) union self.old) }
+    {
+        let (first, second) = self.operands(alloc, version, room)?;
+        Ok(Expr::Or(Box::new(alloc, first)?, Box::new(alloc, second)?))
+    }
+
+    /// The rest of an operand outside the other one.
+    #[cycle(expression)]
+    fn difference(&mut self, alloc: Global, version: Version, room: u32) -> Result<Expr, ReadFault>
+        ensures { Reads expression_of result self.new (two_operands (expression_within (version_of version) room) difference self.old) }
+    {
+        let (first, second) = self.operands(alloc, version, room)?;
+        Ok(Expr::Minus(Box::new(alloc, first)?, Box::new(alloc, second)?))
+    }
+
+    /// The points that are not in an operand.
+    #[cycle(expression)]
+    fn opposite(&mut self, alloc: Global, version: Version, room: u32) -> Result<Expr, ReadFault>
+        ensures { Reads expression_of result self.new (one_operand (expression_within (version_of version) room) opposite self.old) }
+    {
+        let operand = self.expression_within(alloc, version, room)?;
+        Ok(Expr::Not(Box::new(alloc, operand)?))
     }
 }

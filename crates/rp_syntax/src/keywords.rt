@@ -19,6 +19,16 @@ pub enum Node {
     Prism,
 }
 
+/// The kinds of commands that compare two regions.
+#[derive(Clone, Copy)]
+pub enum Comparison {
+    Equal,
+    Within,
+    Overlap,
+    Contact,
+    Rcc,
+}
+
 /// The kinds of commands.
 #[derive(Clone, Copy)]
 pub enum Verb {
@@ -27,11 +37,7 @@ pub enum Verb {
     Empty,
     Pieces,
     Show,
-    Equal,
-    Within,
-    Overlap,
-    Contact,
-    Rcc,
+    Compare(Comparison),
     Register,
     Cut,
     Subdivide,
@@ -70,11 +76,11 @@ const VERBS: [(&[u8], Verb); 24] = [
     (b"empty", Verb::Empty),
     (b"pieces", Verb::Pieces),
     (b"show", Verb::Show),
-    (b"equal", Verb::Equal),
-    (b"within", Verb::Within),
-    (b"overlap", Verb::Overlap),
-    (b"contact", Verb::Contact),
-    (b"rcc", Verb::Rcc),
+    (b"equal", Verb::Compare(Comparison::Equal)),
+    (b"within", Verb::Compare(Comparison::Within)),
+    (b"overlap", Verb::Compare(Comparison::Overlap)),
+    (b"contact", Verb::Compare(Comparison::Contact)),
+    (b"rcc", Verb::Compare(Comparison::Rcc)),
     (b"register", Verb::Register),
     (b"cut", Verb::Cut),
     (b"subdivide", Verb::Subdivide),

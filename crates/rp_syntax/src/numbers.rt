@@ -2,15 +2,17 @@
 ghost use Rattle.std.specs.Prelude.{◌≡◌, IfOk, IsTrue, ◌&&◌, ◌≤◌, int_le};
 ghost use Rattle.rp_command.specs.Held.{IsHeldBound};
 ghost use Rattle.rp_command.specs.Versions.{version_of};
-ghost use Rattle.rp_language.specs.Grammar.{box_numbers, coordinate, corner_numbers, count_between, cube_coordinate, half_space_numbers, height, many, number, point, prism_numbers};
+ghost use Rattle.rp_command.specs.Views.{expression_of};
+ghost use Rattle.rp_language.specs.Expression.{prism};
+ghost use Rattle.rp_language.specs.Grammar.{box_numbers, coordinate, corner_numbers, count_between, cube_coordinate, gives, half_space_numbers, height, many, number, point, prism_numbers, read_on};
 ghost use Rattle.rp_space.specs.Boxes.{integer_box};
-ghost use Rattle.rp_space.specs.Corners.{polygon_corner, polygon_corners, prism_of};
+ghost use Rattle.rp_space.specs.Corners.{polygon_corner, polygon_corners};
 ghost use Rattle.rp_syntax.specs.Reads.{Reads};
 
 use crate::fault::ReadFault;
 use crate::space::{half_space, rational_point};
 use crate::words::Words;
-use rp_command::{Version, Why, coordinate};
+use rp_command::{Expr, Version, Why, coordinate};
 use rp_space::{Corner, Corners, Half, IntBox, Point};
 use std::alloc::Global;
 
@@ -155,18 +157,14 @@ impl<'a> Words<'a> {
 
     /// The two heights of a prism and its corners.
     #[tactic(auto, unfolding(rp_language::specs::Grammar::prism_numbers))]
-    pub fn prism(
-        &mut self,
-        alloc: Global,
-        version: Version,
-    ) -> Result<(i32, i32, Corners), ReadFault>
-        ensures { Reads (λ s. prism_of s.0 s.1 s.2.items) result self.new (prism_numbers (version_of version) self.old) }
+    pub fn prism(&mut self, alloc: Global, version: Version) -> Result<Expr, ReadFault>
+        ensures { Reads expression_of result self.new (read_on (λ s. gives (prism s)) (prism_numbers (version_of version) self.old)) }
     {
         let low = self.side(version)?;
         let high = self.side(version)?;
         let count = self.count(MIN_CORNERS, MAX_CORNERS)?;
         let corners = self.corners(alloc, version, count)?;
-        Ok((low, high, corners))
+        Ok(Expr::Prism(low, high, corners))
     }
 
     /// A whole height of the domain cube.
