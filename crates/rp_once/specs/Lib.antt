@@ -1,3 +1,4 @@
 pub mod Operands
+pub mod Pairs
 pub mod Questions
 pub mod Relations

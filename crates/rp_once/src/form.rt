@@ -1,15 +1,18 @@
 //! The form of an expression.
-ghost use Rattle.std.specs.Prelude.{◌≡◌, IfOk, option_copied, option_map};
+ghost use Rattle.std.specs.Prelude.{◌≡◌, [], ◌∷◌, option_copied, option_map};
 ghost use Rattle.rp_command.specs.Views.{expression_of};
 ghost use Rattle.rp_language.specs.Expression.{IsKeptExpression, first_unknown, if_missing};
+ghost use Rattle.rp_geometry.specs.parts.PartTest.{whole_part};
+ghost use Rattle.rp_walks.specs.Walk.{pass};
 ghost use Rattle.rp_walks.specs.Form.{form, parts_or_none};
+ghost use Rattle.rp_once.specs.Pairs.{paired, pair_form};
 ghost use Rattle.rp_tests.specs.Comes.{Comes};
 
 use crate::compare::outside;
 use rp_command::Expr;
 use rp_space::{Name, box_halves};
 use rp_tests::{Named, Stopped, Tests};
-use std::alloc::{AllocError, Global};
+use std::alloc::Global;
 
 /// The name, if it stands for nothing.
 fn if_missing<T: Tests>(name: &Name, form: Option<&T::Form>) -> Option<Name>
@@ -21,14 +24,21 @@ fn if_missing<T: Tests>(name: &Name, form: Option<&T::Form>) -> Option<Name>
     }
 }
 
-/// A copy of a form, and the one without parts where there is none. Answers `AllocError` only for want of memory.
-fn copy_or_none<T: Tests>(alloc: Global, form: Option<&T::Form>) -> Result<T::Form, AllocError>
-    ensures { IfOk result (λ copy. T.parts_of copy ≡ parts_or_none (option_map T.parts_of (option_copied form.entry))) }
+/// A copy of a form, and the one without parts where there is none. Answers `Memory` only for want of memory.
+fn copy_or_none<T: Tests>(alloc: Global, form: Option<&T::Form>) -> Result<T::Form, Stopped>
+    ensures { (w : T) → Comes T.parts_of result w (pass (parts_or_none (option_map T.parts_of (option_copied form.entry))) w) }
 {
     match form {
-        Some(form) => T::copy(alloc, form),
+        Some(form) => Ok(T::copy(alloc, form)?),
         None => Ok(T::none(alloc)),
     }
+}
+
+/// The form of the whole cube. Answers `Memory` only for want of memory.
+fn whole<T: Tests>(alloc: Global) -> Result<T::Form, Stopped>
+    ensures { (w : T) → Comes T.parts_of result w (pass (whole_part ∷ []) w) }
+{
+    Ok(T::whole(alloc)?)
 }
 
 /// The first name or lot of the expression, in reading order, that isn't there.
@@ -59,8 +69,17 @@ pub fn first_unknown<T: Tests, N: Named<T>>(named: &N, region: &Expr) -> Option<
     }
 }
 
+/// An operation on two forms.
+#[derive(Clone, Copy)]
+enum Pairing {
+    Both,
+    Either,
+    Minus,
+}
+
 /// The form of an expression: its parts, at most 1,024, made test by test in reading order, with the parts kept for names. A
 /// name or lot that isn't there stands for no part. `Limit` exactly where the operations on forms say so.
+#[cycle(forms)]
 pub fn formed<T: Tests, N: Named<T>>(
     alloc: Global,
     named: &N,
@@ -74,28 +93,54 @@ pub fn formed<T: Tests, N: Named<T>>(
         Expr::Half(half) => tests.of_cell(alloc, &[*half]),
         Expr::Block(bounds) => tests.of_cell(alloc, &box_halves(bounds)),
         Expr::Prism(low, high, corners) => tests.of_prism(alloc, *low, *high, corners.items()),
-        Expr::All => Ok(T::whole(alloc)?),
+        Expr::All => whole::<T>(alloc),
         Expr::Nothing => Ok(T::none(alloc)),
-        Expr::Name(name) => Ok(copy_or_none::<T>(alloc, named.form_named(name))?),
-        Expr::Lot(name) => Ok(copy_or_none::<T>(alloc, named.form_of_lot(name))?),
-        Expr::And(first, second) => {
-            let first = formed(alloc, named, first, tests)?;
-            let second = formed(alloc, named, second, tests)?;
-            tests.both(alloc, &first, &second)
-        }
-        Expr::Or(first, second) => {
-            let first = formed(alloc, named, first, tests)?;
-            let second = formed(alloc, named, second, tests)?;
-            tests.either(first, second)
-        }
+        Expr::Name(name) => copy_or_none::<T>(alloc, named.form_named(name)),
+        Expr::Lot(name) => copy_or_none::<T>(alloc, named.form_of_lot(name)),
+        Expr::And(first, second) => pair_formed(alloc, named, Pairing::Both, first, second, tests),
+        Expr::Or(first, second) => pair_formed(alloc, named, Pairing::Either, first, second, tests),
         Expr::Minus(first, second) => {
-            let first = formed(alloc, named, first, tests)?;
-            let second = formed(alloc, named, second, tests)?;
-            tests.into_minus(alloc, first, &second)
+            pair_formed(alloc, named, Pairing::Minus, first, second, tests)
         }
         Expr::Not(operand) => {
             let operand = formed(alloc, named, operand, tests)?;
             outside(alloc, &operand, tests)
         }
+    }
+}
+
+/// The form of an operation on two expressions.
+#[cycle(forms)]
+fn pair_formed<T: Tests, N: Named<T>>(
+    alloc: Global,
+    named: &N,
+    how: Pairing,
+    first: &Expr,
+    second: &Expr,
+    tests: &mut T,
+) -> Result<T::Form, Stopped>
+    requires first { IsKeptExpression (expression_of first.now) }
+    requires second { IsKeptExpression (expression_of second.now) }
+    ensures { Comes T.parts_of result tests.new (pair_form T.tester (N.meaning named.now) how (expression_of first.now) (expression_of second.now) tests.old) }
+{
+    let first = formed(alloc, named, first, tests)?;
+    let second = formed(alloc, named, second, tests)?;
+    paired(alloc, how, first, second, tests)
+}
+
+/// An operation on two forms.
+fn paired<T: Tests>(
+    alloc: Global,
+    how: Pairing,
+    first: T::Form,
+    second: T::Form,
+    tests: &mut T,
+) -> Result<T::Form, Stopped>
+    ensures { Comes T.parts_of result tests.new (paired T.tester how (T.parts_of first) (T.parts_of second) tests.old) }
+{
+    match how {
+        Pairing::Both => tests.both(alloc, &first, &second),
+        Pairing::Either => tests.either(first, second),
+        Pairing::Minus => tests.into_minus(alloc, first, &second),
     }
 }
