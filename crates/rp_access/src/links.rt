@@ -10,7 +10,7 @@ use std::alloc::{AllocError, Global};
 use std::marker::Model;
 
 /// Which of the numbers from 0 to below a count are linked to each other: for each number the list of those that it is linked to. Links go both ways.
-#[derive(Debug, Drop)]
+#[derive(Drop)]
 pub struct Links {
     lists: Vec<Neighbours>,
 }

@@ -5,7 +5,7 @@ use std::alloc::{AllocError, Global};
 use std::marker::Model;
 
 /// The numbers that one number is linked to, in the order in which they were linked.
-#[derive(Debug, Drop)]
+#[derive(Drop)]
 pub(crate) struct Neighbours {
     numbers: Vec<u32>,
 }

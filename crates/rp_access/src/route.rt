@@ -5,7 +5,7 @@ use std::alloc::{AllocError, Global};
 use std::marker::Model;
 
 /// A list of numbers that grows at its end. A contract sees its `items`, and in `spare` how many more it has room for.
-#[derive(Debug, Drop)]
+#[derive(Drop)]
 pub struct Route {
     numbers: Vec<u32>,
 }

@@ -7,7 +7,7 @@ use crate::task::Task;
 use rp_space::Half;
 
 /// What the rounds found.
-#[derive(Clone, Copy, Debug, PartialEq, Eq)]
+#[derive(Clone, Copy)]
 pub struct Tally {
     /// The number of points or terms that the last round found, if it found some.
     pub last: Option<usize>,

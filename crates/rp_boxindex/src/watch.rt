@@ -10,7 +10,7 @@ pub trait Watch: Sync {
 }
 
 /// The onlooker that does nothing.
-#[derive(Clone, Copy, Debug)]
+#[derive(Clone, Copy)]
 pub struct Quiet;
 
 impl Watch for Quiet {

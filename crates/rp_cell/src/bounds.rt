@@ -15,7 +15,7 @@ use rp_elim::first_outside_through;
 use rp_space::{Half, IntBox, Outside, box_halves, cube, keep_bounds};
 
 /// The least box of a cell, and what shows of its sides that no member lies beyond them.
-#[derive(Debug, Drop)]
+#[derive(Drop)]
 pub struct Sides {
     /// The least whole box that holds every member of the cell.
     pub bounds: IntBox,

@@ -18,7 +18,7 @@ use rp_space::{Half, Inside, Outside, Point, keep_bounds};
 use rp_vertex::{first_inside, first_weak, inside_on_few_lines, weak_on_few_lines};
 
 /// Whether a cell has a point.
-#[derive(Debug, Drop)]
+#[derive(Drop)]
 pub enum Strict {
     /// It has one: an average of these points is strictly inside.
     Inside(Inside),
@@ -28,7 +28,7 @@ pub enum Strict {
 
 /// Whether the weak system of a cell has a point: one of the closed cube at which no half-space of the cell is negative.
 /// Where the cell has a point, these are its closure.
-#[derive(Debug, Drop)]
+#[derive(Drop)]
 pub enum Weak {
     /// It has this one.
     At(Point),

@@ -6,7 +6,7 @@ use rp_space::Outside;
 use std::marker::Model;
 
 /// A list of at most six outside certificates, one for a side of a box, which takes no memory.
-#[derive(Debug, Drop)]
+#[derive(Drop)]
 pub struct SideProofs {
     proofs: ArrayVec<Outside, 6>,
 }

@@ -20,7 +20,7 @@ use std::marker::Model;
 pub type Cell = Listed<Half>;
 
 /// A half-space that was dropped from a cell, with the multiples that show that it adds nothing.
-#[derive(Debug, Drop)]
+#[derive(Drop)]
 pub struct DroppedHalf {
     /// The half-space.
     pub half: Half,
@@ -42,7 +42,7 @@ impl Model for DroppedHalf {
 pub type Drops = Listed<DroppedHalf>;
 
 /// A slim cell, and what was dropped on the way to it.
-#[derive(Debug, Drop)]
+#[derive(Drop)]
 pub struct Slimmed {
     /// The half-spaces that are kept, in the order of the cell.
     pub kept: Cell,

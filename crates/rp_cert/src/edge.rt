@@ -7,7 +7,7 @@ use std::marker::Model;
 
 /// What a half-space leaves on a horizontal plane: the points with `a x + b y + d > 0`, with part of the line where it
 /// is 0.
-#[derive(Clone, Copy, Debug, PartialEq, Eq, Default)]
+#[derive(Clone, Copy, PartialEq, Eq, Default)]
 pub struct Edge {
     /// The factor of x.
     pub a: i32,
@@ -28,7 +28,7 @@ impl Model for Edge {
 }
 
 /// A step along a ring: an edge, and the point at which it ends.
-#[derive(Clone, Copy, Debug, PartialEq, Eq, Default)]
+#[derive(Clone, Copy, PartialEq, Eq, Default)]
 pub struct RingStep {
     /// The edge.
     pub edge: Edge,
@@ -48,7 +48,7 @@ impl Model for RingStep {
 
 /// A list of at most 36 steps of a ring, which takes no memory: room for the half-spaces of a cell and the cube's four
 /// upright sides.
-#[derive(Debug, Drop)]
+#[derive(Drop)]
 pub struct RingSteps {
     steps: ArrayVec<RingStep, 36>,
 }

@@ -10,7 +10,7 @@ use crate::ring::is_ring;
 use rp_space::{Half, Outside};
 
 /// What is shown of a cell at a height.
-#[derive(Debug, Drop)]
+#[derive(Drop)]
 pub enum Slice {
     /// The edges and ends round the points that the cell has there.
     Ring(RingSteps),

@@ -6,7 +6,7 @@ use rp_follow::Form;
 use rp_space::Name;
 
 /// A child of a subdivision: the id of the lot to be made, and its form, which has at most 1,024 parts.
-#[derive(Debug, Drop)]
+#[derive(Drop)]
 pub(crate) struct Child {
     pub id: Name,
     pub form: Form,

@@ -4,7 +4,7 @@ use std::alloc::AllocError;
 use thiserror::Error;
 
 /// Why no further answer of a report is read. The trail and the register aren't used further.
-#[derive(Clone, Copy, Debug, PartialEq, Eq, Drop, Error)]
+#[derive(Clone, Copy, Debug, Drop, Error)]
 pub(crate) enum Halt {
     /// The line of this number is wrong, or no line is left where one is due: then it is the number of lines plus 1.
     #[error("line {0} is wrong")]

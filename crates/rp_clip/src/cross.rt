@@ -15,7 +15,7 @@ use arrayvec::ArrayVec;
 use rp_space::{Half, Meeting};
 
 /// On which side of a plane a point lies.
-#[derive(Clone, Copy, PartialEq, Eq)]
+#[derive(Clone, Copy)]
 pub(crate) enum Side {
     /// The half-space is positive there.
     Above,

@@ -133,7 +133,7 @@ impl Drop for Command {
 }
 
 /// Why a line is no command: its first fault in reading order.
-#[derive(Clone, Copy, Debug, PartialEq, Eq)]
+#[derive(Clone, Copy, Debug)]
 pub enum Why {
     /// A word that doesn't fit its place, a missing word or one too many.
     Syntax,

@@ -1,7 +1,7 @@
 //! The versions of scripts.
 
 /// A version of scripts: how coordinates are spelled, and how long a line may be.
-#[derive(Clone, Copy, Debug, PartialEq, Eq)]
+#[derive(Clone, Copy)]
 pub enum Version {
     /// Coordinates are whole numbers of units.
     One,

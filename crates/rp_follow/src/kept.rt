@@ -10,7 +10,7 @@ use std::marker::Model;
 
 /// A part as a report shows it: a cell of at most 32 half-spaces with a member, and a box that holds all its members. The
 /// box need not be the least.
-#[derive(Debug, Drop)]
+#[derive(Drop)]
 pub struct Kept {
     /// The half-spaces in order. The members are the points of the cube that all of them hold.
     pub halves: Halves,

@@ -9,7 +9,7 @@ use crate::trail::Trail;
 use rp_tests::Stopped;
 
 /// How two parts meet.
-#[derive(Clone, Copy, Debug, PartialEq, Eq)]
+#[derive(Clone, Copy)]
 pub(crate) enum Meeting {
     /// They have a common member: a strict test of both together finds a point.
     Common,

@@ -15,7 +15,7 @@ use std::alloc::{AllocError, Global};
 use std::marker::Model;
 
 /// All lots that were ever registered, in the order of their births. A contract sees them as lots without parts.
-#[derive(Debug, Drop)]
+#[derive(Drop)]
 pub struct History {
     list: LotList,
 }

@@ -13,7 +13,7 @@ use std::alloc::{AllocError, Global};
 use std::marker::Model;
 
 /// Lots in the order of their births. A contract sees them without parts, and in `spare` how many more there is room for.
-#[derive(Debug, Drop)]
+#[derive(Drop)]
 pub(crate) struct LotList {
     lots: Vec<LotLine>,
     // The ids in the same order, so that the place of an id is the place of its lot.

@@ -6,7 +6,7 @@ ghost use Rattle.rp_history.specs.Lots.{lot_of};
 use rp_space::{Name, Names};
 
 /// What a history tells of a lot: its layer, the lines of its birth and of its end, and the lots that it was made from.
-#[derive(Debug, Drop)]
+#[derive(Drop)]
 pub struct LotLine {
     pub id: Name,
     pub layer: Name,
@@ -29,7 +29,7 @@ impl LotLine {
 }
 
 /// A lot that is to be born: its id, its layer and the lots that it is made from.
-#[derive(Debug, Drop)]
+#[derive(Drop)]
 pub struct Birth {
     pub id: Name,
     pub layer: Name,

@@ -33,7 +33,7 @@ pub trait Sink {
 /// A sink with room for so many bytes in memory, some of whose puts fail.
 ///
 /// It tells its bytes.
-#[derive(Debug, Drop)]
+#[derive(Drop)]
 pub struct MemorySink<'a> {
     bytes: Vec<u8>,
     room: usize,
@@ -139,7 +139,7 @@ impl Sink for MemorySink<'_> {
 /// A sink that never fails. It keeps as many bytes as it has room for, and a mark that more came.
 ///
 /// It tells its bytes as long as its room was not passed. Its count of faults is 0.
-#[derive(Debug, Drop)]
+#[derive(Drop)]
 pub struct QuietSink {
     bytes: Vec<u8>,
     room: usize,

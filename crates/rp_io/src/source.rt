@@ -34,7 +34,7 @@ pub trait Source {
 /// A source over bytes in memory, some of whose reads fail.
 ///
 /// It tells the bytes still to come.
-#[derive(Debug, Drop)]
+#[derive(Drop)]
 pub struct MemorySource<'a> {
     left: &'a [u8],
     step: usize,
@@ -128,7 +128,7 @@ impl Source for MemorySource<'_> {
 /// as the buffer has room for.
 ///
 /// A contract sees it as the bytes still to come, which it tells. Its count of faults is 0.
-#[derive(Debug, Drop)]
+#[derive(Drop)]
 pub struct QuietSource<'a> {
     left: &'a [u8],
 }

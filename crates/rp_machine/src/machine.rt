@@ -30,7 +30,7 @@ use std::thread::Threads;
 
 /// The machine that answers the lines of a script. A contract sees the version of the script, which no line changes, and
 /// what is kept between the lines: a sound state.
-#[derive(Debug, Drop)]
+#[derive(Drop)]
 pub struct Machine {
     version: Version,
     state: State,

@@ -3,7 +3,7 @@
 use rp_report::Verdicts;
 
 /// What a command comes to.
-#[derive(Debug, Drop)]
+#[derive(Drop)]
 pub(crate) enum Reply {
     /// It has asked something: the verdict lines.
     Told(Verdicts),

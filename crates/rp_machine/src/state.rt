@@ -26,7 +26,7 @@ use std::marker::Model;
 /// What a machine keeps between the lines of a script: the present layer, what names stand for, and all lots that were ever
 /// registered. That is a sound state: names and ids are distinct, each stands for a region, live lots of one layer share no
 /// point, and the limits of numbers and of parts are kept.
-#[derive(Debug, Drop)]
+#[derive(Drop)]
 pub(crate) struct State {
     layer: Name,
     names: NamedForms<Regions>,

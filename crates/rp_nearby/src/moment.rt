@@ -6,7 +6,7 @@ ghost use Rattle.rp_nearby.specs.Owner.{is_there};
 use rp_history::LotLine;
 
 /// When lots are looked for.
-#[derive(Clone, Copy, Debug)]
+#[derive(Clone, Copy)]
 pub enum Moment {
     /// Now.
     Now,

@@ -17,7 +17,7 @@ use std::marker::Brand;
 use std::sync::ledger::{Blank, Ledger};
 
 /// Which boxes let two parts meet.
-#[derive(Clone, Copy, Debug)]
+#[derive(Clone, Copy)]
 pub enum Reach {
     /// Those that share more than boundary.
     Overlap,

@@ -7,7 +7,7 @@ use rp_tests::{Stopped, Tests};
 use std::alloc::Global;
 
 /// A question about two forms that is answered with yes or no.
-#[derive(Clone, Copy, Debug, PartialEq, Eq)]
+#[derive(Clone, Copy)]
 pub enum Question {
     /// Whether they have the same points.
     Equal,

@@ -4,7 +4,7 @@ use rp_region::Region;
 use rp_space::Name;
 
 /// A child of a subdivision: a new id, and the region that it gets.
-#[derive(Debug, Drop)]
+#[derive(Drop)]
 pub struct Child {
     pub id: Name,
     pub region: Region,

@@ -22,7 +22,7 @@ use std::marker::Model;
 /// All parcels that were ever registered, in the order of registration, with their regions. A contract sees them as the
 /// lots of a sound state: ids are distinct, live parcels of one layer share no point, every parcel has a point, the limits
 /// of parts are kept, every end is above its birth, and origins stand before and are of the same layer.
-#[derive(Debug, Drop)]
+#[derive(Drop)]
 pub struct Parcels {
     lots: Lots<Regions>,
 }

@@ -7,7 +7,7 @@ use rp_region::{Part, Region};
 use rp_space::{IntBox, Point};
 
 /// Regions, as they are kept under names and of lots.
-#[derive(Debug, Drop)]
+#[derive(Drop)]
 pub struct Regions;
 
 impl Forms for Regions {

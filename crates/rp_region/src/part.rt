@@ -15,7 +15,7 @@ use std::marker::Model;
 
 /// A part of a region: a cell of at most 32 half-spaces with a member, and the least box with whole corners round its
 /// members.
-#[derive(Debug, Drop)]
+#[derive(Drop)]
 pub struct Part {
     halves: Cell,
     bounds: IntBox,

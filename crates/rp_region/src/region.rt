@@ -30,7 +30,7 @@ use std::marker::Model;
 pub(crate) const MAX_PARTS: usize = 1024;
 
 /// A region of space: a list of at most 1,024 parts, whose members are those of any part.
-#[derive(Debug, Drop)]
+#[derive(Drop)]
 pub struct Region {
     parts: Listed<Part>,
 }

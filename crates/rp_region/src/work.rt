@@ -35,7 +35,7 @@ const MAX_HALVES: usize = 32;
 
 /// The number of tests that a command has counted, at most 65,536, and the proof lines of its tests so far.
 /// After `Limit` or want of memory the lines are those before with a front of the new ones, and it isn't used further.
-#[derive(Debug, Drop)]
+#[derive(Drop)]
 pub struct Work {
     tests: u32,
     proofs: Proofs,

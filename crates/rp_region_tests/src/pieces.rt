@@ -4,8 +4,8 @@ ghost use Rattle.rp_space.specs.Boxes.{integer_box};
 
 use crate::boxes::box_region;
 use rp_cert::Proof;
-use rp_relate::{PieceList, pieces};
 use rp_region::{OpFault, Region, Work};
+use rp_relate::{PieceList, pieces};
 use rp_space::IntBox;
 use std::alloc::Global;
 use std::process::Abort;

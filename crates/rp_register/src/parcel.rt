@@ -6,7 +6,7 @@ use rp_follow::Form;
 use rp_history::LotLine;
 
 /// A lot, and its form, which has at most 1,024 parts.
-#[derive(Clone, Copy, Debug)]
+#[derive(Clone, Copy)]
 pub struct Parcel<'a> {
     pub line: &'a LotLine,
     pub form: &'a Form,

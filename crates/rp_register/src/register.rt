@@ -22,7 +22,7 @@ use std::marker::Model;
 
 /// What the check keeps between two answers. A contract sees it as a sound state of parts, as the lines of the report show
 /// them: names and ids are distinct, live lots of one layer share no point, and the limits of numbers and parts are kept.
-#[derive(Debug, Drop)]
+#[derive(Drop)]
 pub struct Register {
     layer: Name,
     names: NamedForms<Shown>,

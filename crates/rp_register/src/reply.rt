@@ -6,7 +6,7 @@ use rp_report::Verdicts;
 use rp_space::{Listed, Name, Names};
 
 /// What a command comes to.
-#[derive(Debug, Drop)]
+#[derive(Drop)]
 pub enum Reply {
     /// It has asked something: the verdict lines.
     Told(Verdicts),
@@ -18,7 +18,7 @@ pub enum Reply {
 }
 
 /// What an accepted command changes.
-#[derive(Debug, Drop)]
+#[derive(Drop)]
 pub enum Change {
     /// A form is kept under a new name.
     Named(Name, Form),
@@ -29,7 +29,7 @@ pub enum Change {
 }
 
 /// A lot that is born, and its form.
-#[derive(Debug, Drop)]
+#[derive(Drop)]
 pub struct Born {
     pub birth: Birth,
     pub form: Form,

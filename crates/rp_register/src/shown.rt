@@ -8,7 +8,7 @@ use rp_kept::Forms;
 use rp_space::{IntBox, Point};
 
 /// Forms as the lines of a report show them, as they are kept under names and of lots.
-#[derive(Debug, Drop)]
+#[derive(Drop)]
 pub(crate) struct Shown;
 
 impl Forms for Shown {

@@ -20,7 +20,7 @@ use std::alloc::Global;
 const MAX_TESTS: u64 = 65536;
 
 /// The lots that are near a form, and how many pairs of their parts and its own may meet.
-#[derive(Debug, Drop)]
+#[derive(Drop)]
 pub struct Near<'a> {
     pub parcels: Listed<Parcel<'a>>,
     pub pairs: u64,

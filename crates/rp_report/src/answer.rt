@@ -8,7 +8,7 @@ use std::alloc::{AllocError, Global};
 use std::boxed::Box;
 
 /// Why a line is refused.
-#[derive(Clone, Copy, Debug, PartialEq, Eq)]
+#[derive(Clone, Copy, Debug)]
 pub enum Refusal {
     /// The line is no command.
     Bad(Why),
@@ -45,7 +45,7 @@ pub enum Refusal {
 }
 
 /// A verdict line.
-#[derive(Debug, Drop)]
+#[derive(Drop)]
 pub enum Verdict {
     /// It is so.
     Yes,
@@ -113,7 +113,7 @@ pub type Verdicts = Listed<Verdict>;
 
 /// The answer to a line: its number, the bytes that are echoed, what its tests showed, and the verdicts.
 /// A blank line has an answer without verdicts; the echo of a line that is too long is empty.
-#[derive(Debug, Drop)]
+#[derive(Drop)]
 pub struct Answer {
     /// The number of the line in its script, from 1.
     pub n: u32,

@@ -10,7 +10,7 @@ use rp_report::Answer;
 use std::alloc::AllocError;
 
 /// What is counted in a report, as far as it has come.
-#[derive(Clone, Copy, Debug)]
+#[derive(Clone, Copy)]
 pub struct Counts {
     /// The lines that were answered.
     pub lines: u32,
@@ -21,7 +21,7 @@ pub struct Counts {
 }
 
 /// What is counted in a whole report, and in the state behind it.
-#[derive(Clone, Copy, Debug)]
+#[derive(Clone, Copy)]
 pub struct Summary {
     /// What is counted in the report.
     pub counts: Counts,

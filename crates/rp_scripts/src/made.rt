@@ -14,7 +14,7 @@ use std::marker::Model;
 const HEIGHT: u64 = 3000;
 
 /// A line of the script of a building.
-#[derive(Clone, Copy, Debug)]
+#[derive(Clone, Copy)]
 pub enum MadeLine {
     /// The storey with the number, from 0, is registered.
     Register(u32),
@@ -29,7 +29,7 @@ pub enum MadeLine {
 }
 
 /// Which line was told last.
-#[derive(Clone, Copy, Debug)]
+#[derive(Clone, Copy)]
 pub enum Stage {
     /// The last one of a storey, or none.
     Between,
@@ -44,7 +44,7 @@ pub enum Stage {
 }
 
 /// The script of a building. A contract sees the lines that are still to come.
-#[derive(Debug, Drop)]
+#[derive(Drop)]
 pub struct MadeScript {
     stage: Stage,
     storey: u32,

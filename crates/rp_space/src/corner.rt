@@ -2,7 +2,7 @@
 use crate::listed::Listed;
 
 /// A corner of a polygon, with whole coordinates.
-#[derive(Clone, Copy, Debug, PartialEq, Eq)]
+#[derive(Clone, Copy)]
 pub struct Corner {
     /// Its x.
     pub x: i32,

@@ -16,7 +16,7 @@ const MAX_COEFFICIENT: i64 = 16777216;
 const MAX_OFFSET: i64 = 844424930131968;
 
 /// Why four numbers are no half-space.
-#[derive(Clone, Copy, Debug, PartialEq, Eq, Drop, Error)]
+#[derive(Clone, Copy, Debug, Drop, Error)]
 pub enum HalfFault {
     /// A number passes its bound.
     #[error("a coefficient passes 16777216 or the offset 844424930131968 in size")]

@@ -22,7 +22,7 @@ pub fn meet(f: &Half, g: &Half, h: &Half) -> Option<Point>
 
 /// A point such as the common point of three planes, with a positive weight and not yet in lowest terms, so that a side
 /// value can be asked before the divisor is.
-#[derive(Clone, Copy, Debug)]
+#[derive(Clone, Copy)]
 pub struct Meeting {
     x: i128,
     y: i128,
@@ -80,7 +80,7 @@ impl Meeting {
 
 /// Two half-spaces, with what the common points of their planes with further planes share.
 /// A contract sees the two.
-#[derive(Debug, Drop)]
+#[derive(Drop)]
 pub struct Pair {
     first: Half,
     second: Half,

@@ -16,7 +16,7 @@ const MAX_COORDINATE: i128 = 2535301200456458802993406410751;
 const MAX_WEIGHT: i128 = 37778931862957161709567;
 
 /// Why four numbers are no point.
-#[derive(Clone, Copy, Debug, PartialEq, Eq, Drop, Error)]
+#[derive(Clone, Copy, Debug, Drop, Error)]
 pub enum PointFault {
     /// The weight is below 1.
     #[error("the weight is below 1")]

@@ -6,7 +6,7 @@ use rp_command::Why;
 use std::alloc::{AllocError, AllocFailed};
 
 /// Why a command was not read.
-#[derive(Clone, Copy, Debug)]
+#[derive(Clone, Copy)]
 pub enum ReadFault {
     /// The line is no command.
     Bad(Why),
