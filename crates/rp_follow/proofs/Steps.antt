@@ -1,22 +1,52 @@
 -- What is left of the walks of one pair and of one half-space after each of their tests.
-use Rattle.std.proofs.Common.{◌≡◌, ℕ, ◌≤◌, Bool, true, false, List, [], ◌∷◌, ◌++◌, length, ap, subst, arith}
+use Rattle.std.proofs.Common.{◌≡◌, ℕ, ◌<◌, ◌≤◌, Bool, true, false, List, [], ◌∷◌, ◌++◌, length, sym, ap, ◌∙◌, subst, arith}
 use Rattle.std.specs.Prelude.{nat_le, Option}
 use Rattle.rp_geometry.specs.Geometry.{HalfSpace, complement, boxes_meet}
 use Rattle.rp_geometry.specs.sets.Shape.{Part}
 use Rattle.rp_geometry.specs.parts.Parts.{most_parts}
-use Rattle.rp_walks.specs.Walk.{done, limit_met, Walk, pass, stop, ◌>>=◌, ◌>>◌}
+use Rattle.rp_walks.specs.Walk.{done, stopped, limit_met, Walk, pass, stop, ◌>>=◌, ◌>>◌}
 use Rattle.rp_walks.specs.Form.{made_part, if_at_most, join_pair, carve_one, carve_or_keep, subtract_pair}
 use Rattle.rp_reports.specs.Check.{Trail, follow_count, follow_strict, follow_part, line_tester}
 use Rattle.rp_tests.specs.declared.stopped.Stopped.{Stopped}
 use Rattle.rp_tests.specs.Comes.{StopsBy}
-use Rattle.rp_tests.proofs.Left.{IsLeft, all_left, left_as, next_left, stop_left}
+use Rattle.rp_tests.proofs.Left.{IsLeft, all_left, left_as, next_left, stop_left, end_left}
+
+-- a walk that passes what is short enough, by the test of its length
+abbrev short_by : List Part → Bool → Walk Trail (List Part)
+short_by parts b = elim b [ true ↦ pass parts | false ↦ stop limit_met ]
+
+-- a list that is short enough passes
+pub few_pass : (most : ℕ) (parts : List Part) → length parts ≤ most → if_at_most {W = Trail} most parts ≡ pass parts
+few_pass most parts h = ap (short_by parts) (within (length parts) most h)
+  where
+    within : (m n : ℕ) → m ≤ n → nat_le m n ≡ true
+    within m n h = grind arith
+
+-- a list that is too long stops
+pub many_stop : (most : ℕ) (parts : List Part) → most < length parts → if_at_most {W = Trail} most parts ≡ stop limit_met
+many_stop most parts h = ap (short_by parts) (above (length parts) most h)
+  where
+    above : (m n : ℕ) → n < m → nat_le m n ≡ false
+    above m n h = grind arith
 
 -- two parts were tested together: the length of the list is left
-pub pair_joined : (made : List Part) (p q : Part) (cell : List HalfSpace) {t u : Trail} {o : Option Part} → cell ≡ p.cell ++ q.cell → follow_part cell t ≡ done o u
+pair_joined : (made : List Part) (p q : Part) (cell : List HalfSpace) {t u : Trail} {o : Option Part} → cell ≡ p.cell ++ q.cell → follow_part cell t ≡ done o u
     → IsLeft t (join_pair line_tester made p q) u (if_at_most most_parts (made ++ made_part o))
 pair_joined made p q cell {t = t} {u = u} {o = o} e m =
     next_left (follow_part (p.cell ++ q.cell)) (λ o. if_at_most most_parts (made ++ made_part o))
     (all_left t (join_pair line_tester made p q)) (subst (λ c. follow_part c t ≡ done o u) e m)
+
+-- they were tested together, and the list with what was made of them is short enough
+pub pair_passes : (made parts : List Part) (p q : Part) (cell : List HalfSpace) (t u : Trail) (o : Option Part) → cell ≡ p.cell ++ q.cell → follow_part cell t ≡ done o u
+    → parts ≡ made ++ made_part o → length parts ≤ most_parts → join_pair line_tester made p q t ≡ done parts u
+pair_passes made parts p q cell t u o e m same few =
+    end_left (done parts u) (pair_joined made p q cell e m) (ap (λ ps. if_at_most most_parts ps u) (sym same) ∙ ap (λ (walk : Walk Trail (List Part)). walk u) (few_pass most_parts parts few))
+
+-- the list is too long
+pub pair_limited : (made parts : List Part) (p q : Part) (cell : List HalfSpace) (t u : Trail) (o : Option Part) → cell ≡ p.cell ++ q.cell → follow_part cell t ≡ done o u
+    → parts ≡ made ++ made_part o → most_parts < length parts → join_pair line_tester made p q t ≡ stopped limit_met u
+pair_limited made parts p q cell t u o e m same many =
+    end_left (stopped limit_met u) (pair_joined made p q cell e m) (ap (λ ps. if_at_most most_parts ps u) (sym same) ∙ ap (λ (walk : Walk Trail (List Part)). walk u) (many_stop most_parts parts many))
 
 -- a part test that stops
 pub pair_stops : (made : List Part) (p q : Part) (cell : List HalfSpace) (t u : Trail) (e : Stopped) → cell ≡ p.cell ++ q.cell → StopsBy e u (follow_part cell t) → StopsBy e u (join_pair line_tester made p q t)
@@ -88,10 +118,3 @@ pub pair_untested : (made : List Part) (c q : Part) (cell : List HalfSpace) (t u
 pair_untested made c q cell t u v e s b n m =
     stop_left (follow_strict (c.cell ++ q.cell)) (λ found. carve_or_keep line_tester found made c q) (pair_counted made c q b n)
     e v (subst (λ c. StopsBy e v (follow_strict c u)) s m)
-
--- a list that is short enough passes
-pub few_pass : {A : Type 0} (most : ℕ) (parts : List Part) (next : List Part → Walk Trail A) → length parts ≤ most → (if_at_most most parts >>= next) ≡ next parts
-few_pass most parts next h = ap (λ (b : Bool). (let walk : Walk Trail (List Part) = elim b [ true ↦ pass parts | false ↦ stop limit_met ] in walk >>= next)) (passes (length parts) most h)
-  where
-    passes : (m n : ℕ) → m ≤ n → nat_le m n ≡ true
-    passes m n h = grind arith

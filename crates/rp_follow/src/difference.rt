@@ -5,7 +5,7 @@ ghost use Rattle.rp_reports.specs.Check.{follow_count, line_tester};
 ghost use Rattle.rp_walks.specs.Form.{carve_one, carve, subtract_pair, subtract_part, subtract};
 ghost use Rattle.rp_tests.specs.Comes.{Comes};
 
-use crate::form::{Form, MAX_PARTS};
+use crate::form::{Form, MAX_PARTS, put};
 use crate::kept::Kept;
 use crate::meeting::Meeting;
 use crate::part::made;
@@ -108,9 +108,8 @@ fn carve_one(
     count_test(trail)?;
     let mut piece = joined(cell, before);
     piece.push(half.not());
-    if let Some(part) = made(alloc, piece.as_slice(), trail)? {
-        left.push(part)?;
-    }
+    let part = made(alloc, piece.as_slice(), trail)?;
+    put(left, part)?;
     Ok(())
 }
 

@@ -1,11 +1,11 @@
 //! Lists of parts as a report shows them, and their algebra, followed line by line.
-ghost use Rattle.std.specs.Prelude.{◌≤◌, ◌↔◌, ◌≡◌, ◌*◌, length, IsTrue, IfOk, IfErr};
+ghost use Rattle.std.specs.Prelude.{◌++◌, ◌≤◌, ◌↔◌, ◌≡◌, ◌*◌, length, IsTrue, IfOk, IfErr};
 ghost use Rattle.rp_geometry.specs.sets.Shape.{Shape, shape_of_parts};
 ghost use Rattle.rp_geometry.specs.sets.Sets.{Overlaps};
 ghost use Rattle.rp_geometry.specs.sets.Contact.{IsInContact};
 ghost use Rattle.rp_geometry.specs.parts.Parts.{AreOf, IsCheckedPart, most_parts};
 ghost use Rattle.rp_reports.specs.Check.{follow_count, line_tester};
-ghost use Rattle.rp_walks.specs.Form.{join, subtract};
+ghost use Rattle.rp_walks.specs.Form.{join, made_part, subtract};
 ghost use Rattle.rp_tests.specs.Comes.{Comes};
 ghost use Rattle.rp_follow.specs.Stops.{IsNotMemory};
 ghost use Rattle.rp_follow.specs.Pairs.{common_by, touch_by, meet_by};
@@ -115,6 +115,16 @@ fn count_pairs(a: &Form, b: &Form, trail: &mut Trail<'_>) -> Result<(), Stopped>
         return Err(Stopped::Limit);
     }
     Ok(())
+}
+
+/// Puts a part behind a list, if there is one. Answers `AllocError` only for want of memory.
+pub(crate) fn put(form: &mut Form, part: Option<Kept>) -> Result<(), AllocError>
+    ensures { IfOk result (λ _. form.new.items ≡ form.old.items ++ made_part part) }
+{
+    match part {
+        Some(part) => form.push(part),
+        None => Ok(()),
+    }
 }
 
 /// The same list of parts. Answers `AllocError` only for want of memory.

@@ -3,7 +3,7 @@ ghost use Rattle.rp_reports.specs.Check.{line_tester};
 ghost use Rattle.rp_walks.specs.Form.{join_pair, join_with_part, join_each};
 ghost use Rattle.rp_tests.specs.Comes.{Comes};
 
-use crate::form::{Form, MAX_PARTS};
+use crate::form::{Form, MAX_PARTS, put};
 use crate::kept::Kept;
 use crate::part::made;
 use crate::trail::Trail;
@@ -54,9 +54,8 @@ fn join_pair(
     ensures { Comes (λ _. form.new.items) result trail.new (join_pair line_tester form.old.items part.now other.now trail.old) }
 {
     let cell = joined(part.cell(), other.cell());
-    if let Some(common) = made(alloc, cell.as_slice(), trail)? {
-        form.push(common)?;
-    }
+    let common = made(alloc, cell.as_slice(), trail)?;
+    put(form, common)?;
     if form.items().len() > MAX_PARTS {
         return Err(Stopped::Limit);
     }

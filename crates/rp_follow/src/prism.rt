@@ -57,16 +57,21 @@ fn exchange_cell(
     };
     let mut new = Form::new(alloc);
     new.push(part)?;
-    exchange(alloc, current, new, trail)
+    exchange(alloc, &current, &new, trail)
 }
 
 /// What is in one of two lists of parts and not in the other: what is left of the first outside the second, and then what is left
 /// of the second outside the first.
-fn exchange(alloc: Global, current: Form, new: Form, trail: &mut Trail<'_>) -> Result<Form, Stopped>
-    ensures { Comes (λ form. form.items) result trail.new (exchange_lists line_tester current.items new.items trail.old) }
+fn exchange(
+    alloc: Global,
+    current: &Form,
+    new: &Form,
+    trail: &mut Trail<'_>,
+) -> Result<Form, Stopped>
+    ensures { Comes (λ form. form.items) result trail.new (exchange_lists line_tester current.now.items new.now.items trail.old) }
 {
-    let mut form = differed(alloc, &current, &new, trail)?;
-    let added = differed(alloc, &new, &current, trail)?;
+    let mut form = differed(alloc, current, new, trail)?;
+    let added = differed(alloc, new, current, trail)?;
     if form.items().len() + added.items().len() > MAX_PARTS {
         return Err(Stopped::Limit);
     }

@@ -1,6 +1,8 @@
-use Rattle.std.proofs.Common.{◌∷◌, [], ◌++◌, ◌∙◌}
+use Rattle.std.proofs.Common.{◌∷◌, [], ◌++◌, sym, ap, ◌∙◌}
 use Rattle.std.proofs.lemmas.Result.{err_from_is_err_and}
-use Rattle.rp_follow.proofs.Steps.{piece_uncounted, piece_stops}
+use Rattle.rp_walks.specs.Walk.{done}
+use Rattle.rp_tests.proofs.Left.{end_left}
+use Rattle.rp_follow.proofs.Steps.{piece_uncounted, piece_stops, piece_made}
 use Rattle.rp_follow.proofs.difference.carve_one.Goals as goal
 
 pub returns-in_err-count_test : goal.returns-in_err-count_test
@@ -14,3 +16,11 @@ returns-in_err-part c =
     rw (p.1, p.2)
     (piece_stops c.args.left.now.items c.args.cell.now c.args.before.now c.args.half.now c.as_slice.result.now c.args.trail.now c.count_test.new.trail c.made.new.trail c.in_err-part.field-0.0
     (c.as_slice.ensures.value ∙ c.push.ensures.items ∙ (λ i. c.joined-piece.ensures i ++ c.not.ensures i ∷ [])) c.in_ok-count_test.ensures c.in_err-part.ensures.comes)
+
+pub returns : goal.returns
+returns c =
+    let new = c.made.new.trail in
+    end_left (done c.put.new.form.items new)
+    (piece_made c.args.left.now.items c.args.cell.now c.args.before.now c.args.half.now c.as_slice.result.now
+    (c.as_slice.ensures.value ∙ c.push.ensures.items ∙ (λ i. c.joined-piece.ensures i ++ c.not.ensures i ∷ [])) c.in_ok-count_test.ensures c.in_ok-part.ensures.comes)
+    (ap (λ parts. done parts new) (sym c.in_ok-put.ensures))
