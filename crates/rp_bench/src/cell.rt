@@ -27,6 +27,14 @@ fn half_of_line(alloc: Global, line: &[u8]) -> Result<Option<Half>, AllocError> 
     Ok(half)
 }
 
+/// The half-space of the line with this number. A line that has none is an error, which names it.
+fn half_at(alloc: Global, number: usize, line: &[u8]) -> Result<Half> {
+    let Some(half) = half_of_line(alloc, line)? else {
+        bail!("line {number} is not of the form: empty half A B C D")
+    };
+    Ok(half)
+}
+
 /// The half-spaces of an input, one a line. A line that has none and a half-space past the 64th are errors, which name
 /// the line.
 pub fn read_cell<R: Read + Drop>(alloc: Global, input: R) -> Result<Vec<Half>>
@@ -36,9 +44,7 @@ pub fn read_cell<R: Read + Drop>(alloc: Global, input: R) -> Result<Vec<Half>>
     for (i, line) in BufReader::new(alloc, input)?.lines(alloc).enumerate() {
         let number = i + 1;
         let line = line.context(format_args!("line {number}"))?;
-        let Some(half) = half_of_line(alloc, line.as_bytes())? else {
-            bail!("line {number} is not of the form: empty half A B C D")
-        };
+        let half = half_at(alloc, number, line.as_bytes())?;
         ensure!(
             cell.len() < MOST_HALVES,
             "line {number}: more than {MOST_HALVES} half-spaces"
