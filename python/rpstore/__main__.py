@@ -19,7 +19,7 @@ import os
 import sys
 from decimal import Decimal, InvalidOperation
 
-from . import Fault, explain, gis, lots, plan, view
+from . import Fault, explain, gis, lots, measures, picture, plan, view
 
 GEOJSON = {"sections": gis.sections, "lots": gis.footprints, "faces": gis.faces}
 
@@ -32,6 +32,12 @@ def decimal(word):
     if not number.is_finite() or abs(number) > 10**9 or number * 1000 % 1:
         raise argparse.ArgumentTypeError("metres with at most three digits behind the point are wanted")
     return number
+
+
+def width(word):
+    if not (word.isdigit() and picture.LEAST <= int(word[:9]) <= picture.MOST):
+        raise argparse.ArgumentTypeError(f"a number from {picture.LEAST} to {picture.MOST} is wanted")
+    return int(word)
 
 
 def parser():
@@ -55,6 +61,9 @@ def parser():
     page.add_argument("--title", help="the head of the page (the name of the file)")
     page.add_argument("--storey", type=decimal, default=Decimal(2), metavar="METRES", help="lots whose lowest heights are less than this apart are "
                       "of one storey (2)")
+    drawn = add("picture", "a picture in SVG of the `section` lines of a report: the outlines at each height")
+    drawn.add_argument("--width", type=width, default=picture.WIDTH, metavar="PIXELS", help=f"the width of the picture ({picture.WIDTH})")
+    add("measures", "a table of areas and volumes, of what `show` and `section` lines show")
     add("sections", "GeoJSON of the `section` lines of a report: one area for each, with lot, height and area")
     add("lots", "GeoJSON of what each lot covers in plan, with its heights, area and volume")
     add("faces", "GeoJSON of the boundary of each lot, as polygons with heights")
@@ -106,6 +115,10 @@ def answer(options):
     if options.word == "view":
         title = options.title or (os.path.basename(options.file) if options.file else "lots")
         return 0, view.page(seen, title, int(options.storey * 1000)), []
+    if options.word == "picture":
+        return 0, picture.picture(seen, options.width), [picture.summary(seen)]
+    if options.word == "measures":
+        return 0, measures.table(seen), []
     if options.word == "city":
         return 0, json.dumps(gis.city(seen), separators=(",", ":")) + "\n", []
     return 0, json.dumps(GEOJSON[options.word](seen)) + "\n", []
