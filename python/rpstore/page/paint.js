@@ -48,7 +48,8 @@ let gl, solid, line, solids, colors, colorBuffer, triangles, caps, strokes, pick
 // How many triangles are drawn: of lots of the first layer, of others, which shine through it, and of lots that are see-through.
 let counts = [0, 0, 0];
 // `moved` tells that lots are elsewhere, or others are shown, so that names and what is under the hand are to be found anew.
-let due = false, moved = true, settle = 0;
+let due = false, moved = true, settle = 0, isSlow = false;
+const MANY = 500;
 
 function program(vertex, fragment) {
   const made = gl.createProgram(), uniforms = {};
@@ -88,8 +89,15 @@ function strokesOf() {
   return { array, count: 0, fill(numbers) { upload(content, new Float32Array(numbers)); this.count = numbers.length / 7; } };
 }
 
+// Whether a processor draws alone, for which smooth edges, and of many lots any edges in motion, are too much.
+function isSoftware() {
+  const probe = document.createElement("canvas").getContext("webgl2"), more = probe && probe.getExtension("WEBGL_debug_renderer_info");
+  return Boolean(probe) && /swiftshader|llvmpipe|software|basic render/i.test(probe.getParameter(more ? more.UNMASKED_RENDERER_WEBGL : probe.RENDERER));
+}
+
 function startPainting() {
-  gl = $("canvas").getContext("webgl2", { antialias: true, alpha: true, premultipliedAlpha: false });
+  isSlow = isSoftware();
+  gl = $("canvas").getContext("webgl2", { antialias: !isSlow, alpha: true, premultipliedAlpha: false });
   if (!gl) return false;
   solid = program(SOLID_VERTEX, SOLID_FRAGMENT); line = program(LINE_VERTEX, LINE_FRAGMENT);
   const position = new Float32Array(3 * vertices), storeyOf = new Float32Array(vertices), who = new Float32Array(vertices);
@@ -120,18 +128,29 @@ function edgesOf(lot, into = []) {
   return into;
 }
 
+// The edges of some lots, each once: where lots stand wall to wall most are edges of several.
+function edgesOnce(some) {
+  const found = [], known = new Set();
+  for (const lot of some) {
+    const all = edgesOf(lot);
+    for (let at = 0; at < all.length; at += 7) {
+      const edge = all.slice(at, at + 7), ends = [edge.slice(0, 3), edge.slice(3, 6)].map(end => end.map(n => n.toFixed(3)).join()), key = ends.sort().join() + "," + lot.storey;
+      if (!known.has(key)) found.push(...edge);
+      known.add(key);
+    }
+  }
+  return found;
+}
+
 // Takes what is shown anew.
 function rebuild() {
-  const order = [[], [], []], sharp = [], faint = [];
-  for (const lot of lots) if (isShown(lot)) {
-    const list = order[state.clear[lot.layer] ? 2 : lot.layer ? 1 : 0];
-    for (const at of lot.triangles) list.push(lot.first + at);
-    edgesOf(lot, state.clear[lot.layer] ? faint : sharp);
-  }
-  counts = order.map(list => list.length);
+  const order = [[], [], []];
+  for (const lot of lots) if (isShown(lot)) order[state.clear[lot.layer] ? 2 : lot.layer ? 1 : 0].push(lot);
+  const corners = order.map(list => list.flatMap(lot => lot.triangles.map(at => lot.first + at)));
+  counts = corners.map(list => list.length);
   gl.bindVertexArray(solids);
-  upload(triangles, new Uint32Array(order.flat()), gl.ELEMENT_ARRAY_BUFFER);
-  strokes.edges.fill(sharp); strokes.faint.fill(faint);
+  upload(triangles, new Uint32Array(corners.flat()), gl.ELEMENT_ARRAY_BUFFER);
+  strokes.edges.fill(edgesOnce([...order[0], ...order[1]])); strokes.faint.fill(edgesOnce(order[2]));
   recut();
 }
 
@@ -183,32 +202,35 @@ function solidPass(from, count) {
 
 function capPass() {
   if (!caps.count) return;
-  gl.bindVertexArray(caps.array); gl.drawArrays(gl.TRIANGLES, 0, caps.count); gl.bindVertexArray(solids);
+  gl.disable(gl.CULL_FACE); gl.bindVertexArray(caps.array);
+  gl.drawArrays(gl.TRIANGLES, 0, caps.count);
+  gl.bindVertexArray(solids); gl.enable(gl.CULL_FACE);
 }
 
 function stroke(what, width, ink, matrix, cut) {
   if (!what.count) return;
   const { uniforms } = line;
-  gl.useProgram(line.made); gl.bindVertexArray(what.array);
+  gl.useProgram(line.made); gl.bindVertexArray(what.array); gl.disable(gl.CULL_FACE);
   gl.uniformMatrix4fv(uniforms.view, false, matrix); gl.uniform1f(uniforms.spread, spreadMetres()); gl.uniform1f(uniforms.cut, cut);
   gl.uniform2f(uniforms.size, $("canvas").width, $("canvas").height); gl.uniform1f(uniforms.width, width * pixelRatio()); gl.uniform4fv(uniforms.ink, ink);
   gl.drawArraysInstanced(gl.TRIANGLE_STRIP, 0, 4, what.count);
+  gl.enable(gl.CULL_FACE);
 }
 
 // What lies in other layers than the first one: first what of it is hidden, faintly, and then what is in sight.
 function throughPass() {
   if (!counts[1]) return;
-  gl.depthFunc(gl.GREATER); gl.depthMask(false); gl.enable(gl.CULL_FACE);
+  gl.depthFunc(gl.GREATER); gl.depthMask(false);
   gl.uniform1f(solid.uniforms.alpha, .5); solidPass(counts[0], counts[1]);
-  gl.depthFunc(gl.LEQUAL); gl.depthMask(true); gl.disable(gl.CULL_FACE);
+  gl.depthFunc(gl.LEQUAL); gl.depthMask(true);
   gl.uniform1f(solid.uniforms.alpha, 1); solidPass(counts[0], counts[1]);
 }
 
 function clearPass(matrix) {
   if (!counts[2]) return;
-  gl.depthMask(false); gl.enable(gl.CULL_FACE);
+  gl.depthMask(false);
   useSolid(matrix, false); gl.uniform1f(solid.uniforms.alpha, .3); solidPass(counts[0] + counts[1], counts[2]);
-  gl.disable(gl.CULL_FACE); gl.depthMask(true);
+  gl.depthMask(true);
 }
 
 function markPass(matrix, cut) {
@@ -221,7 +243,7 @@ function markPass(matrix, cut) {
 function clearFrame(frame, width, height) {
   gl.bindFramebuffer(gl.FRAMEBUFFER, frame); gl.viewport(0, 0, width, height);
   gl.clearColor(0, 0, 0, 0); gl.clear(gl.COLOR_BUFFER_BIT | gl.DEPTH_BUFFER_BIT);
-  gl.enable(gl.DEPTH_TEST); gl.depthFunc(gl.LEQUAL); gl.disable(gl.CULL_FACE);
+  gl.enable(gl.DEPTH_TEST); gl.depthFunc(gl.LEQUAL); gl.enable(gl.CULL_FACE);
 }
 
 function paint() {
@@ -237,7 +259,7 @@ function paint() {
   gl.disable(gl.POLYGON_OFFSET_FILL);
   // Where lots are small on the screen their edges would hide them.
   const dense = Math.min(1, Math.max(.12, 22 * state.zoom * diagonal() / Math.sqrt(Math.max(1, lots.length)) / 300));
-  stroke(strokes.edges, 1.25, [.1, .15, .2, .9 * dense], matrix, cut);
+  if (!(isSlow && moved && lots.length > MANY)) stroke(strokes.edges, 1.25, [.1, .15, .2, .9 * dense], matrix, cut);
   stroke(strokes.cut, 2, [.05, .08, .11, 1], matrix, 1e9);
   clearPass(matrix); stroke(strokes.faint, 1, [.1, .15, .2, .45 * dense], matrix, cut);
   markPass(matrix, cut);
@@ -276,7 +298,7 @@ function settled() {
   picks.pixels = new Uint8Array(4 * width * height);
   gl.readPixels(0, 0, width, height, gl.RGBA, gl.UNSIGNED_BYTE, picks.pixels);
   gl.bindFramebuffer(gl.FRAMEBUFFER, null);
-  placeLabels(); keep();
+  placeLabels(); keep(); repaint(true);
   document.body.dataset.ready = "yes";
 }
 

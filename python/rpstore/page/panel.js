@@ -5,7 +5,7 @@ const MOST_LABELS = 200;
 function placeLabels() {
   const box = $("labels"), taken = [];
   box.replaceChildren();
-  if (state.labels) for (const [at, lot] of lots.entries()) if (isShown(lot) && taken.length < MOST_LABELS) {
+  if (state.labels) for (const [at, lot] of lots.entries()) if (isShown(lot) && lot.low[2] < cutHeight() && taken.length < MOST_LABELS) {
     const [x, y] = screen(lifted([lot.middle[0], lot.middle[1], Math.min(lot.middle[2], cutHeight())], lot)), wide = lot.name.length * 3.6 + 3;
     if (!state.clear[lot.layer] && ![-.7, 0, .7].every(part => lotAt(x + part * wide, y) === at)) continue;
     if (taken.some(other => Math.abs(other.x - x) < other.wide + wide && Math.abs(other.y - y) < 16)) continue;
