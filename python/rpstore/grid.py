@@ -1,0 +1,106 @@
+"""The grid of a plan, and of the register to which it goes; the local origin of a script."""
+import math
+from decimal import Decimal
+from typing import List, Optional, Sequence, Tuple
+
+from . import Fault
+from .command import spelled
+from .rings import MOST_CORNER, units
+
+try:
+    from pyproj import CRS, Transformer
+    from pyproj.exceptions import CRSError, ProjError
+    MISSING = None
+except ImportError as error:
+    MISSING = error
+
+Point = Tuple[float, float]
+Ring = List[Point]
+# The word in the place of a grid for coordinates that are metres of no grid.
+METRES = "metres"
+CLIP = ("the plan reaches over {wide} m from west to east and {high} m from south to north, and a register over {most} m; "
+        "this takes what meets its middle: ogr2ogr -spat {box}{grid} part.gpkg {path}")
+
+
+def named(word: Optional[str]) -> Optional["CRS"]:
+    try:
+        return CRS.from_user_input(word) if word and word != METRES else None
+    except CRSError as error:
+        raise Fault(f"no grid has this name: {error}", 5)
+
+
+def unit(grid: "CRS") -> str:
+    """The unit of a grid's first axis."""
+    return grid.axis_info[0].unit_name if grid.axis_info else "metre"
+
+
+def at_middle(found: "CRS", points: Sequence[Point]) -> str:
+    """A grid in metres that would do for points in a grid: the zone of UTM in which their middle lies."""
+    try:
+        ends = [(min(axis) + max(axis)) / 2 for axis in [*zip(*points)][:2]]
+        east, north = Transformer.from_crs(found, "EPSG:4326", always_xy=True).transform(*ends, errcheck=True)
+    except (ProjError, ValueError):
+        return ""
+    if not (abs(east) <= 180 and abs(north) <= 84):
+        return ""
+    return f", as EPSG:{(32600 if north >= 0 else 32700) + int((east + 180) // 6) % 60 + 1} would do here"
+
+
+def grids(given: str, source: Optional[str], target: Optional[str], points: Sequence[Point]) -> Tuple[Optional["CRS"], Optional["CRS"]]:
+    """The grid in which the plan's points are, by its file or by --from, and that of the register, by --to or the same. A
+    register is in metres."""
+    found = named(source or given)
+    wanted = named(target) or found
+    if wanted is not None and found is None:
+        raise Fault("the plan does not say in which grid its coordinates are: --from EPSG:NUMBER says it", 5)
+    if wanted is None or unit(wanted) == "metre":
+        return found, wanted
+    what = "in degrees" if wanted.is_geographic else f"in the unit {unit(wanted)}"
+    if target:
+        raise Fault(f"{wanted.name} is {what}, and a register is in metres{at_middle(found, points)}", 5)
+    beyond = wanted.is_geographic and any(abs(x) > 180 or abs(y) > 90 for x, y, *_ in points)
+    raise Fault(f"the plan is {what}, of {wanted.name}, " + (
+        f"and has no such numbers: --from EPSG:NUMBER says in which grid it is, --from {METRES} that it is in metres of none" if beyond else
+        f"and a register in metres: --to EPSG:NUMBER names its grid{at_middle(found, points)}"
+        + (f"; --from {METRES} says that the plan is in metres of no grid" if wanted.is_geographic else "")), 5)
+
+
+def projected(polygons: List[List[Ring]], found: Optional["CRS"], wanted: Optional["CRS"]) -> List[List[Ring]]:
+    """Polygons in the grid of the register, each point with its two coordinates alone."""
+    flat = [[[tuple(point[:2]) for point in ring] for ring in polygon] for polygon in polygons]
+    if found is None or found == wanted:
+        return flat
+    transformer = Transformer.from_crs(found, wanted, always_xy=True, allow_ballpark=False)
+    try:
+        return [[[*zip(*transformer.transform(*zip(*ring), errcheck=True))] for ring in polygon] for polygon in flat]
+    except ProjError as error:
+        raise Fault(f"the plan cannot be projected from {found.name} to {wanted.name}: {error}", 5)
+
+
+# ---- the origin
+
+def near(number: Decimal, step: int) -> int:
+    """The multiple of a step that is nearest to a number."""
+    return int((number / step).to_integral_value() * step)
+
+
+def chosen_origin(points: Sequence[Point]) -> Tuple[int, int]:
+    """The first of these origins, in metres, from which all points are within the bounds, or else the last: 0 0; whole
+    kilometres, then whole metres, at the middle; whole kilometres near most of the points."""
+    axes = [sorted(Decimal(repr(number)) for number in numbers) for numbers in zip(*points)]
+    middle = [(axis[0] + axis[-1]) / 2 for axis in axes]
+    most = [axis[len(axis) // 2] for axis in axes]
+    tried = [(0, 0)] + [tuple(near(number, step) for number in at) for at, step in ((middle, 1000), (middle, 1), (most, 1000))]
+    return next((at for at in tried if all(abs(units(end) - 1000 * origin) <= MOST_CORNER for axis, origin in zip(axes, at)
+                                           for end in (axis[0], axis[-1]))), tried[-1])
+
+
+def how_to_clip(points: Sequence[Point], origin: Tuple[int, int], wanted: Optional["CRS"], path: str) -> List[str]:
+    """Where points reach further than a register: how far, and the command that takes those near an origin in units."""
+    reach = [math.ceil(max(axis) - min(axis)) for axis in zip(*points)]
+    if max(reach) * 1000 <= 2 * MOST_CORNER:
+        return []
+    half = MOST_CORNER // 2000
+    box = " ".join(str(at // 1000 + way * half) for way in (-1, 1) for at in origin)
+    code = wanted.to_epsg() if wanted is not None else None
+    return [CLIP.format(wide=reach[0], high=reach[1], most=spelled(2 * MOST_CORNER), box=box, grid=f" -spat_srs EPSG:{code}" if code else "", path=path)]
