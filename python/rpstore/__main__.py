@@ -20,7 +20,7 @@ import sys
 from dataclasses import fields
 from decimal import Decimal, InvalidOperation
 
-from . import Fault, explain, extract, gis, lots, plan, report, view
+from . import Fault, explain, extract, gis, lots, measures, picture, plan, report, view
 
 GEOJSON = {"sections": gis.sections, "lots": gis.footprints, "faces": gis.faces}
 
@@ -35,13 +35,19 @@ def decimal(word):
     return number
 
 
+def width(word):
+    if not (word.isdigit() and picture.LEAST <= int(word[:9]) <= picture.MOST):
+        raise argparse.ArgumentTypeError(f"a number from {picture.LEAST} to {picture.MOST} is wanted")
+    return int(word)
+
+
 def parser():
     made = argparse.ArgumentParser(prog="rpstore-gis", description=__doc__, formatter_class=argparse.RawDescriptionHelpFormatter)
     words = made.add_subparsers(dest="word", required=True, metavar="WORD")
 
     def add(word, says):
         found = words.add_parser(word, help=says, description=says)
-        found.add_argument("file", nargs="?", metavar="FILE")
+        found.add_argument("file", nargs=None if word == "extract" else "?", metavar="FILE")
         if word != "plan":
             found.add_argument("--origin", nargs=2, type=decimal, metavar=("E", "N"), help="the local origin, in metres of the map; of a script "
                                "the note `# Local origin: E .., N ..` is read where this is not given")
@@ -56,6 +62,9 @@ def parser():
     page.add_argument("--title", help="the head of the page (the name of the file)")
     page.add_argument("--storey", type=decimal, default=Decimal(2), metavar="METRES", help="lots whose lowest heights are less than this apart are "
                       "of one storey (2)")
+    drawn = add("picture", "a picture in SVG of the `section` lines of a report: the outlines at each height")
+    drawn.add_argument("--width", type=width, default=picture.WIDTH, metavar="PIXELS", help=f"the width of the picture ({picture.WIDTH})")
+    add("measures", "a table of areas and volumes, of what `show` and `section` lines show")
     add("sections", "GeoJSON of the `section` lines of a report: one area for each, with lot, height and area")
     add("lots", "GeoJSON of what each lot covers in plan, with its heights, area and volume")
     add("faces", "GeoJSON of the boundary of each lot, as polygons with heights")
@@ -91,7 +100,7 @@ def add_plan(made):
 
 def opened(path):
     try:
-        return io.BytesIO(sys.stdin.buffer.read()) if path is None else open(path, "rb")
+        return io.BytesIO(sys.stdin.buffer.read()) if path in (None, "-") else open(path, "rb")
     except OSError as error:
         raise Fault(f"the input cannot be read: {error.strerror}", 3)
 
@@ -117,7 +126,7 @@ def extracted(file, options):
     if options.output:
         with open(os.path.splitext(options.output)[0] + ".report", "wb") as out:
             out.write(made.report)
-    return 0, made.script.decode("utf-8", "surrogateescape"), [said]
+    return 0, made.script, [said]
 
 
 def answer(options):
@@ -134,6 +143,10 @@ def answer(options):
     if options.word == "view":
         title = options.title or (os.path.basename(options.file) if options.file else "lots")
         return 0, view.page(seen, title, int(options.storey * 1000)), []
+    if options.word == "picture":
+        return 0, picture.picture(seen, options.width), [picture.summary(seen)]
+    if options.word == "measures":
+        return 0, measures.table(seen), []
     if options.word == "city":
         return 0, json.dumps(gis.city(seen), separators=(",", ":")) + "\n", []
     return 0, json.dumps(GEOJSON[options.word](seen)) + "\n", []
@@ -144,8 +157,8 @@ def main(words=None):
     try:
         status, text, said = answer(options)
         if text:
-            with open(options.output, "w", encoding="utf-8") if options.output else sys.stdout as out:
-                out.write(text)
+            with open(options.output, "wb") if options.output else sys.stdout.buffer as out:
+                out.write(text if isinstance(text, bytes) else text.encode())
     except Fault as fault:
         status, said = fault.status, [str(fault)]
     except BrokenPipeError:

@@ -2,7 +2,7 @@
 from collections import defaultdict
 from fractions import Fraction
 
-from . import Fault, lots, shape, told
+from . import Fault, lots, outline, points, shape, told
 
 # Micrometres are fine enough for a corner that is no whole unit.
 FINE = 10**6
@@ -32,7 +32,7 @@ def attributes(body):
     return {
         "lot": body.label, "layer": body.layer, "born": body.born, "origins": ",".join(body.origins) or None,
         "base": float(told.decimal(Fraction(low[2], 1000), 6)), "height": float(told.decimal(Fraction(high[2], 1000), 6)),
-        "area": square(sum(map(shape.area, shape.footprint(body.facets)))), "volume": float(told.decimal(body.volume / 10**9, 9)),
+        "area": square(body.area), "volume": float(told.decimal(body.volume / 10**9, 9)),
     }
 
 
@@ -64,7 +64,7 @@ def sections(seen):
 
 def footprints(seen):
     """A feature for each lot: what it covers in plan, and from where to where it reaches."""
-    return collection(seen.place, [(attributes(body), multipolygon(seen.place, shape.outline(shape.footprint(body.facets))))
+    return collection(seen.place, [(attributes(body), multipolygon(seen.place, outline.outlines(body.footprint)))
                                    for body in bounded(seen)])
 
 
@@ -88,15 +88,15 @@ def hanging(cells):
     planes = defaultdict(list)
     for at, each in enumerate(cells):
         for half, polygon in each.faces:
-            key = shape.lowest(half)
+            key = points.lowest(half)
             sign = next(number for number in key if number) > 0
             planes[key if sign else shape.turned(key)].append((sign, at, polygon))
     for half, sides in planes.items():
         flat = shape.Flattened(half, 1)
-        plans = [(sign, at, [flat.there(point) for point in polygon][::-1 if sign else 1]) for sign, at, polygon in sides]
+        plans = [(sign, at, flat.there(polygon)[::-1 if sign else 1]) for sign, at, polygon in sides]
         for sign, at, polygon in plans:
             for other_sign, other, against in plans:
-                if sign > other_sign and root(at) != root(other) and shape.plan_minus(polygon, against) != [polygon]:
+                if sign > other_sign and root(at) != root(other) and outline.minus(polygon, against) != [polygon]:
                     group[root(at)] = root(other)
     found = defaultdict(list)
     for at, each in enumerate(cells):

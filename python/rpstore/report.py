@@ -7,7 +7,7 @@ command.
 import re
 from dataclasses import dataclass
 
-from . import Fault, command
+from . import Fault, command, outline, points
 
 MOST = 67108864
 LONG = {1: 65536, 2: 262144}
@@ -29,8 +29,7 @@ def several(item, least, most):
 PROOF = re.compile(rb"  (?:in " + several(POINT, 1, 4) + rb"|(?:out|apart) " + several(TIMES, 1, 4) + rb"|at " + POINT + rb"|drop " + HALF
                    + rb" " + several(TIMES, 1, 4) + rb"|box " + several(INT, 6, 6) + rb")")
 ECHO = re.compile(rb"> (0|" + ONE + rb")(?: (.*))?", re.S)
-RING = re.compile(rb"= ring " + several(TRACE + rb" " + POINT, 3, 36))
-FLAT = re.compile(rb"= flat " + several(TIMES, 1, 3))
+SLICE = re.compile(rb"= ring " + several(TRACE + rb" " + POINT, 3, 36) + rb"|= flat " + several(TIMES, 1, 3))
 PART = re.compile(rb"= part(?: " + HALF + rb"){0,32}")
 LOT = re.compile(rb"= lot (" + NAME + rb") born (" + ONE + rb") (?:live|ended (" + ONE + rb"))(?: layer (" + NAME + rb"))?(?: from ((?:"
                  + NAME + rb" ?)+))?")
@@ -143,15 +142,17 @@ def refused(lines, told, parsed, fault):
 def counted(lines, word, item, what):
     """`= word k` and then k lines, each of the form of an item."""
     found = lines.due(re.compile(b"= " + word + rb" (0|" + ONE + rb")"), f"the line `= {word.decode()}` with a number")
-    return [lines.due(item, what) for _ in range(int(found[1]))]
+    return (lines.due(item, what) for _ in range(int(found[1])))
 
 
 def slices(lines):
-    found = lines.due(re.compile(rb"= sections (0|" + ONE + rb")"), "the line `= sections` with a number")
+    """For each part the corners of its ring, which go round it once, or None where it is flat."""
     rings = []
-    for _ in range(int(found[1])):
-        line = lines.due(re.compile(RING.pattern + b"|" + FLAT.pattern), "a line that shows a slice")[0]
-        rings.append(tuples(line)[1::2] if line.startswith(b"= ring") else None)
+    for found in counted(lines, b"sections", SLICE, "a line that shows a slice"):
+        ring = tuples(found[0])[1::2] if found[0].startswith(b"= ring") else None
+        if ring and not outline.is_convex([points.lowest((x, y, w)) for x, y, _, w in ring]):
+            raise Fault(f"line {lines.number} of the report: its ends do not go once round a convex area")
+        rings.append(ring)
     return tuple(rings)
 
 

@@ -5,9 +5,8 @@ import html
 import json
 from pathlib import Path
 
-from . import Fault, shape, told
+from . import Fault, colours, outline, points, told
 
-COLOURS = 12
 # Lots whose lowest heights are less than this apart, in units, are of one storey.
 STOREY = 2000
 
@@ -31,21 +30,13 @@ def short(units):
 
 
 def colours_of(bodies):
-    """A number from 0 to 11 for each body, so that those whose boxes touch mostly have different ones: first those that stand
-    side by side, then those over each other."""
-    boxes = [tuple(tuple(map(float, end)) for end in body.box) for body in bodies]
-    found, active, used = [0] * len(bodies), [], [0] * COLOURS
-    for at in sorted(range(len(bodies)), key=lambda at: boxes[at][0]):
-        low, high = boxes[at]
-        active = [other for other in active if boxes[other][1][0] >= low[0]]
-        near = [other for other in active if boxes[other][0][2] <= high[2] and low[2] <= boxes[other][1][2]
-                and boxes[other][0][1] <= high[1] and low[1] <= boxes[other][1][1]]
-        over = {found[other] for other in near}
-        beside = {found[other] for other in near if boxes[other][0][2] < high[2] and low[2] < boxes[other][1][2]}
-        found[at] = min(range(COLOURS), key=lambda colour: (colour in beside, colour in over, used[colour], colour))
-        used[found[at]] += 1
-        active.append(at)
-    return found
+    """A colour for each body, so that those that stand side by side have different ones, and then those over each other."""
+    boxes = [body.box for body in bodies]
+
+    def weight(one, other):
+        return 1000 if boxes[one][0][2] < boxes[other][1][2] and boxes[other][0][2] < boxes[one][1][2] else 1
+
+    return colours.chosen(len(bodies), {pair: weight(*pair) for pair in colours.touching(boxes)})
 
 
 def number(value):
@@ -72,14 +63,14 @@ class Mesh:
     def place(self, point):
         if point not in self.places:
             self.places[point] = len(self.places)
-            self.points += (number(shape.ratio(point[axis], point[3]) - self.centre[axis]) for axis in range(3))
+            self.points += (number(points.ratio(point[axis], point[3]) - self.centre[axis]) for axis in range(3))
         return self.places[point]
 
 
 def middle_of(body, centre):
     """Where a body is named: the middle of its largest level piece that is seen from above."""
     def size(piece):
-        return shape.area([(x, y, w) for x, y, _, w in piece])
+        return outline.area([(x, y, w) for x, y, _, w in piece])
 
     above = [piece for facet in body.facets if facet.half[2] < 0 for piece in facet.pieces]
     piece = max(above, key=size)
@@ -91,7 +82,7 @@ def entry(body, layer, storey, colour, place, centre):
     found = {
         "n": body.label, "l": layer, "s": storey, "h": colour, "k": body.born, "o": list(body.origins), "q": len(body.cells), "r": int(not body.is_lot),
         "b": [told.metres(end) for end in (*low, *high)], "d": [told.metres(b - a) for a, b in zip(low, high)],
-        "v": told.cubic_metres(body.volume), "a": told.square_metres(sum(map(shape.area, shape.footprint(body.facets)))),
+        "v": told.cubic_metres(body.volume), "a": told.square_metres(body.area),
         "p": mesh.points, "t": mesh.triangles, "e": mesh.edges, "c": middle_of(body, centre),
     }
     if place.is_given:

@@ -5,7 +5,7 @@ from fractions import Fraction
 import buildings
 import cityjson
 import pytest
-from rpstore import Fault, gis, lots, shape
+from rpstore import Fault, gis, outline
 
 COURT = "prism 0 10 11 10 0 10 10 10 20 20 20 20 10 10 10 10 0 30 0 30 30 0 30 0 0"
 
@@ -154,7 +154,7 @@ def test_children_have_the_volume_of_their_lot(seed, seen):
     first, *others = found.slices
     assert sum(each.area for each in others) == first.area
     for each in found.slices:
-        assert sum(shape.area(ring) for outer, holes in each.outlines for ring in (outer, *holes)) == each.area
+        assert sum(outline.area(ring) for outer, holes in each.outlines for ring in (outer, *holes)) == each.area
     if lots_:
         assert not list(cityjson.faults(gis.city(found)))
 
@@ -182,4 +182,4 @@ def test_gdal_reads_it(root, seen, tmp_path):
 def test_an_area_is_rounded_once(seen):
     # A triangle with legs of 1/3 and 1 of a unit of 1 mm: its area is 1/6 square millimetre.
     [each] = seen("show and box 0 0 0 1 1 1 half -3 -1 0 1\nsection and box 0 0 0 1 1 1 half -3 -1 0 1 0\n").slices
-    assert each.area == Fraction(1, 6) and lots.shape.outline(each.polygons)
+    assert each.area == Fraction(1, 6) and each.outlines
