@@ -2,7 +2,7 @@
 import functools
 import re
 from dataclasses import dataclass, field
-from typing import List, NoReturn, Optional, Tuple
+from typing import NoReturn, Optional
 
 WHOLE = re.compile("0|-?[1-9][0-9]*")
 DECIMAL = re.compile(r"-?(?:0|[1-9][0-9]*)\.[0-9]{3}")
@@ -48,7 +48,7 @@ COMMANDS = {
 
 
 @functools.lru_cache(maxsize=None)
-def corners(count: int) -> List[Due]:
+def corners(count: int) -> list[Due]:
     return [Due(f"{axis} of corner {corner} of {count}", -2**23, 2**23, True) for corner in range(1, count + 1) for axis in "xy"]
 
 
@@ -61,7 +61,7 @@ class Refusal(Exception):
     """The first fault of a line: its cause, the words of the line, the place of the word that does not fit, from 0, and what is
     due there."""
 
-    def __init__(self, cause: str, words: List[str], place: int, due: Due):
+    def __init__(self, cause: str, words: list[str], place: int, due: Due):
         super().__init__(f"{cause} at word {place + 1}")
         self.cause, self.words, self.place, self.due = cause, words, place, due
 
@@ -77,11 +77,11 @@ class Command:
     and ends in the words; what the expressions name, as `name` or `lot` and the name or the id; the numbers of its point,
     height or line, in units."""
 
-    words: List[str]
-    names: List[str] = field(default_factory=list)
-    named: List[Tuple[str, str]] = field(default_factory=list)
-    expressions: List[Tuple[int, int]] = field(default_factory=list)
-    numbers: List[int] = field(default_factory=list)
+    words: list[str]
+    names: list[str] = field(default_factory=list)
+    named: list[tuple[str, str]] = field(default_factory=list)
+    expressions: list[tuple[int, int]] = field(default_factory=list)
+    numbers: list[int] = field(default_factory=list)
 
     @property
     def word(self) -> str:

@@ -4,7 +4,7 @@ import itertools
 import math
 from dataclasses import dataclass
 from fractions import Fraction
-from typing import BinaryIO, Callable, Dict, Iterator, List, Sequence, Set, Tuple
+from typing import BinaryIO, Callable, Iterator, Sequence
 
 from . import command, hints, lots, report, told
 
@@ -13,7 +13,7 @@ UNDONE = {"register": "{0} was not registered", "cut": "{0} was not cut", "subdi
 WAYS = "from west to east", "from south to north", "in height"
 
 
-def listed(words: List[str]) -> str:
+def listed(words: list[str]) -> str:
     return ", ".join(words[:-1]) + f" and {words[-1]}" if len(words) > 1 else "".join(words)
 
 
@@ -77,7 +77,7 @@ class Case:
         return self.answer.command
 
     @property
-    def told(self) -> Tuple[str, ...]:
+    def told(self) -> tuple[str, ...]:
         """The names or numbers behind the cause."""
         return self.answer.verdict.told
 
@@ -104,7 +104,7 @@ class Reason:
 
     why: str
     shown: str = ""
-    steps: Sequence[Tuple[str, str]] = ()
+    steps: Sequence[tuple[str, str]] = ()
 
 
 def of_lot(case: Case, lot: str) -> str:
@@ -206,7 +206,7 @@ def layers(case: Case) -> Reason:
     return Reason(f"{other} is in the layer {there}, and {first} in the layer {here}")
 
 
-CAUSES: Dict[str, Callable[[Case], Reason]] = {
+CAUSES: dict[str, Callable[[Case], Reason]] = {
     "unknown": unknown, "known": known, "limit": limit, "overlaps": overlaps, "outside": outside, "childrenoverlap": children_overlap,
     "gap": gap, "empty": empty, "emptychild": empty_child, "emptyside": empty_side, "emptyregion": empty_region, "few": few, "same": same,
     "repeated": repeated, "layers": layers,
@@ -228,21 +228,21 @@ def upside_down(expression: str) -> str:
 
 # ---- where it is
 
-def on_ground(point: List[Fraction], place: lots.Place) -> str:
+def on_ground(point: list[Fraction], place: lots.Place) -> str:
     """A point in metres: from the local origin, or on the map where that is known."""
     if not place.is_given:
         return "x {}, y {}, z {} m".format(*map(told.metres, point))
     return "E {}, N {}, H {} m".format(*(told.exact(place.metres(number, axis)) for axis, number in enumerate(point)))
 
 
-def shown(answer: report.Answer) -> List[List[Fraction]]:
+def shown(answer: report.Answer) -> list[list[Fraction]]:
     """The points of the last proof line where that is a line `in`: their average is a point of what it shows."""
     if not answer.proof or not answer.proof[-1].startswith(b"  in "):
         return []
     return [[Fraction(number, point[3]) for number in point[:3]] for point in report.tuples(answer.proof[-1])]
 
 
-def extent(points: List[List[Fraction]], what: str, place: lots.Place) -> str:
+def extent(points: list[list[Fraction]], what: str, place: lots.Place) -> str:
     """A point of what the report shows, and how far its points reach."""
     middle = [sum(numbers) / len(points) for numbers in zip(*points)]
     reach = [max(numbers) - min(numbers) for numbers in zip(*points)]
@@ -259,12 +259,12 @@ def fits(text: str, version: int) -> bool:
     return len(text) <= report.LONG[version]
 
 
-def fresh(word: str, names: Set[str]) -> str:
+def fresh(word: str, names: set[str]) -> str:
     """A name that was not given."""
     return next(name for name in itertools.chain([word], (f"{word}-{number}" for number in itertools.count(2))) if name not in names)
 
 
-def lines_to_show(case: Case, reason: Reason, points: List[List[Fraction]]) -> List[str]:
+def lines_to_show(case: Case, reason: Reason, points: list[list[Fraction]]) -> list[str]:
     """Lines for a script that show the region of a reason, and what it has at a height where the points say that it has
     something."""
     names, name, made = set(case.register.names), "", []

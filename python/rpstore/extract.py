@@ -2,7 +2,7 @@
 import io
 import itertools
 from dataclasses import dataclass, field
-from typing import Dict, Iterable, Iterator, List, Set
+from typing import Iterable, Iterator
 
 from . import Fault, command, lots, report
 
@@ -22,20 +22,20 @@ class Book:
     for each of these the number of the `layer` line that held then, or 0; the names and lots; what was refused; and the
     answers to the questions behind it."""
 
-    lines: List[bytes]
+    lines: list[bytes]
     version: int = 1
-    commands: Dict[int, command.Command] = field(default_factory=dict)
-    layers: Dict[int, int] = field(default_factory=dict)
+    commands: dict[int, command.Command] = field(default_factory=dict)
+    layers: dict[int, int] = field(default_factory=dict)
     register: lots.Register = field(default_factory=lots.Register)
-    refused: List[report.Refused] = field(default_factory=list)
-    answers: Dict[bytes, object] = field(default_factory=dict)
+    refused: list[report.Refused] = field(default_factory=list)
+    answers: dict[bytes, object] = field(default_factory=dict)
 
 
-def lines_of(text: bytes) -> List[bytes]:
+def lines_of(text: bytes) -> list[bytes]:
     return text.split(b"\n")[: -1 if text.endswith(b"\n") else None]
 
 
-def asked(lines: List[bytes], questions: Iterable[bytes], store: str) -> Book:
+def asked(lines: list[bytes], questions: Iterable[bytes], store: str) -> Book:
     """What the store answers to the lines of a script and to questions behind them."""
     told = lots.run(store, b"\n".join([*lines, *questions, b""]), "run", "brief")
     book, layer = Book(lines, 2 if told.startswith(b"> 0 rp 2\n") else 1), 0
@@ -54,7 +54,7 @@ def asked(lines: List[bytes], questions: Iterable[bytes], store: str) -> Book:
 
 # ---- which lines
 
-def ended_by(parsed: command.Command) -> List[str]:
+def ended_by(parsed: command.Command) -> list[str]:
     """The lots that a command ends."""
     if parsed.word in ("cut", "subdivide", "retire"):
         return parsed.names[:1]
@@ -72,9 +72,9 @@ def before(book: Book, number: int) -> Iterator[int]:
         yield book.layers[number]
 
 
-def needed(book: Book, ids: Iterable[str]) -> Set[int]:
+def needed(book: Book, ids: Iterable[str]) -> set[int]:
     """The lines by which lots came and ended, and all on which these rest."""
-    found: Set[int] = set()
+    found: set[int] = set()
     wanted = [number for lot in ids for number in (book.register.lots[lot].born, book.register.lots[lot].ended) if number]
     while wanted:
         number = wanted.pop()
@@ -89,14 +89,14 @@ def is_note(line: bytes) -> bool:
     return line.startswith(b"#") and not line.startswith(ATTRIBUTES)
 
 
-def notes_on(lines: List[bytes], place: int) -> Iterator[int]:
+def notes_on(lines: list[bytes], place: int) -> Iterator[int]:
     """The places of the notes on the line at a place."""
     yield from itertools.takewhile(lambda at: is_note(lines[at]), range(place - 1, -1, -1))
     if place + 1 < len(lines) and lines[place + 1].startswith(ATTRIBUTES):
         yield place + 1
 
 
-def emptied(book: Book, numbers: Iterable[int]) -> List[bytes]:
+def emptied(book: Book, numbers: Iterable[int]) -> list[bytes]:
     """The script with all lines empty but for some, the notes on them, and the mark and the notes at its head."""
     lines = book.lines
     mark = range(book.version - 1)
@@ -106,13 +106,13 @@ def emptied(book: Book, numbers: Iterable[int]) -> List[bytes]:
     return [line if place in kept else b"" for place, line in enumerate(lines)]
 
 
-def in_the_way(part: Book, whole: Book) -> Set[str]:
+def in_the_way(part: Book, whole: Book) -> set[str]:
     """Lots that ended in the whole script and not in a part of it, where they overlap a later lot or are neighbours."""
     found = {refused.told[0] for refused in part.refused if refused.cause == "overlaps"}
     return found.union(*({*answer} - {*whole.answers[question]} for question, answer in part.answers.items() if question.startswith(b"neighbours ")))
 
 
-def fewest(whole: Book, ids: Iterable[str], store: str) -> Set[int]:
+def fewest(whole: Book, ids: Iterable[str], store: str) -> set[int]:
     """The lines by which lots are what they are, and the questions behind the script are answered as they are."""
     numbers = needed(whole, ids)
     while True:
@@ -138,7 +138,7 @@ class Extract:
     lines: int
 
 
-def extract(text: bytes, ids: List[str], store: str, with_neighbours: bool = False) -> Extract:
+def extract(text: bytes, ids: list[str], store: str, with_neighbours: bool = False) -> Extract:
     """The extract of a script for some of its lots, with their neighbours if that is wished. `check` accepted its report."""
     words = ["history", "show lot"] + ["neighbours"] * with_neighbours
     whole = asked(lines_of(text), [f"{word} {lot}".encode() for lot in ids for word in words], store)

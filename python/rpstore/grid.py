@@ -1,7 +1,7 @@
 """The grid of a plan, and of the register to which it goes; the local origin of a script."""
 import math
 from decimal import Decimal
-from typing import List, Optional, Sequence, Tuple
+from typing import Optional, Sequence
 
 from . import Fault
 from .command import spelled
@@ -14,10 +14,12 @@ try:
 except ImportError as error:
     MISSING = error
 
-Point = Tuple[float, float]
-Ring = List[Point]
+Point = tuple[float, float]
+Ring = list[Point]
 # The word in the place of a grid for coordinates that are metres of no grid.
 METRES = "metres"
+# Metres on each side of the middle that are taken of a plan that is too wide.
+CLIPPED = 4000
 CLIP = ("the plan reaches over {wide} m from west to east and {high} m from south to north, and a register over {most} m; "
         "this takes what meets its middle: ogr2ogr -spat {box}{grid} part.gpkg {path}")
 
@@ -46,7 +48,7 @@ def at_middle(found: "CRS", points: Sequence[Point]) -> str:
     return f", as EPSG:{(32600 if north >= 0 else 32700) + int((east + 180) // 6) % 60 + 1} would do here"
 
 
-def grids(given: str, source: Optional[str], target: Optional[str], points: Sequence[Point]) -> Tuple[Optional["CRS"], Optional["CRS"]]:
+def grids(given: str, source: Optional[str], target: Optional[str], points: Sequence[Point]) -> tuple[Optional["CRS"], Optional["CRS"]]:
     """The grid in which the plan's points are, by its file or by --from, and that of the register, by --to or the same. A
     register is in metres."""
     found = named(source or given)
@@ -65,7 +67,7 @@ def grids(given: str, source: Optional[str], target: Optional[str], points: Sequ
         + (f"; --from {METRES} says that the plan is in metres of no grid" if wanted.is_geographic else "")), 5)
 
 
-def projected(polygons: List[List[Ring]], found: Optional["CRS"], wanted: Optional["CRS"]) -> List[List[Ring]]:
+def projected(polygons: list[list[Ring]], found: Optional["CRS"], wanted: Optional["CRS"]) -> list[list[Ring]]:
     """Polygons in the grid of the register, each point with its two coordinates alone."""
     flat = [[[tuple(point[:2]) for point in ring] for ring in polygon] for polygon in polygons]
     if found is None or found == wanted:
@@ -84,7 +86,7 @@ def near(number: Decimal, step: int) -> int:
     return int((number / step).to_integral_value() * step)
 
 
-def chosen_origin(points: Sequence[Point]) -> Tuple[int, int]:
+def chosen_origin(points: Sequence[Point]) -> tuple[int, int]:
     """The first of these origins, in metres, from which all points are within the bounds, or else the last: 0 0; whole
     kilometres, then whole metres, at the middle; whole kilometres near most of the points."""
     axes = [sorted(Decimal(repr(number)) for number in numbers) for numbers in zip(*points)]
@@ -95,12 +97,13 @@ def chosen_origin(points: Sequence[Point]) -> Tuple[int, int]:
                                            for end in (axis[0], axis[-1]))), tried[-1])
 
 
-def how_to_clip(points: Sequence[Point], origin: Tuple[int, int], wanted: Optional["CRS"], path: str) -> List[str]:
-    """Where points reach further than a register: how far, and the command that takes those near an origin in units."""
+def how_to_clip(points: Sequence[Point], origin: tuple[int, int], wanted: Optional["CRS"], path: str) -> list[str]:
+    """Where points reach further than a register: how far, and the command that takes what is near the point next to an origin
+    in units."""
     reach = [math.ceil(max(axis) - min(axis)) for axis in zip(*points)]
     if max(reach) * 1000 <= 2 * MOST_CORNER:
         return []
-    half = MOST_CORNER // 2000
-    box = " ".join(str(at // 1000 + way * half) for way in (-1, 1) for at in origin)
+    middle = min(points, key=lambda point: sum(abs(number - at / 1000) for number, at in zip(point, origin)))
+    box = " ".join(str(round(at) + way * CLIPPED) for way in (-1, 1) for at in middle)
     code = wanted.to_epsg() if wanted is not None else None
     return [CLIP.format(wide=reach[0], high=reach[1], most=spelled(2 * MOST_CORNER), box=box, grid=f" -spat_srs EPSG:{code}" if code else "", path=path)]

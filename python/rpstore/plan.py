@@ -6,7 +6,7 @@ import re
 from collections import defaultdict
 from dataclasses import dataclass, field
 from decimal import Decimal
-from typing import Any, Callable, Dict, Iterator, List, Optional, Sequence, Tuple
+from typing import Any, Callable, Iterator, Optional, Sequence
 
 from . import Fault, grid, rings
 from .command import MOST_NODES, NAME, NODES, spelled
@@ -54,12 +54,12 @@ class Feature:
     why it cannot be registered, and what else is to be said of it."""
 
     number: int
-    properties: Dict[str, Any]
-    geometry: Optional[Dict[str, Any]]
-    polygons: List[List[grid.Ring]] = field(default_factory=list)
+    properties: dict[str, Any]
+    geometry: Optional[dict[str, Any]]
+    polygons: list[list[grid.Ring]] = field(default_factory=list)
     id: str = ""
-    unfit: List[Unfit] = field(default_factory=list)
-    warned: List[Unfit] = field(default_factory=list)
+    unfit: list[Unfit] = field(default_factory=list)
+    warned: list[Unfit] = field(default_factory=list)
 
     @property
     def said(self) -> str:
@@ -109,7 +109,7 @@ def count_of(feature: Feature, word: str) -> int:
     return int(value)
 
 
-def heights_of(feature: Feature, options: Options) -> List[Optional[int]]:
+def heights_of(feature: Feature, options: Options) -> list[Optional[int]]:
     """The heights between which the lots of a feature lie, from below: two, or with storeys one more than these."""
     floor = feature.attempt(height_of, options.floor, "floor")
     if options.storeys is None:
@@ -118,7 +118,7 @@ def heights_of(feature: Feature, options: Options) -> List[Optional[int]]:
     return [None] if None in (floor, count, high) else [floor + storey * high for storey in range(count + 1)]
 
 
-def check_heights(_: Feature, heights: List[int]) -> None:
+def check_heights(_: Feature, heights: list[int]) -> None:
     if heights[1] <= heights[0]:
         raise Unfit("the top is not above the floor", f"{spelled(heights[1])} and {spelled(heights[0])}")
     if heights[-1] > rings.MOST_SIDE:
@@ -138,7 +138,7 @@ def id_of(feature: Feature, options: Options) -> str:
 
 # ---- polygons
 
-def polygons_of(_: Feature, geometry: Optional[Dict[str, Any]]) -> List[List[grid.Ring]]:
+def polygons_of(_: Feature, geometry: Optional[dict[str, Any]]) -> list[list[grid.Ring]]:
     """The polygons of a geometry, each a list of rings: the outer one, and then its holes. A closed line of a drawing is one."""
     kind = geometry["type"] if geometry else "none at all"
     if kind == "Polygon":
@@ -161,13 +161,13 @@ def ring_name(polygon: int, ring: int, count: int) -> str:
     return name if count == 1 else f"{name} of polygon {polygon}"
 
 
-def crossing(corners: List[Corner]) -> str:
+def crossing(corners: list[Corner]) -> str:
     """Where a ring crosses or touches itself, or nothing. Its corners are whole numbers, of which this test is exact."""
     said = explain_validity(Polygon(corners))
     return "" if said == "Valid Geometry" else " ".join(spelled(round(float(number))) for number in re.findall(r"-?[0-9.]+", said)[-2:])
 
 
-def placed(feature: Feature, origin: Corner) -> List[List[List[Corner]]]:
+def placed(feature: Feature, origin: Corner) -> list[list[list[Corner]]]:
     """The polygons of a feature in units from the origin."""
     found = []
     for number, polygon in enumerate(feature.polygons, 1):
@@ -185,7 +185,7 @@ def placed(feature: Feature, origin: Corner) -> List[List[List[Corner]]]:
 
 # ---- the script
 
-def register_line(_: Feature, name: str, polygons: List[List[List[Corner]]], heights: Tuple[int, int]) -> str:
+def register_line(_: Feature, name: str, polygons: list[list[list[Corner]]], heights: tuple[int, int]) -> str:
     told = rings.expression(polygons, heights)
     if sum(word in NODES for word in told.split(" ")) > MOST_NODES:
         raise Unfit(f"its expression has more than {MOST_NODES} words")
@@ -195,14 +195,14 @@ def register_line(_: Feature, name: str, polygons: List[List[List[Corner]]], hei
     return line
 
 
-def note(feature: Feature) -> List[str]:
+def note(feature: Feature) -> list[str]:
     """The attributes of a feature, as a note that is JSON."""
     told = {name: value for name, value in feature.properties.items() if value is not None}
     line = f"# {json.dumps(told, default=str)}"
     return [line] if told and len(line) <= LONG[2] else []
 
 
-def lots_of(feature: Feature, origin: Corner, options: Options) -> Dict[str, Tuple[int, int, str]]:
+def lots_of(feature: Feature, origin: Corner, options: Options) -> dict[str, tuple[int, int, str]]:
     """The lots of a feature by their ids: the heights of each, and its line."""
     feature.id = feature.attempt(id_of, options) or ""
     heights = heights_of(feature, options)
@@ -216,7 +216,7 @@ def lots_of(feature: Feature, origin: Corner, options: Options) -> Dict[str, Tup
             for name, low, high in zip(ids, heights, heights[1:])}
 
 
-def lines_of(features: List[Feature], origin: Corner, options: Options) -> List[str]:
+def lines_of(features: list[Feature], origin: Corner, options: Options) -> list[str]:
     """The lines of the script behind its head."""
     lines, sections, ids = [], [], {}
     for feature in features:
@@ -235,20 +235,21 @@ def lines_of(features: List[Feature], origin: Corner, options: Options) -> List[
     return lines + sections
 
 
-def grouped(said: List[Tuple[Feature, Unfit]], count: int) -> Iterator[str]:
-    """One line for each cause, with the features that have it."""
-    causes = defaultdict(list)
+def grouped(said: list[tuple[Feature, Unfit]], count: int) -> Iterator[str]:
+    """One line for each cause, with the first features that have it, but for one that all have and that is the same of all."""
+    causes: dict[str, dict[str, str]] = defaultdict(dict)
     for feature, unfit in said:
-        causes[unfit.cause].append((feature, unfit.seen))
+        causes[unfit.cause].setdefault(feature.said, unfit.seen)
     for cause, found in causes.items():
-        named = [f"{feature.said} ({seen})" if seen else feature.said for feature, seen in found[:FEW]]
-        if len(found) == 1:
-            yield f"{named[0]}: {cause}"
+        named = [f"{name} ({seen})" if seen else name for name, seen in found.items()]
+        told = "; ".join(named[:FEW]) + (" .." if named[FEW:] else "")
+        if len(named) == 1:
+            yield f"{told}: {cause}"
         else:
-            yield f"{len({feature.number for feature, _ in found})} of {count} features: {cause}: {'; '.join(named)}" + (" .." if found[FEW:] else "")
+            yield f"{len(named)} of {count} features: {cause}" + (f": {told}" if len(named) < count or any(found.values()) else "")
 
 
-def notes_of(features: List[Feature], origin: Corner, grids: Sequence[Any]) -> List[str]:
+def notes_of(features: list[Feature], origin: Corner, grids: Sequence[Any]) -> list[str]:
     """The notes at the head of the script: its origin, its grid, and how many coordinates were rounded."""
     found, wanted = grids
     lines = [f"# Local origin: E {spelled(origin[0])}, N {spelled(origin[1])}. Metres from there, heights as in the plan."]
@@ -264,19 +265,20 @@ def notes_of(features: List[Feature], origin: Corner, grids: Sequence[Any]) -> L
 
 # ---- reading
 
-def points_of(features: List[Feature]) -> List[grid.Point]:
+def points_of(features: list[Feature]) -> list[grid.Point]:
     return [point for feature in features for polygon in feature.polygons for ring in polygon for point in ring]
 
 
-def read(path: str, layer: Optional[str]) -> Tuple[str, List[Feature], List[str]]:
+def read(path: str, layer: Optional[str]) -> tuple[str, list[Feature], list[str]]:
     """The grid that a plan names, its features, and what is to be said of it."""
     logging.getLogger("fiona").setLevel(logging.CRITICAL)
     try:
         layers = fiona.listlayers(path) if not path.startswith("/vsistdin") else []
         with fiona.open(path, layer=layer) as source:
+            # A geometry that GDAL cannot read is an error of any later call.
+            given = source.crs_wkt
             features = [Feature(number, dict(each.properties), each.geometry and each.geometry.__geo_interface__)
                         for number, each in enumerate(source, 1)]
-            given = source.crs_wkt
     except (fiona.errors.FionaError, ValueError) as error:
         raise Fault(f"GDAL does not read the plan: {error}", 3)
     if not features:
@@ -285,7 +287,7 @@ def read(path: str, layer: Optional[str]) -> Tuple[str, List[Feature], List[str]
     return given, features, said
 
 
-def script_of(path: str, options: Options) -> Tuple[int, str, List[str]]:
+def script_of(path: str, options: Options) -> tuple[int, str, list[str]]:
     """The status, the script, and the lines on standard error."""
     if MISSING:
         raise Fault(f"{MISSING}: the packages python3-fiona, python3-pyproj and python3-shapely are needed here", 5)

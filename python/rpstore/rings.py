@@ -1,10 +1,10 @@
 """Rings of a plan as prisms: the same points, to the millimetre, within the bounds of a script."""
 from decimal import ROUND_HALF_UP, Decimal
-from typing import Callable, List, Sequence, Tuple, Union
+from typing import Callable, Sequence, Union
 
 from .command import BOX, CORNERS, spelled, corners as corner_places
 
-Corner = Tuple[int, int]
+Corner = tuple[int, int]
 Number = Union[int, float, Decimal]
 # The bounds of a script, lengths in units.
 MOST_CORNERS, MOST_CORNER, MOST_SIDE = CORNERS.most, corner_places(CORNERS.least)[0].most, BOX[0].most
@@ -30,11 +30,11 @@ def side(a: Corner, b: Corner, c: Corner) -> int:
     return (b[0] - a[0]) * (c[1] - a[1]) - (b[1] - a[1]) * (c[0] - a[0])
 
 
-def placed(ring: Sequence[Sequence[Number]], origin: Corner, name: str) -> List[Corner]:
+def placed(ring: Sequence[Sequence[Number]], origin: Corner, name: str) -> list[Corner]:
     """The corners of a ring in units from an origin, without its last point and without those that repeat the one before."""
     if ring[0] != ring[-1]:
         raise Unfit("a ring is open: it does not end with the point at which it begins", name)
-    corners: List[Corner] = []
+    corners: list[Corner] = []
     for point in ring[:-1]:
         corner = units(point[0]) - origin[0], units(point[1]) - origin[1]
         if max(map(abs, corner)) > MOST_CORNER:
@@ -48,14 +48,14 @@ def placed(ring: Sequence[Sequence[Number]], origin: Corner, name: str) -> List[
     return corners
 
 
-def without_runs(ring: List[Corner], is_far: Callable[[Corner], bool]) -> List[Corner]:
+def without_runs(ring: list[Corner], is_far: Callable[[Corner], bool]) -> list[Corner]:
     """The ring without the corners that are far and have far ones before and behind them. Edges between far corners do
     not come near, so what is near has as many edges above it as before."""
     return [at for before, at, after in zip(ring[-1:] + ring[:-1], ring, ring[1:] + ring[:1])
             if not (is_far(before) and is_far(at) and is_far(after))]
 
 
-def slabs(ring: List[Corner], low: int = -MOST_SIDE, high: int = MOST_SIDE) -> List[Tuple[int, int, List[Corner]]]:
+def slabs(ring: list[Corner], low: int = -MOST_SIDE, high: int = MOST_SIDE) -> list[tuple[int, int, list[Corner]]]:
     """The ring as one that tells the members from x = low to below x = high, or cut further where it has too many corners."""
     ring = without_runs(without_runs(ring, lambda at: at[0] <= low), lambda at: at[0] >= high)
     if len(ring) <= MOST_CORNERS:
@@ -67,12 +67,12 @@ def slabs(ring: List[Corner], low: int = -MOST_SIDE, high: int = MOST_SIDE) -> L
     return slabs(ring, low, middle) + slabs(ring, middle, high)
 
 
-def joined(word: str, operands: List[str]) -> str:
+def joined(word: str, operands: list[str]) -> str:
     """Expressions joined by a word, from the first on."""
     return " ".join([word] * (len(operands) - 1) + operands)
 
 
-def prism(ring: List[Corner], heights: Tuple[int, int]) -> str:
+def prism(ring: list[Corner], heights: tuple[int, int]) -> str:
     """The members of a ring between two heights: a prism, or prisms in slabs, which have exactly the same points."""
     pieces = []
     for low, high, corners in slabs(ring):
@@ -83,6 +83,6 @@ def prism(ring: List[Corner], heights: Tuple[int, int]) -> str:
     return joined("or", pieces)
 
 
-def expression(polygons: List[List[List[Corner]]], heights: Tuple[int, int]) -> str:
+def expression(polygons: list[list[list[Corner]]], heights: tuple[int, int]) -> str:
     """Polygons between two heights, each the outer ring less its holes."""
     return joined("or", [joined("minus", [prism(ring, heights) for ring in rings]) for rings in polygons])
