@@ -1,6 +1,7 @@
-"""A table of areas and volumes, which are exact until they are printed."""
+"""A table of areas and volumes, which are exact until they are printed: to the square and the cubic millimetre."""
 from __future__ import annotations
 
+from fractions import Fraction
 from typing import Iterator
 
 from . import Fault, told
@@ -14,12 +15,13 @@ def rows(seen: Seen) -> Iterator[tuple]:
     plan and its volume; for each slice the same of its height, without a volume."""
     for body in seen.bodies:
         if body.is_bounded:
-            low, high = (told.metres(end[2]) for end in body.box)
-            yield body.label, body.layer, body.born, low, high, told.square_metres(body.area), told.cubic_metres(body.volume)
+            low, high = (told.decimal(Fraction(end[2]) / 1000, 3) for end in body.box)
+            area, volume = told.decimal(body.area / 10**6, 6), told.decimal(body.volume / 10**9, 9)
+            yield body.label, body.layer, body.born, low, high, area, volume
     for each in seen.slices:
         if each.is_bounded:
-            height = told.metres(each.height)
-            yield each.label, each.layer or "", each.number, height, height, told.square_metres(each.area), ""
+            height = told.decimal(Fraction(each.height, 1000), 3)
+            yield each.label, each.layer or "", each.number, height, height, told.decimal(each.area / 10**6, 6), ""
 
 
 def table(seen: Seen) -> str:

@@ -120,45 +120,6 @@ def test_a_tower_of_20_storeys(seen):
     validate(model)
 
 
-def drawn_region(rng):
-    corners = " ".join(str(rng.randint(-40, 40)) for _ in range(2 * rng.randint(3, 7)))
-    return f"prism 0 {rng.randint(3, 30)} {len(corners.split()) // 2} {corners}"
-
-
-def drawn_half(rng):
-    numbers = [rng.randint(-9, 9) for _ in range(3)]
-    return f"half {' '.join(map(str, numbers if any(numbers) else [1, 0, 0]))} {rng.randint(-60, 60)}"
-
-
-@pytest.mark.parametrize("seed", range(40))
-def test_children_have_the_volume_of_their_lot(seed, seen):
-    """A lot is divided by up to three planes; the children's volumes, each from its own parts, add up to the lot's, and
-    so do those of what a cut leaves, and those of the sections' areas."""
-    rng = random.Random(seed)
-    planes = [drawn_half(rng) for _ in range(rng.randint(1, 3))]
-    children, rest = [], "name lot"
-    for number, plane in enumerate(planes):
-        children.append(f"c{number} and {rest} {plane}")
-        rest = f"minus {rest} {plane}"
-    children.append(f"rest {rest}")
-    height = rng.randint(0, 20)
-    script = [f"let lot = {drawn_region(rng)}", "register p name lot", f"subdivide p {len(children)} {' '.join(children)}", "show name lot",
-              f"section name lot {height}", *(f"section {child.partition(' ')[2]} {height}" for child in children)]
-    found = seen(lines(*script))
-    whole = [body for body in found.bodies if not body.is_lot]
-    lots_ = [body for body in found.bodies if body.is_lot]
-    if not whole:
-        assert not lots_
-        return
-    assert sum(body.volume for body in lots_) == whole[0].volume
-    first, *others = found.slices
-    assert sum(each.area for each in others) == first.area
-    for each in found.slices:
-        assert sum(outline.area(ring) for outer, holes in each.outlines for ring in (outer, *holes)) == each.area
-    if lots_:
-        assert not list(cityjson.faults(gis.city(found)))
-
-
 def test_geojson_is_valid_by_shapely(root, seen):
     geometry = pytest.importorskip("shapely.geometry", reason="python3-shapely is not there")
     found = seen((root / "examples/plan.rp").read_text())
@@ -177,9 +138,3 @@ def test_gdal_reads_it(root, seen, tmp_path):
         path.write_text(json.dumps(made(found)))
         with fiona.open(path) as source:
             assert len(source) == (16 if name == "sections" else 8) and source.crs.to_epsg() == 25832
-
-
-def test_an_area_is_rounded_once(seen):
-    # A triangle with legs of 1/3 and 1 of a unit of 1 mm: its area is 1/6 square millimetre.
-    [each] = seen("show and box 0 0 0 1 1 1 half -3 -1 0 1\nsection and box 0 0 0 1 1 1 half -3 -1 0 1 0\n").slices
-    assert each.area == Fraction(1, 6) and each.outlines
