@@ -20,7 +20,7 @@ import sys
 from dataclasses import fields
 from decimal import Decimal, InvalidOperation
 
-from . import Fault, explain, extract, gis, lots, measures, picture, plan, report, view
+from . import Fault, city, explain, extract, gis, lots, measures, picture, plan, report, view
 
 GEOJSON = {"sections": gis.sections, "lots": gis.footprints, "faces": gis.faces}
 
@@ -148,7 +148,7 @@ def answer(options):
     if options.word == "measures":
         return 0, measures.table(seen), []
     if options.word == "city":
-        return 0, json.dumps(gis.city(seen), separators=(",", ":")) + "\n", []
+        return 0, json.dumps(city.model(seen), separators=(",", ":")) + "\n", []
     return 0, json.dumps(GEOJSON[options.word](seen)) + "\n", []
 
 
