@@ -1,7 +1,7 @@
 """The grid of a plan, and of the register to which it goes; the local origin of a script."""
 import math
 from decimal import Decimal
-from typing import Optional, Sequence
+from typing import Callable, Optional, Sequence
 
 from . import Fault
 from .command import spelled
@@ -14,6 +14,7 @@ try:
 except ImportError as error:
     MISSING = error
 
+Grid = Optional["CRS"]
 Point = tuple[float, float]
 Ring = list[Point]
 # The word in the place of a grid for coordinates that are metres of no grid.
@@ -24,19 +25,19 @@ CLIP = ("the plan reaches over {wide} m from west to east and {high} m from sout
         "this takes what meets its middle: ogr2ogr -spat {box}{grid} part.gpkg {path}")
 
 
-def named(word: Optional[str]) -> Optional["CRS"]:
+def named(word: Optional[str]) -> Grid:
     try:
         return CRS.from_user_input(word) if word and word != METRES else None
     except CRSError as error:
         raise Fault(f"no grid has this name: {error}", 5)
 
 
-def unit(grid: "CRS") -> str:
+def unit(grid: Grid) -> str:
     """The unit of a grid's first axis."""
     return grid.axis_info[0].unit_name if grid.axis_info else "metre"
 
 
-def at_middle(found: "CRS", points: Sequence[Point]) -> str:
+def at_middle(found: Grid, points: Sequence[Point]) -> str:
     """A grid in metres that would do for points in a grid: the zone of UTM in which their middle lies."""
     try:
         ends = [(min(axis) + max(axis)) / 2 for axis in [*zip(*points)][:2]]
@@ -48,7 +49,7 @@ def at_middle(found: "CRS", points: Sequence[Point]) -> str:
     return f", as EPSG:{(32600 if north >= 0 else 32700) + int((east + 180) // 6) % 60 + 1} would do here"
 
 
-def grids(given: str, source: Optional[str], target: Optional[str], points: Sequence[Point]) -> tuple[Optional["CRS"], Optional["CRS"]]:
+def grids(given: str, source: Optional[str], target: Optional[str], points: Sequence[Point]) -> tuple[Grid, Grid]:
     """The grid in which the plan's points are, by its file or by --from, and that of the register, by --to or the same. A
     register is in metres."""
     found = named(source or given)
@@ -67,16 +68,26 @@ def grids(given: str, source: Optional[str], target: Optional[str], points: Sequ
         + (f"; --from {METRES} says that the plan is in metres of no grid" if wanted.is_geographic else "")), 5)
 
 
-def projected(polygons: list[list[Ring]], found: Optional["CRS"], wanted: Optional["CRS"]) -> list[list[Ring]]:
-    """Polygons in the grid of the register, each point with its two coordinates alone."""
-    flat = [[[tuple(point[:2]) for point in ring] for ring in polygon] for polygon in polygons]
+def projection(found: Grid, wanted: Grid) -> Callable[[Ring], Ring]:
+    """What brings a ring from its grid to that of the register. Of each point it takes two coordinates alone."""
     if found is None or found == wanted:
-        return flat
+        return lambda ring: [tuple(point[:2]) for point in ring]
     transformer = Transformer.from_crs(found, wanted, always_xy=True, allow_ballpark=False)
-    try:
-        return [[[*zip(*transformer.transform(*zip(*ring), errcheck=True))] for ring in polygon] for polygon in flat]
-    except ProjError as error:
-        raise Fault(f"the plan cannot be projected from {found.name} to {wanted.name}: {error}", 5)
+
+    def projected(ring: Ring) -> Ring:
+        easts, norths = [*zip(*ring)][:2]
+        try:
+            return [*zip(*transformer.transform(easts, norths, errcheck=True))]
+        except ProjError as error:
+            raise Fault(f"the plan cannot be projected from {found.name} to {wanted.name}: {error}", 5)
+
+    return projected
+
+
+def code(grid: Grid) -> Optional[int]:
+    """The EPSG number of a grid, where that is sure, or is that of a grid with the same name and nearly the same numbers."""
+    sure, likely = grid.to_epsg(), grid.to_epsg(min_confidence=50)
+    return sure or (likely if likely and CRS.from_epsg(likely).name == grid.name else None)
 
 
 # ---- the origin
@@ -97,7 +108,7 @@ def chosen_origin(points: Sequence[Point]) -> tuple[int, int]:
                                            for end in (axis[0], axis[-1]))), tried[-1])
 
 
-def how_to_clip(points: Sequence[Point], origin: tuple[int, int], wanted: Optional["CRS"], path: str) -> list[str]:
+def how_to_clip(points: Sequence[Point], origin: tuple[int, int], wanted: Grid, path: str) -> list[str]:
     """Where points reach further than a register: how far, and the command that takes what is near the point next to an origin
     in units."""
     reach = [math.ceil(max(axis) - min(axis)) for axis in zip(*points)]
@@ -105,5 +116,5 @@ def how_to_clip(points: Sequence[Point], origin: tuple[int, int], wanted: Option
         return []
     middle = min(points, key=lambda point: sum(abs(number - at / 1000) for number, at in zip(point, origin)))
     box = " ".join(str(round(at) + way * CLIPPED) for way in (-1, 1) for at in middle)
-    code = wanted.to_epsg() if wanted is not None else None
-    return [CLIP.format(wide=reach[0], high=reach[1], most=spelled(2 * MOST_CORNER), box=box, grid=f" -spat_srs EPSG:{code}" if code else "", path=path)]
+    number = code(wanted) if wanted is not None else None
+    return [CLIP.format(wide=reach[0], high=reach[1], most=spelled(2 * MOST_CORNER), box=box, grid=f" -spat_srs EPSG:{number}" if number else "", path=path)]

@@ -79,7 +79,7 @@ class Feature:
 def value_of(feature: Feature, word: str, what: str) -> Any:
     """The property that a word names."""
     value = feature.properties.get(word)
-    if value is None:
+    if value is None or value == "":
         there = "is empty" if word in feature.properties else f"is not there; the properties are {', '.join(feature.properties) or 'none'}"
         raise Unfit(f"no {what}: the property {word!a} {there}")
     return value
@@ -256,7 +256,7 @@ def notes_of(features: list[Feature], origin: Corner, grids: Sequence[Any]) -> l
     if wanted is None:
         lines.append("# Grid: the plan names none; its numbers are taken as metres.")
     else:
-        code = wanted.to_epsg()
+        code = grid.code(wanted)
         lines.append(f"# Grid: {f'EPSG:{code}' if code else wanted.name}{f', projected from {found.name}' if found != wanted else ''}.")
     numbers = [Decimal(repr(number)) for point in points_of(features) for number in point]
     moved = sum(number != number.quantize(rings.MILLI) for number in numbers)
@@ -274,7 +274,7 @@ def read(path: str, layer: Optional[str]) -> tuple[str, list[Feature], list[str]
     logging.getLogger("fiona").setLevel(logging.CRITICAL)
     try:
         layers = fiona.listlayers(path) if not path.startswith("/vsistdin") else []
-        with fiona.open(path, layer=layer) as source:
+        with fiona.open(path, layer=layer, KEEP_GEOM_COLUMNS="NO") as source:
             # A geometry that GDAL cannot read is an error of any later call.
             given = source.crs_wkt
             features = [Feature(number, dict(each.properties), each.geometry and each.geometry.__geo_interface__)
@@ -297,8 +297,9 @@ def script_of(path: str, options: Options) -> tuple[int, str, list[str]]:
     if any(len(point) > 2 for point in points_of(features)):
         said.append("points have heights of their own, which are not used")
     grids = grid.grids(given, options.source, options.to, points_of(features))
+    projected = grid.projection(*grids)
     for feature in features:
-        feature.polygons = grid.projected(feature.polygons, *grids)
+        feature.polygons = [[projected(ring) for ring in polygon] for polygon in feature.polygons]
     points = points_of(features)
     origin = tuple(units(Decimal(number)) for number in options.origin or (grid.chosen_origin(points) if points else (0, 0)))
     lines = lines_of(features, origin, options)
