@@ -6,7 +6,7 @@ import html
 from collections import defaultdict
 from fractions import Fraction
 from math import ceil, log
-from typing import Iterable, Iterator, NamedTuple, Optional
+from typing import Iterable, Iterator, NamedTuple
 
 from . import Fault, colours, fitting, told
 from .lots import Seen, Slice
