@@ -83,14 +83,19 @@ def test_each_coordinate_is_rounded_once():
     assert picture.Frame(Fraction(0), Fraction(0), 1, 1, Fraction(1, 2)).place((1, -1, 1)) == (1, 1)
 
 
-def test_a_name_stands_in_its_area_or_in_the_legend():
-    corridor = ring((0, 0), (300, 0), (300, 4), (0, 4))
-    told = section(1, "lot long-corridor", 0, corridor) + section(2, "lot hall", 0, ring((0, 4), (300, 4), (300, 150), (0, 150)))
-    text = picture.picture(shown(told), 600)
-    assert "hall" in words(text) and "1: long-corridor" in words(text) and not any("hall" in word for word in words(text) if ":" in word)
-    # A picture that is wide enough has all names in their places, and no legend.
-    text = picture.picture(shown(told), 2400)
-    assert {"hall", "long-corridor"} < set(words(text)) and not any(":" in word for word in words(text))
+@pytest.mark.parametrize("width, told", [(400, {"long-corridor"}), (650, {"1", "1: long-corridor"}), (1000, {"long-corridor"})])
+def test_a_name_stands_in_its_area_or_in_the_legend(width, told):
+    """A corridor along a hall: first it has no room for a word, then for a number, of which the legend tells, then for its name."""
+    corridor, hall = ring((0, 0), (300, 0), (300, 4), (0, 4)), ring((0, 4), (300, 4), (300, 150), (0, 150))
+    text = picture.picture(shown(section(1, "lot long-corridor", 0, corridor) + section(2, "lot hall", 0, hall)), width)
+    assert set(words(text)) - {"height 0", "50", "N"} == {"hall", *told}
+    # The legend has a colour for each of its lines, and where all names fit there is none.
+    assert len(re.findall('<rect x=', text)) == (0 if width == 1000 else 1)
+
+
+def test_names_that_are_too_many_are_counted():
+    text = picture.picture(shown(many(2000)), 400)
+    assert words(text)[-1].endswith(" more, for whose names a wider picture has room") and len(words(text)) < 500
 
 
 def test_what_is_not_there_has_no_line():
