@@ -8,7 +8,7 @@ status 1    explain: some line was refused; plan: --leave-out left features out;
             report is not accepted or shows nothing
 status 2    the words are not known
 status 3    the input could not be read
-status 4    plan: some feature cannot be registered; each is named, and nothing was written
+status 4    the output could not be written; plan: some feature cannot be registered, which is named, and nothing was written
 status 5    the store, a package or a grid is missing
 status 6    the report has more than 67,108,864 bytes
 """
@@ -17,9 +17,10 @@ import io
 import json
 import os
 import sys
+from dataclasses import fields
 from decimal import Decimal, InvalidOperation
 
-from . import Fault, explain, gis, lots, plan, view
+from . import Fault, city, explain, extract, gis, lots, measures, picture, plan, report, view
 
 GEOJSON = {"sections": gis.sections, "lots": gis.footprints, "faces": gis.faces}
 
@@ -34,13 +35,19 @@ def decimal(word):
     return number
 
 
+def width(word):
+    if not (word.isdigit() and picture.LEAST <= int(word[:9]) <= picture.MOST):
+        raise argparse.ArgumentTypeError(f"a number from {picture.LEAST} to {picture.MOST} is wanted")
+    return int(word)
+
+
 def parser():
     made = argparse.ArgumentParser(prog="rpstore-gis", description=__doc__, formatter_class=argparse.RawDescriptionHelpFormatter)
     words = made.add_subparsers(dest="word", required=True, metavar="WORD")
 
     def add(word, says):
         found = words.add_parser(word, help=says, description=says)
-        found.add_argument("file", nargs="?", metavar="FILE")
+        found.add_argument("file", nargs=None if word == "extract" else "?", metavar="FILE")
         if word != "plan":
             found.add_argument("--origin", nargs=2, type=decimal, metavar=("E", "N"), help="the local origin, in metres of the map; of a script "
                                "the note `# Local origin: E .., N ..` is read where this is not given")
@@ -55,29 +62,45 @@ def parser():
     page.add_argument("--title", help="the head of the page (the name of the file)")
     page.add_argument("--storey", type=decimal, default=Decimal(2), metavar="METRES", help="lots whose lowest heights are less than this apart are "
                       "of one storey (2)")
+    drawn = add("picture", "a picture in SVG of the `section` lines of a report: the outlines at each height")
+    drawn.add_argument("--width", type=width, default=picture.WIDTH, metavar="PIXELS", help=f"the width of the picture ({picture.WIDTH})")
+    add("measures", "a table of areas and volumes, of what `show` and `section` lines show")
     add("sections", "GeoJSON of the `section` lines of a report: one area for each, with lot, height and area")
     add("lots", "GeoJSON of what each lot covers in plan, with its heights, area and volume")
     add("faces", "GeoJSON of the boundary of each lot, as polygons with heights")
     add("city", "CityJSON 2.0 of the lots, as solids")
-    add("explain", "a sentence for each refused line")
-    made_plan = add("plan", "a script that registers the polygons of a plan, in any format that GDAL reads")
-    made_plan.add_argument("--layer", help="the layer of the plan, where it has several")
-    made_plan.add_argument("--id", default="id", metavar="NAME", help="the property with the id; for id also the id of the feature itself")
-    made_plan.add_argument("--number", action="store_true", help="take the place in the plan, 1, 2, .., for the id; wants --prefix")
-    made_plan.add_argument("--prefix", default="", metavar="LETTERS", help="put this before each id, and _ in the place of each / in it")
-    made_plan.add_argument("--floor", default="base", metavar="WHAT", help="the lower height: a number for all, or the property with it (base)")
-    made_plan.add_argument("--top", default="height", metavar="WHAT", help="the upper height, likewise (height)")
-    made_plan.add_argument("--from", dest="source", metavar="CRS", help="the grid of the plan, where its file does not say or says it wrongly")
-    made_plan.add_argument("--to", metavar="CRS", help="the grid of the register, as EPSG:25832; needed where the plan has degrees")
-    made_plan.add_argument("--origin", nargs=2, type=decimal, metavar=("E", "N"), help="the local origin; without it one is chosen: 0 0 if all "
-                           "points are near enough, else whole kilometres near the middle")
-    made_plan.add_argument("--leave-out", action="store_true", help="leave out the features that cannot be registered, each with a note")
+    add("explain", "what is wrong with each refused line: the word, what is due there, or the place on the ground")
+    part = add("extract", "the lines of a script on which some lots rest, under their own numbers; behind -o PATH.rp also its report, PATH.report")
+    part.add_argument("ids", nargs="+", metavar="ID", help="the lots")
+    part.add_argument("--neighbours", action="store_true", help="those of the lots, too")
+    add_plan(add("plan", "a script that registers the polygons of a plan, in any format that GDAL reads"))
     return made
+
+
+def add_plan(made):
+    made.add_argument("--layer", help="the layer of the plan, where it has several")
+    made.add_argument("--id", default="id", metavar="NAME", help="the property with the id (id)")
+    made.add_argument("--number", action="store_true", help="take the place in the plan, 1, 2, .., for the id; wants --prefix")
+    made.add_argument("--prefix", default="", metavar="LETTERS", help="put this before each id, and _ in the place of each / in it")
+    made.add_argument("--floor", default="base", metavar="WHAT", help="the lower height: a number for all, or the property with it (base)")
+    made.add_argument("--top", default="height", metavar="WHAT", help="the upper height, likewise (height)")
+    made.add_argument("--storeys", metavar="WHAT", help="how many storeys, likewise: a lot for each, ID.1, ID.2, .., from the floor upwards; "
+                      "--top is not read then")
+    made.add_argument("--storey-height", default="3", metavar="WHAT", help="how high each storey is, likewise (3)")
+    made.add_argument("--section", type=decimal, action="append", default=[], metavar="HEIGHT", help="write a line `section` behind the lots "
+                      "for each that reaches over this height; may stand several times")
+    made.add_argument("--bare", action="store_true", help="write no note with the attributes of each feature behind its lines")
+    made.add_argument("--from", dest="source", metavar="GRID", help="the grid of the plan, where its file does not say or says it wrongly; "
+                      "`metres` for metres of no grid")
+    made.add_argument("--to", metavar="GRID", help="the grid of the register, as EPSG:25832; needed where the plan has degrees or feet")
+    made.add_argument("--origin", nargs=2, type=decimal, metavar=("E", "N"), help="the local origin; without it one is chosen: 0 0 if all "
+                      "points are near enough, else whole kilometres near the middle")
+    made.add_argument("--leave-out", action="store_true", help="leave out the features that cannot be registered, each with a note")
 
 
 def opened(path):
     try:
-        return io.BytesIO(sys.stdin.buffer.read()) if path is None else open(path, "rb")
+        return io.BytesIO(sys.stdin.buffer.read()) if path in (None, "-") else open(path, "rb")
     except OSError as error:
         raise Fault(f"the input cannot be read: {error.strerror}", 3)
 
@@ -87,7 +110,9 @@ def explained(file, options):
     place = lots.place_of(text, options)
     store = lots.program(options.store)
     if not lots.is_report(text):
-        text = lots.run(store, text, "run")
+        script, text = text, lots.run(store, text, "run")
+        # A full report may be too long to be read; then no points are shown.
+        text = lots.run(store, script, "run", "brief") if len(text) > report.MOST else text
     elif b"\n  " in text and not options.unchecked:
         # A brief report shows no points, and `check` takes full ones alone.
         lots.accepted(lots.checked(text, store))
@@ -95,20 +120,44 @@ def explained(file, options):
     return int(bool(sentences)), "".join(f"{sentence}\n" for sentence in sentences), []
 
 
+def extracted(file, options):
+    made = extract.extract(file.read(), options.ids, lots.program(options.store), options.neighbours)
+    said = f"{made.kept:,} of {made.lines:,} lines; the report has {len(made.report):,} bytes and is accepted"
+    if options.output:
+        with open(os.path.splitext(options.output)[0] + ".report", "wb") as out:
+            out.write(made.report)
+    return 0, made.script, [said]
+
+
 def answer(options):
     """The status, the text, and lines for standard error."""
     if options.word == "plan":
-        return plan.script_of(options.file or "/vsistdin/", options)
+        wanted = plan.Options(**{each.name: getattr(options, each.name) for each in fields(plan.Options)})
+        return plan.script_of(options.file or "/vsistdin/", wanted)
     with opened(options.file) as file:
         if options.word == "explain":
             return explained(file, options)
+        if options.word == "extract":
+            return extracted(file, options)
         seen = lots.load(file, options)
     if options.word == "view":
         title = options.title or (os.path.basename(options.file) if options.file else "lots")
         return 0, view.page(seen, title, int(options.storey * 1000)), []
+    if options.word == "picture":
+        return 0, picture.picture(seen, options.width), [picture.summary(seen)]
+    if options.word == "measures":
+        return 0, measures.table(seen), []
     if options.word == "city":
-        return 0, json.dumps(gis.city(seen), separators=(",", ":")) + "\n", []
+        return 0, json.dumps(city.model(seen), separators=(",", ":")) + "\n", []
     return 0, json.dumps(GEOJSON[options.word](seen)) + "\n", []
+
+
+def write(text, path):
+    try:
+        with open(path, "wb") if path else sys.stdout.buffer as out:
+            out.write(text if isinstance(text, bytes) else text.encode())
+    except OSError as error:
+        raise Fault(f"the output cannot be written: {error.strerror}", 4)
 
 
 def main(words=None):
@@ -116,12 +165,9 @@ def main(words=None):
     try:
         status, text, said = answer(options)
         if text:
-            with open(options.output, "w", encoding="utf-8") if options.output else sys.stdout as out:
-                out.write(text)
+            write(text, options.output)
     except Fault as fault:
         status, said = fault.status, [str(fault)]
-    except BrokenPipeError:
-        return 4
     for line in said:
         print(f"rpstore-gis: {line}", file=sys.stderr)
     return status

@@ -1,152 +1,208 @@
-"""The grammar of a script line, as docs/language.md has it, with the place of its first fault."""
+"""The commands of docs/language.md as a table, and which word of a line is the first that does not fit."""
+import functools
 import re
 from dataclasses import dataclass, field
+from typing import NoReturn, Optional
 
 WHOLE = re.compile("0|-?[1-9][0-9]*")
 DECIMAL = re.compile(r"-?(?:0|[1-9][0-9]*)\.[0-9]{3}")
 NAME = re.compile("[A-Za-z][A-Za-z0-9_.-]{0,31}")
 MOST_NODES = 1024
-# The operands of the words that begin a node and have no numbers.
-NODES = {"all": 0, "none": 0, "not": 1, "and": 2, "or": 2, "minus": 2, "name": 0, "lot": 0, "half": 0, "box": 0, "prism": 0}
-# What each place of a command takes: see `Reader`.
+# No bound has more digits; Python reads no number of more than 4,300.
+MOST_DIGITS = 40
+
+
+@dataclass(frozen=True)
+class Due:
+    """What is due in a place. Of a number also its bounds, in units, and whether it is a coordinate, which version 2 spells as
+    a decimal."""
+
+    what: str
+    least: int = 0
+    most: Optional[int] = None
+    is_coordinate: bool = False
+
+    def is_decimal(self, version: int) -> bool:
+        return self.is_coordinate and version == 2
+
+
+AN_EXPRESSION, A_COMMAND, EQUALS, THE_END = Due("an expression"), Due("a command"), Due("`=`"), Due("the end of the line")
+HALF = [*(Due(f"{letter} of half", -2**24, 2**24) for letter in "ABC"), Due("D of half", -3 * 2**48, 3 * 2**48)]
+BOX = [Due(f"{side} of box", -2**24, 2**24, True) for side in ("x1", "y1", "z1", "x2", "y2", "z2")]
+HEIGHTS = [Due(f"{height} of prism", -2**24, 2**24, True) for height in ("z1", "z2")]
+CORNERS = Due("the count of corners", 3, 256)
+POINT = [*(Due(f"{axis} of the point", 1 - 2**101, 2**101 - 1, True) for axis in "xyz"), Due("the weight of the point, mostly 1,", 1, 2**75 - 1)]
+SECTION = Due("the height of the section", -2**24, 2**24 - 1, True)
+LINE = Due("the number of a line", 0, 2**24)
+CHILDREN, LOTS = Due("the count of children", 0, 1024), Due("the count of lots", 0, 65536)
+# The words that begin a node of an expression, and how many expressions each has behind it.
+NODES = {"half": 0, "box": 0, "prism": 0, "all": 0, "none": 0, "and": 2, "or": 2, "minus": 2, "not": 1, "name": 0, "lot": 0}
+# The places of each command: methods of `Reader`.
 COMMANDS = {
-    "member": "E point", "let": "name = E", "empty": "E", "show": "E", "equal": "E E", "within": "E E", "overlap": "E E", "contact": "E E",
-    "rcc": "E E", "pieces": "E", "section": "E height", "register": "name E", "cut": "name E name name", "subdivide": "name children",
-    "consolidate": "name lots", "retire": "name", "at": "point", "asof": "line point", "neighbours": "name", "access": "name name",
-    "audit": "", "list": "", "history": "name", "layer": "name",
+    "member": "expression point", "let": "name equals expression", "empty": "expression", "show": "expression",
+    "equal": "expression expression", "within": "expression expression", "overlap": "expression expression",
+    "contact": "expression expression", "rcc": "expression expression", "pieces": "expression", "section": "expression height",
+    "register": "id expression", "cut": "id expression id id", "subdivide": "id children", "consolidate": "id lots", "retire": "id",
+    "at": "point", "asof": "line point", "neighbours": "id", "access": "id id", "audit": "", "list": "", "history": "id", "layer": "name",
 }
-# The least and the greatest number of a place; the last word tells whether it is a coordinate, which version 2 spells as a decimal.
-BOUNDS = {
-    "a coefficient of half": (-2**24, 2**24, False), "the last number of half": (-3 * 2**48, 3 * 2**48, False),
-    "a side of box": (-2**24, 2**24, True), "a height of prism": (-2**24, 2**24, True), "the count of corners": (3, 256, False),
-    "a coordinate of a corner": (-2**23, 2**23, True), "a coordinate of a point": (1 - 2**101, 2**101 - 1, True),
-    "the weight of a point": (1, 2**75 - 1, False), "the height of the section": (-2**24, 2**24 - 1, True),
-    "the count of children": (0, 1024, False), "the count of lots": (0, 65536, False), "the line of asof": (0, 16777216, False),
-}
+
+
+@functools.lru_cache(maxsize=None)
+def corners(count: int) -> list[Due]:
+    return [Due(f"{axis} of corner {corner} of {count}", -2**23, 2**23, True) for corner in range(1, count + 1) for axis in "xy"]
+
+
+def spelled(units: int) -> str:
+    """A coordinate in units as version 2 spells it."""
+    return f"{'-' if units < 0 else ''}{abs(units) // 1000}.{abs(units) % 1000:03d}"
 
 
 class Refusal(Exception):
-    """The first fault of a line: its cause, the place of its word, from 1, the word or None at the end of the line, and what
-    was wanted there."""
+    """The first fault of a line: its cause, the words of the line, the place of the word that does not fit, from 0, and what is
+    due there."""
 
-    def __init__(self, cause, place, word, wanted, bounds=None):
-        super().__init__(f"{cause} at word {place}")
-        self.cause, self.place, self.word, self.wanted, self.bounds = cause, place, word, wanted, bounds
+    def __init__(self, cause: str, words: list[str], place: int, due: Due):
+        super().__init__(f"{cause} at word {place + 1}")
+        self.cause, self.words, self.place, self.due = cause, words, place, due
+
+    @property
+    def word(self) -> Optional[str]:
+        """The word that does not fit, or None where the line ends before it."""
+        return self.words[self.place] if self.place < len(self.words) else None
 
 
 @dataclass
 class Command:
-    """A line that reads as a command: its words; its names in order; the words of its expressions, as pairs of places; the
-    numbers of its point, of its height or of its line, in units."""
+    """A line that reads as a command: its words; the names and ids in its own places, in order; where each expression begins
+    and ends in the words; what the expressions name, as `name` or `lot` and the name or the id; the numbers of its point,
+    height or line, in units."""
 
-    words: list
-    names: list = field(default_factory=list)
-    expressions: list = field(default_factory=list)
-    numbers: list = field(default_factory=list)
+    words: list[str]
+    names: list[str] = field(default_factory=list)
+    named: list[tuple[str, str]] = field(default_factory=list)
+    expressions: list[tuple[int, int]] = field(default_factory=list)
+    numbers: list[int] = field(default_factory=list)
 
     @property
-    def word(self):
+    def word(self) -> str:
         return self.words[0]
 
-    def expression(self, place=0):
+    def expression(self, place: int = 0) -> str:
+        """The text of the expression at a place, from 0."""
         begin, end = self.expressions[place]
         return " ".join(self.words[begin:end])
 
 
 class Reader:
-    def __init__(self, line, version):
-        self.words, self.at, self.version, self.nodes = line.split(" "), 0, version, 0
+    """Reads the words of one line, each in its place."""
+
+    def __init__(self, line: str, version: int):
+        self.words, self.version = line.split(" "), version
+        self.at, self.nodes = 0, 0
         self.found = Command(self.words)
 
-    def fault(self, cause, wanted, bounds=None, place=None):
-        place = self.at if place is None else place
-        raise Refusal(cause, place + 1, self.words[place] if place < len(self.words) else None, wanted, bounds)
+    def fault(self, cause: str, due: Due, before: int = 0) -> NoReturn:
+        raise Refusal(cause, self.words, self.at - before, due)
 
-    def word(self):
+    def word(self) -> str:
         return self.words[self.at] if self.at < len(self.words) else ""
 
-    def number(self, what):
-        least, most, coordinate = BOUNDS[what]
-        decimal = coordinate and self.version == 2
+    def number(self, due: Due) -> int:
         word = self.word()
-        if not (DECIMAL if decimal else WHOLE).fullmatch(word) or word == "-0.000":
-            self.fault("syntax", what, (least, most, decimal))
+        if not (DECIMAL if due.is_decimal(self.version) else WHOLE).fullmatch(word) or word == "-0.000":
+            self.fault("syntax", due)
         digits = word.replace(".", "")
-        # No bound has more than 32 digits, and Python reads no number of more than 4,300.
-        if len(digits) > 40 or not least <= int(digits) <= most:
-            self.fault("range", what, (least, most, decimal))
+        if len(digits) > MOST_DIGITS or not due.least <= int(digits) <= due.most:
+            self.fault("range", due)
         self.at += 1
         return int(digits)
 
-    def name(self):
+    def label(self, what: str) -> str:
         if not NAME.fullmatch(self.word()):
-            self.fault("syntax", "a name")
+            self.fault("syntax", Due(what))
         self.at += 1
         return self.words[self.at - 1]
 
-    def node(self):
-        """Reads one word of an expression with its numbers, and tells how many operands follow."""
+    def prism(self) -> None:
+        for due in HEIGHTS:
+            self.number(due)
+        for due in corners(self.number(CORNERS)):
+            self.number(due)
+
+    def half(self) -> None:
+        if not any([self.number(due) for due in HALF]):
+            self.fault("zero", HALF[-1], before=1)
+
+    def node(self) -> int:
+        """Reads one word of an expression with what is its own, and tells how many expressions follow."""
         word = self.word()
         if word not in NODES:
-            self.fault("syntax", "an expression: " + ", ".join(NODES))
+            self.fault("syntax", AN_EXPRESSION)
         self.nodes += 1
         if self.nodes > MOST_NODES:
-            self.fault("nodes", f"at most {MOST_NODES} words of expressions in a line")
+            self.fault("nodes", AN_EXPRESSION)
         self.at += 1
         if word == "half":
-            numbers = [self.number("a coefficient of half") for _ in range(3)] + [self.number("the last number of half")]
-            if not any(numbers):
-                self.fault("zero", "a number that is not 0", place=self.at - 1)
+            self.half()
         elif word == "box":
-            for _ in range(6):
-                self.number("a side of box")
+            for due in BOX:
+                self.number(due)
         elif word == "prism":
-            for _ in range(2):
-                self.number("a height of prism")
-            for _ in range(2 * self.number("the count of corners")):
-                self.number("a coordinate of a corner")
+            self.prism()
         elif word in ("name", "lot"):
-            self.name()
+            self.found.named.append((word, self.label("a name" if word == "name" else "the id of a lot")))
         return NODES[word]
 
-    def place(self, what):
-        found = self.found
-        if what == "E":
-            begin, wanted = self.at, 1
-            while wanted:
-                wanted += self.node() - 1
-            found.expressions.append((begin, self.at))
-        elif what == "=":
-            if self.word() != "=":
-                self.fault("syntax", "=")
-            self.at += 1
-        elif what == "name":
-            found.names.append(self.name())
-        elif what == "point":
-            found.numbers += [self.number("a coordinate of a point") for _ in range(3)] + [self.number("the weight of a point")]
-        elif what == "height":
-            found.numbers.append(self.number("the height of the section"))
-        elif what == "line":
-            found.numbers.append(self.number("the line of asof"))
-        elif what == "children":
-            for _ in range(self.number("the count of children")):
-                self.place("name")
-                self.place("E")
-        else:
-            for _ in range(self.number("the count of lots")):
-                self.place("name")
+    # ---- the places of a command
 
-    def read(self):
+    def expression(self) -> None:
+        begin, wanted = self.at, 1
+        while wanted:
+            wanted += self.node() - 1
+        self.found.expressions.append((begin, self.at))
+
+    def equals(self) -> None:
+        if self.word() != "=":
+            self.fault("syntax", EQUALS)
+        self.at += 1
+
+    def name(self) -> None:
+        self.found.names.append(self.label("a name"))
+
+    def id(self) -> None:
+        self.found.names.append(self.label("the id of a lot"))
+
+    def point(self) -> None:
+        self.found.numbers += [self.number(due) for due in POINT]
+
+    def height(self) -> None:
+        self.found.numbers.append(self.number(SECTION))
+
+    def line(self) -> None:
+        self.found.numbers.append(self.number(LINE))
+
+    def children(self) -> None:
+        count = self.number(CHILDREN)
+        for child in range(1, count + 1):
+            self.found.names.append(self.label(f"the id of child {child} of {count}"))
+            self.expression()
+
+    def lots(self) -> None:
+        count = self.number(LOTS)
+        for lot in range(1, count + 1):
+            self.found.names.append(self.label(f"the id of lot {lot} of {count}"))
+
+    def command(self) -> Command:
         if self.word() not in COMMANDS:
-            self.fault("syntax", "a command: " + ", ".join(COMMANDS))
+            self.fault("syntax", A_COMMAND)
         self.at = 1
-        for what in COMMANDS[self.words[0]].split():
-            self.place(what)
+        for place in COMMANDS[self.words[0]].split():
+            getattr(self, place)()
         if self.at < len(self.words):
-            self.fault("syntax", "the end of the line")
+            self.fault("syntax", THE_END)
         return self.found
 
 
-def read(line, version):
-    """The command of a line, or its first fault, which is raised."""
-    return Reader(line, version).read()
+def read(line: str, version: int) -> Command:
+    """The command of a line, or its first fault, which is raised as a `Refusal`."""
+    return Reader(line, version).command()

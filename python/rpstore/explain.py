@@ -1,162 +1,311 @@
-"""Says of each refused line what was refused, at which word, by which bound, and where on the ground."""
+"""Says of each refused line of a report what was refused, at which word, by which bound, and where on the ground."""
+import difflib
+import itertools
+import math
+from dataclasses import dataclass
 from fractions import Fraction
+from typing import BinaryIO, Callable, Iterator, Sequence
 
-from . import command, lots, report, told
+from . import command, hints, lots, report, told
 
-CALLED = {"register": "{0} was not registered", "cut": "{0} was not cut", "subdivide": "{0} was not subdivided",
+UNDONE = {"register": "{0} was not registered", "cut": "{0} was not cut", "subdivide": "{0} was not subdivided",
           "consolidate": "{0} was not made by consolidating", "retire": "{0} was not retired", "let": "the name {0} was not given"}
 WAYS = "from west to east", "from south to north", "in height"
 
 
-def listed(words, last="and"):
-    return ", ".join(words[:-1]) + f" {last} " + words[-1] if len(words) > 1 else "".join(words)
+def listed(words: list[str]) -> str:
+    return ", ".join(words[:-1]) + f" and {words[-1]}" if len(words) > 1 else "".join(words)
 
 
-def on_ground(place, point):
-    """A point, in metres from the local origin, and on the map where that is known."""
-    local = f"x {told.metres(point[0])}, y {told.metres(point[1])}, z {told.metres(point[2])} m"
+def line(number: int, version: int) -> str:
+    """The number of a line as a report counts, and as an editor does, which counts the mark of version 2 too."""
+    return f"line {number}" + (f" (in an editor {number + 1})" if version == 2 else "")
+
+
+# ---- lines that are no commands
+
+def bounds(due: command.Due, version: int) -> str:
+    spelled = command.spelled if due.is_decimal(version) else str
+    return f"from {spelled(due.least)} to {spelled(due.most)}"
+
+
+def short(word: str) -> str:
+    """A word as it is quoted: of a long one its beginning, and what cannot be seen spelled out."""
+    seen = "".join(each if each.isprintable() else each.encode("unicode_escape").decode() for each in word[:37])
+    return f"{seen}... ({len(word)} characters)" if len(word) > 40 else seen + word[37:]
+
+
+def misread(fault: command.Refusal, version: int) -> str:
+    """The word that does not fit, what is due there, and the bound."""
+    due = fault.due
+    if fault.cause == "zero":
+        return f"the four numbers of half that end with word {fault.place + 1} are all 0, which is no half-space"
+    if fault.cause == "nodes":
+        return f"word {fault.place + 1}, \"{fault.word}\", is the 1,025th word of its kind, and a line may have {command.MOST_NODES:,}"
+    within = f", {bounds(due, version)}" if due.most is not None else ""
+    if fault.word is None:
+        return f"the line ends where {due.what} is due{within}"
+    where = f"word {fault.place + 1}, \"{short(fault.word)}\","
+    if fault.cause == "range":
+        return f"{where} is out of bounds: {due.what} is {bounds(due, version)}"
+    return f"{where} stands where {due.what} is due{within}"
+
+
+def of_no_command(answer: report.Answer, known: hints.Known) -> str:
+    if answer.text is None:
+        return f"it has more than {report.LONG[answer.version]:,} bytes" + ("; in version 2 it may have more" if answer.version == 1 else "")
+    try:
+        command.read(answer.text, answer.version)
+    except command.Refusal as fault:
+        hint = hints.hint(fault, answer.version, known)
+        return misread(fault, answer.version) + (f" ({hint})" if hint else "")
+    raise AssertionError("a line that was refused as no command is one")
+
+
+# ---- commands that are refused
+
+@dataclass
+class Case:
+    """A command that was refused: its answer, what the lines before it registered, and where it is on the map."""
+
+    answer: report.Answer
+    register: lots.Register
+    place: lots.Place
+
+    @property
+    def command(self) -> command.Command:
+        return self.answer.command
+
+    @property
+    def told(self) -> tuple[str, ...]:
+        """The names or numbers behind the cause."""
+        return self.answer.verdict.told
+
+    @property
+    def lot(self) -> str:
+        """The lot or the name that the command speaks of first."""
+        return self.command.names[0] if self.command.names else ""
+
+    def child(self, number: str) -> str:
+        return self.command.names[int(number)]
+
+    def region(self, number: str) -> str:
+        """The expression of a child."""
+        return self.command.expression(int(number) - 1)
+
+    def line(self, number: int) -> str:
+        return line(number, self.answer.version)
+
+
+@dataclass
+class Reason:
+    """Why a command was refused; of what the report shows a point, where it does; and how the region with that point is named,
+    step by step: each step a name and an expression, in which {} stands for the name of the step before."""
+
+    why: str
+    shown: str = ""
+    steps: Sequence[tuple[str, str]] = ()
+
+
+def of_lot(case: Case, lot: str) -> str:
+    """What is known of a lot that is not live."""
+    known = case.register.lots.get(lot)
+    if known is None:
+        near = difflib.get_close_matches(lot, case.register.lots, 1)
+        named = "; it is a name: `name {0}`" if lot in case.register.names else f"; {near[0]} may be meant" if near else ""
+        return f"no lot {lot} was registered before this line" + named.format(lot)
+    if known.ended is None:
+        return f"the lot {lot} is there since {case.line(known.born)}"
+    into = f"when {listed(known.into)} came in its place" if known.into else "when it was retired"
+    return f"the lot {lot} ended in {case.line(known.ended)}, {into}"
+
+
+def unknown(case: Case) -> Reason:
+    [name] = case.told
+    if ("name", name) in case.command.named and name not in case.register.names:
+        near = difflib.get_close_matches(name, case.register.names, 1)
+        meant = "; it is a lot: `lot {0}`" if name in case.register.lots else f"; {near[0]} may be meant" if near else ""
+        return Reason(f"no line before gives the name {name}" + meant.format(name))
+    return Reason(of_lot(case, name))
+
+
+def known(case: Case) -> Reason:
+    [name] = case.told
+    if case.command.word == "let":
+        return Reason(f"the name {name} was given in {case.line(case.register.names[name])}, and a name is never given again")
+    return Reason(f"the id {name} was given in {case.line(case.register.lots[name].born)}, and an id is never given again")
+
+
+def limit(_: Case) -> Reason:
+    return Reason("a limit of the store is met, in making its parts, in the tests that it needs or in what is kept; docs/language.md "
+                  "has them under Limits, with ways round each")
+
+
+def overlaps(case: Case) -> Reason:
+    [other] = case.told
+    since = case.line(case.register.lots[other].born)
+    return Reason(f"it overlaps the lot {other}, which is there since {since}", "A point of both",
+                  [("new", case.command.expression()), ("common", f"and name {{}} lot {other}")])
+
+
+def outside(case: Case) -> Reason:
+    [child] = case.told
+    return Reason(f"child {child}, {case.child(child)}, has points outside {case.lot}", "A point outside",
+                  [("outside", f"minus {case.region(child)} lot {case.lot}")])
+
+
+def children_overlap(case: Case) -> Reason:
+    first, second = case.told
+    return Reason(f"the children {case.child(first)} and {case.child(second)} overlap", "A point of both",
+                  [("common", f"and {case.region(first)} {case.region(second)}")])
+
+
+def gap(case: Case) -> Reason:
+    regions = [case.region(str(child)) for child in range(1, len(case.command.names))]
+    whole = "minus " * len(regions) + " ".join([f"lot {case.lot}", *regions])
+    each = [("gap", f"minus {'name {}' if place else f'lot {case.lot}'} {region}") for place, region in enumerate(regions)]
+    steps = [("gap", whole)] if fits(f"let gap = {whole}", case.answer.version) else each
+    return Reason(f"the children leave a part of {case.lot} over", "A point that is left over", steps)
+
+
+def empty(case: Case) -> Reason:
+    return Reason("its region has no point" + upside_down(case.command.expression()))
+
+
+def empty_child(case: Case) -> Reason:
+    [child] = case.told
+    return Reason(f"child {child}, {case.child(child)}, has no point" + upside_down(case.region(child)))
+
+
+def empty_side(case: Case) -> Reason:
+    [side] = case.told
+    why = "no point of it is in the region that cuts" if side == "1" else "all of it is in the region that cuts"
+    return Reason(f"{case.child(side)} would have no point: {why}")
+
+
+def empty_region(case: Case) -> Reason:
+    return Reason(f"its {'first' if case.told == ('1',) else 'second'} region has no point")
+
+
+def few(case: Case) -> Reason:
+    return Reason(f"it needs two {'children' if case.command.word == 'subdivide' else 'lots'} or more")
+
+
+def same(case: Case) -> Reason:
+    return Reason(f"both new lots are called {case.command.names[1]}")
+
+
+def repeated(case: Case) -> Reason:
+    return Reason(f"{case.told[0]} stands twice in the line")
+
+
+def layers(case: Case) -> Reason:
+    [other] = case.told
+    first = case.command.names[1 if case.command.word == "consolidate" else 0]
+    here, there = (case.register.layer_of(lot) for lot in (first, other))
+    return Reason(f"{other} is in the layer {there}, and {first} in the layer {here}")
+
+
+CAUSES: dict[str, Callable[[Case], Reason]] = {
+    "unknown": unknown, "known": known, "limit": limit, "overlaps": overlaps, "outside": outside, "childrenoverlap": children_overlap,
+    "gap": gap, "empty": empty, "emptychild": empty_child, "emptyside": empty_side, "emptyregion": empty_region, "few": few, "same": same,
+    "repeated": repeated, "layers": layers,
+}
+
+
+def upside_down(expression: str) -> str:
+    """The first box or prism of an expression that has no point because its upper height is not above its lower one."""
+    words = expression.split(" ")
+    for at, word in enumerate(words):
+        # A name may be called box or prism.
+        sides = {"box": (at + 3, at + 6), "prism": (at + 1, at + 2)}.get(word) if words[at - 1] not in ("name", "lot") or not at else None
+        if sides:
+            low, high = (words[side] for side in sides)
+            if int(high.replace(".", "")) <= int(low.replace(".", "")):
+                return f"; the upper height of its {word}, {high}, is not above the lower one, {low}"
+    return ""
+
+
+# ---- where it is
+
+def on_ground(point: list[Fraction], place: lots.Place) -> str:
+    """A point in metres: from the local origin, or on the map where that is known."""
     if not place.is_given:
-        return local
-    east, north, height = (told.exact(place.metres(number, axis)) for axis, number in enumerate(point))
-    return f"E {east}, N {north}, H {height} m"
+        return "x {}, y {}, z {} m".format(*map(told.metres, point))
+    return "E {}, N {}, H {} m".format(*(told.exact(place.metres(number, axis)) for axis, number in enumerate(point)))
 
 
-def shown_point(answer, place, what):
-    """Of the last line `in` of an answer: the average of its points, which is inside, and how far they reach."""
-    found = next((line for line in reversed(answer.proof) if line.startswith(b"  in ")), None)
-    if found is None or answer.proof[-1] != found:
-        return " (A brief report shows no point: run without `brief` for one.)" if not answer.proof else ""
-    points = [[Fraction(number, point[3]) for number in point[:3]] for point in report.tuples(found)]
+def shown(answer: report.Answer) -> list[list[Fraction]]:
+    """The points of the last proof line where that is a line `in`: their average is a point of what it shows."""
+    if not answer.proof or not answer.proof[-1].startswith(b"  in "):
+        return []
+    return [[Fraction(number, point[3]) for number in point[:3]] for point in report.tuples(answer.proof[-1])]
+
+
+def extent(points: list[list[Fraction]], what: str, place: lots.Place) -> str:
+    """A point of what the report shows, and how far its points reach."""
     middle = [sum(numbers) / len(points) for numbers in zip(*points)]
     reach = [max(numbers) - min(numbers) for numbers in zip(*points)]
     wide = listed([f"{told.metres(length)} m {way}" for length, way in zip(reach, WAYS) if length])
-    return f" {what} is {on_ground(place, middle)}; the points that the report shows of it reach {wide}."
+    return f" {what} is {on_ground(middle, place)}; the points that the report shows of it reach {wide}."
 
 
-def of_lot(register, lot):
-    """What is known of a lot that is not live."""
-    known = register.lots.get(lot)
-    if known is None:
-        return f"no lot {lot} was registered before this line"
-    if known.ended is None:
-        return f"the lot {lot} is there since line {known.born}"
-    into = f", when {listed(known.into)} came in its place" if known.into else ", when it was retired"
-    return f"the lot {lot} ended in line {known.ended}{into}"
-
-
-def spelled(number, decimal):
-    return told.decimal(Fraction(number, 1000), 3) if decimal else str(number)
-
-
-def short(word):
-    return word if len(word) <= 40 else f"{word[:37]}... ({len(word)} characters)"
-
-
-def misread(text, version):
-    """Of a line that is no command: the word, and what was wanted there."""
+def fits(text: str, version: int) -> bool:
+    """Whether a line is short enough."""
     try:
         command.read(text, version)
-    except command.Refusal as fault:
-        at, word = fault.place, fault.word
-        where = f"word {at}, \"{short(word)}\"," if word else f"word {at}, which is empty," if word == "" else f"the line ends; word {at}"
-        bounds = ""
-        if fault.bounds:
-            least, most, decimal = fault.bounds
-            bounds = f", from {spelled(least, decimal)} to {spelled(most, decimal)}"
-            if decimal:
-                bounds += ", with exactly three digits behind the point"
-        if fault.cause == "range":
-            return f"{where} is out of its bounds: {fault.wanted} is{bounds[1:]}"
-        if fault.cause == "zero":
-            return f"the four numbers of half that end with word {at} are all 0, which is no half-space"
-        if fault.cause == "nodes":
-            return f"{where} is the 1,025th word of the line's expressions, which have at most 1,024; give a part of them a name by `let`"
-        if fault.wanted == "the end of the line":
-            return f"{where} stands behind the end of the command"
-        wanted, _, choices = fault.wanted.partition(": ")
-        hint = f" (one of {choices})" if choices else " (words are separated by exactly one space)" if word == "" else ""
-        if word is None:
-            return f"{where} is missing: {wanted} is wanted there{bounds}{hint}"
-        return f"{where} stands where {wanted} is wanted{bounds}{hint}"
-    return "it is no command"
+    except command.Refusal:
+        return False
+    return len(text) <= report.LONG[version]
 
 
-def unknown(answer, register, name):
-    words = answer.command.words
-    for kind, word in zip(words, words[1:]):
-        if word == name and kind == "name":
-            return f"no line before gives the name {name}"
-        if word == name and kind == "lot":
-            return of_lot(register, name)
-    return of_lot(register, name)
+def fresh(word: str, names: set[str]) -> str:
+    """A name that was not given."""
+    return next(name for name in itertools.chain([word], (f"{word}-{number}" for number in itertools.count(2))) if name not in names)
 
 
-def known(register, name, is_name):
-    line = register.names.get(name) if is_name else getattr(register.lots.get(name), "born", None)
-    kind = "name" if is_name else "id"
-    return f"the {kind} {name} was given in line {line or 'before'}, and {'a name' if is_name else 'an id'} is never given again"
+def lines_to_show(case: Case, reason: Reason, points: list[list[Fraction]]) -> list[str]:
+    """Lines for a script that show the region of a reason, and what it has at a height where the points say that it has
+    something."""
+    names, name, made = set(case.register.names), "", []
+    for word, expression in reason.steps:
+        text = expression.format(name)
+        name = fresh(word, names)
+        names.add(name)
+        made.append(f"let {name} = {text}")
+    made += [f"pieces name {name}", f"show name {name}"]
+    heights = [point[2] for point in points]
+    height = math.floor(sum(heights) / len(heights))
+    if min(heights) < height < max(heights):
+        made.append(f"section name {name} {command.spelled(height) if case.answer.version == 2 else height}")
+    return made if all(fits(each, case.answer.version) for each in made) else []
 
 
-def cause(answer, register, place):
-    """Why a command was refused, and a sentence with a point where the report shows one."""
-    parsed, told_ = answer.command, answer.verdict.told
-    first, *others = parsed.names or ("",)
-    word = answer.verdict.cause
-    child = {number: name for number, name in enumerate(others, 1)}.get
-    numbers = [int(each) if each.isdigit() else each for each in told_]
-    if word == "unknown":
-        return unknown(answer, register, told_[0]), ""
-    if word == "known":
-        return known(register, told_[0], parsed.word == "let"), ""
-    if word == "limit":
-        return "a limit of the store is met, in making its parts, in the tests it would need, or in what is kept", \
-            " The report does not tell which; docs/language.md has them under Limits, with ways round each."
-    if word == "overlaps":
-        other = register.lots.get(told_[0])
-        since = f", which is there since line {other.born}" if other else ""
-        return f"it overlaps the lot {told_[0]}{since}", shown_point(answer, place, "A point of both")
-    if word == "outside":
-        return f"child {numbers[0]}, {child(numbers[0])}, has points outside {first}", shown_point(answer, place, "A point outside")
-    if word == "childrenoverlap":
-        return f"the children {child(numbers[0])} and {child(numbers[1])} overlap", shown_point(answer, place, "A point of both")
-    if word == "gap":
-        return f"the children leave a part of {first} over", shown_point(answer, place, "A point that is left over")
-    if word == "empty":
-        return "its region has no point", ""
-    if word == "emptychild":
-        return f"child {numbers[0]}, {child(numbers[0])}, has no point", ""
-    if word == "emptyside":
-        which = "no point of it is in the region that cuts" if numbers[0] == 1 else "all of it is in the region that cuts"
-        return f"{others[numbers[0] - 1]} would have no point: {which}", ""
-    if word == "emptyregion":
-        return f"its {'first' if numbers[0] == 1 else 'second'} region has no point", ""
-    if word == "few":
-        return f"it needs two {'children' if parsed.word == 'subdivide' else 'lots'} or more", ""
-    if word == "same":
-        return f"both new lots are called {others[0]}", ""
-    if word == "repeated":
-        return f"{told_[0]} stands twice in the line", ""
-    if word == "layers":
-        here, there = (register.layer_of(lot) for lot in (others[0] if parsed.word == "consolidate" else first, told_[0]))
-        return f"{told_[0]} is in the layer {there}, and not in the layer {here}", ""
-    return f"it is refused with {word}", ""
+# ---- sentences
+
+def of_command(case: Case) -> str:
+    answer, parsed = case.answer, case.command
+    reason = CAUSES[answer.verdict.cause](case)
+    what = UNDONE.get(parsed.word, "the question `{1}` was not answered").format(case.lot, parsed.word)
+    points = shown(answer) if reason.shown else []
+    said = f"{what}, because {reason.why}."
+    if not points:
+        return said + (" (A brief report shows no point: run without `brief` for one.)" if reason.shown and not answer.proof else "")
+    said += extent(points, reason.shown, case.place)
+    lines = lines_to_show(case, reason, points)
+    return "\n    ".join([said + " These lines behind it show the place:", *lines]) if lines else said
 
 
-def sentence(answer, register, place):
-    """One sentence of a refused line, and where there is a point to show a second one."""
-    head = f"Line {answer.number}: "
+def sentence(answer: report.Answer, register: lots.Register, place: lots.Place) -> str:
+    """What is said of one refused line, and the lines of a script that show where it is."""
+    head = line(answer.number, answer.version).capitalize() + ": "
     if answer.command is None:
-        if answer.text is None:
-            return head + f"the line has more than {report.LONG[answer.version]} bytes."
-        return f"{head}{misread(answer.text, answer.version)}."
-    parsed = answer.command
-    why, point = cause(answer, register, place)
-    what = CALLED.get(parsed.word, "the question `{1}` was not answered").format(parsed.names[0] if parsed.names else "", parsed.word)
-    return f"{head}{what}, because {why}.{point}"
+        return f"{head}{of_no_command(answer, lambda word: 'name' if word in register.names else 'lot' if word in register.lots else None)}."
+    return head + of_command(Case(answer, register, place))
 
 
-def explained(file, place):
-    """A sentence for each refused line of a report."""
+def explained(file: BinaryIO, place: lots.Place) -> Iterator[str]:
+    """What is to be said of each refused line of a report."""
     register = lots.Register()
     for answer in report.read(file):
         if isinstance(answer.verdict, report.Refused):

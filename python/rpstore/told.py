@@ -1,31 +1,44 @@
 """How exact numbers are printed: here they are rounded, and nowhere else."""
+from __future__ import annotations
+
 from fractions import Fraction
+from typing import Union
+
+Number = Union[int, Fraction]
 
 
-def decimal(number, digits):
-    """The nearest decimal with so many digits, a half away from zero."""
-    scaled = abs(Fraction(number)) * 10**digits
-    whole = (2 * scaled.numerator + scaled.denominator) // (2 * scaled.denominator)
-    text = str(whole).rjust(digits + 1, "0")
-    sign = "-" if number < 0 and whole else ""
+def nearest(number: Number) -> int:
+    """The nearest whole number, a half upwards."""
+    return (2 * number.numerator + number.denominator) // (2 * number.denominator)
+
+
+def decimal(number: Number, digits: int) -> str:
+    """The nearest decimal with so many `digits` behind the point, a half away from zero."""
+    text = str(nearest(abs(Fraction(number)) * 10**digits)).rjust(digits + 1, "0")
+    sign = "-" if number < 0 and text.strip("0") else ""
     return sign + (f"{text[:-digits]}.{text[-digits:]}" if digits else text)
 
 
-def exact(number, digits=3):
-    """The number as a decimal, which has at least so many digits and is followed by .. where it goes on."""
+def exact(number: Number, digits: int = 3) -> str:
+    """The number as a decimal, which has at least so many `digits` and is followed by .. where it goes on."""
     for more in range(digits, digits + 7):
         if Fraction(number) * 10**more % 1 == 0:
             return decimal(number, more)
     return decimal(number, digits + 3) + ".."
 
 
-def metres(units):
+def metres(units: Number) -> str:
     return exact(Fraction(units) / 1000)
 
 
-def square_metres(units):
+def length(units: int, version: int) -> str:
+    """A length or a height: the number of units in a script of version 1, and metres in one of version 2."""
+    return str(units) if version == 1 else f"{decimal(Fraction(units, 1000), 3)} m"
+
+
+def square_metres(units: Number) -> str:
     return decimal(Fraction(units) / 10**6, 3)
 
 
-def cubic_metres(units):
+def cubic_metres(units: Number) -> str:
     return decimal(Fraction(units) / 10**9, 3)

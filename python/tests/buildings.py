@@ -6,6 +6,13 @@ FLATS = [
     "11 9 11 15 3 21 0 18 0 14 2 14 2 10 0 10 0 6 3 3",
 ]
 
+# A house round a court.
+COURT = "prism 0 10 11 10 0 10 10 10 20 20 20 20 10 10 10 10 0 30 0 30 30 0 30 0 0"
+
+
+def lines(*told):
+    return "\n".join(told) + "\n"
+
 
 def metres(number):
     return f"{number:.3f}"
@@ -45,7 +52,7 @@ def tower(storeys=20):
     yield "register way box 13.500 -5.000 0.000 16.500 9.000 2.500"
     yield "register duct box 12.000 11.000 0.000 12.400 12.000 " + metres(top)
     yield "audit"
-    yield f"section lot flat-01-5 5.000"
+    yield "section lot flat-01-5 5.000"
 
 
 def town(towers=25, storeys=20):

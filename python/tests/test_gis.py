@@ -1,23 +1,15 @@
-import random
+"""GeoJSON of what a report shows: its outlines, attributes and place on the map."""
 from decimal import Decimal
-from fractions import Fraction
 
-import buildings
-import cityjson
 import pytest
-from rpstore import Fault, gis, lots, shape
-
-COURT = "prism 0 10 11 10 0 10 10 10 20 20 20 20 10 10 10 10 0 30 0 30 30 0 30 0 0"
-
-
-def lines(*told):
-    return "\n".join(told) + "\n"
+from buildings import COURT, lines
+from rpstore import Fault, city, gis
 
 
 def test_a_section_is_one_area_without_inner_walls(seen):
     found = gis.sections(seen(lines("register flat or prism 0 10 4 0 0 6 0 6 4 0 4 prism 0 10 4 6 0 10 0 10 9 6 9", "section lot flat 5")))
     [feature] = found["features"]
-    assert feature["properties"] == {"lot": "flat", "shown": "flat", "line": 2, "height": 0.005, "area": (24 + 36) / 10**6}
+    assert feature["properties"] == {"id": "flat", "layer": "base", "line": 2, "height": 0.005, "area": (24 + 36) / 10**6}
     [[ring]] = feature["geometry"]["coordinates"]
     assert ring[0] == ring[-1] and len(ring) == 7
     assert {tuple(point) for point in ring} == {(0, 0), (0.01, 0), (0.01, 0.009), (0.006, 0.009), (0.006, 0.004), (0, 0.004)}
@@ -34,7 +26,7 @@ def test_a_place_on_the_map(seen):
     found = gis.footprints(seen(script))
     assert found["crs"]["properties"]["name"] == "urn:ogc:def:crs:EPSG::25832"
     assert [412008.0, 5765009.0] in found["features"][0]["geometry"]["coordinates"][0][0]
-    assert gis.city(seen(script))["transform"]["translate"] == [412000, 5765000, 0]
+    assert city.model(seen(script))["transform"]["translate"] == [412000, 5765000, 0]
     moved = gis.footprints(seen(script, origin=[Decimal("100.5"), Decimal(-7)], epsg=2056))
     assert moved["crs"]["properties"]["name"].endswith(":2056") and [108.5, 2.0] in moved["features"][0]["geometry"]["coordinates"][0][0]
 
@@ -66,99 +58,6 @@ def test_nothing_to_show(seen):
         gis.sections(seen("register a box 0 0 0 10 10 10\n"))
 
 
-# The expression of a lot, and the shells of the solid of each of its pieces, or None where its convex parts are the solids.
-MODELS = [
-    ("box 0 0 0 10 10 10", [1]), ("or box 0 0 0 10 10 10 box 2 2 10 5 5 20", [1]), ("or box 0 0 0 10 10 10 box 20 0 0 30 10 10", [1, 1]),
-    # A cavity inside; an island in the cavity.
-    ("minus box 0 0 0 30 30 30 box 10 10 10 20 20 20", [2]),
-    ("or minus box 0 0 0 30 30 30 box 10 10 10 20 20 20 box 12 12 12 15 15 15", [2, 1]),
-    # Two boxes that touch in an edge, and two in a corner: those are two solids.
-    ("or box 0 0 0 10 10 10 box 10 10 0 20 20 10", [1, 1]), ("or box 0 0 0 10 10 10 box 10 10 10 20 20 20", [1, 1]),
-    # An arch whose arms touch in an edge: no solid, so its parts are.
-    ("or or box 0 0 0 10 10 10 box 10 10 0 20 20 10 box 0 0 10 20 20 20", [None]), (COURT, [1]),
-    # Two wedges whose triangles cross in the plane x = 1000: a corner is there that no part has, at (1000, 1500.5, 1500.5).
-    ("or and box 0 1000 1000 1000 2000 2001 half 0 -1 1 0 and box 1000 1000 1000 2000 2000 2001 half 0 1 1 -3001", [1]),
-]
-
-
-@pytest.mark.parametrize("expression, shells", MODELS)
-def test_solids(expression, shells, seen):
-    found = seen(f"register a {expression}\n")
-    model = gis.city(found)
-    units = {name: each for name, each in model["CityObjects"].items() if each["type"] == "BuildingUnit"}
-    forms = [each["geometry"][0] for each in units.values()]
-    assert list(units) == (["a"] if len(shells) == 1 else [f"a {number}" for number in range(1, len(shells) + 1)])
-    assert [len(form["boundaries"]) if form["type"] == "Solid" else None for form in forms] == shells
-    assert not list(cityjson.faults(model))
-    validate(model)
-    volume = sum(cityjson.volume(shell, model["vertices"]) for form in forms
-                 for solid in ([form["boundaries"]] if form["type"] == "Solid" else form["boundaries"]) for shell in solid)
-    assert volume * Fraction(1000, round(1 / model["transform"]["scale"][0])) ** 3 == found.bodies[0].volume
-    assert abs(sum(each["attributes"]["volume"] for each in units.values()) - float(found.bodies[0].volume / 10**9)) < 1e-9
-
-
-EXAMPLES = ["plan", "tower", "block", "floor", "escape", "tunnel", "access", "resurvey"]
-
-
-@pytest.mark.parametrize("name", EXAMPLES)
-def test_models_of_the_examples(name, root, seen):
-    found = seen((root / f"examples/{name}.rp").read_text())
-    model = gis.city(found)
-    assert not list(cityjson.faults(model))
-    validate(model)
-
-
-def validate(model):
-    pytest.importorskip("jsonschema", reason="python3-jsonschema is not there").validate(model, cityjson.SCHEMA)
-
-
-def test_a_tower_of_20_storeys(seen):
-    found = seen(lines(*buildings.tower(20)))
-    assert len(found.bodies) == 115 and found.check == "accepted" and not found.refused
-    model = gis.city(found)
-    assert not list(cityjson.faults(model))
-    validate(model)
-
-
-def drawn_region(rng):
-    corners = " ".join(str(rng.randint(-40, 40)) for _ in range(2 * rng.randint(3, 7)))
-    return f"prism 0 {rng.randint(3, 30)} {len(corners.split()) // 2} {corners}"
-
-
-def drawn_half(rng):
-    numbers = [rng.randint(-9, 9) for _ in range(3)]
-    return f"half {' '.join(map(str, numbers if any(numbers) else [1, 0, 0]))} {rng.randint(-60, 60)}"
-
-
-@pytest.mark.parametrize("seed", range(40))
-def test_children_have_the_volume_of_their_lot(seed, seen):
-    """A lot is divided by up to three planes; the children's volumes, each from its own parts, add up to the lot's, and
-    so do those of what a cut leaves, and those of the sections' areas."""
-    rng = random.Random(seed)
-    planes = [drawn_half(rng) for _ in range(rng.randint(1, 3))]
-    children, rest = [], "name lot"
-    for number, plane in enumerate(planes):
-        children.append(f"c{number} and {rest} {plane}")
-        rest = f"minus {rest} {plane}"
-    children.append(f"rest {rest}")
-    height = rng.randint(0, 20)
-    script = [f"let lot = {drawn_region(rng)}", "register p name lot", f"subdivide p {len(children)} {' '.join(children)}", "show name lot",
-              f"section name lot {height}", *(f"section {child.partition(' ')[2]} {height}" for child in children)]
-    found = seen(lines(*script))
-    whole = [body for body in found.bodies if not body.is_lot]
-    lots_ = [body for body in found.bodies if body.is_lot]
-    if not whole:
-        assert not lots_
-        return
-    assert sum(body.volume for body in lots_) == whole[0].volume
-    first, *others = found.slices
-    assert sum(each.area for each in others) == first.area
-    for each in found.slices:
-        assert sum(shape.area(ring) for outer, holes in each.outlines for ring in (outer, *holes)) == each.area
-    if lots_:
-        assert not list(cityjson.faults(gis.city(found)))
-
-
 def test_geojson_is_valid_by_shapely(root, seen):
     geometry = pytest.importorskip("shapely.geometry", reason="python3-shapely is not there")
     found = seen((root / "examples/plan.rp").read_text())
@@ -177,9 +76,3 @@ def test_gdal_reads_it(root, seen, tmp_path):
         path.write_text(json.dumps(made(found)))
         with fiona.open(path) as source:
             assert len(source) == (16 if name == "sections" else 8) and source.crs.to_epsg() == 25832
-
-
-def test_an_area_is_rounded_once(seen):
-    # A triangle with legs of 1/3 and 1 of a unit of 1 mm: its area is 1/6 square millimetre.
-    [each] = seen("show and box 0 0 0 1 1 1 half -3 -1 0 1\nsection and box 0 0 0 1 1 1 half -3 -1 0 1 0\n").slices
-    assert each.area == Fraction(1, 6) and lots.shape.outline(each.polygons)

@@ -2,7 +2,7 @@ import io
 import re
 
 import pytest
-from rpstore import Fault, command, report
+from rpstore import Fault, report
 
 
 def answers(text):
@@ -69,28 +69,3 @@ def test_a_brief_report_is_read_the_same(root, store):
     script = (root / "examples/plan.rp").read_text()
     full, brief = (answers(store(script, *words).decode()) for words in (("run",), ("run", "brief")))
     assert [found.verdict for found in full] == [found.verdict for found in brief] and not any(found.proof for found in brief)
-
-
-# A line, and the cause, the word and its place at which it is no command.
-FAULTS = [
-    ("walk", "syntax", "walk", 1), ("member  all 0 0 0 1", "syntax", "", 2), ("member half 1 0 0 00 0 0 0 1", "syntax", "00", 6),
-    ("member half 16777217 0 0 x", "range", "16777217", 3), ("member half 0 0 0 0 x", "zero", "0", 6), ("list all", "syntax", "all", 2),
-    ("register 7 all", "syntax", "7", 2), ("cut a all b", "syntax", None, 5), ("show prism 0 10 2 0 0 1 1", "range", "2", 5),
-    ("member all " + 60000 * "1" + " 0 0 1", "range", 60000 * "1", 3), ("member" + 1024 * " not" + " all 0 0 0 1", "nodes", "all", 1026),
-    ("section all 16777216", "range", "16777216", 3), ("let a : all", "syntax", ":", 3), ("subdivide a 1025", "range", "1025", 3),
-]
-
-
-@pytest.mark.parametrize("line, cause, word, place", FAULTS)
-def test_the_first_fault_of_a_line(line, cause, word, place, store):
-    with pytest.raises(command.Refusal) as found:
-        command.read(line, 1)
-    assert (found.value.cause, found.value.word, found.value.place) == (cause, word, place)
-    assert store(line).decode().endswith(f"= refused {cause}\n")
-
-
-def test_decimals_of_version_2():
-    assert command.read("section all -0.005", 2).numbers == [-5]
-    for word in ("-0.000", "5", "5.0", "5.0000", ".500", "05.000", "+5.000"):
-        with pytest.raises(command.Refusal, match="syntax at word 3"):
-            command.read(f"section all {word}", 2)

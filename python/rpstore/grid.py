@@ -1,0 +1,120 @@
+"""The grid of a plan, and of the register to which it goes; the local origin of a script."""
+import math
+from decimal import Decimal
+from typing import Callable, Optional, Sequence
+
+from . import Fault
+from .command import spelled
+from .rings import MOST_CORNER, units
+
+try:
+    from pyproj import CRS, Transformer
+    from pyproj.exceptions import CRSError, ProjError
+    MISSING = None
+except ImportError as error:
+    MISSING = error
+
+Grid = Optional["CRS"]
+Point = tuple[float, float]
+Ring = list[Point]
+# The word in the place of a grid for coordinates that are metres of no grid.
+METRES = "metres"
+# Metres on each side of the middle that are taken of a plan that is too wide.
+CLIPPED = 4000
+CLIP = ("the plan reaches over {wide} m from west to east and {high} m from south to north, and a register over {most} m; "
+        "this takes what meets its middle: ogr2ogr -spat {box}{grid} part.gpkg {path}")
+
+
+def named(word: Optional[str]) -> Grid:
+    try:
+        return CRS.from_user_input(word) if word and word != METRES else None
+    except CRSError as error:
+        raise Fault(f"no grid has this name: {error}", 5)
+
+
+def unit(grid: Grid) -> str:
+    """The unit of a grid's first axis."""
+    return grid.axis_info[0].unit_name if grid.axis_info else "metre"
+
+
+def at_middle(found: Grid, points: Sequence[Point]) -> str:
+    """A grid in metres that would do for points in a grid: the zone of UTM in which their middle lies."""
+    try:
+        ends = [(min(axis) + max(axis)) / 2 for axis in [*zip(*points)][:2]]
+        east, north = Transformer.from_crs(found, "EPSG:4326", always_xy=True).transform(*ends, errcheck=True)
+    except (ProjError, ValueError):
+        return ""
+    if not (abs(east) <= 180 and abs(north) <= 84):
+        return ""
+    return f", as EPSG:{(32600 if north >= 0 else 32700) + int((east + 180) // 6) % 60 + 1} would do here"
+
+
+def grids(given: str, source: Optional[str], target: Optional[str], points: Sequence[Point]) -> tuple[Grid, Grid]:
+    """The grid in which the plan's points are, by its file or by --from, and that of the register, by --to or the same. A
+    register is in metres."""
+    found = named(source or given)
+    wanted = named(target) or found
+    if wanted is not None and found is None:
+        raise Fault("the plan does not say in which grid its coordinates are: --from EPSG:NUMBER says it", 5)
+    if wanted is None or unit(wanted) == "metre":
+        return found, wanted
+    what = "in degrees" if wanted.is_geographic else f"in the unit {unit(wanted)}"
+    if target:
+        raise Fault(f"{wanted.name} is {what}, and a register is in metres{at_middle(found, points)}", 5)
+    beyond = wanted.is_geographic and any(abs(x) > 180 or abs(y) > 90 for x, y, *_ in points)
+    raise Fault(f"the plan is {what}, of {wanted.name}, " + (
+        f"and has no such numbers: --from EPSG:NUMBER says in which grid it is, --from {METRES} that it is in metres of none" if beyond else
+        f"and a register in metres: --to EPSG:NUMBER names its grid{at_middle(found, points)}"
+        + (f"; --from {METRES} says that the plan is in metres of no grid" if wanted.is_geographic else "")), 5)
+
+
+def projection(found: Grid, wanted: Grid) -> Callable[[Ring], Ring]:
+    """What brings a ring from its grid to that of the register. Of each point it takes two coordinates alone."""
+    if found is None or found == wanted:
+        return lambda ring: [tuple(point[:2]) for point in ring]
+    transformer = Transformer.from_crs(found, wanted, always_xy=True, allow_ballpark=False)
+
+    def projected(ring: Ring) -> Ring:
+        easts, norths = [*zip(*ring)][:2]
+        try:
+            return [*zip(*transformer.transform(easts, norths, errcheck=True))]
+        except ProjError as error:
+            raise Fault(f"the plan cannot be projected from {found.name} to {wanted.name}: {error}", 5)
+
+    return projected
+
+
+def code(grid: Grid) -> Optional[int]:
+    """The EPSG number of a grid, where that is sure, or is that of a grid with the same name and nearly the same numbers."""
+    sure, likely = grid.to_epsg(), grid.to_epsg(min_confidence=50)
+    return sure or (likely if likely and CRS.from_epsg(likely).name == grid.name else None)
+
+
+# ---- the origin
+
+def near(number: Decimal, step: int) -> int:
+    """The multiple of a step that is nearest to a number."""
+    return int((number / step).to_integral_value() * step)
+
+
+def chosen_origin(points: Sequence[Point]) -> tuple[int, int]:
+    """The first of these origins, in metres, from which all points are within the bounds, or else the last: 0 0; whole
+    kilometres, then whole metres, at the middle; whole kilometres near most of the points."""
+    axes = [sorted(Decimal(repr(number)) for number in numbers) for numbers in zip(*points)]
+    middle = [(axis[0] + axis[-1]) / 2 for axis in axes]
+    most = [axis[len(axis) // 2] for axis in axes]
+    tried = [(0, 0)] + [tuple(near(number, step) for number in at) for at, step in ((middle, 1000), (middle, 1), (most, 1000))]
+    return next((at for at in tried if all(abs(units(end) - 1000 * origin) <= MOST_CORNER for axis, origin in zip(axes, at)
+                                           for end in (axis[0], axis[-1]))), tried[-1])
+
+
+def how_to_clip(points: Sequence[Point], origin: tuple[int, int], wanted: Grid, path: str) -> list[str]:
+    """Where points reach further than a register: how far, and the command that takes what is near the point next to an origin
+    in units."""
+    reach = [math.ceil(max(axis) - min(axis)) for axis in zip(*points)]
+    if max(reach) * 1000 <= 2 * MOST_CORNER:
+        return []
+    middle = min(points, key=lambda point: sum(abs(number - at / 1000) for number, at in zip(point, origin)))
+    box = " ".join(str(round(at) + way * CLIPPED) for way in (-1, 1) for at in middle)
+    number = code(wanted) if wanted is not None else None
+    return [CLIP.format(wide=reach[0], high=reach[1], most=spelled(2 * MOST_CORNER), box=box, grid=f" -spat_srs EPSG:{number}" if number else "", path=path)]

@@ -1,0 +1,88 @@
+"""Rings of a plan as prisms: the same points, to the millimetre, within the bounds of a script."""
+from decimal import ROUND_HALF_UP, Decimal
+from typing import Callable, Sequence, Union
+
+from .command import BOX, CORNERS, spelled, corners as corner_places
+
+Corner = tuple[int, int]
+Number = Union[int, float, Decimal]
+# The bounds of a script, lengths in units.
+MOST_CORNERS, MOST_CORNER, MOST_SIDE = CORNERS.most, corner_places(CORNERS.least)[0].most, BOX[0].most
+MILLI = Decimal("0.001")
+
+
+class Unfit(Exception):
+    """Why a feature cannot be registered: a cause that others may have too, and what of this one shows it."""
+
+    def __init__(self, cause: str, seen: str = ""):
+        super().__init__(f"{cause}: {seen}" if seen else cause)
+        self.cause, self.seen = cause, seen
+
+
+def units(number: Number) -> int:
+    """The nearest whole number of thousandths of a number as it is written; a half goes away from zero."""
+    number = number if isinstance(number, Decimal) else Decimal(repr(number))
+    return int(number.quantize(MILLI, ROUND_HALF_UP).scaleb(3))
+
+
+def side(a: Corner, b: Corner, c: Corner) -> int:
+    """Above 0 where the way from a over b to c turns left, and 0 where it goes straight on or back."""
+    return (b[0] - a[0]) * (c[1] - a[1]) - (b[1] - a[1]) * (c[0] - a[0])
+
+
+def placed(ring: Sequence[Sequence[Number]], origin: Corner, name: str) -> list[Corner]:
+    """The corners of a ring in units from an origin, without its last point and without those that repeat the one before."""
+    if ring[0] != ring[-1]:
+        raise Unfit("a ring is open: it does not end with the point at which it begins", name)
+    corners: list[Corner] = []
+    for point in ring[:-1]:
+        corner = units(point[0]) - origin[0], units(point[1]) - origin[1]
+        if max(map(abs, corner)) > MOST_CORNER:
+            raise Unfit(f"a corner is more than {spelled(MOST_CORNER)} m east, west, north or south of the origin", f"{name} at {point[0]} {point[1]}")
+        if corners[-1:] != [corner]:
+            corners.append(corner)
+    while len(corners) > 1 and corners[0] == corners[-1]:
+        corners.pop()
+    if not any(side(corners[0], corner, after) for corner, after in zip(corners, corners[1:])):
+        raise Unfit("a ring has no area, to the millimetre", name)
+    return corners
+
+
+def without_runs(ring: list[Corner], is_far: Callable[[Corner], bool]) -> list[Corner]:
+    """The ring without the corners that are far and have far ones before and behind them. Edges between far corners do
+    not come near, so what is near has as many edges above it as before."""
+    return [at for before, at, after in zip(ring[-1:] + ring[:-1], ring, ring[1:] + ring[:1])
+            if not (is_far(before) and is_far(at) and is_far(after))]
+
+
+def slabs(ring: list[Corner], low: int = -MOST_SIDE, high: int = MOST_SIDE) -> list[tuple[int, int, list[Corner]]]:
+    """The ring as one that tells the members from x = low to below x = high, or cut further where it has too many corners."""
+    ring = without_runs(without_runs(ring, lambda at: at[0] <= low), lambda at: at[0] >= high)
+    if len(ring) <= MOST_CORNERS:
+        return [(low, high, ring)] if len(ring) > 2 else []
+    inside = sorted(at[0] for at in ring if low < at[0] < high)
+    if not inside:
+        raise Unfit(f"more than {MOST_CORNERS} corners are needed at one x: no cut along x helps", f"x {spelled(low)}")
+    middle = inside[len(inside) // 2]
+    return slabs(ring, low, middle) + slabs(ring, middle, high)
+
+
+def joined(word: str, operands: list[str]) -> str:
+    """Expressions joined by a word, from the first on."""
+    return " ".join([word] * (len(operands) - 1) + operands)
+
+
+def prism(ring: list[Corner], heights: tuple[int, int]) -> str:
+    """The members of a ring between two heights: a prism, or prisms in slabs, which have exactly the same points."""
+    pieces = []
+    for low, high, corners in slabs(ring):
+        numbers = " ".join(f"{spelled(x)} {spelled(y)}" for x, y in corners)
+        whole = f"prism {' '.join(map(spelled, heights))} {len(corners)} {numbers}"
+        box = " ".join(map(spelled, (low, -MOST_SIDE, heights[0], high, MOST_SIDE, heights[1])))
+        pieces.append(whole if len(corners) == len(ring) else f"and box {box} {whole}")
+    return joined("or", pieces)
+
+
+def expression(polygons: list[list[list[Corner]]], heights: tuple[int, int]) -> str:
+    """Polygons between two heights, each the outer ring less its holes."""
+    return joined("or", [joined("minus", [prism(ring, heights) for ring in rings]) for rings in polygons])
