@@ -165,6 +165,15 @@ fn first_repeated(alloc: Global, ids: &[Name]) -> Result<Option<Name>, AllocErro
     ensures { IfOk result (λ o. option_map repeated o ≡ check_repeated [] ids.now) }
 {
     let mut before = IndexSet::new(alloc);
+    first_known(&mut before, ids)
+}
+
+/// The first of the ids that stands in the set; each that doesn't goes into it, which is empty at first. Answers `AllocError`
+/// only for want of memory.
+fn first_known(before: &mut IndexSet<Name>, ids: &[Name]) -> Result<Option<Name>, AllocError>
+    requires { before.old.keys ≡ [] }
+    ensures { IfOk result (λ o. option_map repeated o ≡ check_repeated [] ids.now) }
+{
     for id in ids {
         if !before.insert(*id)? {
             return Ok(Some(*id));

@@ -4,10 +4,10 @@ use Rattle.rp_algebra.proofs.Lists.{drop_item}
 use Rattle.rp_language.specs.Name.{is_among}
 use Rattle.rp_model.specs.commands.Checks.{check_repeated}
 use Rattle.rp_history.proofs.Repeated.{seen_before, seen_more, was_seen}
-use Rattle.rp_history.proofs.checks.first_repeated.Goals as goal
+use Rattle.rp_history.proofs.checks.first_known.Goals as goal
 
 pub loop-id-init : goal.loop-id-init
-loop-id-init c = record { before = []; same = λ y. ap (is_among y) c.new-before.ensures.empty; left = refl }
+loop-id-init c = record { before = []; same = λ y. ap (is_among y) c.requires; left = refl }
 
 pub returns-then-not-branch : goal.returns-then-not-branch
 returns-then-not-branch c =
