@@ -1,6 +1,7 @@
 -- Texts that are appended one after the other, whole or only a front of them.
-use Rattle.std.proofs.Common.{◌≡◌, ℕ, ◌+◌, ◌<◌, List, ◌∷◌, ◌++◌, length, take, drop, get_or, Result, Ok, Err, sym, ap, ◌∙◌, append_assoc, add-one}
+use Rattle.std.proofs.Common.{◌≡◌, ℕ, ◌+◌, ◌<◌, ◌≤◌, List, [], ◌∷◌, ◌++◌, length, take, drop, get_or, Result, Ok, Err, sym, ap, ◌∙◌, append_assoc, add-one}
 use Rattle.std.specs.List.{flat_map}
+use Rattle.std.proofs.lemmas.List.{flat_map_more, take_all, take_more}
 use Rattle.std.proofs.Math.ListN.{take-append-drop}
 use Rattle.std.proofs.Math.Seq.{drop-cons}
 use Rattle.std.proofs.lemmas.List.Concat.{flat_map-append}
@@ -70,3 +71,12 @@ cut_at {X} text xs i x h e =
 pub front_within : {X : Type 0} (text : X → List ℕ) (old middle new : List ℕ) (xs : List X) (i : ℕ) (x : X) → i < length xs → x ≡ get_or xs i x → middle ≡ old ++ flat_map text (take i xs) → AppendsFront middle new (text x) → AppendsFront old new (flat_map text xs)
 front_within text old middle new xs i x h e m f =
     front_same old new _ (flat_map text xs) (sym (cut_at text xs i x h e)) (front_between old middle new (flat_map text (take i xs)) (text x) (flat_map text (drop (i + 1) xs)) m f)
+
+-- one item more was appended
+pub more_written : {X : Type 0} (text : X → List ℕ) (old now new : List ℕ) (xs : List X) (i : ℕ) (x : X) → i < length xs → x ≡ get_or xs i x → now ≡ old ++ flat_map text (take i xs) → new ≡ now ++ text x → new ≡ old ++ flat_map text (take (i + 1) xs)
+more_written text old now new xs i x h e so_far more =
+    more ∙ ap (λ ys. ys ++ text x) so_far ∙ flat_map_more text old (take i xs) x ∙ ap (λ ys. old ++ flat_map text ys) (ap (λ y. take i xs ++ y ∷ []) e ∙ sym (take_more xs i x h))
+
+-- all items were appended
+pub all_written : {X : Type 0} (text : X → List ℕ) (old now : List ℕ) (xs : List X) (i : ℕ) → length xs ≤ i → now ≡ old ++ flat_map text (take i xs) → now ≡ old ++ flat_map text xs
+all_written text old now xs i h so_far = so_far ∙ ap (λ ys. old ++ flat_map text ys) (take_all i xs h)
