@@ -78,6 +78,11 @@ stopped_within old mid new f xs i x piece words inside at is all before stopped 
     let whole = ap (λ p. flat_map f (take i xs) ++ p ++ later) is ∙ ap (λ p. p ++ later) (pieces_more f xs i x inside at) ∙ pieces_split f xs (i + 1) ∙ all in
     stopped_between old mid new (flat_map f (take i xs)) piece later words whole before stopped
 
+-- the words of one more item were written
+pub words_more : {X : Type 0} (old mid new : List ℕ) (f : X → List Word) (xs : List X) (i : ℕ) (x : X) (piece : List Word) → i < length xs → x ≡ get_or xs i x → piece ≡ f x → mid ≡ old ++ behind_spaces (flat_map f (take i xs)) → new ≡ mid ++ behind_spaces piece → new ≡ old ++ behind_spaces (flat_map f (take (i + 1) xs))
+words_more old mid new f xs i x piece inside at is before written =
+    words_then old mid new (flat_map f (take i xs)) piece (flat_map f (take (i + 1) xs)) (ap (λ p. flat_map f (take i xs) ++ p) is ∙ pieces_more f xs i x inside at) before written
+
 -- the words of an expression, by its first word and its kind
 pub node_words : (v : Version) (region node : Expr) (word : Word) → expression_words v (expression_of region) ≡ word ∷ drop 1 (expression_words v (expression_of region)) → region ≡ node → word ∷ drop 1 (expression_words v (expression_of node)) ≡ expression_words v (expression_of region)
 node_words v region node word first is =

@@ -8,7 +8,7 @@ use Rattle.rp_command.specs.declared.command.Expr.{Expr}
 use Rattle.rp_spelling.specs.Spells.{behind_spaces, children_words}
 use Rattle.rp_command.specs.Versions.{version_of}
 use Rattle.rp_command.specs.Views.{expression_of, child_of}
-use Rattle.rp_spelling.proofs.SpellLemmas.{stopped_within, pieces_all}
+use Rattle.rp_spelling.proofs.SpellLemmas.{stopped_within, words_more, pieces_all}
 use Rattle.rp_spelling.proofs.spelling.write_children.Goals as goal
 
 -- each child is a name and an expression
@@ -23,6 +23,14 @@ returns-in_err-write_named c =
     let inside : i < length entries = omega (arith, ap length c.items-child-items.ensures) in
     let at = c.child-item.is ∙ ap (λ (xs : List (List ℕ × Expr)). get_or xs i c.child-item.result) c.items-child-items.ensures in
     rw p.1 (stopped_within c.args.out.now.items c.loop-child.out.items c.write_named.new.out.items (λ (e : List ℕ × Expr). e.0 ∷ expression_words (version_of c.args.version) (expression_of e.1)) entries i c.child-item.result (c.child-item.result.0 ∷ expression_words (version_of c.args.version) (expression_of c.child-item.result.1)) (children_words (version_of c.args.version) (map child_of entries)) inside at refl (all_words (version_of c.args.version) entries) c.loop-child.invariant c.in_err-write_named.ensures)
+
+pub loop-child-preserved : goal.loop-child-preserved
+loop-child-preserved c =
+    let i = c.loop-child.child-index in
+    let entries = c.args.children.now.items in
+    let inside : i < length entries = omega (arith, ap length c.items-child-items.ensures) in
+    let at = c.child-item.is ∙ ap (λ (xs : List (List ℕ × Expr)). get_or xs i c.child-item.result) c.items-child-items.ensures in
+    words_more c.args.out.now.items c.loop-child.out.items c.write_named.new.out.items (λ (e : List ℕ × Expr). e.0 ∷ expression_words (version_of c.args.version) (expression_of e.1)) entries i c.child-item.result (c.child-item.result.0 ∷ expression_words (version_of c.args.version) (expression_of c.child-item.result.1)) inside at refl c.loop-child.invariant c.in_ok-write_named.ensures
 
 pub returns : goal.returns
 returns c =

@@ -8,7 +8,7 @@ use Rattle.rp_space.specs.Corners.{polygon_corner, polygon_corners}
 use Rattle.rp_space.specs.declared.corner.Corner.{Corner}
 use Rattle.rp_spelling.specs.Spells.{behind_spaces}
 use Rattle.rp_command.specs.Versions.{version_of}
-use Rattle.rp_spelling.proofs.SpellLemmas.{stopped_within, pieces_all}
+use Rattle.rp_spelling.proofs.SpellLemmas.{stopped_within, words_more, pieces_all}
 use Rattle.rp_spelling.proofs.spelling.write_corners.Goals as goal
 
 -- each corner is two numbers
@@ -26,6 +26,17 @@ returns-in_err-write_corner c =
     let inside : i < length corners = omega (arith, ap length c.items-corner-items.ensures) in
     let at = get_or_default items i _ item (omega arith) ∙ ap (λ (xs : List Corner). get_or xs i item) c.items-corner-items.ensures in
     rw p.1 (stopped_within c.args.out.now.items c.loop-corner.out.items c.write_corner.new.out.items (λ (d : Corner). corner_words v (polygon_corner d)) corners i item (corner_words v (polygon_corner item)) (flat_map (corner_words v) (polygon_corners corners)) inside at refl (all_words v corners) c.loop-corner.invariant c.in_err-write_corner.ensures)
+
+pub loop-corner-preserved : goal.loop-corner-preserved
+loop-corner-preserved c =
+    let v = version_of c.args.version in
+    let i = c.loop-corner.corner-index in
+    let items = c.items-corner-items.result.now in
+    let corners = c.args.corners.now.items in
+    let item : Corner = get_or items i (record { x = pos 0; y = pos 0 }) in
+    let inside : i < length corners = omega (arith, ap length c.items-corner-items.ensures) in
+    let at = get_or_default items i _ item (omega arith) ∙ ap (λ (xs : List Corner). get_or xs i item) c.items-corner-items.ensures in
+    words_more c.args.out.now.items c.loop-corner.out.items c.write_corner.new.out.items (λ (d : Corner). corner_words v (polygon_corner d)) corners i item (corner_words v (polygon_corner item)) inside at refl c.loop-corner.invariant c.in_ok-write_corner.ensures
 
 pub returns : goal.returns
 returns c =
