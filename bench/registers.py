@@ -10,6 +10,8 @@ import regions
 
 # The edge of a storey or a flat, its height, and how far a stair reaches to either side, in millimetres.
 EDGE, HEIGHT, STAIR = 12_000, 3_000, 2_000
+# The greatest coordinate of the domain.
+EDGE_OF_ALL = 16_777_216
 # The edge of the square whose middle all wedges share.
 SQUARE = 1_000_000
 # How many units a storey of a tower has on either side of its hall, and how deep a unit is.
@@ -76,6 +78,118 @@ def flats_audited(count):
 def flats_joined(count):
     """Such storeys, and over how many lots a flat below is joined to one above."""
     return flats(count) + [f"access west0 east{count - 1}"]
+
+
+def mixed(lines):
+    """The lines in another order, the same in each run."""
+    return random.Random(len(lines)).sample(lines, len(lines))
+
+
+def piled_mixed(count):
+    """Boxes that lie one behind the other on y and all share an interval on x, registered in no order of place."""
+    return mixed(piled_boxes(count))
+
+
+def strips(count):
+    """Long thin boxes from one side of the domain to the other, in no order of place: on the ground along x, and on the
+    floor above along y. Each below touches each above, so none is asked for what it touches."""
+    low, half = -EDGE_OF_ALL, count // 2
+    below = [regions.box((low, 2 * number, 0), (-low, 2 * number + 1, 1)) for number in range(count - half)]
+    above = [regions.box((2 * number, low, 1), (2 * number + 1, -low, 2)) for number in range(half)]
+    return [f"register p{number} {box}" for number, box in enumerate(mixed(below + above))] + ["audit"]
+
+
+def apart_pairs(count):
+    """So many boxes, two in each lot, so far from each other that the box around each lot meets that of each other one."""
+    edge = EDGE_OF_ALL
+    return [
+        f"register p{number} or {regions.box((number - edge, number - edge, 0), (number - edge + 1, number - edge + 1, 1))}"
+        f" {regions.box((edge - number - 1, edge - number - 1, 0), (edge - number, edge - number, 1))}"
+        for number in range(count // 2)
+    ]
+
+
+def among_wide(count):
+    """Sixteen lots of 1,024 boxes each, strewn from one end of the domain to the other, and then single boxes among them."""
+    lines = []
+    for lot in range(16):
+        boxes = [regions.box((16_000 * step - 8_000_000, lot, 0), (16_000 * step - 7_999_999, lot + 1, 1)) for step in range(1024)]
+        pieces = [boxes[start : start + 256] for start in range(0, 1024, 256)]
+        lines += [f"let piece{lot}-{number} = {regions.joined('or', piece)}" for number, piece in enumerate(pieces)]
+        lines.append(f"register wide{lot} {regions.joined('or', [f'name piece{lot}-{number}' for number in range(4)])}")
+    return lines + [f"register p{number} {regions.box((16 * number + 1, 3, 0), (16 * number + 2, 4, 1))}" for number in range(count)]
+
+
+def one_place(count):
+    """The same box in each of so many layers, registered."""
+    return [line for number in range(count) for line in (f"layer q{number}", f"register p{number} {regions.box((0, 0, 0), (9, 9, 9))}")]
+
+
+def one_place_owners(count):
+    """The same, and whose a point of it is, in as many layers."""
+    return one_place(count) + [line for number in range(count) for line in (f"layer q{number}", "at 4 4 4 1")]
+
+
+def generations(count):
+    """So many lots that one place has, one after the other: it is cut in two and joined again, over and over."""
+    lines = [f"register p0 {regions.box((0, 0, 0), (10, 10, 10))}"]
+    for number in range(count // 3):
+        lines += [f"cut p{number} half 1 0 0 -5 a{number} b{number}", f"consolidate p{number + 1} 2 a{number} b{number}"]
+    return lines
+
+
+def generations_then(count):
+    """The same, and whose a point of it was after each line."""
+    lines = generations(count)
+    return lines + [f"asof {number + 1} 7 7 7 1" for number in range(len(lines))]
+
+
+def long_lineage(count):
+    """The same, and the lineage of the last lot, which is all of them."""
+    return generations(count) + [f"history p{count // 3}"]
+
+
+def lineages(count):
+    """A row of boxes of one unit, and the lineage of each, which is itself."""
+    return unit_boxes(count) + mixed([f"history p{number}" for number in range(count)])
+
+
+def retired(count):
+    """A row of boxes of one unit, which are all retired, in no order of place."""
+    return unit_boxes(count) + mixed([f"retire p{number}" for number in range(count)])
+
+
+def retired_asked(word, count):
+    """The same but for two boxes side by side, of which is asked as often as there are lots."""
+    kept = {f"retire p{number}" for number in (count // 2, count // 2 + 1)}
+    return [line for line in retired(count) if line not in kept] + [word.format(count // 2, count // 2 + 1)] * count
+
+
+def touched_each(count):
+    """A row of boxes of one unit, and what each touches, in no order of place."""
+    return unit_boxes(count) + mixed([f"neighbours p{number}" for number in range(count)])
+
+
+def cut_each(count):
+    """A row of boxes of one unit, each of which is cut, in no order of place, and its halves joined again."""
+    cuts = [[f"cut p{n} half 0 2 0 -1 a{n} b{n}", f"consolidate c{n} 2 b{n} a{n}"] for n in range(count // 4)]
+    return unit_boxes(count // 4) + [line for lines in mixed(cuts) for line in lines]
+
+
+def rows_joined(word, count):
+    """Two rows of boxes, each in contact with one of the other row alone, registered row by row; then they are asked for."""
+    rows = [
+        f"register {name}{number} {regions.box((3 * number, south, 0), (3 * number + 1, south + 1, 1))}"
+        for name, south in (("a", 0), ("b", 1))
+        for number in range(count // 2)
+    ]
+    return rows + [word]
+
+
+def names(count):
+    """So many names, each of a box, and whether a point is in each of them, in no order."""
+    lets = [f"let x{number} = {regions.box((number, 0, 0), (number + 1, 1, 1))}" for number in range(count)]
+    return lets + mixed([f"member name x{number} {number} 0 0 1" for number in range(count)])
 
 
 def layers(count):

@@ -12,6 +12,10 @@ fn needs_send_sync<T: Send + Sync>() {}
 fn types_cross_threads() {
     needs_send_sync::<Proof>();
     needs_send_sync::<Proofs>();
+    needs_send_sync::<Edge>();
+    needs_send_sync::<RingStep>();
+    needs_send_sync::<RingSteps>();
+    needs_send_sync::<Slice>();
 }
 
 #[test]

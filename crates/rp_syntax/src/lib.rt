@@ -17,8 +17,10 @@ mod numbers;
 mod space;
 mod words;
 
+pub use rp_command::{Command, Expr, Version, Why};
+
 use fault::ReadFault;
-use rp_command::{Line, Version, Why};
+use rp_command::Line;
 use std::alloc::{AllocError, Global};
 use words::Words;
 
