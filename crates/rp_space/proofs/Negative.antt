@@ -4,7 +4,7 @@ use Rattle.std.proofs.lemmas.Int.{ints}
 use mir.Syntax.{w128}
 use Rattle.rp_algebra.specs.Integer.{is_zero, is_positive}
 use Rattle.rp_algebra.specs.Within.{IsWithin}
-use Rattle.rp_algebra.proofs.Machine.{code, is_by}
+use Rattle.rp_algebra.proofs.Machine.{code, held, is_by, negation, within_by}
 use Rattle.rp_algebra.proofs.Numbers.{from_zero}
 use Rattle.rp_algebra.proofs.Tests.{false_not_true, is_zero_true, not_positive_is}
 use Rattle.rp_geometry.specs.Geometry.{IsSmallPoint, point_of}
@@ -17,13 +17,6 @@ negated_coordinate v h = is_by (search code depth 30 fits 100000) tt ∙ from_ze
 pub negated_weight : (v : ℤ) → IsWithin (6 * 2 ^ 72) v → to_z w128 (of_z w128 (pos 0 -ℤ to_z w128 (of_z w128 v))) ≡ neg_ℤ v
 negated_weight v h = is_by (search code depth 30 fits 100000) tt ∙ from_zero v
 
--- the negative of a weight that is neither 0 nor above 0 is above 0
-pub negated_above : (w : ℤ) → is_zero w ≡ false → is_positive w ≡ false → pos 0 <ℤ neg_ℤ w
-negated_above w z p =
-    let most = not_positive_is w p in
-    let other : w ≡ pos 0 → ⊥ = λ e. false_not_true (is_zero w) (is_zero_true w e) z in
-    omega (arith, ints, most, other)
-
 -- numbers of these sizes with a weight above 0 are those of a small point
 pub small_numbers : (x y z w : ℤ) → IsWithin (18 * 2 ^ 96) x → IsWithin (18 * 2 ^ 96) y → IsWithin (18 * 2 ^ 96) z → IsWithin (6 * 2 ^ 72) w → pos 0 <ℤ w → IsSmallPoint (point_of x y z w)
 small_numbers x y z w hx hy hz hw p = record {
@@ -33,3 +26,11 @@ small_numbers x y z w hx hy hz hw p = record {
   z = omega (arith, hz.abs_le);
   w = omega (arith, hw.abs_le);
 }
+
+-- so are their negatives where the weight is neither 0 nor above 0
+pub small_negatives : (x y z w : ℤ) → IsWithin (18 * 2 ^ 96) x → IsWithin (18 * 2 ^ 96) y → IsWithin (18 * 2 ^ 96) z → IsWithin (6 * 2 ^ 72) w → is_zero w ≡ false → is_positive w ≡ false → IsSmallPoint (point_of (neg_ℤ x) (neg_ℤ y) (neg_ℤ z) (neg_ℤ w))
+small_negatives x y z w hx hy hz hw n p =
+    let most = not_positive_is w p in
+    let other : w ≡ pos 0 → ⊥ = λ e. false_not_true (is_zero w) (is_zero_true w e) n in
+    small_numbers (neg_ℤ x) (neg_ℤ y) (neg_ℤ z) (neg_ℤ w) (within_by (negation (held hx)) tt) (within_by (negation (held hy)) tt) (within_by (negation (held hz)) tt) (within_by (negation (held hw)) tt)
+    (omega (arith, ints, most, other))
