@@ -1,9 +1,16 @@
 -- The verdict lines of parts and of pieces.
-use Rattle.std.proofs.Common.{◌≡◌, ℕ, List, [], ◌∷◌, suc, length, map, refl, ap}
+use Rattle.std.proofs.Common.{◌≡◌, ℕ, List, [], ◌∷◌, ◌++◌, suc, length, map, refl, ap}
 use Rattle.rp_geometry.specs.sets.Shape.{Part}
 use Rattle.rp_model.specs.commands.Verdict.{Verdict, part_lines_of, piece_lines}
 use Rattle.rp_space.specs.Listed.{Listed}
 use Rattle.rp_groups.specs.Lists.{lists_of}
+use Rattle.rp_report.specs.declared.answer.Verdict.{Verdict as CodeVerdict}
+use Rattle.rp_report.specs.Views.{verdict_of}
+
+-- a line behind others
+pub line_told : (vs : List CodeVerdict) (v : CodeVerdict) (rest : List Verdict) → map verdict_of (vs ++ v ∷ []) ++ rest ≡ map verdict_of vs ++ verdict_of v ∷ rest
+line_told [] v rest = refl
+line_told (x ∷ vs) v rest = ap (λ ls. verdict_of x ∷ ls) (line_told vs v rest)
 
 -- the verdict lines of parts, which the code has in its own words
 pub lines_of_parts : {X : Type 0} (seen : X → Part) (xs : List X) → (Verdict.parts (length xs) ∷ map (λ (x : X). Verdict.part (seen x).cell) xs) ≡ part_lines_of (map seen xs)

@@ -91,7 +91,20 @@ pub fn comparison<T: Tests, N: Named<T>>(
     ensures { Tells result tests.new (row_of_forms T.tester (N.meaning named.now) (expression_of first.now) (expression_of second.now) (row_asking T.tester question) tests.old) }
 {
     let (first, second) = row_operands(alloc, named, first, second, tests)?;
-    let is_so = question.answer(alloc, first.form(), second.form(), tests)?;
+    compared(alloc, question, first.form(), second.form(), tests)
+}
+
+/// The answer to a question of two forms.
+fn compared<T: Tests>(
+    alloc: Global,
+    question: Question,
+    a: &T::Form,
+    b: &T::Form,
+    tests: &mut T,
+) -> Result<Verdicts, RowEnd>
+    ensures { Tells result tests.new (row_asking T.tester question (T.parts_of a.now) (T.parts_of b.now) tests.old) }
+{
+    let is_so = question.answer(alloc, a, b, tests)?;
     Ok(yes_or_no(alloc, is_so)?)
 }
 

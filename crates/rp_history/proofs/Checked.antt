@@ -1,9 +1,9 @@
 -- What the checks on names come to.
-use Rattle.std.proofs.Common.{◌≡◌, ℕ, ◌<◌, Bool, true, false, not, List, [], ◌∷◌, map, length, Option, Some, None, slice_get, refl, sym, ap, ◌∙◌, subst}
+use Rattle.std.proofs.Common.{◌≡◌, ℕ, ◌<◌, ◌≤◌, Bool, true, false, not, List, [], ◌∷◌, map, length, Option, Some, None, slice_get, get_or, refl, sym, ap, ◌∙◌, subst, arith}
 use Rattle.std.specs.Prelude.{IfSome, IsTrue, nat_lt}
 use Rattle.rp_algebra.proofs.Lists.{get_some, images_twice}
 use Rattle.rp_language.specs.Name.{Label, is_among}
-use Rattle.rp_model.specs.states.State.{Lot, PlainState, live_lots, live_lot, lot_with_id, ids_of, bare_lot, layer_of_lot, layer_with_id}
+use Rattle.rp_model.specs.states.State.{Lot, PlainState, live_lots, live_lot, lot_with_id, ids_of, bare_lot, layer_of_lot, layer_with_id, layer_of_first}
 use Rattle.rp_model.specs.states.Sound.{are_distinct}
 use Rattle.rp_model.specs.commands.Verdict.{Refusal, known, unknown, too_few}
 use Rattle.rp_model.specs.commands.Checks.{refuse_if, and_then, check_new, check_live, check_each, check_repeated, check_subdivide}
@@ -44,6 +44,21 @@ divided_is_live s x ids h = by (nat_lt (length ids) 2) h
 -- the same check in other words
 pub fails_as : (e : NameFault) (o p : Option Refusal) → o ≡ p → FailsNames e o → FailsNames e p
 fails_as e o p f h = subst (FailsNames e) f h
+
+-- ---- a consolidation, check by check
+
+-- there are two ids or more
+pub are_enough : (n : ℕ) → 2 ≤ n → refuse_if (nat_lt n 2) too_few ≡ None
+are_enough n h = let e : nat_lt n 2 ≡ false = grind (arith) in ap (λ (b : Bool). refuse_if b too_few) e
+
+-- both pass
+pub passes_both : (o p : Option Refusal) → o ≡ None → p ≡ None → and_then o p ≡ None
+passes_both o p f g = ap (λ (q : Option Refusal). and_then q p) f ∙ g
+
+-- the layer of the first id is that of the list
+pub layer_of_head : (s : PlainState) (ids : List Label) (x : Label) → 0 < length ids → x ≡ get_or ids 0 x → layer_with_id s x ≡ layer_of_first s ids
+layer_of_head s [] x l e = absurd (omega (arith, l))
+layer_of_head s (y ∷ ids) x l e = ap (layer_with_id s) e
 
 -- ---- ids
 

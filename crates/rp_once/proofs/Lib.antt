@@ -1,3 +1,3 @@
 pub mod Appended
 pub mod Linked
-mod Rests
+pub mod Rests

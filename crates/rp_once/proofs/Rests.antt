@@ -8,7 +8,7 @@ use Rattle.rp_walks.specs.Walk.{Tester, pass, after_first, ◌>>◌}
 use Rattle.rp_walks.specs.Compare.{show_then_no, relation_by_rests, relation_part, relation_whole, touches_outside}
 
 -- a list with an item is not empty
-not_empty : {X : Type 0} (x : X) (xs : List X) → true ≡ (length (x ∷ xs) == 0) → ⊥
+pub not_empty : {X : Type 0} (x : X) (xs : List X) → true ≡ (length (x ∷ xs) == 0) → ⊥
 not_empty x xs e = false_not_true (length (x ∷ xs) == 0) (sym e) (grind (arith, nat_tests))
 
 module _ {W X : Type 0} (tester : Tester W) (seen : X → Part) where

@@ -3,9 +3,9 @@ use Rattle.std.proofs.lemmas.List.{length-map}
 use Rattle.std.specs.Vec.Iter.{into_iter_items}
 use Rattle.rp_model.specs.commands.Verdict.{Verdict, part_lines_of}
 use Rattle.rp_report.specs.declared.answer.Verdict.{Verdict as CodeVerdict}
-use Rattle.rp_report.specs.declared.answer.Verdict.TheVariants.{Parts}
+use Rattle.rp_report.specs.declared.answer.Verdict.TheVariants.{Parts, Part}
 use Rattle.rp_report.specs.Views.{verdict_of}
-use Rattle.rp_asked.proofs.ToldLines.{lines_of_parts}
+use Rattle.rp_asked.proofs.ToldLines.{line_told, lines_of_parts}
 use Rattle.rp_asked.proofs.lines.part_lines.Goals as goal
 
 -- the first line was pushed, and those of all parts are to come
@@ -21,3 +21,15 @@ loop-part-init g c =
     ∙ ap (λ (n : ℕ). Verdict.parts n ∷ map (λ p. Verdict.part (seen p).cell) parts) same_count
     ∙ lines_of_parts seen parts
     ∙ ap part_lines_of c.into_parts-part-items.ensures
+
+-- the line of a part was pushed
+pub loop-part-preserved : goal.loop-part-preserved
+loop-part-preserved g c =
+    let seen = g.T.Tests.seen in
+    let before = c.loop-part.lines.items in
+    let rest = map (λ p. Verdict.part (seen p).cell) (into_iter_items c.next.new.self) in
+    ap (λ (vs : List CodeVerdict). map verdict_of vs ++ rest) c.in_ok-push-2.ensures.ok
+    ∙ line_told before (Part c.into_halves.result) rest
+    ∙ (λ i. map verdict_of before ++ Verdict.part (c.into_halves.ensures i) ∷ rest)
+    ∙ ap (λ ps. map verdict_of before ++ map (λ p. Verdict.part (seen p).cell) ps) (sym c.in-Some.ensures.steps.0)
+    ∙ c.loop-part.invariant
