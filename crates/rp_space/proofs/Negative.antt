@@ -2,7 +2,7 @@
 use Rattle.std.proofs.Common.{◌≡◌, ◌*◌, ◌^◌, ◌<ℤ◌, ℤ, pos, neg_ℤ, ◌-ℤ◌, to_z, of_z, ◌∙◌, arith}
 use mir.Syntax.{w128}
 use Rattle.rp_algebra.specs.Within.{IsWithin}
-use Rattle.rp_algebra.proofs.Machine.{code, held, is_by, negation, within_by}
+use Rattle.rp_algebra.proofs.Machine.{code, is_by}
 use Rattle.rp_algebra.proofs.Numbers.{from_zero}
 use Rattle.rp_geometry.specs.Geometry.{IsSmallPoint, point_of}
 
@@ -23,11 +23,3 @@ small_numbers x y z w hx hy hz hw p = record {
   z = omega (arith, hz.abs_le);
   w = omega (arith, hw.abs_le);
 }
-
--- so are their negatives where the weight is neither 0 nor above 0
-pub small_negatives : (x y z w : ℤ) → IsWithin (18 * 2 ^ 96) x → IsWithin (18 * 2 ^ 96) y → IsWithin (18 * 2 ^ 96) z → IsWithin (6 * 2 ^ 72) w → is_zero w ≡ false → is_positive w ≡ false → IsSmallPoint (point_of (neg_ℤ x) (neg_ℤ y) (neg_ℤ z) (neg_ℤ w))
-small_negatives x y z w hx hy hz hw n p =
-    let most = not_positive_is w p in
-    let other : w ≡ pos 0 → ⊥ = λ e. false_not_true (is_zero w) (is_zero_true w e) n in
-    small_numbers (neg_ℤ x) (neg_ℤ y) (neg_ℤ z) (neg_ℤ w) (within_by (negation (held hx)) tt) (within_by (negation (held hy)) tt) (within_by (negation (held hz)) tt) (within_by (negation (held hw)) tt)
-    (omega (arith, ints, most, other))

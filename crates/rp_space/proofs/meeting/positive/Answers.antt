@@ -1,19 +1,12 @@
-use Rattle.std.proofs.Common.{◌≡◌, true, false, ℤ, pos, subst, sym, ap, ◌∙◌, Some}
+use Rattle.std.proofs.Common.{◌≡◌, true, false, ◌*◌, ◌^◌, ℤ, pos, neg_ℤ, subst, sym, ap, ◌∙◌, Some}
 use Rattle.std.specs.Prelude.{int_lt}
 use mir.Syntax.{w128}
 use Rattle.rp_algebra.specs.Integer.{is_positive}
-<<<<<<< HEAD
 use Rattle.rp_algebra.specs.Within.{IsWithin}
 use Rattle.rp_algebra.proofs.Machine.{held, literal, negation, sum, written, fits_by, within_by, read_is}
 use Rattle.rp_algebra.proofs.Tests.{negated_positive, positive_is}
 use Rattle.rp_geometry.specs.Geometry.{IsSmallPoint, point_of}
 use Rattle.rp_space.proofs.Negative.{negated_coordinate, negated_weight, small_numbers}
-=======
-use Rattle.rp_algebra.proofs.Machine.{held, literal, negation, sum, written, fits_by, read_is}
-use Rattle.rp_algebra.proofs.Tests.{positive_is}
-use Rattle.rp_geometry.specs.Geometry.{IsSmallPoint, point_of}
-use Rattle.rp_space.proofs.Negative.{negated_coordinate, negated_weight, small_negatives, small_numbers}
->>>>>>> 3bbea01c92a22c20a35938d14f8311b37c0d4b2e
 use Rattle.rp_space.proofs.meeting.positive.Goals as goal
 
 pub invariant_of-result : goal.invariant_of-result
@@ -54,12 +47,12 @@ invariant_of-result-2 c =
     let y = negated_coordinate c.args.y r.y_small in
     let z = negated_coordinate c.args.z r.z_small in
     let w = negated_weight c.args.w r.w_small in
+    let xs : IsWithin (18 * 2 ^ 96) (neg_ℤ c.args.x) = within_by (negation (held r.x_small)) tt in
+    let ys : IsWithin (18 * 2 ^ 96) (neg_ℤ c.args.y) = within_by (negation (held r.y_small)) tt in
+    let zs : IsWithin (18 * 2 ^ 96) (neg_ℤ c.args.z) = within_by (negation (held r.z_small)) tt in
+    let ws : IsWithin (6 * 2 ^ 72) (neg_ℤ c.args.w) = within_by (negation (held r.w_small)) tt in
     subst IsSmallPoint (sym (λ i. point_of (x i) (y i) (z i) (w i)))
-<<<<<<< HEAD
     (small_numbers _ _ _ _ xs ys zs ws (negated_positive c.args.w r.nonzero (below c)))
-=======
-    (small_negatives c.args.x c.args.y c.args.z c.args.w r.x_small r.y_small r.z_small r.w_small r.nonzero (below c))
->>>>>>> 3bbea01c92a22c20a35938d14f8311b37c0d4b2e
 
 pub returns : goal.returns
 returns c =
