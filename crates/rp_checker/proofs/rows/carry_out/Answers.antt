@@ -2,7 +2,7 @@ use Rattle.std.proofs.Common.{ap, sym, ◌∙◌, subst, List, rules, w32}
 use Rattle.std.proofs.lemmas.Int.{to_z-of_z}
 use Rattle.std.specs.Int.RustNames.{FitsSigned}
 use Rattle.std.specs.List.{AllByRecursion}
-use Rattle.rp_language.specs.Expression.{Command, IsKeptExpression, expressions_of, ask_at, ask_as_of, ask_list, ask_section, ask_equal, ask_within, ask_overlap}
+use Rattle.rp_language.specs.Expression.{Command, IsKeptExpression, expressions_of, ask_at, ask_as_of, ask_list, ask_section, ask_equal, ask_within, ask_overlap, ask_empty, ask_pieces, ask_show, ask_contact, ask_relation, ask_neighbours, ask_history, ask_audit, ask_access}
 use Rattle.rp_model.specs.commands.Row.{row}
 use Rattle.rp_reports.specs.Check.{line_tester}
 use Rattle.rp_command.specs.Views.{command_of, expression_of, shapes_of}
@@ -45,3 +45,30 @@ pub returns-in-Overlap : goal.returns-in-Overlap
 returns-in-Overlap c =
     question_told c.told-in-Overlap.result c.comparison-in-Overlap.result c.args.trail.now c.comparison-in-Overlap.new.tests c.args.register.now (command_of c.args.command.now) (ask_overlap (expression_of c.in-Overlap.a) (expression_of c.in-Overlap.b)) (ap command_of c.in-Overlap.is)
     c.told-in-Overlap.ensures c.comparison-in-Overlap.ensures
+
+pub returns-in-Empty : goal.returns-in-Empty
+returns-in-Empty c = question_told c.told-in-Empty.result c.emptiness.result c.args.trail.now c.emptiness.new.tests c.args.register.now (command_of c.args.command.now) (ask_empty (expression_of c.in-Empty.region)) (ap command_of c.in-Empty.is) c.told-in-Empty.ensures c.emptiness.ensures
+
+pub returns-in-Pieces : goal.returns-in-Pieces
+returns-in-Pieces c = question_told c.told-in-Pieces.result c.piece_numbers.result c.args.trail.now c.piece_numbers.new.tests c.args.register.now (command_of c.args.command.now) (ask_pieces (expression_of c.in-Pieces.region)) (ap command_of c.in-Pieces.is) c.told-in-Pieces.ensures c.piece_numbers.ensures
+
+pub returns-in-Show : goal.returns-in-Show
+returns-in-Show c = question_told c.told-in-Show.result c.shown_parts.result c.args.trail.now c.shown_parts.new.tests c.args.register.now (command_of c.args.command.now) (ask_show (expression_of c.in-Show.region)) (ap command_of c.in-Show.is) c.told-in-Show.ensures c.shown_parts.ensures
+
+pub returns-in-Contact : goal.returns-in-Contact
+returns-in-Contact c = question_told c.told-in-Contact.result c.comparison-in-Contact.result c.args.trail.now c.comparison-in-Contact.new.tests c.args.register.now (command_of c.args.command.now) (ask_contact (expression_of c.in-Contact.a) (expression_of c.in-Contact.b)) (ap command_of c.in-Contact.is) c.told-in-Contact.ensures c.comparison-in-Contact.ensures
+
+pub returns-in-Rcc : goal.returns-in-Rcc
+returns-in-Rcc c = question_told c.told-in-Rcc.result c.related.result c.args.trail.now c.related.new.tests c.args.register.now (command_of c.args.command.now) (ask_relation (expression_of c.in-Rcc.a) (expression_of c.in-Rcc.b)) (ap command_of c.in-Rcc.is) c.told-in-Rcc.ensures c.related.ensures
+
+pub returns-in-Neighbours : goal.returns-in-Neighbours
+returns-in-Neighbours c = question_told c.told-in-Neighbours.result c.neighbours.result c.args.trail.now c.neighbours.new.trail c.args.register.now (command_of c.args.command.now) (ask_neighbours c.in-Neighbours.id) (ap command_of c.in-Neighbours.is) c.told-in-Neighbours.ensures c.neighbours.ensures
+
+pub returns-in-History : goal.returns-in-History
+returns-in-History c = question_told c.told-in-History.result c.lineage.result c.args.trail.now c.args.trail.now c.args.register.now (command_of c.args.command.now) (ask_history c.in-History.id) (ap command_of c.in-History.is) c.told-in-History.ensures (c.lineage.ensures c.args.trail.now)
+
+pub returns-in-Audit : goal.returns-in-Audit
+returns-in-Audit c = question_told c.told-in-Audit.result c.audit.result c.args.trail.now c.audit.new.trail c.args.register.now (command_of c.args.command.now) ask_audit (ap command_of c.in-Audit.is) c.told-in-Audit.ensures c.audit.ensures
+
+pub returns-in-Access : goal.returns-in-Access
+returns-in-Access c = question_told c.told-in-Access.result c.access.result c.args.trail.now c.access.new.trail c.args.register.now (command_of c.args.command.now) (ask_access c.in-Access.from c.in-Access.to) (ap command_of c.in-Access.is) c.told-in-Access.ensures c.access.ensures
