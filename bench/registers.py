@@ -113,11 +113,11 @@ def among_wide(count):
     """Sixteen lots of 1,024 boxes each, strewn from one end of the domain to the other, and then single boxes among them."""
     lines = []
     for lot in range(16):
-        boxes = [regions.box((16_000 * step - 8_000_000, lot, 0), (16_000 * step - 7_999_999, lot + 1, 1)) for step in range(1024)]
+        boxes = [regions.box((16_000 * step - 8_000_000, 16 * step + lot, 0), (16_000 * step - 7_999_999, 16 * step + lot + 1, 1)) for step in range(1024)]
         pieces = [boxes[start : start + 256] for start in range(0, 1024, 256)]
         lines += [f"let piece{lot}-{number} = {regions.joined('or', piece)}" for number, piece in enumerate(pieces)]
         lines.append(f"register wide{lot} {regions.joined('or', [f'name piece{lot}-{number}' for number in range(4)])}")
-    return lines + [f"register p{number} {regions.box((16 * number + 1, 3, 0), (16 * number + 2, 4, 1))}" for number in range(count)]
+    return lines + [f"register p{number} {regions.box((16 * number + 1, 99, 0), (16 * number + 2, 100, 1))}" for number in range(count)]
 
 
 def one_place(count):
