@@ -1,4 +1,4 @@
-use crate::shapes::{half, term};
+use crate::shapes::half;
 use rp_space::{
     Half, Inside, IntBox, Name, Numbers, Outside, Pair, Point, Term, box_halves, cube,
     greatest_common_divisor, is_balanced, is_contradiction, is_multiplier, joined, meet, quotient,
@@ -93,7 +93,9 @@ fn short_lists_are_copied(rt: HostRuntime) {
 #[test]
 fn multiples_are_added_up(rt: HostRuntime) {
     assert!(rt; is_multiplier(37778931862957161709567));
-    let terms = [term(&rt, 1, (1, 0, 0, -3)), term(&rt, 1, (-1, 0, 0, 3))];
+    let above = half(&rt, (1, 0, 0, -3));
+    let below = above.not();
+    let terms = [Term { by: 1, half: above }, Term { by: 1, half: below }];
     assert!(rt; is_balanced(&terms));
     assert!(rt; is_contradiction(&terms, true));
 }
