@@ -14,6 +14,10 @@ mod elim;
 #[cfg(test)]
 mod footprint;
 #[cfg(test)]
+mod shapes;
+#[cfg(test)]
 mod space;
+#[cfg(test)]
+mod threads;
 #[cfg(test)]
 mod vertex;

@@ -4,6 +4,7 @@ use rp_boxindex::{Choice, Index, IndexFault, Quiet, Steps, Watch};
 use rp_space::IntBox;
 use std::alloc::{AllocError, Global};
 use std::marker::Brand;
+use std::process::Abort;
 use std::sync::atomic::{AtomicU64, Ordering};
 use std::sync::ledger::{Blank, Ledger};
 
@@ -22,7 +23,6 @@ fn search<W: Watch, L: Ledger>(
     index: &Index,
     alloc: Global,
     bounds: &IntBox,
-    closed: bool,
     watch: &W,
     blank: Blank,
 ) -> Result<Vec<u32>, AllocError>
@@ -31,53 +31,12 @@ fn search<W: Watch, L: Ledger>(
     requires some { 0 < L.parts }
 {
     let mut steps = Steps::<L>::new(blank);
-    index.meeting(alloc, bounds, closed, watch, &mut steps)
-}
-
-const FIRST: IntBox = IntBox {
-    lo: [0, 0, 0],
-    hi: [10, 10, 10],
-};
-
-const SECOND: IntBox = IntBox {
-    lo: [10, 0, 0],
-    hi: [20, 10, 10],
-};
-
-const CORNER: IntBox = IntBox {
-    lo: [5, 5, 5],
-    hi: [10, 10, 10],
-};
-
-#[test]
-fn closed_boxes_also_meet_where_they_touch(rt: HostRuntime) {
-    let alloc = rt.alloc();
-    let mut index = Index::new(alloc);
-    index.insert(alloc, 2, SECOND).expect(&rt, "no memory");
-    index.insert(alloc, 1, FIRST).expect(&rt, "no memory");
-    let open = search::<_, Brand>(&index, alloc, &CORNER, false, &Quiet, Blank::new(1)).expect(
-        &rt,
-        "no memory",
-    );
-    assert_eq!(rt; open.as_slice(), [1].as_slice());
-    let closed = search::<_, Brand>(&index, alloc, &CORNER, true, &Quiet, Blank::new(1)).expect(
-        &rt,
-        "no memory",
-    );
-    assert_eq!(rt; closed.as_slice(), [1, 2].as_slice());
-    assert_eq!(rt; index.insert(alloc, 2, FIRST), Err(IndexFault::Known));
-    assert!(rt; index.remove(1));
-    assert!(rt; !index.remove(1));
-    let left = search::<_, Brand>(&index, alloc, &CORNER, true, &Quiet, Blank::new(1)).expect(
-        &rt,
-        "no memory",
-    );
-    assert_eq!(rt; left.as_slice(), [2].as_slice());
+    index.meeting(alloc, bounds, false, watch, &mut steps)
 }
 
 /// Counts the nodes that are visited.
 #[derive(Drop)]
-struct Visits(AtomicU64);
+pub struct Visits(pub AtomicU64);
 
 impl Watch for Visits {
     fn node(&self) {
@@ -85,44 +44,6 @@ impl Watch for Visits {
     }
 
     fn item(&self, _i: usize) {}
-}
-
-/// The box from x to x + 1, and from 0 to 1 on the other axes.
-fn slice(x: u16) -> IntBox {
-    let x = x as i32;
-    IntBox {
-        lo: [x, 0, 0],
-        hi: [x + 1, 1, 1],
-    }
-}
-
-#[test]
-fn few_of_many_nodes_are_visited(rt: HostRuntime) {
-    let alloc = rt.alloc();
-    let mut index = Index::new(alloc);
-    for i in 0..1023u16 {
-        index
-            .insert(alloc, i as u32, slice(i))
-            .expect(&rt, "no memory");
-    }
-    let visits = Visits(AtomicU64::new(0));
-    let open = search::<_, Brand>(&index, alloc, &slice(500), false, &visits, Blank::new(1)).expect(
-        &rt,
-        "no memory",
-    );
-    assert_eq!(rt; open.as_slice(), [500].as_slice());
-    assert!(rt; (1..=84).contains(&visits.0.load(Ordering::SeqCst)));
-    let visits = Visits(AtomicU64::new(0));
-    let closed = search::<_, Brand>(
-        &index,
-        alloc,
-        &slice(500),
-        true,
-        &visits,
-        Blank::new(1),
-    ).expect(&rt, "no memory");
-    assert_eq!(rt; closed.as_slice(), [499, 500, 501].as_slice());
-    assert!(rt; (1..=168).contains(&visits.0.load(Ordering::SeqCst)));
 }
 
 /// The box from z to z + 1, and from 0 to 1 on the other axes.
@@ -134,27 +55,30 @@ fn storey(z: u16) -> IntBox {
     }
 }
 
-#[test]
-fn few_nodes_are_visited_where_all_boxes_meet_on_x(rt: HostRuntime) {
-    let alloc = rt.alloc();
+/// Many such boxes, which all meet on x and on y.
+fn storeys(rt: &impl Abort, alloc: Global) -> Index {
     let mut index = Index::new(alloc);
     for i in 0..1023u16 {
         index
             .insert(alloc, i as u32, storey(i))
-            .expect(&rt, "no memory");
+            .expect(rt, "no memory");
     }
+    index
+}
+
+#[test]
+fn few_nodes_are_visited_where_all_boxes_meet_on_x(rt: HostRuntime) {
+    let alloc = rt.alloc();
+    let mut index = storeys(&rt, alloc);
     let visits = Visits(AtomicU64::new(0));
-    let open = search::<_, Brand>(
-        &index,
-        alloc,
-        &storey(500),
-        false,
-        &visits,
-        Blank::new(1),
-    ).expect(&rt, "no memory");
+    let open = search::<_, Brand>(&index, alloc, &storey(500), &visits, Blank::new(1)).expect(
+        &rt,
+        "no memory",
+    );
     assert_eq!(rt; open.as_slice(), [500].as_slice());
     // At each of the ten levels at most two nodes.
     assert!(rt; (1..=20).contains(&visits.0.load(Ordering::SeqCst)));
+    assert!(rt; index.remove(500));
 }
 
 /// The ids from one on.
@@ -189,25 +113,12 @@ fn first<C: Choice, W: Watch, L: Ledger>(
 
 #[test]
 fn the_first_id_is_found_by_few_visits(rt: HostRuntime) {
-    let alloc = rt.alloc();
-    let mut index = Index::new(alloc);
-    for i in 0..1023u16 {
-        index
-            .insert(alloc, i as u32, slice(i))
-            .expect(&rt, "no memory");
-    }
+    let index = storeys(&rt, rt.alloc());
     let visits = Visits(AtomicU64::new(0));
     assert_eq!(rt;
-        first::<_, _, Brand>(&index, &slice(500), &AtLeast(0), &visits, Blank::new(1)),
-        Some(499)
-    );
-    assert_eq!(rt;
-        first::<_, _, Brand>(&index, &slice(500), &AtLeast(501), &visits, Blank::new(1)),
+        first::<_, _, Brand>(&index, &storey(500), &AtLeast(501), &visits, Blank::new(1)),
         Some(501)
     );
-    assert_eq!(rt;
-        first::<_, _, Brand>(&index, &slice(500), &AtLeast(502), &visits, Blank::new(1)),
-        None
-    );
-    assert!(rt; (3..=504).contains(&visits.0.load(Ordering::SeqCst)));
+    // At each of the ten levels at most four nodes.
+    assert!(rt; (1..=40).contains(&visits.0.load(Ordering::SeqCst)));
 }

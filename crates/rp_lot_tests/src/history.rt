@@ -1,68 +1,54 @@
-use rp_history::{Birth, History, NameFault};
-use rp_space::{Name, Names};
+ghost use Rattle.std.specs.Prelude.{◌≡◌, length};
+ghost use Rattle.rp_history.specs.Lots.{AreBornBefore};
 
-#[test]
-fn a_lot_that_was_cut_is_in_the_lineage_of_its_sides(rt: HostRuntime) {
-    let layer = Name::new(b"base").expect(&rt, "no name");
-    let plot = Name::new(b"plot").expect(&rt, "no name");
-    let west = Name::new(b"west").expect(&rt, "no name");
-    let mut history = History::new(rt.alloc());
-    let first = Birth {
-        id: plot,
-        layer,
-        origins: Names::new(rt.alloc()),
+use crate::names::name;
+use rp_history::{Birth, History};
+use rp_space::Names;
+use std::alloc::Global;
+use std::process::Abort;
+
+/// A history with one lot, whose id is `plot`, in the layer `land`.
+pub fn with_plot(rt: &impl Abort, alloc: Global) -> History
+    ensures one { length result ≡ 1 }
+    ensures born { AreBornBefore 2 result }
+{
+    let mut history = History::new(alloc);
+    let birth = Birth {
+        id: name(b"plot"),
+        layer: name(b"land"),
+        origins: Names::new(alloc),
     };
     history
-        .note(rt.alloc(), 3, &[first], &[])
-        .expect(&rt, "no birth");
-    assert!(rt; history.alive(plot, 3));
+        .note(alloc, 1, &[birth], &[])
+        .expect(rt, "no memory");
+    history
+}
+
+#[test]
+fn a_lot_that_ended_is_in_its_lineage(rt: HostRuntime) {
+    let plot = name(b"plot");
+    let mut history = with_plot(&rt, rt.alloc());
     assert_eq!(rt; history.live_place(&plot), Some(0));
-    history.end(7, plot);
-    assert!(rt; history.alive(plot, 6));
-    assert!(rt; !history.alive(plot, 7));
-    assert_eq!(rt; history.lots().len(), 1);
+    history.end(2, plot);
+    assert!(rt; history.alive(plot, 1));
     assert_eq!(rt; history.place_of(&plot), Some(0));
-    assert!(rt; history.place_of(&west).is_none());
-    assert_eq!(rt;
-        history
-            .lineage(rt.alloc(), plot)
-            .expect(&rt, "no memory")
-            .items(),
-        [plot].as_slice()
-    );
+    let lineage = history.lineage(rt.alloc(), plot).expect(&rt, "no memory");
+    assert_eq!(rt; lineage.items(), [plot].as_slice());
+    assert_eq!(rt; history.lots().len(), 1);
 }
 
 #[test]
 fn names_are_checked(rt: HostRuntime) {
-    let layer = Name::new(b"base").expect(&rt, "no name");
-    let plot = Name::new(b"plot").expect(&rt, "no name");
-    let west = Name::new(b"west").expect(&rt, "no name");
-    let east = Name::new(b"east").expect(&rt, "no name");
-    let mut history = History::new(rt.alloc());
-    let first = Birth {
-        id: plot,
-        layer,
-        origins: Names::new(rt.alloc()),
-    };
-    history
-        .note(rt.alloc(), 3, &[first], &[])
-        .expect(&rt, "no birth");
+    let (plot, west, east) = (name(b"plot"), name(b"west"), name(b"east"));
+    let history = with_plot(&rt, rt.alloc());
     history.check_new(west).expect(&rt, "the id is not new");
-    assert_eq!(rt;
-        history.check_live(plot).expect(&rt, "the plot is not live"),
-        0
-    );
-    assert_eq!(rt; history.layer_of(&plot), layer);
-    assert_eq!(rt;
-        history.check_cut(plot, west, east).expect(&rt, "no cut"),
-        0
-    );
-    assert_eq!(rt;
-        history
-            .check_subdivide(rt.alloc(), plot, &[west, east])
-            .expect(&rt, "no subdivision"),
-        0
-    );
-    let twice = history.check_consolidate(rt.alloc(), west, &[plot, plot]);
-    assert!(rt; matches!(twice, Err(NameFault::Repeated(_))));
+    let live = history.check_live(plot).expect(&rt, "no live lot");
+    assert_eq!(rt; live, 0);
+    let cut = history.check_cut(plot, west, east).expect(&rt, "no cut");
+    assert_eq!(rt; cut, 0);
+    let divided = history.check_subdivide(rt.alloc(), plot, &[west, east]);
+    assert_eq!(rt; divided.expect(&rt, "no subdivision"), 0);
+    let layer = history.check_access(plot, plot);
+    assert_eq!(rt; layer.expect(&rt, "no access"), name(b"land"));
+    assert_eq!(rt; history.layer_of(&plot), name(b"land"));
 }

@@ -1,12 +1,12 @@
 ghost use Rattle.std.specs.Prelude.{◌≡◌, length, true};
-ghost use Rattle.rp_history.specs.Lots.{AreBornBefore};
 ghost use Rattle.rp_nearby.specs.Indexed.{NoneBehind};
 
+use crate::history::with_plot;
 use crate::names::name;
 use rp_boxindex::Quiet;
-use rp_history::{Birth, History};
+use rp_history::History;
 use rp_nearby::{Access, Holder, LotBoxes, Moment, Reach};
-use rp_space::{IntBox, Name, Names, Point};
+use rp_space::{IntBox, Point};
 use std::alloc::Global;
 use std::process::Abort;
 
@@ -17,23 +17,6 @@ fn bounds(x: i16) -> IntBox {
         lo: [x, 0, 0],
         hi: [x + 10, 10, 10],
     }
-}
-
-/// A history with one lot, whose id is `plot`, in the layer `land`.
-fn with_plot(rt: &impl Abort, alloc: Global) -> History
-    ensures one { length result ≡ 1 }
-    ensures born { AreBornBefore 2 result }
-{
-    let mut history = History::new(alloc);
-    let birth = Birth {
-        id: name(b"plot"),
-        layer: name(b"land"),
-        origins: Names::new(alloc),
-    };
-    history
-        .note(alloc, 1, &[birth], &[])
-        .expect(rt, "no memory");
-    history
 }
 
 /// The box around one lot with two parts, side by side.
@@ -47,40 +30,21 @@ fn box_of_plot(rt: &impl Abort, alloc: Global) -> LotBoxes
     boxes
 }
 
-/// How many lots of the layer `land` have another id and may meet the box from x on.
-fn count_near(
-    rt: &impl Abort,
-    alloc: Global,
-    history: &History,
-    boxes: &LotBoxes,
-    x: i16,
-    id: &Name,
-    reach: Reach,
-) -> usize
+/// How many lots of the layer `land` touch the box from 20 on.
+fn count_near(rt: &impl Abort, alloc: Global, history: &History, boxes: &LotBoxes) -> usize
     requires { NoneBehind boxes.now.live (length history.now) }
 {
-    let layer = name(b"land");
-    let hull = bounds(x);
-    let places = boxes.near(alloc, &Quiet, history, &hull, &layer, id, 0, reach);
+    let (layer, id) = (name(b"land"), name(b"other"));
+    let hull = bounds(20);
+    let places = boxes.near(alloc, &Quiet, history, &hull, &layer, &id, 0, Reach::Touch);
     places.expect(rt, "no memory").items().len()
 }
 
 #[test]
 fn lots_are_found_by_the_boxes_around_them(rt: HostRuntime) {
-    let alloc = rt.alloc();
-    let history = with_plot(&rt, alloc);
-    let boxes = box_of_plot(&rt, alloc);
-    let (plot, other) = (name(b"plot"), name(b"other"));
-    let cases = [
-        (15, other, Reach::Overlap, 1),
-        (20, other, Reach::Overlap, 0),
-        (20, other, Reach::Touch, 1),
-        (15, plot, Reach::Overlap, 0),
-    ];
-    for (x, id, reach, count) in cases {
-        let near = count_near(&rt, alloc, &history, &boxes, x, &id, reach);
-        assert_eq!(rt; near, count);
-    }
+    let history = with_plot(&rt, rt.alloc());
+    let boxes = box_of_plot(&rt, rt.alloc());
+    assert_eq!(rt; count_near(&rt, rt.alloc(), &history, &boxes), 1);
 }
 
 /// Every lot has the point.
@@ -94,10 +58,10 @@ impl Holder for Everyone {
     }
 }
 
-/// Whether the one lot of the layer `land` has a point, as far as its box tells.
-fn is_owned(rt: &impl Abort, history: &History, boxes: &LotBoxes, moment: Moment, x: i8) -> bool {
+/// Whether the one lot of the layer `land` has the point 39/2, 1/2, 1/2, as far as its box tells.
+fn is_owned(rt: &impl Abort, history: &History, boxes: &LotBoxes, moment: Moment) -> bool {
     let layer = name(b"land");
-    let p = Point::new(x as i128, 1, 1, 2).expect(rt, "no point");
+    let p = Point::new(39, 1, 1, 2).expect(rt, "no point");
     let owner = boxes.owner(history, &layer, moment, &p, &Everyone);
     owner == Some(name(b"plot"))
 }
@@ -107,23 +71,12 @@ fn a_lot_that_ends_has_its_points_of_before(rt: HostRuntime) {
     let alloc = rt.alloc();
     let mut history = with_plot(&rt, alloc);
     let mut boxes = box_of_plot(&rt, alloc);
-    assert!(rt; is_owned(&rt, &history, &boxes, Moment::Now, 39));
-    assert!(rt; !is_owned(&rt, &history, &boxes, Moment::Now, 40));
-    assert!(rt; !is_owned(&rt, &history, &boxes, Moment::Now, -1));
+    assert!(rt; is_owned(&rt, &history, &boxes, Moment::Now));
     history.end(2, name(b"plot"));
     boxes.end_all(&history, 1, &[name(b"plot")]);
-    assert!(rt; !is_owned(&rt, &history, &boxes, Moment::Now, 39));
-    assert!(rt; is_owned(&rt, &history, &boxes, Moment::After(1), 39));
-    assert!(rt; !is_owned(&rt, &history, &boxes, Moment::After(2), 39));
-    let near = count_near(
-        &rt,
-        alloc,
-        &history,
-        &boxes,
-        15,
-        &name(b"other"),
-        Reach::Touch,
-    );
+    assert!(rt; !is_owned(&rt, &history, &boxes, Moment::Now));
+    assert!(rt; is_owned(&rt, &history, &boxes, Moment::After(1)));
+    let near = count_near(&rt, alloc, &history, &boxes);
     assert_eq!(rt; near, 0);
 }
 
@@ -133,15 +86,7 @@ fn boxes_behind_a_place_are_taken_out(rt: HostRuntime) {
     let history = with_plot(&rt, alloc);
     let mut boxes = box_of_plot(&rt, alloc);
     boxes.remove_all(0, 1);
-    let near = count_near(
-        &rt,
-        alloc,
-        &history,
-        &boxes,
-        15,
-        &name(b"other"),
-        Reach::Touch,
-    );
+    let near = count_near(&rt, alloc, &history, &boxes);
     assert_eq!(rt; near, 0);
 }
 

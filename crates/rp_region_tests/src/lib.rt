@@ -8,8 +8,6 @@ mod boxes;
 #[cfg(test)]
 mod groups;
 #[cfg(test)]
-mod pieces;
-#[cfg(test)]
 mod region;
 #[cfg(test)]
 mod relate;

@@ -1,9 +1,9 @@
 ghost use Rattle.std.specs.Prelude.{◌≤◌, length};
 
 use arrayvec::ArrayVec;
-use rp_cert::{Edge, RingStep, Slice, check_slice};
+use rp_cert::{Edge, RingStep, Slice};
 use rp_section::{quick_ring, slice};
-use rp_space::{Half, IntBox, Point, box_halves};
+use rp_space::{Half, Point};
 use std::process::Abort;
 
 /// The numbers of a half-space.
@@ -51,14 +51,6 @@ const QUARTER: [Row; 8] = [
     (127, 992, -8, 1000097),
 ];
 
-/// The box with the corners (0, 0, 0) and (10, 10, 10).
-fn ten_box() -> [Half; 6] {
-    box_halves(&IntBox {
-        lo: [0; 3],
-        hi: [10; 3],
-    })
-}
-
 /// A step of a ring with these numbers.
 fn step(rt: &impl Abort, edge: (i32, i32, i64), end: (i128, i128, i128, i128)) -> RingStep {
     let (a, b, d) = edge;
@@ -67,34 +59,6 @@ fn step(rt: &impl Abort, edge: (i32, i32, i64), end: (i128, i128, i128, i128)) -
     RingStep {
         edge: Edge { a, b, d },
         end,
-    }
-}
-
-#[test]
-fn a_box_leaves_a_square(rt: HostRuntime) {
-    let square = slice(&ten_box(), 5);
-    assert!(rt; check_slice(&ten_box(), 5, &square));
-    let Slice::Ring(steps) = square else {
-        panic!(rt; "no ring");
-    };
-    let wanted = [
-        step(&rt, (1, 0, 0), (0, 0, 5, 1)),
-        step(&rt, (0, 1, 0), (10, 0, 5, 1)),
-        step(&rt, (-1, 0, 10), (10, 10, 5, 1)),
-        step(&rt, (0, -1, 10), (0, 10, 5, 1)),
-    ];
-    assert!(rt; steps.items() == wanted.as_slice());
-}
-
-#[test]
-fn a_box_leaves_nothing_at_its_upper_side(rt: HostRuntime) {
-    let Slice::Flat(terms) = slice(&ten_box(), 10) else {
-        panic!(rt; "no certificate");
-    };
-    assert_eq!(rt; terms.items().len(), 1);
-    for term in terms.items() {
-        assert_eq!(rt; term.by, 1);
-        assert_eq!(rt; term.half.numbers(), (0, 0, -1, 10));
     }
 }
 
@@ -115,21 +79,6 @@ fn a_tetrahedron_leaves_a_triangle(rt: HostRuntime) {
         step(&rt, (-2, -3, 2), (0, 2, 3, 3)),
     ];
     assert!(rt; steps.items() == wanted.as_slice());
-}
-
-#[test]
-fn three_half_spaces_leave_nothing(rt: HostRuntime) {
-    let cell = [
-        Half::new(1, 0, 0, -1).expect(&rt, "no half-space"),
-        Half::new(0, 1, 0, -1).expect(&rt, "no half-space"),
-        Half::new(-1, -1, 0, 2).expect(&rt, "no half-space"),
-    ];
-    let flat = slice(&cell, 0);
-    assert!(rt; check_slice(&cell, 0, &flat));
-    let Slice::Flat(terms) = flat else {
-        panic!(rt; "no certificate");
-    };
-    assert_eq!(rt; terms.items().len(), 3);
 }
 
 /// Appends a half-space to a cell.
@@ -200,22 +149,4 @@ fn the_guess_is_the_ring_of_a_round_cell(rt: HostRuntime) {
     let cell = round_cell(&rt);
     assert_eq!(rt; cell.len(), 32);
     assert_eq!(rt; steps_guessed(&rt, cell.as_slice()), 32);
-}
-
-#[test]
-fn a_cell_that_touches_a_height_is_flat(rt: HostRuntime) {
-    let cases: [(&[Row], usize); 4] = [
-        // in an edge, in a corner of two or of three planes, and along all of the upper side
-        (&[(1, 0, 1, -3), (-1, 0, 1, -3), (0, 1, 0, 5)], 2),
-        (&[(1, 0, -1, 3), (0, 1, 0, 0), (-1, -1, 0, 0)], 3),
-        (&[(1, 2, -1, 3), (-3, 1, -1, 3), (2, -3, -1, 3)], 3),
-        (&[(1, 0, 0, 0), (0, 0, -1, 3)], 1),
-    ];
-    for (rows, count) in cases {
-        let cell = cell_of(&rt, rows);
-        let Slice::Flat(terms) = slice(cell.as_slice(), 3) else {
-            panic!(rt; "no certificate");
-        };
-        assert_eq!(rt; terms.items().len(), count);
-    }
 }

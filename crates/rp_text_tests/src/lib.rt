@@ -11,5 +11,3 @@ mod report;
 mod scripts;
 #[cfg(test)]
 mod syntax;
-#[cfg(test)]
-mod upgrade;

@@ -1,4 +1,0 @@
-use Rattle.rp_lot_tests.proofs.boxindex.few_of_many_nodes_are_visited.Given as goal
-
-abbrev pub ghosts-search : goal.ghosts-search
-ghosts-search g a = record { name = a.blank.name; parts = a.blank.parts }
