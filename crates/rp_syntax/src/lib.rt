@@ -17,10 +17,9 @@ mod numbers;
 mod space;
 mod words;
 
-pub use rp_command::{Command, Expr, Version, Why};
-
 use fault::ReadFault;
 use rp_command::Line;
+pub use rp_command::{Command, Expr, Version, Why};
 use std::alloc::{AllocError, Global};
 use words::Words;
 
