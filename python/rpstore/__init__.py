@@ -1,14 +1,21 @@
-"""What surrounds the store: reads its reports, shows lots in a browser, takes them back into a GIS, explains refusals, and
-makes scripts of plans. docs/gis.md has an example of each.
+"""What surrounds the store: shows lots, measures them, takes them into a GIS and out of it, and explains refusals. docs/gis.md
+has an example of each.
 
 command   the grammar of a script line, and its first fault with its place
 report    a report, answer by answer; what is no report is refused
-shape     exact corners, faces, outlines, areas and volumes of convex parts
+points    exact points of a plan and of space
+outline   areas of a plan: outlines with holes of what convex polygons have together
+shape     convex bodies: corners, faces, volumes, and what several have together
 lots      the bodies and slices that a report shows; the store is asked for those of a script
-gis       GeoJSON and CityJSON
-view      one page for a browser
-explain   a sentence for each refused line
-plan      a script of a plan, in any format and grid that GDAL and PROJ read
+told      how numbers are printed, rounded there and nowhere else
+view      one page for a browser, of what is in the folder page
+picture   a picture in SVG of sections; colours, and fitting for its names
+measures  a table of areas and volumes
+gis       GeoJSON
+city      CityJSON
+explain   what is wrong with each refused line, with hints
+extract   the lines of a script on which some lots rest
+plan      a script of a plan in any format and grid that GDAL and PROJ read, by grid and rings
 
 All but `plan` need Python 3.9 and nothing else.
 """

@@ -8,7 +8,7 @@ status 1    explain: some line was refused; plan: --leave-out left features out;
             report is not accepted or shows nothing
 status 2    the words are not known
 status 3    the input could not be read
-status 4    plan: some feature cannot be registered; each is named, and nothing was written
+status 4    the output could not be written; plan: some feature cannot be registered, which is named, and nothing was written
 status 5    the store, a package or a grid is missing
 status 6    the report has more than 67,108,864 bytes
 """
@@ -152,17 +152,22 @@ def answer(options):
     return 0, json.dumps(GEOJSON[options.word](seen)) + "\n", []
 
 
+def write(text, path):
+    try:
+        with open(path, "wb") if path else sys.stdout.buffer as out:
+            out.write(text if isinstance(text, bytes) else text.encode())
+    except OSError as error:
+        raise Fault(f"the output cannot be written: {error.strerror}", 4)
+
+
 def main(words=None):
     options = parser().parse_args(words)
     try:
         status, text, said = answer(options)
         if text:
-            with open(options.output, "wb") if options.output else sys.stdout.buffer as out:
-                out.write(text if isinstance(text, bytes) else text.encode())
+            write(text, options.output)
     except Fault as fault:
         status, said = fault.status, [str(fault)]
-    except BrokenPipeError:
-        return 4
     for line in said:
         print(f"rpstore-gis: {line}", file=sys.stderr)
     return status

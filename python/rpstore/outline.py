@@ -10,7 +10,7 @@ from collections import Counter, defaultdict
 from fractions import Fraction
 from typing import Iterable, Iterator
 
-from .points import Number, Point, Ring, box_of, clipped, edges, lowest, overlap, ratio
+from .points import Point, Ring, box_of, clipped, edges, lowest, overlap, ratio
 
 
 def area(ring: Ring) -> Fraction:

@@ -6,7 +6,7 @@ import html
 from collections import defaultdict
 from fractions import Fraction
 from math import ceil, log
-from typing import Iterable, Iterator, NamedTuple, Optional
+from typing import Iterable, Iterator, NamedTuple
 
 from . import Fault, colours, fitting, told
 from .lots import Seen, Slice
@@ -15,12 +15,13 @@ from .points import Point, box_of, box_round, ratio
 # All lengths of the page are hundredths of a pixel.
 PIXEL = 100
 WIDTH, LEAST, MOST = 1000, 200, 20000
-GAP, MARGIN, HEAD, ROW, COLUMN = 16 * PIXEL, 8 * PIXEL, 26 * PIXEL, 17 * PIXEL, 190 * PIXEL
+GAP, MARGIN, HEAD, FOOT, ROW, COLUMN = (pixels * PIXEL for pixels in (16, 8, 26, 34, 17, 190))
 # A drawing that stands beside another one has this width at least, and is at most so much taller than wide.
 NARROWEST, TALLEST = 400 * PIXEL, 4
 # The sizes in which a name is tried, and a number for a name that fits in none.
 NAMES, NUMBERS = (13 * PIXEL, 9 * PIXEL), (11 * PIXEL, 7 * PIXEL)
-MOST_NAMED = 400
+# So many names the legend has at most that have a number, and so many that have none.
+MOST_NUMBERED, MOST_OTHER = 400, 24
 
 
 class Area(NamedTuple):
@@ -96,8 +97,7 @@ def frame_of(shown: list[Slice], count: int, width: int) -> tuple[Frame, int]:
 # ---- names
 
 class Names:
-    """The names of one drawing: each stands in its area, and where there is no room for it a number does, behind which the
-    legend has the name."""
+    """The words of one drawing, each in its area, and none over another one."""
 
     def __init__(self, areas: list[Area]):
         self.areas, self.taken, self.found = areas, [], []
@@ -114,20 +114,36 @@ class Names:
         return False
 
 
-def named(drawings: list[list[Area]]) -> tuple[list[Names], list[str]]:
-    """The names in all `drawings`, and the labels for which some drawing has no room, in order: their numbers are put where
-    there is room for these."""
-    placed, left = [Names(areas) for areas in drawings], {}
-    lacking = []
+class Legend(NamedTuple):
+    """The labels for which some drawing has no room: those for which a number stands there, in order, and others."""
+
+    numbered: list[str]
+    others: list[str]
+
+    @property
+    def entries(self) -> list[tuple[str, str]]:
+        """The text and the label of each line that has a colour."""
+        found = [(f"{number}: {label}", label) for number, label in enumerate(self.numbered, 1)]
+        return found + [(label, label) for label in self.others if len(self.others) <= MOST_OTHER]
+
+    @property
+    def end(self) -> str:
+        """What stands under the lines, or nothing."""
+        return f"{len(self.others)} more, for whose names a wider picture has room" if len(self.others) > MOST_OTHER else ""
+
+
+def named(drawings: list[list[Area]]) -> tuple[list[Names], Legend]:
+    """The words in all `drawings`, and what the legend has: where there is no room for a name a number stands in its place."""
+    placed, lacking, legend = [Names(areas) for areas in drawings], defaultdict(list), Legend([], [])
     for names in placed:
         for area in names.areas:
             if not names.put(area.label, area, NAMES):
-                left.setdefault(area.label, len(left) + 1)
-                lacking.append((names, area))
-    for names, area in lacking:
-        if left[area.label] <= MOST_NAMED:
-            names.put(str(left[area.label]), area, NUMBERS)
-    return placed, list(left)
+                lacking[area.label].append((names, area))
+    for label, places in lacking.items():
+        number = str(len(legend.numbered) + 1)
+        has_room = len(legend.numbered) < MOST_NUMBERED and any([names.put(number, area, NUMBERS) for names, area in places])
+        (legend.numbered if has_room else legend.others).append(label)
+    return placed, legend
 
 
 # ---- the page
@@ -173,15 +189,15 @@ def furniture(frame: Frame, width: int, top: int, version: int) -> str:
             + text(needle, y + 800, 11 * PIXEL, "N", ' text-anchor="middle"'))
 
 
-def legend(left: list[str], found: dict[str, str], top: int, columns: int) -> Iterator[str]:
-    """A line for each label that stands in the legend, with its number and its colour."""
-    rows = ceil(min(len(left), MOST_NAMED) / columns)
-    for place, label in enumerate(left[:MOST_NAMED]):
+def legend_lines(legend: Legend, found: dict[str, str], top: int, columns: int) -> Iterator[str]:
+    """The legend, in so many `columns` under `top`."""
+    rows = ceil(len(legend.entries) / columns)
+    for place, (said, label) in enumerate(legend.entries):
         x, y = GAP + place // rows * COLUMN, top + place % rows * ROW
         yield f'<rect x="{x}" y="{y}" width="1200" height="1200" fill="{found[label]}" stroke="#22303c" stroke-width="50"/>\n'
-        yield text(x + 20 * PIXEL, y + 11 * PIXEL, 12 * PIXEL, f"{place + 1}: {label}")
-    if len(left) > MOST_NAMED:
-        yield text(GAP, top + rows * ROW + 11 * PIXEL, 12 * PIXEL, f"and {len(left) - MOST_NAMED} more, for whose names a wider picture has room")
+        yield text(x + 20 * PIXEL, y + 11 * PIXEL, 12 * PIXEL, said)
+    if legend.end:
+        yield text(GAP, top + rows * ROW + 11 * PIXEL, 12 * PIXEL, legend.end)
 
 
 def areas_of(shown: list[Slice], frame: Frame, found: dict[str, str]) -> dict[int, list[Area]]:
@@ -204,23 +220,21 @@ def drawn(seen: Seen) -> list[Slice]:
 def picture(seen: Seen, width: int = WIDTH) -> str:
     """The picture of what was read, so many pixels wide."""
     shown, wide = drawn(seen), width * PIXEL
-    found = coloured(shown)
-    heights = len({each.height for each in shown})
-    frame, columns = frame_of(shown, heights, wide)
+    found, count = coloured(shown), len({each.height for each in shown})
+    frame, columns = frame_of(shown, count, wide)
     levels = areas_of(shown, frame, found)
-    placed, left = named(list(levels.values()))
-    step = frame.height + HEAD + GAP
-    bottom = ceil(heights / columns) * step + GAP
-    in_row = max(1, (wide - 2 * GAP) // COLUMN)
-    lines = ceil(min(len(left), MOST_NAMED) / in_row) + (len(left) > MOST_NAMED)
-    tall = bottom + 34 * PIXEL + (lines * ROW + GAP if left else 0)
-    parts = [f'<svg xmlns="http://www.w3.org/2000/svg" width="{width}" height="{ceil(tall / PIXEL)}" viewBox="0 0 {wide} {ceil(tall / PIXEL) * PIXEL}" '
+    placed, legend = named(list(levels.values()))
+    step, in_row = frame.height + HEAD + GAP, max(1, (wide - 2 * GAP) // COLUMN)
+    bottom = ceil(count / columns) * step + GAP
+    lines = ceil(len(legend.entries) / in_row) + bool(legend.end)
+    tall = ceil((bottom + FOOT + (lines * ROW + GAP if lines else 0)) / PIXEL)
+    parts = [f'<svg xmlns="http://www.w3.org/2000/svg" width="{width}" height="{tall}" viewBox="0 0 {wide} {tall * PIXEL}" '
              'font-family="sans-serif" fill="#17222c">\n<rect width="100%" height="100%" fill="white"/>\n']
     for place, (height, names) in enumerate(zip(levels, placed)):
         at = GAP + place % columns * (frame.width + GAP), GAP + place // columns * step
         parts += drawing(*at, frame, f"height {told.length(height, seen.version)}", names)
     parts.append(furniture(frame, wide, bottom, seen.version))
-    parts += legend(left, found, bottom + 34 * PIXEL, in_row) if left else []
+    parts += legend_lines(legend, found, bottom + FOOT, in_row)
     return "".join(parts) + "</svg>\n"
 
 

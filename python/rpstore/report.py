@@ -4,8 +4,11 @@ The lines are taken one after the other, so a report of any length is read in th
 what a report says is true, `./rpstore check` tells; here only its form is looked at, and that each verdict is one of its
 command.
 """
+from __future__ import annotations
+
 import re
 from dataclasses import dataclass
+from typing import BinaryIO, Iterator, NoReturn, Optional
 
 from . import Fault, command, outline, points
 
@@ -46,7 +49,6 @@ CAUSES = {
 # Which commands may name what is not there, and which may meet a limit.
 NO_UNKNOWN = {"at", "asof", "audit", "list", "layer"}
 NO_LIMIT = {"member", "retire", "at", "asof", "list", "history", "layer"}
-BAD = {"long", "syntax", "range", "zero", "nodes"}
 YES = ["member", "empty", "equal", "within", "overlap", "contact"]
 OK = ["let", "register", "cut", "subdivide", "consolidate", "retire", "layer"]
 RELATIONS = {"DC", "EC", "PO", "EQ", "TPP", "NTPP", "TPPi", "NTPPi"}
@@ -66,15 +68,15 @@ class Lot:
 
     id: str
     born: int
-    ended: int
+    ended: Optional[int]
     layer: str
     origins: tuple
 
 
 @dataclass(frozen=True)
 class Answer:
-    """One answer: the line of the report at which it begins, the version, the number and the text of its command, the command
-    (None where the line is none), its proof lines as they stand, and its verdict.
+    """One answer: the line of the report at which it begins, the version, the number and the text of its line (None where that
+    is too long to be echoed), its command (None where the line is none), its proof lines as they stand, and its verdict.
 
     The verdict is a `Refused`; or a word (`yes`, `ok`, `PO`, `nobody`); or for `show` the half-spaces of each part, for
     `section` for each part the corners of its ring or None where it is flat, for `list` and `history` lots, for `at`,
@@ -83,24 +85,25 @@ class Answer:
     at: int
     version: int
     number: int
-    text: str
-    command: command.Command
+    text: Optional[str]
+    command: Optional[command.Command]
     proof: tuple
     verdict: object
 
 
-def tuples(line):
+def tuples(line: bytes) -> tuple:
+    """The numbers of a `line`, bracket by bracket."""
     return tuple(tuple(map(int, numbers.split())) for numbers in NUMBERS.findall(line))
 
 
 class Lines:
     """The lines of a report, with one that can be looked at before it is taken."""
 
-    def __init__(self, file):
+    def __init__(self, file: BinaryIO):
         self.file, self.number, self.bytes, self.next = file, 0, 0, None
         self.take()
 
-    def take(self):
+    def take(self) -> Optional[bytes]:
         line, self.next = self.next, self.file.readline(MOST + 2)
         self.bytes += len(self.next)
         if self.bytes > MOST:
@@ -109,43 +112,54 @@ class Lines:
         self.number += line is not None
         return line
 
-    def due(self, pattern, what):
+    def begins(self, front: bytes) -> bool:
+        """Whether there is a next line, which begins with `front`."""
+        return self.next is not None and self.next.startswith(front)
+
+    def wrong(self, said: str) -> NoReturn:
+        """The next line cannot stand there."""
+        raise Fault(f"line {self.number + 1} of the report: {said}")
+
+    def due(self, pattern: re.Pattern, what: str) -> re.Match:
+        """Takes the next line, which must have the form of a `pattern`: it is called `what`."""
         if self.next is None:
-            raise Fault(f"line {self.number + 1} of the report: it ends in an answer; {what} is due here")
+            self.wrong(f"it ends in an answer; {what} is due here")
         found = pattern.fullmatch(self.next)
         if not found:
-            raise Fault(f"line {self.number + 1} of the report: {what} is due here")
+            self.wrong(f"{what} is due here")
         self.take()
         return found
 
 
-def refused(lines, told, parsed, fault):
-    """A refusal that may stand there."""
-    cause, *rest = told
+SHAPES = {"X": NAME.decode(), "n": ONE.decode()}
+
+
+def fits(cause: str, told: list[str]) -> bool:
+    """Whether a refusal is one of `cause`, in which X stands for a name and n for a number."""
+    shapes = [SHAPES.get(each, each) for each in cause.split()]
+    return len(shapes) == len(told) and all(map(re.fullmatch, shapes, told))
+
+
+def refused(lines: Lines, parsed: Optional[command.Command], fault: Optional[str]) -> Refused:
+    """The refusal of a line that has a command, `parsed`, or a `fault`."""
+    told = lines.next[len(b"= refused "):].decode("utf-8", "replace").split(" ")
     word = parsed.word if parsed else None
-    if fault is not None:
-        right = cause == fault and not rest
-    elif cause == "unknown":
-        right = word not in NO_UNKNOWN and len(rest) == 1 and re.fullmatch(NAME.decode(), rest[0])
-    elif cause == "limit":
-        right = word not in NO_LIMIT and not rest
-    else:
-        shapes = {"X": NAME.decode(), "n": ONE.decode()}
-        right = any(re.fullmatch(" ".join(shapes.get(each, each) for each in shape.split(" ")), " ".join(told))
-                    for shape in CAUSES.get(word, "").split("|") if shape)
-    if not right:
-        raise Fault(f"line {lines.number + 1} of the report: this line of the script is not refused so")
+    may = [fault] if fault else CAUSES.get(word, "").split("|")
+    may += ["unknown X"] if parsed and word not in NO_UNKNOWN else []
+    may += ["limit"] if parsed and word not in NO_LIMIT else []
+    if not any(fits(cause, told) for cause in may if cause):
+        lines.wrong("this line of the script is not refused so")
     lines.take()
-    return Refused(cause, tuple(rest))
+    return Refused(told[0], tuple(told[1:]))
 
 
-def counted(lines, word, item, what):
+def counted(lines: Lines, word: bytes, item: re.Pattern, what: str) -> Iterator[re.Match]:
     """`= word k` and then k lines, each of the form of an item."""
     found = lines.due(re.compile(b"= " + word + rb" (0|" + ONE + rb")"), f"the line `= {word.decode()}` with a number")
     return (lines.due(item, what) for _ in range(int(found[1])))
 
 
-def slices(lines):
+def slices(lines: Lines) -> tuple:
     """For each part the corners of its ring, which go round it once, or None where it is flat."""
     rings = []
     for found in counted(lines, b"sections", SLICE, "a line that shows a slice"):
@@ -156,12 +170,12 @@ def slices(lines):
     return tuple(rings)
 
 
-def lot_lines(lines, word):
+def lot_lines(lines: Lines, word: bytes) -> tuple[Lot, ...]:
     return tuple(Lot(found[1].decode(), int(found[2]), int(found[3]) if found[3] else None, (found[4] or b"base").decode(),
                      tuple((found[5] or b"").decode().split())) for found in counted(lines, word, LOT, "a lot line"))
 
 
-def accepted(lines, parsed):
+def accepted(lines: Lines, parsed: command.Command) -> object:
     """The verdict of a command that was not refused."""
     word = parsed.word
 
@@ -191,42 +205,49 @@ def accepted(lines, parsed):
         return int(lines.due(re.compile(rb"= clear (0|" + ONE + rb")"), "the line `= clear` with a number")[1])
     found = lines.due(re.compile(rb"= (?:noaccess|access (0|" + ONE + rb"))"), "the line `= access` or `= noaccess`")
     chain = [lines.due(PARCEL, "a parcel")[1].decode() for _ in range(int(found[1]) + 1)] if found[1] else []
-    while lines.next is not None and lines.next.startswith(b"= level"):
+    while lines.begins(b"= level"):
         lines.due(LEVEL, "a level")
     return tuple(chain)
 
 
-def answer(lines, version, last):
-    at = lines.number + 1
-    found = lines.due(ECHO, "an echo, `> ` and a number,")
-    number, bytes_ = int(found[1]), found[2]
+def echoed(lines: Lines, version: int, last: int) -> tuple:
+    """The number and the text of an echo, which stands behind that of the line `last`; and its command, or its fault."""
+    found = ECHO.fullmatch(lines.next)
+    if not found:
+        lines.wrong("an echo, `> ` and a number, is due here")
+    number, told = int(found[1]), found[2]
     if number <= last:
-        raise Fault(f"line {at} of the report: its number does not rise")
-    parsed, fault, text = None, None, None
-    if bytes_ is None:
-        fault = "long"
-    else:
-        text = bytes_.decode("utf-8", "replace")
-        try:
-            parsed = command.read(text, version)
-        except command.Refusal as refusal:
-            fault = refusal.cause
-        if len(bytes_) > LONG[version]:
-            raise Fault(f"line {at} of the report: an echo so long shows its number alone")
+        lines.wrong("its number does not rise")
+    if told is not None and len(told) > LONG[version]:
+        lines.wrong("an echo so long shows its number alone")
+    lines.take()
+    if told is None:
+        return number, None, None, "long"
+    text = told.decode("utf-8", "replace")
+    try:
+        return number, text, command.read(text, version), None
+    except command.Refusal as refusal:
+        return number, text, None, refusal.cause
+
+
+def answer(lines: Lines, version: int, last: int) -> Answer:
+    """The answer that begins with the next line, behind the one of the line `last` of a script."""
+    at = lines.number + 1
+    number, text, parsed, fault = echoed(lines, version, last)
     proof = []
-    while lines.next is not None and lines.next.startswith(b"  "):
+    while lines.begins(b"  "):
         proof.append(lines.due(PROOF, "a proof line")[0])
-    if fault is not None and lines.next is not None and not lines.next.startswith(b"= refused "):
-        raise Fault(f"line {lines.number + 1} of the report: its line of the script is no command, so `= refused {fault}` is due here")
-    if lines.next is not None and lines.next.startswith(b"= refused "):
-        verdict = refused(lines, lines.next[10:].decode("utf-8", "replace").split(" "), parsed, fault)
+    if lines.begins(b"= refused "):
+        verdict = refused(lines, parsed, fault)
+    elif parsed:
+        verdict = accepted(lines, parsed)
     else:
-        verdict = accepted(lines, parsed) if parsed else lines.due(re.compile(b"= refused"), "a refusal")
+        verdict = lines.due(re.compile(b"= refused " + fault.encode()), f"since its line of the script is no command, `= refused {fault}`")
     return Answer(at, version, number, text, parsed, tuple(proof), verdict)
 
 
-def read(file):
-    """The answers of a report, one after the other, from a binary file."""
+def read(file: BinaryIO) -> Iterator[Answer]:
+    """The answers of a report, one after the other."""
     lines = Lines(file)
     version, last = 1, 0
     if lines.next == b"> 0 rp 2":

@@ -11,7 +11,7 @@ from functools import cached_property
 from typing import Iterable, Iterator, NamedTuple, Optional
 
 from . import outline
-from .points import Box, Number, Point, Ring, box_of, box_round, clipped, edges, lowest, overlap, ratio
+from .points import Box, Number, Point, Ring, box_of, clipped, edges, lowest, overlap, ratio
 
 Half = tuple
 # The domain goes from -EDGE to EDGE on each axis.

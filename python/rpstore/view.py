@@ -1,53 +1,59 @@
 """Writes one page that shows bodies in a browser. It holds all that it needs, and asks no network."""
+from __future__ import annotations
+
 import base64
 import gzip
 import html
 import json
 from pathlib import Path
+from typing import Iterable
 
-from . import Fault, colours, outline, points, told
+from . import Fault, colours, outline, told
+from .lots import Body, Place, Seen
+from .points import Number, Point, Ring, box_round, ratio
 
 # Lots whose lowest heights are less than this apart, in units, are of one storey.
 STOREY = 2000
+PAGE = Path(__file__).parent / "page"
+SCRIPTS = ("scene.js", "eye.js", "paint.js", "panel.js", "hand.js")
 
 
-def storeys_of(lows, step):
-    """The storey of each lowest height, from 0, and what each is called."""
-    order, names, begin = {}, [], None
-    for low in sorted(set(lows)):
-        if begin is None or low - begin >= step:
-            begin = low
-            names.append([low, low])
-        names[-1][1] = low
-        order[low] = len(names) - 1
-    return [order[low] for low in lows], [f"{short(a)} m" if a == b else f"{short(a)} to {short(b)} m" for a, b in names]
-
-
-def short(units):
-    """Metres without zeros at the end, but for two digits."""
+def short(units: Number) -> str:
+    """Metres without a zero at the end, but for two digits."""
     text = told.metres(units)
     return text[:-1] if text.endswith("0") and len(text.split(".")[1]) == 3 else text
 
 
-def colours_of(bodies):
+def storeys_of(lows: list[Number], step: int) -> tuple[list[int], list[str]]:
+    """The storey of each lowest height, from 0, and how each storey is called. One goes up to less than `step` above its lowest."""
+    place, ends = {}, []
+    for low in sorted(set(lows)):
+        if not ends or low - ends[-1][0] >= step:
+            ends.append([low, low])
+        ends[-1][1] = low
+        place[low] = len(ends) - 1
+    return [place[low] for low in lows], [f"{short(a)} m" if a == b else f"{short(a)} to {short(b)} m" for a, b in ends]
+
+
+def colours_of(bodies: list[Body]) -> list[int]:
     """A colour for each body, so that those that stand side by side have different ones, and then those over each other."""
     boxes = [body.box for body in bodies]
 
-    def weight(one, other):
+    def weight(one: int, other: int) -> int:
         return 1000 if boxes[one][0][2] < boxes[other][1][2] and boxes[other][0][2] < boxes[one][1][2] else 1
 
     return colours.chosen(len(bodies), {pair: weight(*pair) for pair in colours.touching(boxes)})
 
 
-def number(value):
-    """A coordinate of a picture, in units: whole where it is whole, else to the thousandth."""
+def coordinate(value: Number) -> Number:
+    """A coordinate of the page, in units: whole where it is whole, else to the thousandth."""
     return value if isinstance(value, int) else round(float(value), 3)
 
 
 class Mesh:
     """Corners, triangles and edges of a body, from a centre in whole units."""
 
-    def __init__(self, body, centre):
+    def __init__(self, body: Body, centre: list[int]):
         self.centre, self.places, self.points, self.triangles = centre, {}, [], []
         edges = set()
         for facet in body.facets:
@@ -60,60 +66,82 @@ class Mesh:
                 edges |= {(min(p, q), max(p, q)) for p, q in zip(corners, corners[1:] + corners[:1])}
         self.edges = [end for edge in sorted(edges) for end in edge]
 
-    def place(self, point):
+    def place(self, point: Point) -> int:
+        """The number of a corner."""
         if point not in self.places:
             self.places[point] = len(self.places)
-            self.points += (number(points.ratio(point[axis], point[3]) - self.centre[axis]) for axis in range(3))
+            self.points += (coordinate(ratio(point[axis], point[3]) - self.centre[axis]) for axis in range(3))
         return self.places[point]
 
 
-def middle_of(body, centre):
-    """Where a body is named: the middle of its largest level piece that is seen from above."""
-    def size(piece):
+def middle_of(body: Body, centre: list[int]) -> list[int]:
+    """Where a body is named: the middle of its largest piece that is seen from above."""
+    def size(piece: Ring) -> Number:
         return outline.area([(x, y, w) for x, y, _, w in piece])
 
-    above = [piece for facet in body.facets if facet.half[2] < 0 for piece in facet.pieces]
-    piece = max(above, key=size)
+    piece = max((piece for facet in body.facets if facet.half[2] < 0 for piece in facet.pieces), key=size)
     return [round(sum(point[axis] / point[3] for point in piece) / len(piece) - centre[axis]) for axis in range(3)]
 
 
-def entry(body, layer, storey, colour, place, centre):
+def entry(body: Body, layer: int, storey: int, colour: int, place: Place, centre: list[int]) -> dict:
+    """What the page knows of a body. Numbers that it shows are texts, so that no browser rounds them."""
     mesh, (low, high) = Mesh(body, centre), body.box
     found = {
-        "n": body.label, "l": layer, "s": storey, "h": colour, "k": body.born, "o": list(body.origins), "q": len(body.cells), "r": int(not body.is_lot),
-        "b": [told.metres(end) for end in (*low, *high)], "d": [told.metres(b - a) for a, b in zip(low, high)],
-        "v": told.cubic_metres(body.volume), "a": told.square_metres(body.area),
-        "p": mesh.points, "t": mesh.triangles, "e": mesh.edges, "c": middle_of(body, centre),
+        "name": body.label, "layer": layer, "storey": storey, "colour": colour, "line": body.born, "origins": body.origins,
+        "parts": len(body.cells), "is_lot": body.is_lot,
+        "box": [told.metres(end) for end in (*low, *high)], "size": [told.metres(b - a) for a, b in zip(low, high)],
+        "volume": told.cubic_metres(body.volume), "area": told.square_metres(body.area),
+        "points": mesh.points, "triangles": mesh.triangles, "edges": mesh.edges, "middle": middle_of(body, centre),
     }
     if place.is_given:
-        found["m"] = [told.exact(place.metres(end, axis)) for end_ in (low, high) for axis, end in enumerate(end_[:2])]
+        found["map"] = [told.exact(place.metres(number, axis)) for end in (low, high) for axis, number in enumerate(end[:2])]
     return found
 
 
-def page(seen, title, step=STOREY):
-    """The page of what was read."""
+def several(count: int, what: str) -> str:
+    return f"{count:,} {what}{'s' * (count != 1)}"
+
+
+def about(seen: Seen, bodies: list[Body]) -> str:
+    """One line on what the page shows, and what not."""
+    lots, far = sum(body.is_lot for body in bodies), len(seen.bodies) - len(bodies)
+    told_ = [several(lots, "lot")] if lots else []
+    told_ += [several(len(bodies) - lots, "region")] if len(bodies) > lots else []
+    told_ += [f"{far} without an end, not drawn"] if far else []
+    told_ += [several(seen.refused, "refused line")] if seen.refused else []
+    told_ += [f"report {seen.check}"] if seen.check else []
+    return ", ".join(told_) + "."
+
+
+def layers_of(bodies: Iterable[Body]) -> list[str]:
+    """The layers in the order of their lots, and then those of regions that are no lots, those without a name last."""
+    return list(dict.fromkeys(body.layer for body in sorted(bodies, key=lambda body: (not body.is_lot, body.layer == "other regions"))))
+
+
+def assembled(title: str, data: dict) -> str:
+    """The page with its styles, scripts and data."""
+    packed = base64.b64encode(gzip.compress(json.dumps(data, separators=(",", ":")).encode(), 9, mtime=0)).decode()
+    style, *scripts = ((PAGE / name).read_text(encoding="utf-8") for name in ("page.css", *SCRIPTS))
+    page = (PAGE / "page.html").read_text(encoding="utf-8")
+    for mark, text in (("__STYLE__", style), ("__SCRIPT__", "".join(scripts)), ("__DATA__", packed), ("__TITLE__", html.escape(title))):
+        page = page.replace(mark, text)
+    return page
+
+
+def page(seen: Seen, title: str, step: int = STOREY) -> str:
+    """The page of what was read, under a `title`; lots whose lowest heights are less than `step` apart are of one storey."""
     bodies = [body for body in seen.bodies if body.is_bounded]
     if not bodies:
-        raise Fault("the report shows no lot and no region with an end: a line `show lot X` shows the lot X", 1)
-    lows, highs = zip(*(body.box for body in bodies))
-    centre = [(min(low[axis] for low in lows) + max(high[axis] for high in highs)) // 2 for axis in range(3)]
-    layers = list(dict.fromkeys(body.layer for body in sorted(bodies, key=lambda body: (not body.is_lot, body.layer == "other regions"))))
-    storeys, names = storeys_of([low[2] for low in lows], step)
-    lots = sum(body.is_lot for body in bodies)
-    about = [f"{lots:,} lot{'s' * (lots != 1)}"] if lots else []
-    about += [f"{len(bodies) - lots} region{'s' * (len(bodies) - lots != 1)}"] if len(bodies) > lots else []
-    about += [f"{len(seen.bodies) - len(bodies)} without an end, not drawn"] if len(seen.bodies) > len(bodies) else []
-    about += [f"{seen.refused} refused line{'s' * (seen.refused != 1)}"] if seen.refused else []
-    about += [f"report {seen.check}"] if seen.check else []
-    # Where there are lots, other regions are hidden at first; where there are none, those without a name.
-    hidden = [at > 0 and layer.endswith(" regions") for at, layer in enumerate(layers)]
-    data = {
-        "about": ", ".join(about) + ".", "layers": layers, "hidden": hidden, "storeys": names,
-        "clear": [False] * len(layers),
+        raise Fault("the report shows no lot and no region with an end: a line `show lot X` shows the lot X")
+    low, high = box_round(body.box for body in bodies)
+    centre = [(a + b) // 2 for a, b in zip(low, high)]
+    layers = layers_of(bodies)
+    storeys, names = storeys_of([body.box[0][2] for body in bodies], step)
+    return assembled(title, {
+        "about": about(seen, bodies), "layers": layers, "storeys": names, "palette": colours.PALETTE,
+        # Where there are lots, other regions are hidden at first; where there are none, those without a name.
+        "hidden": [at > 0 and layer.endswith(" regions") for at, layer in enumerate(layers)],
         "centre": [float(number) / 1000 for number in centre],
         "lots": [entry(body, layers.index(body.layer), storey, colour, seen.place, centre)
                  for body, storey, colour in zip(bodies, storeys, colours_of(bodies))],
-    }
-    packed = base64.b64encode(gzip.compress(json.dumps(data, separators=(",", ":")).encode(), 9, mtime=0)).decode()
-    text = (Path(__file__).parent / "view.html").read_text(encoding="utf-8")
-    return text.replace("__TITLE__", html.escape(title)).replace("__DATA__", packed)
+    })

@@ -52,7 +52,7 @@ def tower(storeys=20):
     yield "register way box 13.500 -5.000 0.000 16.500 9.000 2.500"
     yield "register duct box 12.000 11.000 0.000 12.400 12.000 " + metres(top)
     yield "audit"
-    yield f"section lot flat-01-5 5.000"
+    yield "section lot flat-01-5 5.000"
 
 
 def town(towers=25, storeys=20):

@@ -5,6 +5,7 @@ import subprocess
 from argparse import Namespace
 from pathlib import Path
 
+import browsing
 import pytest
 from rpstore import lots
 
@@ -37,3 +38,18 @@ def seen(store):
         return lots.load(io.BytesIO(text.encode()), options)
 
     return load
+
+
+@pytest.fixture(scope="session")
+def browser():
+    """A browser with a window of a usual size, without which its tests are skipped."""
+    made = browsing.started()
+    yield made
+    made.quit()
+
+
+@pytest.fixture(autouse=True)
+def usual_size(request):
+    """Each test of the browser begins with a window of one size."""
+    if "browser" in request.fixturenames:
+        browsing.sized(request.getfixturevalue("browser"), 1200, 800)

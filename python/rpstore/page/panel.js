@@ -1,0 +1,129 @@
+// What stands round the picture: names, scale, the numbers of a lot, the switches.
+const MOST_LABELS = 200;
+
+// A name stands where most of it is on its lot; on one that is see-through it always does.
+function placeLabels() {
+  const box = $("labels"), taken = [];
+  box.replaceChildren();
+  if (state.labels) for (const [at, lot] of lots.entries()) if (isShown(lot) && lot.low[2] < cutHeight() && taken.length < MOST_LABELS) {
+    const [x, y] = screen(lifted([lot.middle[0], lot.middle[1], Math.min(lot.middle[2], cutHeight())], lot)), wide = lot.name.length * 3.6 + 3;
+    if (!state.clear[lot.layer] && ![-.7, 0, .7].every(part => lotAt(x + part * wide, y) === at)) continue;
+    if (taken.some(other => Math.abs(other.x - x) < other.wide + wide && Math.abs(other.y - y) < 16)) continue;
+    taken.push({ x, y, wide });
+    const made = element("span", lot.name);
+    made.style.left = x + "px"; made.style.top = y + "px";
+    box.append(made);
+  }
+}
+
+// What goes with each movement.
+function furnish() {
+  const length = nice(90 / state.zoom), shown = length >= 1 ? length + " m" : length >= .01 ? Math.round(length * 100) + " cm" : +(length * 1000).toPrecision(2) + " mm";
+  $("scale").firstElementChild.textContent = shown; $("scale").lastElementChild.style.width = length * state.zoom + "px";
+  $("needle").setAttribute("transform", `rotate(${-state.yaw})`);
+  $("north").style.opacity = state.pitch < 5 ? .15 : 1;
+  $("labels").replaceChildren();
+  $("cutValue").textContent = state.cut >= 1 ? "none" : (cutHeight() + data.centre[2]).toFixed(2) + " m";
+  $("spreadValue").textContent = state.spread ? spreadMetres().toFixed(1) + " m" : "none";
+}
+
+function element(name, text, kind) {
+  const made = document.createElement(name);
+  made.textContent = text; if (kind) made.className = kind;
+  return made;
+}
+
+// A row of a table: its name, and cells that are a text, or words that go over all columns.
+function row(name, cells) {
+  const made = element("tr", "");
+  made.append(element("th", name), ...(typeof cells === "string" ? [Object.assign(element("td", cells, "words"), { colSpan: 3 })] : cells.map(text => element("td", text))));
+  return made;
+}
+
+function numbers(lot, whole) {
+  const made = element("div", ""), table = element("table", "");
+  made.append(element("div", lot.name, "lot"), table);
+  table.append(row("", ["from", "to", "m"]));
+  ["east", "north", "height"].forEach((name, axis) => table.append(row(name, [lot.box[axis], lot.box[axis + 3], lot.size[axis]])));
+  table.append(row("area in plan", ["", "", lot.area + " m²"]), row("volume", ["", "", lot.volume + " m³"]));
+  if (!whole) return made;
+  if (lot.is_lot) table.append(row("layer", data.layers[lot.layer]), row("came in line", lot.line + (lot.origins.length ? ", from " + lot.origins.join(", ") : "")));
+  else table.append(row("shown", "in line " + lot.line));
+  table.append(row("parts", String(lot.parts)));
+  if (lot.map) ["east", "north"].forEach((name, axis) => table.append(row("map " + name, [lot.map[axis], lot.map[axis + 2]])));
+  return made;
+}
+
+// Keeps the numbers of a lot in sight, or of none.
+function pick(at) {
+  state.pick = at;
+  $("card").style.display = at < 0 ? "none" : "block";
+  if (at >= 0) {
+    $("card").lastElementChild.replaceChildren(numbers(lots[at], true));
+    strokes.pick.fill(edgesOf(lots[at]));
+  }
+  repaint(true); keep();
+}
+
+const switches = { layers: [], storeys: [] };
+
+// A switch for the lots that `has` says are in it, with a button behind it.
+function addSwitch(kind, at, name, has, button) {
+  const made = element("label", "", "row"), box = element("input", "");
+  made.title = name; box.type = "checkbox";
+  box.onchange = () => { state[kind][at] = box.checked; rebuild(); };
+  made.append(box, element("span", name, "name"), element("span", lots.filter(has).length, "count"), button);
+  switches[kind].push({ box, button });
+  return made;
+}
+
+function showSwitches() {
+  for (const kind of ["layers", "storeys"]) switches[kind].forEach(({ box }, at) => { box.checked = state[kind][at]; });
+  switches.layers.forEach(({ button }, at) => button.setAttribute("aria-pressed", state.clear[at]));
+}
+
+function setStoreys(on) {
+  state.storeys = state.storeys.map((_, at) => on(at));
+  showSwitches(); rebuild();
+}
+
+function addSwitches() {
+  data.layers.forEach((name, at) => {
+    const clear = element("button", "see-through");
+    clear.onclick = event => { event.preventDefault(); state.clear[at] = !state.clear[at]; showSwitches(); rebuild(); };
+    $("layers").append(addSwitch("layers", at, name, lot => lot.layer === at, clear));
+  });
+  data.storeys.forEach((name, at) => {
+    const only = element("button", "only");
+    only.onclick = event => { event.preventDefault(); setStoreys(other => other === at); };
+    $("storeys").prepend(addSwitch("storeys", at, name, lot => lot.storey === at, only));
+  });
+  $("all").onclick = () => setStoreys(() => true);
+  $("none").onclick = () => setStoreys(() => false);
+}
+
+// Goes to a lot by its name.
+function find(name) {
+  const at = lots.findIndex(lot => lot.name === name), lot = lots[at];
+  if (!lot) return;
+  state.layers[lot.layer] = state.storeys[lot.storey] = true;
+  state.target = lifted(AXES.map(axis => (lot.low[axis] + lot.high[axis]) / 2), lot);
+  showSwitches(); rebuild(); pick(at);
+}
+
+const VIEWS = { corner: [32, 34], above: [0, 90], south: [0, 0], west: [90, 0] };
+
+function startPanel() {
+  $("about").textContent = data.about;
+  $("names").append(...lots.map(lot => Object.assign(element("option", ""), { value: lot.name })));
+  addSwitches();
+  $("find").oninput = () => find($("find").value);
+  document.querySelectorAll("[data-view]").forEach(button => { button.onclick = () => { [state.yaw, state.pitch] = VIEWS[button.dataset.view]; fit(); }; });
+  $("fit").onclick = fit;
+  $("spread").oninput = () => { state.spread = +$("spread").value; repaint(); };
+  $("cut").oninput = () => { state.cut = $("cut").value / 1000; recut(); };
+  $("colour").onchange = () => { state.colour = $("colour").value; recolour(); };
+  $("named").onchange = () => { state.labels = $("named").checked; repaint(); };
+  $("card").firstElementChild.onclick = () => pick(-1);
+  $("menu").onclick = () => { $("menu").setAttribute("aria-expanded", document.body.classList.toggle("open")); };
+}

@@ -1,0 +1,65 @@
+"""The words of the command line: statuses, and what is said on standard error."""
+import subprocess
+import sys
+
+import pytest
+from conftest import PROGRAM, ROOT
+
+
+def ran(words, given=None, **more):
+    """Runs the package, and gives its status, its output and what it said."""
+    done = subprocess.run([sys.executable, "-B", "-m", "rpstore", *words], cwd=ROOT / "python", stderr=subprocess.PIPE,
+                          env={"RPSTORE": PROGRAM}, **{"stdout": subprocess.PIPE, **more}, input=given)
+    return done.returncode, done.stdout, done.stderr.decode()
+
+
+SECTION = (ROOT / "examples/section.report").read_bytes()
+
+
+def test_a_picture_of_a_report_and_of_a_brief_one(store):
+    status, full, said = ran(["picture"], SECTION)
+    assert (status, said) == (0, "rpstore-gis: drew 4 sections at 4 heights; 3 have nothing at that height; 2 without an end are left out\n")
+    brief = b"".join(line for line in SECTION.splitlines(keepends=True) if not line.startswith(b"  "))
+    assert brief != SECTION and ran(["picture"], brief) == (0, full, said)
+    assert full == (ROOT / "examples/section.svg").read_bytes()
+
+
+def test_a_picture_of_a_script(store):
+    script = (ROOT / "examples/plan.rp").read_bytes()
+    assert ran(["picture"], script)[:2] == (0, (ROOT / "examples/plan.svg").read_bytes())
+
+
+# The words, what they read, the status, and what is said.
+REFUSED = [
+    (["picture"], SECTION.replace(b"= ring", b"= circle", 1), 1, "line 5 of the report: a line that shows a slice is due here"),
+    (["picture"], b"\n".join(SECTION.splitlines()[:3]) + b"\n", 1, "line 4 of the report: it ends in an answer; the line `= sections` with a number is due here"),
+    (["picture"], b"> 1 list\n= parcels 0\n", 1, "the report has no line `section` that shows something: `section lot X 1.500` cuts the lot X at 1.5 m"),
+    (["measures"], b"> 1 list\n= parcels 0\n", 1,
+     "the report shows no lot, no region with an end and no section: a line `show lot X` shows the lot X"),
+    (["view", "no such file"], b"", 3, "the input cannot be read: No such file or directory"),
+]
+
+
+@pytest.mark.parametrize("words, given, status, said", REFUSED)
+def test_what_is_refused(words, given, status, said, store):
+    assert ran(words, given) == (status, b"", f"rpstore-gis: {said}\n")
+
+
+def test_input_and_output_that_fail():
+    words = ["picture", "--unchecked"]
+    assert ran([*words, "/"])[::2] == (3, "rpstore-gis: the input cannot be read: Is a directory\n")
+    with open("/dev/full", "wb") as full:
+        assert ran(words, SECTION, stdout=full)[::2] == (4, "rpstore-gis: the output cannot be written: No space left on device\n")
+    assert ran([*words, "-o", "/no such folder/a.svg"], SECTION) == (4, b"", "rpstore-gis: the output cannot be written: No such file or directory\n")
+
+
+def test_a_report_that_is_too_long():
+    proof = b"  in" + 4 * (b" (" + 900 * b"1" + b" 0 0 1)") + b"\n"
+    report = b"> 1 member all 0 0 0 1\n" + proof * (67108864 // len(proof) + 1)
+    assert ran(["picture", "--unchecked"], report) == (6, b"", "rpstore-gis: the report has more than 67108864 bytes\n")
+
+
+@pytest.mark.parametrize("words", [["picture", "--width", "199"], ["picture", "--width", "20001"], ["picture", "--width", "x"], ["draw"], []])
+def test_words_that_are_not_known(words):
+    status, out, said = ran(words)
+    assert (status, out) == (2, b"") and said.startswith("usage: rpstore-gis")
