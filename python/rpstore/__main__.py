@@ -20,7 +20,7 @@ import sys
 from dataclasses import fields
 from decimal import Decimal, InvalidOperation
 
-from . import Fault, city, explain, extract, gis, lots, measures, picture, plan, report, view
+from . import Fault, city, explain, extract, gis, lots, measures, picture, report, view
 
 GEOJSON = {"sections": gis.sections, "lots": gis.footprints, "faces": gis.faces}
 
@@ -132,6 +132,8 @@ def extracted(file, options):
 def answer(options):
     """The status, the text, and lines for standard error."""
     if options.word == "plan":
+        # It alone wants packages, which take half a second to load.
+        from . import plan
         wanted = plan.Options(**{each.name: getattr(options, each.name) for each in fields(plan.Options)})
         return plan.script_of(options.file or "/vsistdin/", wanted)
     with opened(options.file) as file:

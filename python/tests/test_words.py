@@ -79,3 +79,9 @@ def test_the_lines_of_the_documents(line, store, tmp_path):
     (tmp_path / "examples").symlink_to(ROOT / "examples")
     words = shlex.split(line)[1:]
     assert ran(words, cwd=tmp_path)[:2] == (0, b"") and (tmp_path / words[words.index("-o") + 1]).stat().st_size > 1000
+
+
+def test_the_standard_library_is_enough_for_all_words_but_plan():
+    code = "import sys, rpstore.__main__; print([name for name in ('fiona', 'pyproj', 'shapely', 'osgeo') if name in sys.modules])"
+    done = subprocess.run([sys.executable, "-B", "-c", code], stdout=subprocess.PIPE, env={"PYTHONPATH": str(ROOT / "python")}, check=True)
+    assert done.stdout == b"[]\n"
