@@ -132,9 +132,10 @@ def extracted(file, options):
 def answer(options):
     """The status, the text, and lines for standard error."""
     if options.word == "plan":
-        # GDAL and PROJ are imported for this word alone.
+        # It alone wants packages, which take half a second to load.
         from . import plan
-        return plan.script_of(options.file or "/vsistdin/", plan.Options(**{each.name: getattr(options, each.name) for each in fields(plan.Options)}))
+        wanted = plan.Options(**{each.name: getattr(options, each.name) for each in fields(plan.Options)})
+        return plan.script_of(options.file or "/vsistdin/", wanted)
     with opened(options.file) as file:
         if options.word == "explain":
             return explained(file, options)
