@@ -192,7 +192,7 @@ def test_what_is_left_over_of_many_children(told, store):
     found = lines_of(told(script))
     assert found.count("let gap") == 519
     report = store(script + found, "run", "brief").decode()
-    assert report.count("= refused") == 1 and "= parts 1\n= part (1 0 0 -519) " in report
+    assert report.count("= refused") == 1 and "= parts 1\n= part (-1 0 0 520) (0 1 0 0) (0 -1 0 9) (0 0 1 0) (0 0 -1 9) (1 0 0 -519)\n" in report
 
 
 def test_a_brief_report_has_no_point(store):
