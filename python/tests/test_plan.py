@@ -229,6 +229,9 @@ def test_grids_that_do_not_do(written, tmp_path):
             script(path, **{"source": None, **given})
     with pytest.raises(Fault, match="does not say in which grid"):
         script(path, to="EPSG:25832")
+    datum = 'GEOGCS["none",DATUM["none",SPHEROID["none",6378249,293.46]],PRIMEM["Greenwich",0],UNIT["degree",0.0174532925199433]]'
+    with pytest.raises(Fault, match="only roughly how none lies to ETRS89"):
+        script(path, datum, to="EPSG:25832")
     with pytest.raises(Fault, match="does not read"):
         script(str(tmp_path / "none.geojson"))
 
