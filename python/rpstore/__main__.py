@@ -132,7 +132,7 @@ def extracted(file, options):
 def answer(options):
     """The status, the text, and lines for standard error."""
     if options.word == "plan":
-        # It alone wants packages, which take half a second to load.
+        # GDAL and PROJ are imported for this word alone.
         from . import plan
         wanted = plan.Options(**{each.name: getattr(options, each.name) for each in fields(plan.Options)})
         return plan.script_of(options.file or "/vsistdin/", wanted)
