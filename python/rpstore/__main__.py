@@ -20,7 +20,7 @@ import sys
 from dataclasses import fields
 from decimal import Decimal, InvalidOperation
 
-from . import Fault, city, explain, extract, gis, lots, measures, picture, plan, report, view
+from . import Fault, city, explain, extract, gis, lots, measures, picture, report, view
 
 GEOJSON = {"sections": gis.sections, "lots": gis.footprints, "faces": gis.faces}
 
@@ -116,7 +116,7 @@ def explained(file, options):
     elif b"\n  " in text and not options.unchecked:
         # A brief report shows no points, and `check` takes full ones alone.
         lots.accepted(lots.checked(text, store))
-    sentences = list(explain.explained(io.BytesIO(text), place))
+    sentences = list(explain.explained(text, place))
     return int(bool(sentences)), "".join(f"{sentence}\n" for sentence in sentences), []
 
 
@@ -124,14 +124,18 @@ def extracted(file, options):
     made = extract.extract(file.read(), options.ids, lots.program(options.store), options.neighbours)
     said = f"{made.kept:,} of {made.lines:,} lines; the report has {len(made.report):,} bytes and is accepted"
     if options.output:
-        with open(os.path.splitext(options.output)[0] + ".report", "wb") as out:
-            out.write(made.report)
+        path = os.path.splitext(options.output)[0] + ".report"
+        if path == options.output:
+            raise Fault("-o names the script: its report gets the ending .report", 2)
+        write(made.report, path)
     return 0, made.script, [said]
 
 
 def answer(options):
     """The status, the text, and lines for standard error."""
     if options.word == "plan":
+        # GDAL and PROJ are imported for this word alone.
+        from . import plan
         wanted = plan.Options(**{each.name: getattr(options, each.name) for each in fields(plan.Options)})
         return plan.script_of(options.file or "/vsistdin/", wanted)
     with opened(options.file) as file:

@@ -6,7 +6,7 @@ from typing import Callable, Optional
 
 from .command import A_COMMAND, AN_EXPRESSION, COMMANDS, CORNERS, EQUALS, NAME, NODES, THE_END, Refusal, spelled
 
-NUMBER = re.compile(r"[+-]?(?:[0-9]{1,30}\.?[0-9]{0,9}|\.[0-9]{1,9})")
+NUMBER = re.compile(r"[+-]?(?:[0-9]{1,18}\.?[0-9]{0,9}|\.[0-9]{1,9})")
 BRACKETS = re.compile(r"[()\[\]{}]")
 OTHER_NOTES = ("//", "--", ";", "%", "/*", "'")
 # What tells of a word to which kind of thing it is known: `name` or `lot`, or None.
@@ -112,7 +112,7 @@ def of_number(fault: Refusal, version: int) -> str:
     value = Decimal(word)
     if due.is_decimal(version):
         return f"it has three digits behind the point: {spelled(int(value * 1000))}" if value * 1000 % 1 == 0 else "it ends at the millimetre"
-    if due.is_coordinate and value * 1000 % 1 == 0:
+    if due.is_coordinate and "." in word and value * 1000 % 1 == 0:
         return f"a decimal wants a script that begins with the line `rp 2`; here it is {int(value * 1000)} units"
     return f"it is {int(value)}" if value % 1 == 0 else "it is a whole number"
 
@@ -129,6 +129,10 @@ def hint(fault: Refusal, version: int, known: Known) -> str:
     word, due = fault.word, fault.due
     if fault.cause == "range":
         return of_range(fault)
+    if fault.cause == "nodes":
+        return "a part of it that has a name by `let` counts as one"
+    if fault.cause == "zero":
+        return ""
     if word is None:
         return of_corner(fault) if " of corner " in due.what else ""
     found = of_bytes(fault)

@@ -82,14 +82,19 @@ class Body:
 @dataclass(eq=False)
 class Slice:
     """What the line `number`, a `section`, shows: a lot's id and layer or None, how the region is called, the height in units,
-    and convex polygons that share no area."""
+    and the rings of its parts."""
 
     number: int
     lot: Optional[str]
     layer: Optional[str]
     label: str
     height: int
-    polygons: list[Ring]
+    rings: list[Ring]
+
+    @cached_property
+    def polygons(self) -> list[Ring]:
+        """What there is, as convex polygons that share no area."""
+        return outline.apart(self.rings)
 
     @cached_property
     def outlines(self) -> list[tuple]:
@@ -101,7 +106,7 @@ class Slice:
 
     @property
     def is_bounded(self) -> bool:
-        return all(max(abs(x), abs(y)) < shape.EDGE * w for polygon in self.polygons for x, y, w in polygon)
+        return all(max(abs(x), abs(y)) < shape.EDGE * w for ring in self.rings for x, y, w in ring)
 
 
 @dataclass
@@ -199,7 +204,7 @@ def slice_of(answer: report.Answer, register: Register) -> Slice:
     """What a line `section` shows."""
     parsed, lot = answer.command, lot_of(answer.command)
     rings = [[lowest((x, y, w)) for x, y, _, w in ring] for ring in answer.verdict if ring]
-    return Slice(answer.number, lot, register.layer_of(lot) if lot else None, label_of(parsed), parsed.numbers[0], outline.apart(rings))
+    return Slice(answer.number, lot, register.layer_of(lot) if lot else None, label_of(parsed), parsed.numbers[0], rings)
 
 
 def seen(file, place: Optional[Place] = None, check: str = "") -> Seen:

@@ -54,7 +54,7 @@ def label_of(each: Slice) -> str:
 
 
 def boxes_of(shown: list[Slice]) -> list:
-    return [box_round(map(box_of, each.polygons)) for each in shown]
+    return [box_round(map(box_of, each.rings)) for each in shown]
 
 
 def coloured(shown: list[Slice]) -> dict[str, str]:
@@ -211,7 +211,7 @@ def areas_of(shown: list[Slice], frame: Frame, found: dict[str, str]) -> dict[in
 
 def drawn(seen: Seen) -> list[Slice]:
     """The slices that are drawn: those that have something, and where there are such those that reach no side of the domain."""
-    there = [each for each in seen.slices if each.polygons]
+    there = [each for each in seen.slices if each.rings]
     if not there:
         raise Fault("the report has no line `section` that shows something: `section lot X 1.500` cuts the lot X at 1.5 m")
     return [each for each in there if each.is_bounded] or there
@@ -240,7 +240,7 @@ def picture(seen: Seen, width: int = WIDTH) -> str:
 
 def summary(seen: Seen) -> str:
     """What was drawn, and what was not."""
-    shown, empty = drawn(seen), sum(not each.polygons for each in seen.slices)
+    shown, empty = drawn(seen), sum(not each.rings for each in seen.slices)
     far = len(seen.slices) - len(shown) - empty
     heights = len({each.height for each in shown})
     said = f"drew {len(shown)} section{'s' * (len(shown) != 1)} at {heights} height{'s' * (heights != 1)}"

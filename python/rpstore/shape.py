@@ -8,6 +8,7 @@ from __future__ import annotations
 from collections import defaultdict
 from fractions import Fraction
 from functools import cached_property
+from itertools import product
 from typing import Iterable, Iterator, NamedTuple, Optional
 
 from . import outline
@@ -98,31 +99,47 @@ class Cell:
         return left
 
 
-def domain() -> Cell:
-    """The cube in which all regions lie."""
+def sides_of(halves: Iterable[Half]) -> tuple[list[list[Half]], list[Half]]:
+    """The half-spaces that bound a part from below and from above on each axis, those of the domain where no other is narrower;
+    and the ones that are not upright or level."""
+    sides = [[tuple(sign * (at == axis) for at in range(3)) + (EDGE,) for sign in (1, -1)] for axis in range(3)]
+    others = []
+    for half in halves:
+        axes = [axis for axis in range(3) if half[axis]]
+        if len(axes) != 1:
+            others.append(half)
+            continue
+        [axis] = axes
+        known = sides[axis][half[axis] < 0]
+        if half[3] * abs(known[axis]) < known[3] * abs(half[axis]):
+            sides[axis][half[axis] < 0] = half
+    return sides, others
+
+
+def brick(sides: list[list[Half]]) -> Optional[Cell]:
+    """The box between two half-spaces on each axis, or None where it has no volume."""
+    if any(low[3] * -high[axis] + high[3] * low[axis] <= 0 for axis, (low, high) in enumerate(sides)):
+        return None
+    # Where each half-space ends on its axis, as a quotient.
+    ends = [((-low[3], low[axis]), (high[3], -high[axis])) for axis, (low, high) in enumerate(sides)]
+    corners = {}
+    for at in product((0, 1), repeat=3):
+        (x, a), (y, b), (z, c) = (ends[axis][at[axis]] for axis in range(3))
+        corners[at] = lowest((x * b * c, y * a * c, z * a * b, a * b * c))
     faces = []
-    for axis in range(3):
-        for sign in (1, -1):
-            half, polygon = [0, 0, 0, EDGE], []
-            half[axis] = sign
-            one, two = (axis + 1) % 3, (axis + 2) % 3
-            turns = [(-1, -1), (1, -1), (1, 1), (-1, 1)]
-            # A half-space of sign 1 holds what is above -EDGE, so its side is the lower one and is seen from below.
-            for a, b in turns if sign < 0 else turns[::-1]:
-                point = [0, 0, 0, 1]
-                point[axis], point[one], point[two] = -sign * EDGE, a * EDGE, b * EDGE
-                polygon.append(tuple(point))
-            faces.append((tuple(half), polygon))
+    for axis, end in product(range(3), (0, 1)):
+        # Round a face, seen from outside: the next axis comes before the one behind it at the upper end.
+        turns = [(0, 0), (1, 0), (1, 1), (0, 1)] if end else [(0, 0), (0, 1), (1, 1), (1, 0)]
+        places = ({axis: end, (axis + 1) % 3: one, (axis + 2) % 3: two} for one, two in turns)
+        faces.append((sides[axis][end], [corners[at[0], at[1], at[2]] for at in places]))
     return Cell(faces)
-
-
-DOMAIN = domain()
 
 
 def cell(halves: Iterable[Half]) -> Optional[Cell]:
     """The body of a part that has these half-spaces, or None where it has no volume."""
-    body = DOMAIN
-    for half in halves:
+    sides, others = sides_of(halves)
+    body = brick(sides)
+    for half in others:
         body = body and body.cut(half)
     return body
 

@@ -1,9 +1,10 @@
 """What is said of refused lines: the word, what is due there, a hint; or the lots, the place, and the lines that show it."""
-import io
 import re
 
+import drawn
 import pytest
 from rpstore import explain, lots
+from test_words import ran
 
 # A line of version 2 and what is said of it behind the line's number; the first are a planner's own mistakes.
 MISREAD = [
@@ -57,34 +58,40 @@ MISREAD = [
     ("show prism 0.000 1.000 3 0.000 0.000 1.000 0.000 1.000 1.000 0.000 1.000",
      'word 12, "0.000", stands where the end of the line is due (the prism before it has 3 corners by its count).'),
     ("subdivide a 2 b prism 0.000 1.000 5 0.000 0.000 1.000 0.000 1.000 1.000 0.000 1.000 c all",
-     'word 16, "c", stands where x of corner 5 of 5 is due, from -8388.608 to 8388.608 (the count says 5 corners, and 4 are there).'),
+     'word 17, "c", stands where x of corner 5 of 5 is due, from -8388.608 to 8388.608 (the count says 5 corners, and 4 are there).'),
     ("show box 0.000 0.000 0.000 1.0005 1.000 1.000",
      'word 6, "1.0005", stands where x2 of box is due, from -16777.216 to 16777.216 (it ends at the millimetre).'),
     ("show half 1 0 0 -10.000", 'word 6, "-10.000", stands where D of half is due, from -844424930131968 to 844424930131968 (it is -10).'),
     ("show half 1 0 0 -10.500", 'word 6, "-10.500", stands where D of half is due, from -844424930131968 to 844424930131968 (it is a whole number).'),
     ("show half 0 0 0 0", "the four numbers of half that end with word 6 are all 0, which is no half-space."),
     ("show prism 0.000 1.000 300 0.000", 'word 5, "300", is out of bounds: the count of corners is from 3 to 256 (docs/plans.md tells how a ring of more corners is cut).'),
-    ("show" + " not" * 1024 + " all", 'word 1026, "all", is the 1,025th word of its kind, and a line may have 1,024.'),
+    ("show" + " not" * 1024 + " all", 'word 1026, "all", is the 1,025th word of its kind, and a line may have 1,024 (a part of it that has a name by `let` counts as one).'),
     ("x" * 262145, "it has more than 262,144 bytes."),
 ]
 GROUND = "rp 2\nregister ground box 0.000 0.000 0.000 1.000 1.000 1.000\nlet field = all\n"
+
+
+@pytest.fixture(scope="module")
+def misread(store):
+    """What is said of each of these lines, in one script."""
+    script = GROUND + "".join(f"{line}\n" for line, _ in MISREAD)
+    return [*explain.explained(store(script), lots.Place())]
+
+
+@pytest.mark.parametrize("place", range(len(MISREAD)))
+def test_the_word_and_what_is_due(place, misread):
+    assert len(misread) == len(MISREAD)
+    head, wanted = f"Line {place + 3} (in an editor {place + 4}): ", MISREAD[place][1]
+    assert misread[place] == head + wanted if wanted.endswith(".") else misread[place].startswith(head + wanted)
 
 
 @pytest.fixture
 def told(store):
     """What is said of the last line of a script."""
     def tell(script, place=lots.Place()):
-        return [*explain.explained(io.BytesIO(store(script)), place)][-1]
+        return [*explain.explained(store(script), place)][-1]
 
     return tell
-
-
-@pytest.mark.parametrize("line, wanted", MISREAD)
-def test_the_word_and_what_is_due(line, wanted, told):
-    found = told(f"{GROUND}{line}\n")
-    assert found.startswith("Line 3 (in an editor 4): ")
-    found = found[len("Line 3 (in an editor 4): "):]
-    assert found == wanted if wanted.endswith(").") or wanted.endswith(".") else found.startswith(wanted)
 
 
 def test_whole_numbers_of_version_1(told):
@@ -124,8 +131,8 @@ REFUSED = [
     ("register a box 0 0 0 9 9 9\nlayer x\nregister b box 0 0 0 9 9 9\naccess a b",
      "Line 4: the question `access` was not answered, because b is in the layer x, and a in the layer base."),
     ("rcc all none", "Line 1: the question `rcc` was not answered, because its second region has no point."),
-    ("let a = or not box 0 0 0 1 1 1 not box 0 0 0 1 1 1\n" + "".join(f"let {b} = or name {a} name {a}\n" for a, b in zip("abcdefg", "bcdefgh")) + "let i = or name h name h",
-     "Line 9: the name i was not given, because a limit of the store is met, in making its parts, in the tests that it needs or in what is kept; "
+    ("let a = or not box 0 0 0 1 1 1 not box 0 0 0 1 1 1\n" + "".join(f"let {b} = or name {a} name {a}\n" for a, b in zip("abcdef", "bcdefg")) + "let h = or name g name g",
+     "Line 8: the name h was not given, because a limit of the store is met, in making its parts, in the tests that it needs or in what is kept; "
      "docs/language.md has them under Limits, with ways round each."),
     # The average of the points that the report shows: for x of 9, 9, 9 and 10 that is 9.25.
     ("register a box 0 0 0 10 10 10\nregister b box 9 0 0 20 10 10",
@@ -180,23 +187,46 @@ def test_the_point_is_of_both_lots(told, store):
 
 def test_what_is_left_over_of_many_children(told, store):
     """Taken away in one line they would be too many words, so each is taken away in its own."""
-    children = " ".join(f"c{x} box {x} 0 0 {x + 1} 9 9" for x in range(699))
-    script = f"register p box 0 0 0 700 9 9\nsubdivide p 699 {children}\n"
+    children = " ".join(f"c{x} box {x} 0 0 {x + 1} 9 9" for x in range(519))
+    script = f"register p box 0 0 0 520 9 9\nsubdivide p 519 {children}\n"
     found = lines_of(told(script))
-    assert found.count("let gap") == 699
+    assert found.count("let gap") == 519
     report = store(script + found, "run", "brief").decode()
-    assert report.count("= refused") == 1 and "= parts 1\n= part (1 0 0 -699) " in report
+    assert report.count("= refused") == 1 and "= parts 1\n= part (-1 0 0 520) (0 1 0 0) (0 -1 0 9) (0 0 1 0) (0 0 -1 9) (1 0 0 -519)\n" in report
 
 
 def test_a_brief_report_has_no_point(store):
     report = store("register a box 0 0 0 10 10 10\nregister b box 9 0 0 20 10 10\n", "run", "brief")
-    [told] = explain.explained(io.BytesIO(report), lots.Place())
+    [told] = explain.explained(report, lots.Place())
     assert told.endswith("since line 1. (A brief report shows no point: run without `brief` for one.)")
 
 
-def test_every_refusal_of_the_examples_is_explained(root, store):
+def test_names_of_advised_lines_are_new_in_the_whole_script(store):
+    script = "register a box 0 0 0 9 9 9\nregister b lot a\nregister c lot a\nlet new = none\n"
+    told = [*explain.explained(store(script), lots.Place())]
+    assert [re.findall("let (\\S+) =", sentence) for sentence in told] == [["new-2", "common"], ["new-3", "common-2"]]
+    assert store(script + "".join(map(lines_of, told)), "run", "brief").decode().count("= refused") == 2
+
+
+def explains_what_is_refused(report):
+    told = [*explain.explained(report, lots.Place())]
+    numbers = [int(number) for number in re.findall(rb"^> ([0-9]+)(?: .*)?\n(?:  .*\n)*= refused", report, re.M)]
+    return [int(re.match("Line ([0-9]+)", sentence)[1]) for sentence in told] == numbers
+
+
+def test_every_refusal_of_the_examples_is_explained(root):
     for path in root.glob("examples/*.report"):
-        text = path.read_bytes()
-        told = [*explain.explained(io.BytesIO(text), lots.Place())]
-        numbers = [int(number) for number in re.findall(rb"^> ([0-9]+)(?: .*)?\n(?:  .*\n)*= refused", text, re.M)]
-        assert [int(re.match("Line ([0-9]+)", sentence)[1]) for sentence in told] == numbers
+        assert explains_what_is_refused(path.read_bytes()), path
+
+
+@pytest.mark.parametrize("seed", range(100))
+def test_every_refusal_of_a_drawn_script_is_explained(seed, store):
+    assert explains_what_is_refused(store(drawn.script(seed)))
+
+
+def test_explained_are_scripts_and_accepted_reports(store):
+    script = "rp 2\nregister a box 0.000 0.000 0.000 1.000 1.000 1.000\nretire b\n"
+    for given in (script.encode(), store(script), store(script, "run", "brief")):
+        assert ran(["explain"], given) == (1, b"Line 2 (in an editor 3): b was not retired, because no lot b was registered before this line.\n", "")
+    assert ran(["explain"], store(script).replace(b"box 0 0 0 1000", b"box 0 0 0 1001"))[0::2] == (1, "rpstore-gis: the report is not accepted: wrong 5\n")
+    assert ran(["explain"], script.replace("retire b", "retire a").encode()) == (0, b"", "")

@@ -47,7 +47,7 @@ def test_a_prism_is_its_base_times_its_height(seen):
     drawn = [drawn_prism(rng, rng.randint(-20, 20)) for _ in range(60)]
     wanted = [(base_area(corners), height) for corners, height, _ in drawn]
     found = {body.born: body for body in seen(lines(*(f"show {prism}" for _, _, prism in drawn))).bodies}
-    assert max(area for area, _ in wanted) > 3000
+    assert sorted(area for area, _ in wanted)[30] > 500
     for number, (area, height) in enumerate(wanted, 1):
         assert (found[number].area, found[number].volume) == (area, area * height) if area else number not in found
 

@@ -1,4 +1,6 @@
 """The words of the command line: statuses, and what is said on standard error."""
+import re
+import shlex
 import subprocess
 import sys
 
@@ -8,8 +10,8 @@ from conftest import PROGRAM, ROOT
 
 def ran(words, given=None, **more):
     """Runs the package, and gives its status, its output and what it said."""
-    done = subprocess.run([sys.executable, "-B", "-m", "rpstore", *words], cwd=ROOT / "python", stderr=subprocess.PIPE,
-                          env={"RPSTORE": PROGRAM}, **{"stdout": subprocess.PIPE, **more}, input=given)
+    done = subprocess.run([sys.executable, "-B", "-m", "rpstore", *words], stderr=subprocess.PIPE, input=given,
+                          env={"RPSTORE": PROGRAM, "PYTHONPATH": str(ROOT / "python")}, **{"stdout": subprocess.PIPE, **more})
     return done.returncode, done.stdout, done.stderr.decode()
 
 
@@ -63,3 +65,23 @@ def test_a_report_that_is_too_long():
 def test_words_that_are_not_known(words):
     status, out, said = ran(words)
     assert (status, out) == (2, b"") and said.startswith("usage: rpstore-gis")
+
+
+def lines_of_documents():
+    """The lines that begin with ./rpstore-gis in the blocks `sh` of the README and of docs/gis.md."""
+    for page in ("README.md", "docs/gis.md"):
+        for block in re.findall(r"^```sh\n(.*?)^```$", (ROOT / page).read_text(), re.M | re.S):
+            yield from (line for line in block.splitlines() if line.startswith("./rpstore-gis "))
+
+
+@pytest.mark.parametrize("line", sorted(set(lines_of_documents())))
+def test_the_lines_of_the_documents(line, store, tmp_path):
+    (tmp_path / "examples").symlink_to(ROOT / "examples")
+    words = shlex.split(line)[1:]
+    assert ran(words, cwd=tmp_path)[:2] == (0, b"") and (tmp_path / words[words.index("-o") + 1]).stat().st_size > 1000
+
+
+def test_the_standard_library_is_enough_for_all_words_but_plan():
+    code = "import sys, rpstore.__main__; print([name for name in ('fiona', 'pyproj', 'shapely', 'osgeo') if name in sys.modules])"
+    done = subprocess.run([sys.executable, "-B", "-c", code], stdout=subprocess.PIPE, env={"PYTHONPATH": str(ROOT / "python")}, check=True)
+    assert done.stdout == b"[]\n"

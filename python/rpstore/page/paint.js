@@ -128,16 +128,21 @@ function edgesOf(lot, into = []) {
   return into;
 }
 
+// The edges of a lot as strokes, each with words that are the same for an edge of another lot in its place.
+function keyed(lot) {
+  if (!lot.keyed) {
+    const all = edgesOf(lot), key = edge => [edge.slice(0, 3), edge.slice(3, 6)].map(end => end.map(n => Math.round(1000 * n)).join()).sort().join() + "," + lot.storey;
+    lot.keyed = Array.from({ length: all.length / 7 }, (_, at) => all.slice(7 * at, 7 * at + 7)).map(edge => [key(edge), edge]);
+  }
+  return lot.keyed;
+}
+
 // The edges of some lots, each once: where lots stand wall to wall most are edges of several.
 function edgesOnce(some) {
   const found = [], known = new Set();
-  for (const lot of some) {
-    const all = edgesOf(lot);
-    for (let at = 0; at < all.length; at += 7) {
-      const edge = all.slice(at, at + 7), ends = [edge.slice(0, 3), edge.slice(3, 6)].map(end => end.map(n => n.toFixed(3)).join()), key = ends.sort().join() + "," + lot.storey;
-      if (!known.has(key)) found.push(...edge);
-      known.add(key);
-    }
+  for (const lot of some) for (const [key, edge] of keyed(lot)) if (!known.has(key)) {
+    known.add(key);
+    found.push(...edge);
   }
   return found;
 }
@@ -255,8 +260,10 @@ function paint() {
   gl.enable(gl.BLEND); gl.blendFuncSeparate(gl.SRC_ALPHA, gl.ONE_MINUS_SRC_ALPHA, gl.ONE, gl.ONE_MINUS_SRC_ALPHA);
   if (state.pitch > 2) stroke(strokes.ground, 1, [.55, .63, .7, .38], matrix, 1e9);
   gl.enable(gl.POLYGON_OFFSET_FILL); gl.polygonOffset(1, 1);
-  useSolid(matrix, false); solidPass(0, counts[0]); throughPass(); capPass();
+  useSolid(matrix, false); solidPass(0, counts[0]); throughPass();
   gl.disable(gl.POLYGON_OFFSET_FILL);
+  // A cap lies so near to a floor below it that this one has to stand back.
+  capPass();
   // Where lots are small on the screen their edges would hide them.
   const dense = Math.min(1, Math.max(.12, 22 * state.zoom * diagonal() / Math.sqrt(Math.max(1, lots.length)) / 300));
   if (!(isSlow && moved && lots.length > MANY)) stroke(strokes.edges, 1.25, [.1, .15, .2, .9 * dense], matrix, cut);
@@ -294,7 +301,9 @@ function settled() {
   clearFrame(picks.frame, width, height); gl.disable(gl.BLEND);
   useSolid(projection(), true);
   // What is see-through is under the hand only where nothing else is.
-  solidPass(counts[0] + counts[1], counts[2]); gl.clear(gl.DEPTH_BUFFER_BIT); solidPass(0, counts[0] + counts[1]); capPass();
+  solidPass(counts[0] + counts[1], counts[2]); gl.clear(gl.DEPTH_BUFFER_BIT);
+  gl.enable(gl.POLYGON_OFFSET_FILL); solidPass(0, counts[0] + counts[1]); gl.disable(gl.POLYGON_OFFSET_FILL);
+  capPass();
   picks.pixels = new Uint8Array(4 * width * height);
   gl.readPixels(0, 0, width, height, gl.RGBA, gl.UNSIGNED_BYTE, picks.pixels);
   gl.bindFramebuffer(gl.FRAMEBUFFER, null);
