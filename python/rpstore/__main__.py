@@ -124,8 +124,10 @@ def extracted(file, options):
     made = extract.extract(file.read(), options.ids, lots.program(options.store), options.neighbours)
     said = f"{made.kept:,} of {made.lines:,} lines; the report has {len(made.report):,} bytes and is accepted"
     if options.output:
-        with open(os.path.splitext(options.output)[0] + ".report", "wb") as out:
-            out.write(made.report)
+        path = os.path.splitext(options.output)[0] + ".report"
+        if path == options.output:
+            raise Fault("-o names the script: its report gets the ending .report", 2)
+        write(made.report, path)
     return 0, made.script, [said]
 
 

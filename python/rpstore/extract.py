@@ -10,8 +10,8 @@ from . import Fault, command, lots, report
 ATTRIBUTES = b"# {"
 # Notes behind an extract: there they give no line another number.
 SAYS = """# This is an extract for {ids}: of the {lines:,} lines of a script {kept:,} stand here, each under its own number.
-# Its report shows by which lines and out of which lots they came about, and what each of them holds{touches}.
-# It does not show what the lines do that are empty here: that no other lot has a point of them{unseen} is shown by the
+# Its report shows by which lines and out of which lots they came about, {shown}.
+# It does not show what the lines do that are empty here. That no other lot has a point of them{unseen} is shown by the
 # report of the whole script alone.
 """
 
@@ -147,8 +147,8 @@ def extract(text: bytes, ids: list[str], store: str, with_neighbours: bool = Fal
         raise Fault(f"the script registers no lot {', '.join(missing)}")
     beside = [lot for question, answer in whole.answers.items() if question.startswith(b"neighbours ") for lot in answer]
     numbers = fewest(whole, [*ids, *beside], store)
-    says = SAYS.format(ids=", ".join(ids), lines=len(whole.lines), kept=len(numbers), touches=", and which lots touch them" * with_neighbours,
-                       unseen="" if with_neighbours else ", or touches them")
+    says = SAYS.format(ids=", ".join(ids), lines=len(whole.lines), kept=len(numbers), unseen="" if with_neighbours else " or touches them",
+                       shown="what each of them holds, and which lots touch them" if with_neighbours else "and what each of them holds")
     script = b"\n".join([*emptied(whole, numbers), *whole.answers, says.encode()])
     told = lots.run(store, script, "run")
     if lots.checked(told, store) != "accepted":

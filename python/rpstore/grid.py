@@ -72,7 +72,10 @@ def projection(found: Grid, wanted: Grid) -> Callable[[Ring], Ring]:
     """What brings a ring from its grid to that of the register. Of each point it takes two coordinates alone."""
     if found is None or found == wanted:
         return lambda ring: [tuple(point[:2]) for point in ring]
-    transformer = Transformer.from_crs(found, wanted, always_xy=True, allow_ballpark=False)
+    try:
+        transformer = Transformer.from_crs(found, wanted, always_xy=True, allow_ballpark=False)
+    except ProjError:
+        raise Fault(f"PROJ knows only roughly how {found.name} lies to {wanted.name}: --from EPSG:NUMBER says better in which grid the plan is", 5)
 
     def projected(ring: Ring) -> Ring:
         easts, norths = [*zip(*ring)][:2]

@@ -6,7 +6,7 @@ from typing import Callable, Optional
 
 from .command import A_COMMAND, AN_EXPRESSION, COMMANDS, CORNERS, EQUALS, NAME, NODES, THE_END, Refusal, spelled
 
-NUMBER = re.compile(r"[+-]?(?:[0-9]{1,30}\.?[0-9]{0,9}|\.[0-9]{1,9})")
+NUMBER = re.compile(r"[+-]?(?:[0-9]{1,18}\.?[0-9]{0,9}|\.[0-9]{1,9})")
 BRACKETS = re.compile(r"[()\[\]{}]")
 OTHER_NOTES = ("//", "--", ";", "%", "/*", "'")
 # What tells of a word to which kind of thing it is known: `name` or `lot`, or None.

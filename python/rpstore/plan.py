@@ -273,7 +273,8 @@ def read(path: str, layer: Optional[str]) -> tuple[str, list[Feature], list[str]
     """The grid that a plan names, its features, and what is to be said of it."""
     logging.getLogger("fiona").setLevel(logging.CRITICAL)
     try:
-        layers = fiona.listlayers(path) if not path.startswith("/vsistdin") else []
+        # Standard input can be read once.
+        layers = [] if "/vsistdin/" in path else fiona.listlayers(path)
         with fiona.open(path, layer=layer, KEEP_GEOM_COLUMNS="NO") as source:
             # A geometry that GDAL cannot read is an error of any later call.
             given = source.crs_wkt
@@ -287,6 +288,15 @@ def read(path: str, layer: Optional[str]) -> tuple[str, list[Feature], list[str]
     return given, features, said
 
 
+def to_register(features: list[Feature], given: str, options: Options) -> tuple[grid.Grid, grid.Grid]:
+    """Projects the polygons of features, and gives the grid of the plan and that of the register."""
+    found, wanted = grid.grids(given, options.source, options.to, points_of(features))
+    projected = grid.projection(found, wanted)
+    for feature in features:
+        feature.polygons = [[projected(ring) for ring in polygon] for polygon in feature.polygons]
+    return found, wanted
+
+
 def script_of(path: str, options: Options) -> tuple[int, str, list[str]]:
     """The status, the script, and the lines on standard error."""
     if MISSING:
@@ -296,10 +306,7 @@ def script_of(path: str, options: Options) -> tuple[int, str, list[str]]:
         feature.polygons = feature.attempt(polygons_of, feature.geometry) or []
     if any(len(point) > 2 for point in points_of(features)):
         said.append("points have heights of their own, which are not used")
-    grids = grid.grids(given, options.source, options.to, points_of(features))
-    projected = grid.projection(*grids)
-    for feature in features:
-        feature.polygons = [[projected(ring) for ring in polygon] for polygon in feature.polygons]
+    grids = to_register(features, given, options)
     points = points_of(features)
     origin = tuple(units(Decimal(number)) for number in options.origin or (grid.chosen_origin(points) if points else (0, 0)))
     lines = lines_of(features, origin, options)

@@ -5,6 +5,7 @@ import re
 import drawn
 import pytest
 from rpstore import explain, lots
+from test_words import ran
 
 # A line of version 2 and what is said of it behind the line's number; the first are a planner's own mistakes.
 MISREAD = [
@@ -192,7 +193,7 @@ def test_what_is_left_over_of_many_children(told, store):
     found = lines_of(told(script))
     assert found.count("let gap") == 519
     report = store(script + found, "run", "brief").decode()
-    assert report.count("= refused") == 1 and "= parts 1\n= part (1 0 0 -519) " in report
+    assert report.count("= refused") == 1 and "= parts 1\n= part (-1 0 0 520) (0 1 0 0) (0 -1 0 9) (0 0 1 0) (0 0 -1 9) (1 0 0 -519)\n" in report
 
 
 def test_a_brief_report_has_no_point(store):
@@ -215,3 +216,11 @@ def test_every_refusal_of_the_examples_is_explained(root):
 @pytest.mark.parametrize("seed", range(100))
 def test_every_refusal_of_a_drawn_script_is_explained(seed, store):
     assert explains_what_is_refused(store(drawn.script(seed)))
+
+
+def test_explained_are_scripts_and_accepted_reports(store):
+    script = "rp 2\nregister a box 0.000 0.000 0.000 1.000 1.000 1.000\nretire b\n"
+    for given in (script.encode(), store(script), store(script, "run", "brief")):
+        assert ran(["explain"], given) == (1, b"Line 2 (in an editor 3): b was not retired, because no lot b was registered before this line.\n", "")
+    assert ran(["explain"], store(script).replace(b"box 0 0 0 1000", b"box 0 0 0 1001"))[0::2] == (1, "rpstore-gis: the report is not accepted: wrong 5\n")
+    assert ran(["explain"], script.replace("retire b", "retire a").encode()) == (0, b"", "")

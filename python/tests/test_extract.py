@@ -5,6 +5,7 @@ import re
 import pytest
 from conftest import PROGRAM
 from rpstore import Fault, extract
+from test_words import ran
 
 
 @pytest.fixture
@@ -115,3 +116,16 @@ def test_extracts_of_the_examples(name, root, extracted, store):
         found = extracted(script, lot)
         question = f"history {lot}\n"
         assert store(script + question, "run", "brief").decode().split(question)[-1] in found.report.decode()
+
+
+def test_both_files_are_written(tmp_path, store):
+    book, out = tmp_path / "book.rp", tmp_path / "way.rp"
+    book.write_text(BOOK)
+    status, _, said = ran(["extract", str(book), "way", "-o", str(out)])
+    report = out.with_suffix(".report").read_text()
+    assert (status, said) == (0, f"rpstore-gis: 2 of 21 lines; the report has {len(report)} bytes and is accepted\n")
+    assert store(out.read_text()).decode() == report and store(report, "check") == b"accepted\n"
+    assert ran(["extract", "-", "way"], BOOK.encode())[1] == out.read_bytes()
+    assert ran(["extract", str(book), "way", "-o", str(tmp_path / "way.report")])[::2] == (
+        2, "rpstore-gis: -o names the script: its report gets the ending .report\n")
+    assert ran(["extract", str(book), "nobody"])[::2] == (1, "rpstore-gis: the script registers no lot nobody\n")

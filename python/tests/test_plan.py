@@ -10,6 +10,7 @@ from rpstore import Fault, plan
 if plan.MISSING:
     pytest.skip(f"python3-fiona, python3-pyproj or python3-shapely is not there: {plan.MISSING}", allow_module_level=True)
 import fiona
+from test_words import ran
 
 
 def shape(kind, coordinates, **properties):
@@ -229,6 +230,9 @@ def test_grids_that_do_not_do(written, tmp_path):
             script(path, **{"source": None, **given})
     with pytest.raises(Fault, match="does not say in which grid"):
         script(path, to="EPSG:25832")
+    datum = 'GEOGCS["none",DATUM["none",SPHEROID["none",6378249,293.46]],PRIMEM["Greenwich",0],UNIT["degree",0.0174532925199433]]'
+    with pytest.raises(Fault, match="only roughly how none lies to ETRS89"):
+        script(path, datum, to="EPSG:25832")
     with pytest.raises(Fault, match="does not read"):
         script(str(tmp_path / "none.geojson"))
 
@@ -335,3 +339,12 @@ def test_drawn_polygons_keep_their_points(seed, written, store):
         wanted = [is_odd(outer, at) and not any(is_odd(hole, at) for hole in holes) for at in points]
         told = store(f"rp 2\n{asked}", "run", "brief").decode().split("\n")[2::2]
         assert told == [f"= {'yes' if each else 'no'}" for each in wanted]
+
+
+def test_the_words_of_the_command_line(written):
+    path = written(lot())
+    status, told, said = ran(["plan", path, "--from", "metres", "--bare", "--section", "1", "--section", "9", "--origin", "0", "0"])
+    assert (status, said) == (0, "") and told.decode() == "\n".join(["rp 2", HEAD, NO_GRID, f"register a {PRISM}", "section lot a 1.000", ""])
+    assert ran(["plan", path])[::2] == (5, "rpstore-gis: the plan is in degrees, of WGS 84, and a register in metres: --to EPSG:NUMBER names its grid, "
+                                           "as EPSG:32631 would do here; --from metres says that the plan is in metres of no grid\n")
+    assert ran(["plan", path + "x"])[0] == 3 and ran(["plan", path, "--from", "metres", "--top", "roof"])[0] == 4
