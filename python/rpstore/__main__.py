@@ -116,7 +116,7 @@ def explained(file, options):
     elif b"\n  " in text and not options.unchecked:
         # A brief report shows no points, and `check` takes full ones alone.
         lots.accepted(lots.checked(text, store))
-    sentences = list(explain.explained(io.BytesIO(text), place))
+    sentences = list(explain.explained(text, place))
     return int(bool(sentences)), "".join(f"{sentence}\n" for sentence in sentences), []
 
 

@@ -1,16 +1,21 @@
 """Says of each refused line of a report what was refused, at which word, by which bound, and where on the ground."""
 import difflib
+import io
 import itertools
 import math
+import re
 from dataclasses import dataclass
 from fractions import Fraction
-from typing import BinaryIO, Callable, Iterator, Sequence
+from typing import Callable, Collection, Iterator, Sequence
 
 from . import command, hints, lots, report, told
 
 UNDONE = {"register": "{0} was not registered", "cut": "{0} was not cut", "subdivide": "{0} was not subdivided",
           "consolidate": "{0} was not made by consolidating", "retire": "{0} was not retired", "let": "the name {0} was not given"}
 WAYS = "from west to east", "from south to north", "in height"
+MANY = 1000
+# Where a report echoes a line that gives a name.
+GIVEN = re.compile(rb"^> [0-9]+ let ([A-Za-z0-9_.-]+) ", re.M)
 
 
 def listed(words: list[str]) -> str:
@@ -66,11 +71,13 @@ def of_no_command(answer: report.Answer, known: hints.Known) -> str:
 
 @dataclass
 class Case:
-    """A command that was refused: its answer, what the lines before it registered, and where it is on the map."""
+    """A command that was refused: its answer, what the lines before it registered, where it is on the map, and the names that any
+    line gives or was advised to give."""
 
     answer: report.Answer
     register: lots.Register
     place: lots.Place
+    names: set[str]
 
     @property
     def command(self) -> command.Command:
@@ -107,13 +114,20 @@ class Reason:
     steps: Sequence[tuple[str, str]] = ()
 
 
+def meant(label: str, mine: Collection[str], kind: str, others: Collection[str]) -> str:
+    """What may be meant by a name or an id `label` that is none of `mine`: the same word of the other `kind`, which has `others`,
+    or one that is nearly the same. Among very many that takes too long."""
+    if label in others:
+        return f"; it is a {kind}: `{kind} {label}`"
+    near = difflib.get_close_matches(label, mine, 1) if len(mine) <= MANY else []
+    return f"; {near[0]} may be meant" if near else ""
+
+
 def of_lot(case: Case, lot: str) -> str:
     """What is known of a lot that is not live."""
     known = case.register.lots.get(lot)
     if known is None:
-        near = difflib.get_close_matches(lot, case.register.lots, 1)
-        named = "; it is a name: `name {0}`" if lot in case.register.names else f"; {near[0]} may be meant" if near else ""
-        return f"no lot {lot} was registered before this line" + named.format(lot)
+        return f"no lot {lot} was registered before this line" + meant(lot, case.register.lots, "name", case.register.names)
     if known.ended is None:
         return f"the lot {lot} is there since {case.line(known.born)}"
     into = f"when {listed(known.into)} came in its place" if known.into else "when it was retired"
@@ -123,9 +137,7 @@ def of_lot(case: Case, lot: str) -> str:
 def unknown(case: Case) -> Reason:
     [name] = case.told
     if ("name", name) in case.command.named and name not in case.register.names:
-        near = difflib.get_close_matches(name, case.register.names, 1)
-        meant = "; it is a lot: `lot {0}`" if name in case.register.lots else f"; {near[0]} may be meant" if near else ""
-        return Reason(f"no line before gives the name {name}" + meant.format(name))
+        return Reason(f"no line before gives the name {name}" + meant(name, case.register.names, "lot", case.register.lots))
     return Reason(of_lot(case, name))
 
 
@@ -260,18 +272,19 @@ def fits(text: str, version: int) -> bool:
 
 
 def fresh(word: str, names: set[str]) -> str:
-    """A name that was not given."""
-    return next(name for name in itertools.chain([word], (f"{word}-{number}" for number in itertools.count(2))) if name not in names)
+    """A name that is none of `names`, to which it is added."""
+    found = next(name for name in itertools.chain([word], (f"{word}-{number}" for number in itertools.count(2))) if name not in names)
+    names.add(found)
+    return found
 
 
 def lines_to_show(case: Case, reason: Reason, points: list[list[Fraction]]) -> list[str]:
     """Lines for a script that show the region of a reason, and what it has at a height where the points say that it has
     something."""
-    names, name, made = set(case.register.names), "", []
+    name, made = "", []
     for word, expression in reason.steps:
         text = expression.format(name)
-        name = fresh(word, names)
-        names.add(name)
+        name = fresh(word, case.names)
         made.append(f"let {name} = {text}")
     made += [f"pieces name {name}", f"show name {name}"]
     heights = [point[2] for point in points]
@@ -296,19 +309,20 @@ def of_command(case: Case) -> str:
     return "\n    ".join([said + " These lines behind it show the place:", *lines]) if lines else said
 
 
-def sentence(answer: report.Answer, register: lots.Register, place: lots.Place) -> str:
+def sentence(case: Case) -> str:
     """What is said of one refused line, and the lines of a script that show where it is."""
+    answer, register = case.answer, case.register
     head = line(answer.number, answer.version).capitalize() + ": "
     if answer.command is None:
         return f"{head}{of_no_command(answer, lambda word: 'name' if word in register.names else 'lot' if word in register.lots else None)}."
-    return head + of_command(Case(answer, register, place))
+    return head + of_command(case)
 
 
-def explained(file: BinaryIO, place: lots.Place) -> Iterator[str]:
+def explained(text: bytes, place: lots.Place) -> Iterator[str]:
     """What is to be said of each refused line of a report."""
-    register = lots.Register()
-    for answer in report.read(file):
+    register, names = lots.Register(), {name.decode() for name in GIVEN.findall(text)}
+    for answer in report.read(io.BytesIO(text)):
         if isinstance(answer.verdict, report.Refused):
-            yield sentence(answer, register, place)
+            yield sentence(Case(answer, register, place, names))
         elif answer.verdict == "ok":
             register.take(answer)

@@ -1,5 +1,4 @@
 """What is said of refused lines: the word, what is due there, a hint; or the lots, the place, and the lines that show it."""
-import io
 import re
 
 import drawn
@@ -76,7 +75,7 @@ GROUND = "rp 2\nregister ground box 0.000 0.000 0.000 1.000 1.000 1.000\nlet fie
 def misread(store):
     """What is said of each of these lines, in one script."""
     script = GROUND + "".join(f"{line}\n" for line, _ in MISREAD)
-    return [*explain.explained(io.BytesIO(store(script)), lots.Place())]
+    return [*explain.explained(store(script), lots.Place())]
 
 
 @pytest.mark.parametrize("place", range(len(MISREAD)))
@@ -90,7 +89,7 @@ def test_the_word_and_what_is_due(place, misread):
 def told(store):
     """What is said of the last line of a script."""
     def tell(script, place=lots.Place()):
-        return [*explain.explained(io.BytesIO(store(script)), place)][-1]
+        return [*explain.explained(store(script), place)][-1]
 
     return tell
 
@@ -198,12 +197,19 @@ def test_what_is_left_over_of_many_children(told, store):
 
 def test_a_brief_report_has_no_point(store):
     report = store("register a box 0 0 0 10 10 10\nregister b box 9 0 0 20 10 10\n", "run", "brief")
-    [told] = explain.explained(io.BytesIO(report), lots.Place())
+    [told] = explain.explained(report, lots.Place())
     assert told.endswith("since line 1. (A brief report shows no point: run without `brief` for one.)")
 
 
+def test_names_of_advised_lines_are_new_in_the_whole_script(store):
+    script = "register a box 0 0 0 9 9 9\nregister b lot a\nregister c lot a\nlet new = none\n"
+    told = [*explain.explained(store(script), lots.Place())]
+    assert [re.findall("let (\\S+) =", sentence) for sentence in told] == [["new-2", "common"], ["new-3", "common-2"]]
+    assert store(script + "".join(map(lines_of, told)), "run", "brief").decode().count("= refused") == 2
+
+
 def explains_what_is_refused(report):
-    told = [*explain.explained(io.BytesIO(report), lots.Place())]
+    told = [*explain.explained(report, lots.Place())]
     numbers = [int(number) for number in re.findall(rb"^> ([0-9]+)(?: .*)?\n(?:  .*\n)*= refused", report, re.M)]
     return [int(re.match("Line ([0-9]+)", sentence)[1]) for sentence in told] == numbers
 
