@@ -1,6 +1,7 @@
 //! Whole reports.
 ghost use Rattle.std.specs.Prelude.{◌≡◌, ◌≤◌, ℕ, List, length, IfOk};
 ghost use Rattle.rp_command.specs.Versions.{version_of};
+ghost use Rattle.rp_model.specs.states.State.{opening};
 ghost use Rattle.rp_reports.specs.Check.{finding};
 ghost use Rattle.rp_reports.specs.Output.{most_report_bytes, most_script_bytes, report_lines};
 ghost use Rattle.rp_reports.specs.Report.{IsReport, report_mark, version_by};
@@ -54,13 +55,26 @@ pub fn check_report(alloc: Global, report: &[u8]) -> Result<Found, AllocError>
     ensures right { IfOk result (λ found. TellsRight found (report_lines report.now)) }
     ensures whole { IfOk result (λ found. (script : List ℕ) → length script ≤ most_script_bytes → (told : List (List ℕ)) → IsReport script told → report.now ≡ text_of_lines told → found ≡ Found.Accepted) }
 {
+    let mut register = Register::new(alloc);
+    let found = check_lines(alloc, &mut register, report);
+    drop(register);
+    found
+}
+
+/// The same with the register, in which nothing is kept yet.
+fn check_lines(alloc: Global, register: &mut Register, report: &[u8]) -> Result<Found, AllocError>
+    requires few { length report.now ≤ most_report_bytes }
+    requires empty { register.old ≡ opening }
+    ensures found { IfOk result (λ found. found_of found ≡ finding (report_lines report.now)) }
+    ensures right { IfOk result (λ found. TellsRight found (report_lines report.now)) }
+    ensures whole { IfOk result (λ found. (script : List ℕ) → length script ≤ most_script_bytes → (told : List (List ℕ)) → IsReport script told → report.now ≡ text_of_lines told → found ≡ Found.Accepted) }
+{
     every_report_is_accepted();
     let mut trail = Trail::new(report);
     let version = take_mark(&mut trail);
-    let mut register = Register::new(alloc);
     let mut last = 0;
     while trail.peek().is_some() {
-        match follow_answer(alloc, &mut register, version, last, &mut trail) {
+        match follow_answer(alloc, register, version, last, &mut trail) {
             Ok(n) => last = n,
             Err(Halt::Wrong(n)) => return Ok(Found::Wrong(n)),
             Err(Halt::Memory(fault)) => return Err(fault),
