@@ -33,7 +33,8 @@ fn is_close_to_all(levels: &[Option<u32>], own: Option<u32>, numbers: &[u32]) ->
     true
 }
 
-/// Whether an entry is the level 0 exactly at the last number, and a level above 0 is one more than that of some of these numbers.
+/// Whether an entry is the level 0 exactly at the last number, and a level above 0 is one more than that of some of
+/// these numbers.
 fn is_right(levels: &[Option<u32>], is_last: bool, own: Option<u32>, numbers: &[u32]) -> bool
     requires { AreBelow (length levels.now) numbers.now }
     ensures { IsTrue result ↔ IsRight levels.now is_last own numbers.now }
@@ -58,9 +59,9 @@ fn passes_at(levels: &[Option<u32>], is_last: bool, own: Option<u32>, numbers: &
     is_right(levels, is_last, own, numbers) && is_close_to_all(levels, own, numbers)
 }
 
-/// Whether a list of levels passes four tests: the number `to` has the level 0 and no other has it; linked numbers both have a level or neither has;
-/// levels of linked numbers differ by at most 1; and each number of a level above 0 is linked to one of a level less by 1.
-/// Such a list is that of the levels. It takes no memory.
+/// Whether a list of levels passes four tests: the number `to` has the level 0 and no other has it; linked numbers both
+/// have a level or neither has; levels of linked numbers differ by at most 1; and each number of a level above 0 is
+/// linked to one of a level less by 1. Such a list is that of the levels. It takes no memory.
 pub fn check_levels(g: &Links, to: u32, levels: &[Option<u32>]) -> bool
     requires to_below { to < length g.now }
     requires as_many { length levels.now ≡ length g.now }

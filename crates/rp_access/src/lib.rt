@@ -1,11 +1,12 @@
 #![tactic(auto)]
 //! Shortest chains over links between numbers, and the levels that show that they are shortest.
 //!
-//! [`Links`] are made link by link, or of pairs, and go both ways; where one fails for want of memory all are as they were.
-//! [`levels`] finds, by a search breadth first, how many steps the shortest chain from each number to one number has,
-//! and none exactly where there is no chain; they pass four tests. [`chain`] finds a shortest chain, which takes the
-//! first number that serves each time, and none exactly where there is none. [`check_levels`] says yes exactly where
-//! the four tests pass, whatever entries it is given; no command calls it, it is there for readers.
+//! [`Links`] are made link by link, or of pairs, and go both ways; where one fails for want of memory all are as they
+//! were. [`levels`] finds, by a search breadth first, how many steps the shortest chain from each number to one number
+//! has, and none exactly where there is no chain; they pass four tests. [`chain`] finds a shortest chain, which takes
+//! the first number that serves each time, and none exactly where there is none. [`check_levels`] says yes exactly
+//! where the four tests pass, whatever entries it is given; no command calls it, it is there for readers. Calls that
+//! answer `AllocError` do so only for want of memory.
 
 mod check;
 mod laws;

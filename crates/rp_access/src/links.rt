@@ -9,7 +9,8 @@ use crate::neighbours::Neighbours;
 use std::alloc::{AllocError, Global};
 use std::marker::Model;
 
-/// Which of the numbers from 0 to below a count are linked to each other: for each number the list of those that it is linked to. Links go both ways.
+/// Which of the numbers from 0 to below a count are linked to each other: for each number the list of those that it is
+/// linked to. Links go both ways.
 #[derive(Drop)]
 pub struct Links {
     lists: Vec<Neighbours>,
@@ -27,7 +28,7 @@ impl Model for Links {
 }
 
 impl Links {
-    /// So many numbers without a link.
+    /// The numbers from 0 to below `n`, none of them linked.
     pub fn new(alloc: Global, n: u32) -> Result<Links, AllocError>
         ensures { IfOk result (λ g. g ≡ replicate n []) }
     {
@@ -38,7 +39,8 @@ impl Links {
         Ok(Links { lists })
     }
 
-    /// So many numbers, where the two of each pair are linked to each other. Answers `AllocError` only for want of memory.
+    /// The numbers from 0 to below `n`, of which the two of each of `pairs` are linked to each other. All numbers in
+    /// `pairs` are below `n`.
     pub fn from_pairs(alloc: Global, n: u32, pairs: &[(u32, u32)]) -> Result<Links, AllocError>
         requires { AllByRecursion (IsBelow n) pairs.now }
         ensures count { IfOk result (λ g. length g ≡ n) }
@@ -51,7 +53,8 @@ impl Links {
         Ok(links)
     }
 
-    /// Links two numbers to each other. After `AllocError` all links are as they were.
+    /// Links `a` and `b`, both of them numbers that are there, to each other. After `AllocError` all links are as they
+    /// were.
     pub fn join(&mut self, _alloc: Global, a: u32, b: u32) -> Result<(), AllocError>
         requires a_below { a < length self.old }
         requires b_below { b < length self.old }

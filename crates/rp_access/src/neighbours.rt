@@ -28,7 +28,7 @@ impl Neighbours {
         }
     }
 
-    /// Appends a number. Answers `AllocError` only for want of memory, and then the numbers stay.
+    /// Appends a number. After `AllocError` the numbers are as they were.
     pub(crate) fn push(&mut self, number: u32) -> Result<(), AllocError>
         ensures ok { OnOk result (self.new ≡ self.old ++ number ∷ []) }
         ensures err { OnErr result (self.new ≡ self.old) }

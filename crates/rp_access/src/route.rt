@@ -29,8 +29,8 @@ impl Route {
         }
     }
 
-    /// Appends a number. Answers `AllocError` only for want of memory, and then the numbers stay.
-    /// Where there is room to spare it succeeds, and takes one place of it at most.
+    /// Appends a number. After `AllocError` the numbers are as they were. Where there is room to spare it succeeds, and
+    /// takes one place of it at most.
     pub fn push(&mut self, number: u32) -> Result<(), AllocError>
         ensures ok { OnOk result (self.new.items ≡ self.old.items ++ number ∷ []) }
         ensures err { OnErr result (self.new.items ≡ self.old.items) }
@@ -41,7 +41,7 @@ impl Route {
         Ok(())
     }
 
-    /// Makes room for so many more numbers. Answers `AllocError` only for want of memory; the numbers stay in any case.
+    /// Makes room for `n` more numbers. The numbers stay in any case.
     pub fn reserve(&mut self, n: usize) -> Result<(), AllocError>
         ensures items { self.new.items ≡ self.old.items }
         ensures ok { OnOk result (n ≤ self.new.spare) }

@@ -50,8 +50,9 @@ impl Search {
     }
 }
 
-/// The level of each number: how many steps the shortest chain from it to `to` has, and `None` where no chain leads there. The list passes the four tests.
-/// It takes time linear in the links: each number is visited once, in the order in which it is reached.
+/// The level of each number: how many steps the shortest chain from it to `to` has, and `None` where no chain leads
+/// there. The list passes the four tests. It takes time linear in the links: each number is visited once, in the order
+/// in which it is reached.
 pub fn levels(alloc: Global, g: &Links, to: u32) -> Result<Vec<Option<u32>>, AllocError>
     requires { to < length g.now }
     ensures found { IfOk result (λ v. AreLevels g.now to v.items) }

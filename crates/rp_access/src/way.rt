@@ -47,7 +47,9 @@ pub(crate) fn first_of_level(levels: &[Option<u32>], level: u32, numbers: &[u32]
     first
 }
 
-/// A shortest chain from one number to another, where there is one. Each time it goes on with the first number that is linked to the last one and has a level one less.
+/// A shortest chain along the links `g` from `from` to `to`, both of them numbers that are there; `None` exactly where
+/// there is no chain. Each time it goes on with the first number that is linked to the last one and has a level one
+/// less.
 pub fn chain(alloc: Global, g: &Links, from: u32, to: u32) -> Result<Option<Route>, AllocError>
     requires from_below { from < length g.now }
     requires to_below { to < length g.now }

@@ -17,8 +17,9 @@ use rp_report::Refusal;
 use rp_tests::{Named, Stopped, Tests};
 use std::alloc::Global;
 
-/// The form of an expression: its parts, at most 1,024, made test by test in reading order, with the parts kept for names. A
-/// name or lot that isn't there stands for no part. `Limit` exactly where the operations on forms say so.
+/// The form of `region`, with what `named` knows of names and lots: its parts, at most 1,024, made by `tests` in
+/// reading order, with the parts kept for names. A name or lot that is not there stands for no part. `Limit` exactly
+/// where the operations on forms say so.
 pub fn short_form<T: Tests, N: Named<T>>(
     alloc: Global,
     named: &N,
@@ -33,8 +34,9 @@ pub fn short_form<T: Tests, N: Named<T>>(
     formed(alloc, named, region, tests)
 }
 
-/// The form of the one expression of a command, behind which its row goes on. `Refused` exactly for the first name or
-/// lot, in reading order, that isn't there; it comes before any test.
+/// The form of `region`, the one expression of a command, behind which its row goes on; `tests` make it. `Refused`
+/// exactly for the first name or lot of `region`, in reading order, that `named` does not know; it comes before any
+/// test.
 pub fn row_form<T: Tests, N: Named<T>>(
     alloc: Global,
     named: &N,

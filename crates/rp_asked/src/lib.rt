@@ -1,10 +1,10 @@
 #![tactic(auto)]
-//! The rows of the questions about forms, written once over whatever answers their tests and whatever names stand for, and
-//! those of the questions that a history of lots answers alone.
+//! The rows of the questions about forms, written once over whatever answers their tests and whatever names stand for,
+//! and those of the questions that a history of lots answers alone.
 //!
-//! Each comes to the verdict lines, the refusal or the stop that its definition has for it, and makes exactly the tests of
-//! that. Nothing is changed. Beside them stand the verdict lines of slices, of neighbours, of access, of lots by their ids
-//! and of an owner.
+//! Each comes to the verdict lines, the refusal or the stop that its definition has for it, and makes exactly the tests
+//! of that. Nothing is changed. Beside them stand the verdict lines of slices, of neighbours, of access, of lots by
+//! their ids and of an owner. Calls that answer `AllocError` do so only for want of memory.
 
 mod access;
 mod form;

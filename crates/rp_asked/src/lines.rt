@@ -14,7 +14,7 @@ use rp_space::Listed;
 use rp_tests::Tests;
 use std::alloc::{AllocError, Global};
 
-/// The verdict lines of the parts of a form; the half-spaces are moved. Answers `AllocError` only for want of memory.
+/// The verdict lines of the parts of a form; the half-spaces are moved.
 pub(crate) fn part_lines<T: Tests>(alloc: Global, form: T::Form) -> Result<Verdicts, AllocError>
     requires { length (T.parts_of form) ≤ most_parts }
     ensures { IfOk result (λ lines. map verdict_of lines.items ≡ part_lines_of (T.parts_of form)) }
@@ -27,7 +27,7 @@ pub(crate) fn part_lines<T: Tests>(alloc: Global, form: T::Form) -> Result<Verdi
     Ok(lines)
 }
 
-/// The verdict lines of pieces; their numbers are moved. Answers `AllocError` only for want of memory.
+/// The verdict lines of pieces; their numbers are moved.
 pub(crate) fn piece_lines(alloc: Global, pieces: PieceList) -> Result<Verdicts, AllocError>
     requires { length pieces.items ≤ most_parts }
     ensures { IfOk result (λ lines. map verdict_of lines.items ≡ piece_lines (numbers_of pieces)) }
@@ -40,7 +40,7 @@ pub(crate) fn piece_lines(alloc: Global, pieces: PieceList) -> Result<Verdicts, 
     Ok(lines)
 }
 
-/// The verdict lines of slices; they are moved. Answers `AllocError` only for want of memory.
+/// The verdict lines of slices; they are moved.
 pub fn slice_lines(alloc: Global, slices: Listed<Slice>) -> Result<Verdicts, AllocError>
     requires { length slices.items ≤ most_parts }
     ensures { IfOk result (λ lines. map verdict_of lines.items ≡ section_lines (map slice_shown slices.items)) }

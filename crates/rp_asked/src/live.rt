@@ -24,7 +24,7 @@ pub fn live_count(lots: &[LotLine]) -> usize
     count
 }
 
-/// Appends the lines of those lots that are live. Answers `AllocError` only for want of memory.
+/// Appends the lines of those lots that are live.
 pub(crate) fn add_live(
     alloc: Global,
     lots: &[LotLine],

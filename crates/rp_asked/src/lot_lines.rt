@@ -23,7 +23,7 @@ pub fn owner_verdict(owner: Option<Name>) -> Verdict
     }
 }
 
-/// The verdict lines of neighbours. Answers `AllocError` only for want of memory.
+/// The verdict lines of neighbours.
 pub fn neighbour_lines(alloc: Global, ids: &[Name]) -> Result<Verdicts, AllocError>
     requires { length ids.now ≤ most_kept_parts }
     ensures { IfOk result (λ lines. map verdict_of lines.items ≡ neighbour_lines ids.now) }
@@ -31,7 +31,7 @@ pub fn neighbour_lines(alloc: Global, ids: &[Name]) -> Result<Verdicts, AllocErr
     parcel_lines(alloc, Verdict::Neighbours(ids.len() as u32), ids)
 }
 
-/// A verdict line, and one for each of some ids. Answers `AllocError` only for want of memory.
+/// A verdict line, and one for each of some ids.
 pub(crate) fn parcel_lines(
     alloc: Global,
     first: Verdict,
@@ -46,7 +46,7 @@ pub(crate) fn parcel_lines(
     Ok(lines)
 }
 
-/// The verdict line of a lot. Answers `AllocError` only for want of memory.
+/// The verdict line of a lot.
 pub(crate) fn lot_line(alloc: Global, lot: &LotLine) -> Result<Verdict, AllocError>
     ensures { IfOk result (λ line. verdict_of line ∷ [] ≡ lot_lines (lot_of lot.now ∷ [])) }
 {
@@ -67,7 +67,7 @@ fn lot_under<'a>(history: &'a History, id: &Name) -> Option<&'a LotLine>
     Some(&history.lots()[place])
 }
 
-/// Appends the lines of the lots of some ids, in the order of the ids. Answers `AllocError` only for want of memory.
+/// Appends the lines of the lots of some ids, in the order of the ids.
 pub(crate) fn add_each(
     alloc: Global,
     history: &History,

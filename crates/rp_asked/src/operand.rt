@@ -26,8 +26,9 @@ fn first_unknown_of<T: Tests, N: Named<T>>(named: &N, first: &Expr, second: &Exp
     }
 }
 
-/// The forms of the two expressions of a command, of which the first is made first, and behind which its row goes on.
-/// `Refused` exactly for the first name or lot, in reading order, that isn't there; it comes before any test.
+/// The forms of `first` and `second`, the two expressions of a command, behind which its row goes on; `tests` make that
+/// of `first` and then that of `second`. `Refused` exactly for the first name or lot of the two, in reading order, that
+/// `named` does not know; it comes before any test.
 pub fn row_operands<'a, T: Tests, N: Named<T>>(
     alloc: Global,
     named: &'a N,

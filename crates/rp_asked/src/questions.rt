@@ -17,7 +17,8 @@ use rp_space::Point;
 use rp_tests::{Named, Tests};
 use std::alloc::Global;
 
-/// `member`: whether the point is a member, by signs. It rests on no test and has no limit.
+/// `member`: whether `point` is a member of `region`, by signs. It rests on no test and has no limit. `Refused` exactly
+/// for the first name or lot of `region`, in reading order, that `named` does not know.
 pub fn membership<T: Tests, N: Named<T>>(
     alloc: Global,
     named: &N,
@@ -33,7 +34,8 @@ pub fn membership<T: Tests, N: Named<T>>(
     Ok(yes_or_no(alloc, is_member::<T, N>(named, region, point))?)
 }
 
-/// `empty`: whether the form of the expression has no part.
+/// `empty`: whether the form of `region`, which `tests` make, has no part. `Refused` exactly for the first name or lot
+/// of `region`, in reading order, that `named` does not know; it comes before any test.
 pub fn emptiness<T: Tests, N: Named<T>>(
     alloc: Global,
     named: &N,
@@ -48,7 +50,9 @@ pub fn emptiness<T: Tests, N: Named<T>>(
     Ok(yes_or_no(alloc, is_so)?)
 }
 
-/// `pieces`: what of the region hangs together, by the numbers of the parts of its form.
+/// `pieces`: what of `region` hangs together, by the numbers of the parts of its form; `tests` make the form and tell
+/// which parts are in contact. `Refused` exactly for the first name or lot of `region`, in reading order, that `named`
+/// does not know; it comes before any test.
 pub fn piece_numbers<T: Tests, N: Named<T>>(
     alloc: Global,
     named: &N,
@@ -63,7 +67,8 @@ pub fn piece_numbers<T: Tests, N: Named<T>>(
     Ok(piece_lines(alloc, pieces)?)
 }
 
-/// `show`: the parts of the form of the expression.
+/// `show`: the parts of the form of `region`, which `tests` make. `Refused` exactly for the first name or lot of
+/// `region`, in reading order, that `named` does not know; it comes before any test.
 pub fn shown_parts<T: Tests, N: Named<T>>(
     alloc: Global,
     named: &N,
@@ -77,7 +82,9 @@ pub fn shown_parts<T: Tests, N: Named<T>>(
     Ok(part_lines::<T>(alloc, form)?)
 }
 
-/// `equal`, `within`, `overlap` and `contact`.
+/// `equal`, `within`, `overlap` and `contact`: the answer to `question` about the forms of `first` and `second`, by
+/// `tests`. `Refused` exactly for the first name or lot of the two, in reading order, that `named` does not know; it
+/// comes before any test.
 pub fn comparison<T: Tests, N: Named<T>>(
     alloc: Global,
     named: &N,
@@ -108,7 +115,9 @@ fn compared<T: Tests>(
     Ok(yes_or_no(alloc, is_so)?)
 }
 
-/// `rcc`: the relation of two regions, of which each must have a point.
+/// `rcc`: in which of the eight relations `first` stands to `second`, by `tests`. `Refused` exactly for the first name
+/// or lot of the two, in reading order, that `named` does not know, before any test; or else, once both forms are made,
+/// for `first` or else `second`, where it has no point.
 pub fn related<T: Tests, N: Named<T>>(
     alloc: Global,
     named: &N,

@@ -1,6 +1,6 @@
 #![tactic(auto)]
-//! Asks one search of one cell over and over, and prints what it found, so that `bench/run` can time a call. The words are a
-//! search and how often it is asked, as `inside 1000`. Other words and other lines end the program with status 1.
+//! Asks one search of one cell over and over, and prints what it found, so that `bench/run` can time a call. The words
+//! are a search and how often it is asked, as `inside 1000`. Other words and other lines end the program with status 1.
 
 mod cell;
 mod rounds;
@@ -21,8 +21,8 @@ fn words_of(rt: &(impl Env + AllocGlobal)) -> io::Result<Vec<String>> {
     Ok(words)
 }
 
-/// Prints what a search found, as `inside 4` for four points, `outside 3` or `apart 3` for three terms, or `none`; and then
-/// the sum of these numbers over all rounds, as `total 4000`, which uses what each round found.
+/// Prints what a search found, as `inside 4` for four points, `outside 3` or `apart 3` for three terms, or `none`; and
+/// then the sum of these numbers over all rounds, as `total 4000`, which uses what each round found.
 fn print_tally(rt: &impl Print, search: Search, tally: Tally) -> io::Result<()> {
     match tally.last {
         Some(size) => println!(rt; "{} {size}", search.word())?,

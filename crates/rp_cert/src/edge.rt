@@ -88,7 +88,7 @@ impl RingSteps {
         self.steps.as_slice()
     }
 
-    /// The same list.
+    /// A copy: the same steps in the same order.
     pub fn copy(&self) -> RingSteps
         ensures { result ≡ self.now }
     {

@@ -43,8 +43,8 @@ fn are_steps(cell: &[Half], z: i32, steps: &[RingStep]) -> bool
     steps.iter().all(|step| is_step(cell, z, step))
 }
 
-/// Whether the edge of a step is a trace of the cell or of the cube, and its end a point of the height at which no trace is
-/// negative.
+/// Whether the edge of a step is a trace of the cell or of the cube, and its end a point of the height at which no
+/// trace is negative.
 fn is_step(cell: &[Half], z: i32, step: &RingStep) -> bool
     requires { IsHeight z }
     ensures { result ≡ is_step z (with_sides cell.now) step.now }
@@ -92,8 +92,8 @@ fn is_trace_of(edge: &Edge, halves: &[Half], z: i32) -> bool
     halves.iter().any(|half| is_trace(edge, half, z))
 }
 
-/// Whether the edge is the trace of a half-space. The directions are compared first, since most differ and a divisor costs
-/// more.
+/// Whether the edge is the trace of a half-space. The directions are compared first, since most differ and a divisor
+/// costs more.
 fn is_trace(edge: &Edge, half: &Half, z: i32) -> bool
     requires { IsHeight z }
     ensures { result ≡ (has_trace half.now && trace_eq (trace_at z half.now) edge.now) }
@@ -149,8 +149,8 @@ fn is_above(half: &Half, z: i32, p: &Point) -> bool
     !has_trace(half) || value_at(half, z, p) >= 0
 }
 
-/// The side value of a half-space at a point of the height, by the offset that it has there: a product fewer than at other
-/// points. Its size is below 2^127.
+/// The side value of a half-space at a point of the height, by the offset that it has there: a product fewer than at
+/// other points. Its size is below 2^127.
 fn value_at(half: &Half, z: i32, p: &Point) -> i128
     requires height { IsHeight z }
     requires there { IsAtHeight z p.now }
@@ -186,8 +186,8 @@ fn are_turns(steps: &[RingStep]) -> bool
     is_turn(&steps[last], &steps[0])
 }
 
-/// Whether a step and the next one make a turn: the end is on both edges, the next end is another point, and the next edge
-/// turns to the left.
+/// Whether a step and the next one make a turn: the end is on both edges, the next end is another point, and the next
+/// edge turns to the left.
 fn is_turn(step: &RingStep, next: &RingStep) -> bool
     requires step { IsSmallTrace step.now.edge }
     requires next { IsSmallTrace next.now.edge }

@@ -18,8 +18,8 @@ pub enum Slice {
     Flat(Outside),
 }
 
-/// Whether the slice is a ring or a flat certificate of the cell at the height. A ring then shows the points of the cell
-/// there, a flat certificate that there are none.
+/// Whether `s` is a ring or a flat certificate of `cell` at `z`, a height of the cube. A ring then shows the points of
+/// the cell there, a flat certificate that there are none.
 pub fn check_slice(cell: &[Half], z: i32, s: &Slice) -> bool
     requires { IsHeight z }
     ensures value { result ≡ is_slice z cell.now (slice_shown s.now) }

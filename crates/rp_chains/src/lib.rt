@@ -1,6 +1,7 @@
 #![tactic(auto)]
-//! Chains and levels, for any relation between numbers: there is one list of levels and one chosen chain at most, and those that are computed from links are these.
-//! Each function is a law over the definitions of `rp_geometry`: its contract is the law, and its body is empty.
+//! Chains and levels, for any relation between numbers: there is one list of levels and one chosen chain at most, and
+//! those that are computed from links are these. Each function is a law over the definitions of `rp_geometry`: its
+//! contract is the law, and its body is empty.
 
 ghost use Rattle.rp_geometry.specs.laws.ChainLaws.{ChainIsFound, ChainIsOneAlong, LevelsAreFound, LevelsAreOneAlong};
 

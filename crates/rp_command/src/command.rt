@@ -84,8 +84,8 @@ pub enum Command {
     Access(Name, Name),
 }
 
-// A derived drop stands in line, with the variants of each expression, in every function that holds a command or a line;
-// this one is a call there.
+// A derived drop stands in line, with the variants of each expression, in every function that holds a command or a
+// line; this one is a call there.
 impl Drop for Command {
     fn drop(self) {
         match self {

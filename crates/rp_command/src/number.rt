@@ -86,8 +86,8 @@ fn size(version: Version, word: &[u8]) -> Option<u128>
     }
 }
 
-/// The coordinate that a word spells: a size, perhaps behind a minus sign, which isn't before 0. Where it passes 2^120 in
-/// size it is held there. `None` exactly where the word spells no coordinate.
+/// The coordinate that a word spells: a size, perhaps behind a minus sign, which isn't before 0. Where it passes 2^120
+/// in size it is held there. `None` exactly where the word spells no coordinate.
 pub fn coordinate(version: Version, word: &[u8]) -> Option<i128>
     ensures { result ≡ option_map held (coordinate_spelled (version_of version) word.now) }
 {
@@ -104,8 +104,8 @@ pub fn coordinate(version: Version, word: &[u8]) -> Option<i128>
     }
 }
 
-/// The whole number that a word spells: 0, or an optional minus sign and digits of which the first isn't 0. Where it passes
-/// 2^120 in size it is held there. `None` exactly where the word spells no number.
+/// The whole number that a word spells: 0, or an optional minus sign and digits of which the first isn't 0. Where it
+/// passes 2^120 in size it is held there. `None` exactly where the word spells no number.
 pub fn spelled(word: &[u8]) -> Option<i128>
     ensures { result ≡ option_map held (number_spelled word.now) }
 {

@@ -7,15 +7,14 @@ use crate::judge::Judge;
 use std::alloc::{AllocError, Global};
 use std::thread::{Threads, join};
 
-/// How many threads judge at once, at most. Each wants a stack of its own, so that many of them would leave no memory where
-/// there is little.
+/// How many threads judge at once, at most. Each wants a stack of its own, so that many of them would leave no memory
+/// where there is little.
 const MOST_THREADS: usize = 8;
 
 /// The meanings of all items, in order.
 ///
-/// A run of at most `grain` items is judged in one thread. A longer one is split in the middle, and its halves are judged in
-/// two threads, where two can be had and no more than 8 run; else it is judged in one thread too. Answers `AllocError` only
-/// for want of memory.
+/// A run of at most `grain` items is judged in one thread. A longer one is split in the middle, and its halves are
+/// judged in two threads, where two can be had and no more than 8 run; else it is judged in one thread too.
 pub fn judge_all<R: Threads + Sync, J: Judge>(
     rt: &R,
     alloc: Global,
@@ -28,8 +27,8 @@ pub fn judge_all<R: Threads + Sync, J: Judge>(
     judge_run(rt, alloc, grain, MOST_THREADS, judge, 0, judge.count())
 }
 
-/// The meanings of the items from `first` to below `end`, split in halves down to runs of at most `grain` items, as long as
-/// there are threads for both halves.
+/// The meanings of the items from `first` to below `end`, split in halves down to runs of at most `grain` items, as
+/// long as there are threads for both halves.
 fn judge_run<R: Threads + Sync, J: Judge>(
     rt: &R,
     alloc: Global,

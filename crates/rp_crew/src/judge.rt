@@ -18,7 +18,7 @@ pub trait Judge: Sync {
     fn count(&self) -> usize
         ensures { result ≡ size self.now };
 
-    /// The meaning of item `i`, from 0 on. Answers `AllocError` only for want of memory.
+    /// The meaning of item `i`, from 0 on.
     fn judge(&self, alloc: Global, i: usize) -> Result<Self::Out, AllocError>
         requires { i < size self.now }
         ensures { IfOk result (λ out. out ≡ meaning self.now i) };

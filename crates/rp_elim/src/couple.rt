@@ -52,16 +52,17 @@ impl Couple {
         }
     }
 
-    /// Whether the determinant with a third half-space is seen not to be 0 by its last 64 bits, which take one product of
-    /// a word for each coefficient: then the three do not refute, since their normals are independent.
+    /// Whether the determinant with a third half-space is seen not to be 0 by its last 64 bits, which take one product
+    /// of a word for each coefficient: then the three do not refute, since their normals are independent.
     pub fn is_passed_over(&self, h: &Half) -> bool
         ensures { result ≡ true → (strict : Bool) → refutation_of_three strict self.now.first self.now.second h.now ≡ None }
     {
         self.cross.weight(h) & LAST_WORD != 0
     }
 
-    /// The refutation by the two half-spaces and a third one, if they refute.
-    /// Only three with dependent normals have multiples that cancel, so the determinant is tried first, and then the signs.
+    /// The refutation by the two half-spaces and `h`, if they refute that all three are positive (`strict`), or that
+    /// none is negative. Only three with dependent normals have multiples that cancel, so the determinant is tried
+    /// first, and then the signs.
     pub fn refutation(&self, strict: bool, h: &Half) -> Option<Outside>
         ensures { result ≡ refutation_of_three strict self.now.first self.now.second h.now }
     {

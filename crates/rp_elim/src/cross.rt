@@ -60,7 +60,7 @@ impl Cross {
         &self.second
     }
 
-    /// The same cross product.
+    /// A copy of the cross product.
     pub fn copy(&self) -> Cross
         ensures { result ≡ self.now }
     {

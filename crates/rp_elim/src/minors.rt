@@ -38,7 +38,7 @@ fn opposite_along(half: &Half, axis: Axis) -> i64
     -along(half, axis)
 }
 
-/// The 2 by 2 determinant of two half-spaces on two axes.
+/// The 2 by 2 determinant of `f` and `g` on the axes `u` and `v`.
 pub fn minor(f: &Half, g: &Half, u: Axis, v: Axis) -> i64
     ensures value { result ≡ det2 (along u f.now) (along v f.now) (along u g.now) (along v g.now) }
     ensures small { IsWithin (2 * 2 ^ 48) result }
@@ -162,7 +162,7 @@ pub fn axes_of(f: &Half, g: &Half) -> (Axis, Axis)
     (Axis::Y, Axis::Z)
 }
 
-/// The multiples of three half-spaces that cancel on two axes.
+/// The multiples of `f`, `g` and `h` that cancel on the axes `u` and `v`.
 pub fn minors_on_axes(f: &Half, g: &Half, h: &Half, u: Axis, v: Axis) -> [Term; 3]
     ensures value { result ≡ minors_on_axes f.now g.now h.now (along u) (along v) }
     ensures small { AreFactorsSmall result }
@@ -183,7 +183,7 @@ pub fn minors_on_axes(f: &Half, g: &Half, h: &Half, u: Axis, v: Axis) -> [Term; 
     ]
 }
 
-/// The multiples of four half-spaces that cancel: the four minors of third order with alternating signs.
+/// The multiples of `e`, `f`, `g` and `h` that cancel: the four minors of third order with alternating signs.
 pub fn minors_of_four(e: &Half, f: &Half, g: &Half, h: &Half) -> [Term; 4]
     ensures value { result ≡ minors_of_four e.now f.now g.now h.now }
     ensures small { AreFactorsSmall result }

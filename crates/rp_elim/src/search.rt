@@ -29,9 +29,9 @@ pub fn first_outside(cell: &[Half], strict: bool) -> Option<Outside>
     first_refutation(strict, system.as_slice())
 }
 
-/// The first outside certificate of a cell, as `first_outside` finds it, if it has at most two terms: then one half-space
-/// holds no point, or two look away from one another. So few sets are tried that this may come before a search for points.
-/// With `None` it isn't known whether there is a point. The cell has at most 64 half-spaces.
+/// The first outside certificate of a cell, as `first_outside` finds it, if it has at most two terms: then one
+/// half-space holds no point, or two look away from one another. So few sets are tried that this may come before a
+/// search for points. With `None` it isn't known whether there is a point. The cell has at most 64 half-spaces.
 pub fn first_outside_of_two(cell: &[Half], strict: bool) -> Option<Outside>
     requires { length cell.now ≤ 64 }
     ensures found { result ≡ first_of_two strict (with_cube cell.now) }
@@ -76,7 +76,8 @@ pub fn refutation_of_one(strict: bool, h: &Half) -> Option<Outside>
     positive_refutation(strict, &[Term { by: 1, half: *h }])
 }
 
-/// The refutation by two half-spaces, if they refute. Only two with dependent normals can cancel.
+/// The refutation by `g` and `h`, if they refute that both are positive (`strict`), or that none is negative. Only two
+/// with dependent normals can cancel.
 pub fn refutation_of_two(strict: bool, g: &Half, h: &Half) -> Option<Outside>
     ensures { result ≡ refutation_of_two strict g.now h.now }
 {
@@ -86,8 +87,8 @@ pub fn refutation_of_two(strict: bool, g: &Half, h: &Half) -> Option<Outside>
     refutation(strict, &minors_of_two(g, h))
 }
 
-/// Whether the signs of the coefficients tell that two half-spaces do not refute. Most pairs are passed over so, without room
-/// for terms.
+/// Whether the signs of the coefficients tell that two half-spaces do not refute. Most pairs are passed over so,
+/// without room for terms.
 fn are_passed_over(g: &Half, h: &Half) -> bool
     ensures { result ≡ true → (strict : Bool) → refutation_of_two strict g.now h.now ≡ None }
 {
@@ -220,8 +221,9 @@ fn first_four_with_two(strict: bool, e: &Half, f: &Half, gs: &[Half]) -> Option<
     None
 }
 
-/// The first refutation by two half-spaces, a third one and one of several. Where the normals of the three are dependent, the
-/// multipliers of four are not determined up to a factor: a term can be dropped, so a smaller set would come first.
+/// The first refutation by two half-spaces, a third one and one of several. Where the normals of the three are
+/// dependent, the multipliers of four are not determined up to a factor: a term can be dropped, so a smaller set would
+/// come first.
 fn first_four_with_three(strict: bool, ef: &Cross, g: &Half, hs: &[Half]) -> Option<Outside>
     ensures { result ≡ first_of (refutation_of_four strict ef.now.first ef.now.second g.now) hs.now }
 {

@@ -19,10 +19,11 @@ use crate::search::{refutation_of_one, refutation_of_two};
 use crate::triple::Triple;
 use rp_space::{Half, Outside, keep_bounds};
 
-/// The first outside certificate of a cell in which the half-spaces before one and those behind it have a solution
-/// without it. At that point no multiples of these and of the cube's six add up to a contradiction, so each certificate
-/// has a term of the one (Farkas, Motzkin), and only the sets that contain it are tried: with at most three others
-/// (Carathéodory), in the order of their places.
+/// The first outside certificate of the cell of `before`, `half` and `after`, in this order, where `before` and `after`
+/// alone have a solution: a point at which all of them are positive (`strict`), or none is negative. At that point no
+/// multiples of these and of the cube's six add up to a contradiction, so each certificate has a term of `half`
+/// (Farkas, Motzkin), and only the sets that contain it are tried: with at most three others (Carathéodory), in the
+/// order of their places.
 /// `None` exactly where the whole cell has a solution. It has at most 64 half-spaces.
 pub fn first_outside_through(
     before: &[Half],
@@ -185,7 +186,7 @@ fn first_four_with_two(
     }
 }
 
-/// The same, where it is not 0.
+/// The first refutation by three half-spaces whose determinant is not 0, and one of several.
 fn first_four_with_triple(
     strict: bool,
     triple: &Triple,

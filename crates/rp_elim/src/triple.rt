@@ -56,8 +56,8 @@ impl Triple {
         have_one_sign(self.positive, &self.ef, &self.eg, &self.fg, h)
     }
 
-    /// The refutation by the three half-spaces and a fourth one, if they refute.
-    /// The signs are tried first: where two differ the minors need not be taken.
+    /// The refutation by the three half-spaces and `h`, if they refute that all four are positive (`strict`), or that
+    /// none is negative. The signs are tried first: where two differ the minors need not be taken.
     pub fn refutation(&self, strict: bool, h: &Half) -> Option<Outside>
         ensures { result ≡ refutation_of_four strict self.now.first self.now.second self.now.third h.now }
     {

@@ -11,8 +11,8 @@ use crate::trail::Trail;
 use rp_cert::{Proof, check_outside};
 use rp_space::{Half, System, joined};
 
-/// Takes the lines that drop half-spaces of a cell, one after the other, as long as they pass. What is kept is left, and
-/// what the next line says is answered, so that it isn't read again.
+/// Takes the lines that drop half-spaces of a cell, one after the other, as long as they pass. What is kept is left,
+/// and what the next line says is answered, so that it isn't read again.
 pub(crate) fn follow_drops(kept: &mut System, trail: &mut Trail<'_>) -> Option<Proof>
     requires { length kept.old.items ≤ 64 }
     ensures value { follow_drops trail.old.lines kept.old.items trail.old ≡ done kept.new.items trail.new }

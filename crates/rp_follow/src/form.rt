@@ -26,8 +26,8 @@ pub(crate) const MAX_PARTS: usize = 1024;
 /// A list of parts. Its members are those of any part.
 pub type Form = Listed<Kept>;
 
-/// The join of two lists of parts, on the next lines: a part test of each part of the first with each part of the second.
-/// As many tests are counted as there are pairs. `Limit` exactly where too many tests are counted, where a part would have
+/// The join of `a` and `b`, on the next lines of `trail`: a part test of each part of `a` with each part of `b`. As
+/// many tests are counted as there are pairs. `Limit` exactly where too many tests are counted, where a part would have
 /// more than 32 half-spaces or where more than 1,024 parts are made. `Told` and `Wrong` come where a line that is due
 /// doesn't stand there.
 pub fn joined(alloc: Global, a: &Form, b: &Form, trail: &mut Trail<'_>) -> Result<Form, Stopped>
@@ -43,9 +43,9 @@ pub fn joined(alloc: Global, a: &Form, b: &Form, trail: &mut Trail<'_>) -> Resul
     Ok(form)
 }
 
-/// The difference of two lists of parts, on the next lines: each part of the second is taken away from the first in turn.
-/// `Limit` exactly where too many tests are counted, where a part would have more than 32 half-spaces, or where more than
-/// 1,024 parts are left behind a part of the second. `Told` and `Wrong` come where a line that is due doesn't stand
+/// The difference of `a` and `b`, on the next lines of `trail`: each part of `b` is taken away from `a` in turn.
+/// `Limit` exactly where too many tests are counted, where a part would have more than 32 half-spaces, or where more
+/// than 1,024 parts are left behind a part of `b`. `Told` and `Wrong` come where a line that is due doesn't stand
 /// there.
 pub fn differed(alloc: Global, a: &Form, b: &Form, trail: &mut Trail<'_>) -> Result<Form, Stopped>
     ensures comes { Comes (λ form. form.items) result trail.new (subtract line_tester a.now.items b.now.items trail.old) }
@@ -58,8 +58,8 @@ pub fn differed(alloc: Global, a: &Form, b: &Form, trail: &mut Trail<'_>) -> Res
     subtract(alloc, first, b.items(), trail)
 }
 
-/// Whether two lists of parts share a member, on the next lines: a strict test of each part of the first with each part of
-/// the second, up to the first pair that is found. With `near` only the pairs are tested whose boxes share more than
+/// Whether two lists of parts share a member, on the next lines: a strict test of each part of the first with each part
+/// of the second, up to the first pair that is found. With `near` only the pairs are tested whose boxes share more than
 /// boundary, and nothing is counted; else as many tests are counted as there are pairs, and `Limit` comes exactly where
 /// these are too many. `Told` and `Wrong` come where a line that is due doesn't stand there; `Memory` never comes.
 pub fn common(a: &Form, b: &Form, near: bool, trail: &mut Trail<'_>) -> Result<bool, Stopped>
@@ -73,10 +73,11 @@ pub fn common(a: &Form, b: &Form, near: bool, trail: &mut Trail<'_>) -> Result<b
     meet(Meeting::Common, a, b, near, trail)
 }
 
-/// Whether two lists of parts are in contact, on the next lines: a weak test of each part of the first with each part of
-/// the second, up to the first pair that is found. With `near` only the pairs are tested whose boxes share a point, the
-/// boundary included, and nothing is counted; else as many tests are counted as there are pairs, and `Limit` comes exactly
-/// where these are too many. `Told` and `Wrong` come where a line that is due doesn't stand there; `Memory` never comes.
+/// Whether two lists of parts are in contact, on the next lines: a weak test of each part of the first with each part
+/// of the second, up to the first pair that is found. With `near` only the pairs are tested whose boxes share a point,
+/// the boundary included, and nothing is counted; else as many tests are counted as there are pairs, and `Limit` comes
+/// exactly where these are too many. `Told` and `Wrong` come where a line that is due doesn't stand there; `Memory`
+/// never comes.
 pub fn touching(a: &Form, b: &Form, near: bool, trail: &mut Trail<'_>) -> Result<bool, Stopped>
     ensures comes { Comes (λ found. found) result trail.new (touch_by near a.now.items b.now.items trail.old) }
     ensures right { length a.now.items ≤ most_parts → length b.now.items ≤ most_parts →
@@ -117,7 +118,7 @@ fn count_pairs(a: &Form, b: &Form, trail: &mut Trail<'_>) -> Result<(), Stopped>
     Ok(())
 }
 
-/// Puts a part behind a list, if there is one. Answers `AllocError` only for want of memory.
+/// Puts a part behind a list, if there is one.
 pub(crate) fn put(form: &mut Form, part: Option<Kept>) -> Result<(), AllocError>
     ensures { IfOk result (λ _. form.new.items ≡ form.old.items ++ made_part part) }
 {
@@ -127,7 +128,7 @@ pub(crate) fn put(form: &mut Form, part: Option<Kept>) -> Result<(), AllocError>
     }
 }
 
-/// The same list of parts. Answers `AllocError` only for want of memory.
+/// A copy of `form`: the same parts in the same order.
 pub fn copy(alloc: Global, form: &Form) -> Result<Form, AllocError>
     ensures { IfOk result (λ copied. copied.items ≡ form.now.items) }
 {

@@ -8,8 +8,8 @@ use rp_space::{Half, Halves, IntBox};
 use std::alloc::{AllocError, Global};
 use std::marker::Model;
 
-/// A part as a report shows it: a cell of at most 32 half-spaces with a member, and a box that holds all its members. The
-/// box need not be the least.
+/// A part as a report shows it: a cell of at most 32 half-spaces with a member, and a box that holds all its members.
+/// The box need not be the least.
 #[derive(Drop)]
 pub struct Kept {
     /// The half-spaces in order. The members are the points of the cube that all of them hold.
@@ -31,7 +31,7 @@ impl Model for Kept {
 }
 
 impl Kept {
-    /// The same half-spaces and the same box. Answers `AllocError` only for want of memory.
+    /// A copy: the same half-spaces and the same box.
     pub fn copy(&self, alloc: Global) -> Result<Kept, AllocError>
         ensures { IfOk result (λ part. part ≡ self.now) }
     {

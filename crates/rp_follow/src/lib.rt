@@ -6,7 +6,8 @@
 //! answered with yes exactly where the cell has a point, or its weak system has; joins, differences and prisms have
 //! exactly the members; a pair that shares a point, or touches, is found exactly where there is one. These are said of
 //! parts whose boxes hold their members, as lines show them; such a box need not be the least. Lines that show slices
-//! are taken, one for each part, as long as each passes for its part.
+//! are taken, one for each part, as long as each passes for its part. Calls that answer `AllocError` do so only for
+//! want of memory.
 
 mod answers;
 mod difference;

@@ -10,8 +10,8 @@ use crate::meeting::Meeting;
 use crate::trail::Trail;
 use rp_tests::Stopped;
 
-/// Each part of a list with each part of a second list, up to the first pair that meets. Where `near`, only the pairs are
-/// tested whose boxes let them meet.
+/// Each part of a list with each part of a second list, up to the first pair that meets. Where `near`, only the pairs
+/// are tested whose boxes let them meet.
 pub(crate) fn first_pair(
     meeting: Meeting,
     parts: &[Kept],

@@ -17,11 +17,11 @@ use std::alloc::Global;
 /// The most half-spaces of a part.
 const MAX_HALVES: usize = 32;
 
-/// A part test of a cell of at most 64 half-spaces, on the next lines: the part that they make of it, and `None` where the
-/// strict test shows that the cell has no point. Lines may drop half-spaces that add nothing; then a line gives a box, and
-/// further ones show those of its sides that are neither kept nor the cube's. `Limit` exactly where more than 32
-/// half-spaces are kept and the next line drops none. `Told` and `Wrong` come where a line that is due doesn't stand
-/// there.
+/// A part test of `cell`, of at most 64 half-spaces, on the next lines of `trail`: the part that they make of it, and
+/// `None` where the strict test shows that the cell has no point. Lines may drop half-spaces that add nothing; then a
+/// line gives a box, and further ones show those of its sides that are neither kept nor the cube's. `Limit` exactly
+/// where more than 32 half-spaces are kept and the next line drops none. `Told` and `Wrong` come where a line that is
+/// due doesn't stand there.
 pub fn made(alloc: Global, cell: &[Half], trail: &mut Trail<'_>) -> Result<Option<Kept>, Stopped>
     requires { length cell.now ≤ 64 }
     ensures comes { Comes (λ part. part) result trail.new (follow_part cell.now trail.old) }

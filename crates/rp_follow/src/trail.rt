@@ -57,8 +57,8 @@ impl<'a> Model for Trail<'a> {
 }
 
 impl<'a> Trail<'a> {
-    /// The lines of a report of at most 67,108,864 bytes, from the first, with no tests. They are cut at each line feed,
-    /// and no carriage return is taken away; the last line may lack its line feed.
+    /// The lines of a report of at most 67,108,864 bytes, from the first, with no tests. They are cut at each line
+    /// feed, and no carriage return is taken away; the last line may lack its line feed.
     pub fn new(report: &'a [u8]) -> Trail<'a>
         requires { length report.now ≤ most_report_bytes }
         ensures { result ≡ record { lines = report_lines report.now; number = 1; tests = 0 } }
@@ -72,7 +72,7 @@ impl<'a> Trail<'a> {
         }
     }
 
-    /// The same place again, to look at the lines behind the next one.
+    /// A second trail from this place on, to look at the lines behind the next one.
     pub fn ahead(&self) -> Trail<'a>
         ensures { result ≡ self.now }
     {
@@ -128,10 +128,10 @@ impl<'a> Trail<'a> {
         true
     }
 
-    /// A strict test of the cell of `first` followed by `second`, at most 64 half-spaces together: whether the cell has a
-    /// point. The next line must show it: it has points that pass as an inside certificate of the cell, or multiples that
-    /// pass as a strict outside one. `Told` where it tells of a limit, `Wrong` where it is any other line; never `Limit` or
-    /// `Memory`. Then no line is taken. The test isn't counted.
+    /// A strict test of the cell of `first` followed by `second`, at most 64 half-spaces together: whether the cell has
+    /// a point. The next line must show it: it has points that pass as an inside certificate of the cell, or multiples
+    /// that pass as a strict outside one. `Told` where it tells of a limit, `Wrong` where it is any other line; never
+    /// `Limit` or `Memory`. Then no line is taken. The test isn't counted.
     pub fn strict(&mut self, first: &[Half], second: &[Half]) -> Result<bool, Stopped>
         requires { length first.now + length second.now ≤ 64 }
         ensures comes { Comes (λ found. found) result self.new (follow_strict (first.now ++ second.now) self.old) }
@@ -147,10 +147,10 @@ impl<'a> Trail<'a> {
         self.strict_test(cell.as_slice())
     }
 
-    /// A weak test of the cell of `first` followed by `second`, at most 64 half-spaces together: whether its weak system
-    /// has a point. The next line must show it: it has a point of the weak system, or multiples that pass as a weak outside
-    /// certificate. `Told` where it tells of a limit, `Wrong` where it is any other line; never `Limit` or `Memory`. Then no line
-    /// is taken. The test isn't counted.
+    /// A weak test of the cell of `first` followed by `second`, at most 64 half-spaces together: whether its weak
+    /// system has a point. The next line must show it: it has a point of the weak system, or multiples that pass as a
+    /// weak outside certificate. `Told` where it tells of a limit, `Wrong` where it is any other line; never `Limit` or
+    /// `Memory`. Then no line is taken. The test isn't counted.
     pub fn weak(&mut self, first: &[Half], second: &[Half]) -> Result<bool, Stopped>
         requires { length first.now + length second.now ≤ 64 }
         ensures comes { Comes (λ found. found) result self.new (follow_weak (first.now ++ second.now) self.old) }

@@ -65,8 +65,9 @@ fn cell_of(z1: i32, z2: i32, least: i32, start: Corner, end: Corner) -> Option<[
     }
 }
 
-/// The trapezoid of the edge with the number k, from 0, in a prism: between the ends of the edge, from the least y of the corners up to it,
-/// between the heights. None exactly where both ends have one x. There are from 1 to 256 corners, and all numbers are within their bounds.
+/// The trapezoid of the edge number `k`, from 0, of the prism over `corners` from `z1` to below `z2`: between the ends
+/// of the edge, from the least y of the corners up to it, between the heights. `None` exactly where both ends have one
+/// x. There are from 1 to 256 corners, `k` is below their number, and all numbers are within their bounds.
 pub fn trapezoid(z1: i32, z2: i32, corners: &[Corner], k: usize) -> Option<[Half; 6]>
     requires bounds { IsPrism (prism_of z1 z2 corners.now) }
     requires below { k < length corners.now }
@@ -104,8 +105,9 @@ fn flipped(odd: bool, counted: bool) -> bool
     if counted { !odd } else { odd }
 }
 
-/// Whether the point is a member of the prism: it lies in the cube, between the heights, and an odd number of edges are above it.
-/// There are from 1 to 256 corners, and all numbers are within their bounds.
+/// Whether `p` is a member of the prism over `corners` from `z1` to below `z2`: it lies in the cube, between the
+/// heights, and an odd number of edges are above it. There are from 1 to 256 corners, and all numbers are within their
+/// bounds.
 pub fn prism_holds(z1: i32, z2: i32, corners: &[Corner], p: &Point) -> bool
     requires { IsPrism (prism_of z1 z2 corners.now) }
     ensures { result ≡ is_member (Shape.prism (prism_of z1 z2 corners.now)) p.now }

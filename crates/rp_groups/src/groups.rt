@@ -13,8 +13,7 @@ use std::alloc::{AllocError, Global};
 pub type PieceList = Listed<Numbers>;
 
 /// The groups into which links join the numbers from 1 to `count`, in the order of their first numbers: each root of a
-/// tree begins a group, and each other number comes into the group of the number above it. Answers `AllocError` only for
-/// want of memory.
+/// tree begins a group, and each other number comes into the group of the number above it.
 pub fn groups_of_links(
     alloc: Global,
     count: u32,
@@ -59,7 +58,7 @@ fn put(
     groups[place].push(number)
 }
 
-/// The same groups as a list.
+/// The list of `groups`, in their order.
 fn listed(alloc: Global, groups: Vec<Numbers>) -> Result<PieceList, AllocError>
     ensures { IfOk result (λ list. list.items ≡ groups.items) }
 {

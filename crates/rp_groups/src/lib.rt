@@ -2,7 +2,7 @@
 //! The groups into which links join numbers, by trees of numbers (union-find).
 //!
 //! The groups are exactly those of the definition and in its order: lists of numbers, each rising and in the order of
-//! their first numbers.
+//! their first numbers. Calls that answer `AllocError` do so only for want of memory.
 
 mod forest;
 mod groups;

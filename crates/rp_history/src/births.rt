@@ -11,7 +11,7 @@ use crate::lot::{Birth, LotLine};
 use rp_space::{Listed, Name, Names};
 use std::alloc::{AllocError, Global};
 
-/// The lots that are born at the line, in order. Answers `AllocError` only for want of memory.
+/// The lots that are born at the line, in order.
 pub(crate) fn lots_born(
     alloc: Global,
     line: u32,
@@ -26,7 +26,7 @@ pub(crate) fn lots_born(
     Ok(born)
 }
 
-/// A lot that is born at the line. Answers `AllocError` only for want of memory.
+/// A lot that is born at the line.
 fn lot_born(alloc: Global, line: u32, birth: &Birth) -> Result<LotLine, AllocError>
     ensures { IfOk result (λ lot. lot_of lot ≡ born_at line (new_lot_of birth.now)) }
 {

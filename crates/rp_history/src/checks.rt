@@ -1,4 +1,5 @@
-//! The checks on names that come before the rest of a command. A contract speaks of each state whose lots have the history.
+//! The checks on names that come before the rest of a command. A contract speaks of each state whose lots have the
+//! history.
 ghost use Rattle.std.specs.Prelude.{◌≡◌, ◌<◌, [], None, length, slice_get, option_map, IfOk, IfErr, IsSome};
 ghost use Rattle.rp_model.specs.states.State.{live_lot, layer_with_id, layer_of_first};
 ghost use Rattle.rp_model.specs.commands.Verdict.{repeated};
@@ -57,7 +58,9 @@ impl History {
         Ok(())
     }
 
-    /// The checks on names of a cut, in order, and the place of the lot that is cut. Takes no memory.
+    /// The checks on names of a cut of `id` into `first` and `second`, in order, and the place of `id` among all lots.
+    /// `Unknown` where `id` isn't live; or else `Known` with the first of the two that was ever registered; or else
+    /// `Same` where they are one. Takes no memory.
     pub fn check_cut(&self, id: Name, first: Name, second: Name) -> Result<usize, NameFault>
         ensures checks { InEach self.now (λ s. ChecksNames result (check_cut s id first second)) }
         ensures lot { InEach self.now (λ s. IfOk result (λ k. slice_get s.lots k ≡ live_lot id s.lots)) }
@@ -73,7 +76,9 @@ impl History {
         Ok(place)
     }
 
-    /// The checks on names of a subdivision, in order, and the place of the lot that is divided.
+    /// The checks on names of a subdivision of `id` into `ids`, in order, and the place of `id` among all lots. `Few`
+    /// where there are fewer than two `ids`; or else `Unknown` where `id` isn't live; or else `Known` with the first of
+    /// `ids` that was ever registered; or else `Repeated` with the first of them that stood before.
     pub fn check_subdivide(&self, alloc: Global, id: Name, ids: &[Name]) -> Result<usize, NameFault>
         ensures checks { InEach self.now (λ s. ChecksNames result (check_subdivide s id ids.now)) }
         ensures lot { InEach self.now (λ s. IfOk result (λ k. slice_get s.lots k ≡ live_lot id s.lots)) }
@@ -88,7 +93,10 @@ impl History {
         Ok(place)
     }
 
-    /// The checks on names of a consolidation, in order, and the layer of the lots that become one.
+    /// The checks on names of a consolidation of `ids` into `new`, in order, and the layer of `ids`. `Few` where there
+    /// are fewer than two `ids`; or else `Unknown` with the first of them that isn't live; or else `Repeated` with the
+    /// first that stood before; or else `Layers` with the first that has another layer than the first of all; or else
+    /// `Known` where `new` was ever registered.
     pub fn check_consolidate(
         &self,
         alloc: Global,
@@ -109,7 +117,8 @@ impl History {
         Ok(layer)
     }
 
-    /// The checks on ids of access, in order, and the layer of both lots. Takes no memory.
+    /// The checks on ids of access from `from` to `to`, in order, and the layer of both. `Unknown` with the first of
+    /// the two that isn't live; or else `Layers(to)` where they have two layers. Takes no memory.
     pub fn check_access(&self, from: Name, to: Name) -> Result<Name, NameFault>
         ensures checks { InEach self.now (λ s. ChecksNames result (check_access s from to)) }
         ensures layer { InEach self.now (λ s. IfOk result (λ y. y ≡ layer_with_id s from)) }
@@ -160,7 +169,7 @@ fn check_repeated(alloc: Global, ids: &[Name]) -> Result<(), NameFault>
     }
 }
 
-/// The first of the ids that stood before. Answers `AllocError` only for want of memory.
+/// The first of the ids that stood before.
 fn first_repeated(alloc: Global, ids: &[Name]) -> Result<Option<Name>, AllocError>
     ensures { IfOk result (λ o. option_map repeated o ≡ check_repeated [] ids.now) }
 {
@@ -168,8 +177,7 @@ fn first_repeated(alloc: Global, ids: &[Name]) -> Result<Option<Name>, AllocErro
     first_known(&mut before, ids)
 }
 
-/// The first of the ids that stands in the set; each that doesn't goes into it, which is empty at first. Answers `AllocError`
-/// only for want of memory.
+/// The first of the ids that stands in the set; each that doesn't goes into it, which is empty at first.
 fn first_known(before: &mut IndexSet<Name>, ids: &[Name]) -> Result<Option<Name>, AllocError>
     requires { before.old.keys ≡ [] }
     ensures { IfOk result (λ o. option_map repeated o ≡ check_repeated [] ids.now) }

@@ -42,9 +42,9 @@ impl History {
         }
     }
 
-    /// Ends the lots of these ids at the line, as far as they are live, and lets others be born there, which go last, in
-    /// order. All lots were born before the line; the new ids are new and distinct, and their origins are known.
-    /// Answers `AllocError` only for want of memory; then all is as before.
+    /// Ends the lots `ends` at `line`, as far as they are live, and lets `births` be born there, which go last, in
+    /// order. All lots were born before `line`; the new ids are new and distinct, and their origins are known. After
+    /// `AllocError` all is as before.
     pub fn note(
         &mut self,
         alloc: Global,
@@ -65,7 +65,7 @@ impl History {
         Ok(())
     }
 
-    /// Ends a lot at the line, where it is live. All lots were born before the line. Takes no memory.
+    /// Ends the lot `id` at `line`, where it is live. All lots were born before `line`. Takes no memory.
     pub fn end(&mut self, line: u32, id: Name)
         requires { AreBornBefore line self.old }
         ensures lots { self.new ≡ map (ended_at line (id ∷ [])) self.old }
@@ -82,7 +82,8 @@ impl History {
         self.list.lots()
     }
 
-    /// The place of a lot among all lots, found without a walk over them. `None` exactly where the id was never registered.
+    /// The place of a lot among all lots, found without a walk over them. `None` exactly where the id was never
+    /// registered.
     pub fn place_of(&self, id: &Name) -> Option<usize>
         ensures lot { option_and_then (λ k. slice_get self.now k) result ≡ lot_with_id id.now self.now }
         ensures within { IfSome result (λ k. k < length self.now) }
@@ -100,7 +101,7 @@ impl History {
         self.list.live_place(id)
     }
 
-    /// Whether the lot was born at the line or before, and wasn't ended at the line or before.
+    /// Whether `id` was born at `line` or before, and wasn't ended at `line` or before.
     pub fn alive(&self, id: Name, line: u32) -> bool
         ensures { result ≡ is_among id (ids_of (alive_after line self.now)) }
     {
@@ -110,8 +111,8 @@ impl History {
         }
     }
 
-    /// The ids of a lot and of all lots from which it descends through origins, in the order of their births; none where
-    /// the id was never registered. Answers `AllocError` only for want of memory.
+    /// The ids of the lot `id` and of all lots from which it descends through origins, in the order of their births;
+    /// none where `id` was never registered.
     pub fn lineage(&self, alloc: Global, id: Name) -> Result<Names, AllocError>
         ensures { IfOk result (λ ids. ids.items ≡ ids_of (lineage id self.now)) }
     {

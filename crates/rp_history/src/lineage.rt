@@ -9,8 +9,7 @@ use crate::lot::LotLine;
 use rp_space::{Name, Names};
 use std::alloc::{AllocError, Global};
 
-/// A mark for each lot, which is set for a lot and for all lots that it descends from. Answers `AllocError` only for want
-/// of memory.
+/// A mark for each lot, which is set for a lot and for all lots that it descends from.
 pub(crate) fn marked(alloc: Global, history: &History, id: &Name) -> Result<Vec<bool>, AllocError>
     ensures lots { IfOk result (λ marks. marked_lots marks.items history.now ≡ lineage id.now history.now) }
     ensures each { IfOk result (λ marks. length marks.items ≡ length history.now) }
@@ -56,7 +55,7 @@ fn mark(marks: &mut [bool], history: &History, id: &Name)
     }
 }
 
-/// The ids of the marked lots, in order. Answers `AllocError` only for want of memory.
+/// The ids of the marked lots, in order.
 pub(crate) fn marked_ids(
     alloc: Global,
     lots: &[LotLine],

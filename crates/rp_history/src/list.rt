@@ -12,7 +12,8 @@ use rp_space::Name;
 use std::alloc::{AllocError, Global};
 use std::marker::Model;
 
-/// Lots in the order of their births. A contract sees them without parts, and in `spare` how many more there is room for.
+/// Lots in the order of their births. A contract sees them without parts, and in `spare` how many more there is room
+/// for.
 #[derive(Drop)]
 pub(crate) struct LotList {
     lots: Vec<LotLine>,
@@ -44,7 +45,7 @@ impl LotList {
         }
     }
 
-    /// Makes room for so many more lots. Answers `AllocError` only for want of memory. In any case the lots stay.
+    /// Makes room for `n` more lots. In any case the lots stay.
     pub(crate) fn reserve(&mut self, n: usize) -> Result<(), AllocError>
         ensures lots { self.new.lots ≡ self.old.lots }
         ensures ok { OnOk result (n ≤ self.new.spare) }

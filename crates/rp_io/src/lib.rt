@@ -4,7 +4,8 @@
 //! A [`Source`] gives bytes and a [`Sink`] takes them. Each counts its faults, the reads or writes that failed, and
 //! answers [`Failed`] only where that count rose in the call. A read takes the next bytes; a put appends its piece, or
 //! where it fails a prefix of it. [`read_whole`] reads a source to its end, up to a limit. The forms in memory fail
-//! exactly where they are told to, or where their room ends; the tests pin what each form tells of its bytes and faults.
+//! exactly where they are told to, or where their room ends; the tests pin what each form tells of its bytes and
+//! faults. Calls that answer `AllocError` do so only for want of memory.
 
 mod failed;
 mod intake;

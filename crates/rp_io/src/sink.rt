@@ -58,11 +58,8 @@ impl<'a> Model for MemorySink<'a> {
 }
 
 impl<'a> MemorySink<'a> {
-    /// A sink with room for so many bytes, whose memory is taken here. Each entry of `failing` is
-    /// the number of a put that fails, counted from 1, and the most bytes that it appends. The
-    /// first of two entries for one put counts.
-    ///
-    /// Answers `AllocError` only for want of that memory.
+    /// A sink with room for so many bytes, whose memory is taken here. Each entry of `failing` is the number of a put
+    /// that fails, counted from 1, and the most bytes that it appends. The first of two entries for one put counts.
     pub fn new(
         alloc: Global,
         room: usize,
@@ -156,8 +153,6 @@ impl Model for QuietSink {
 
 impl QuietSink {
     /// A sink with room for so many bytes, whose memory is taken here.
-    ///
-    /// Answers `AllocError` only for want of that memory.
     pub fn new(alloc: Global, room: usize) -> Result<QuietSink, AllocError>
         ensures { IfOk result (λ sink. sink ≡ record { bytes = []; room = room; is_passed = false }) }
     {

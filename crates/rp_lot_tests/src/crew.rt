@@ -45,7 +45,8 @@ fn two_items_are_judged_at_once(rt: HostRuntime) {
     }
 }
 
-/// So many items, each of which means its number. How many are judged at once is counted, and the most of these counts.
+/// As many items as `count` says, each of which means its number. How many are judged at once is counted, and the most
+/// of these counts.
 #[derive(Drop)]
 struct Counted {
     count: usize,

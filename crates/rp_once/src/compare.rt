@@ -29,7 +29,8 @@ pub enum Rcc8 {
     NTPPi,
 }
 
-/// Whether a form has no part. The first part that it has is shown to have a point, by a strict test that isn't counted.
+/// Whether `form` has no part. The first part that it has is shown to have a point, by a strict test of `tests`, which
+/// isn't counted.
 pub fn is_empty<T: Tests>(alloc: Global, form: &T::Form, tests: &mut T) -> Result<bool, Stopped>
     ensures { Comes (λ is_so. is_so) result tests.new (show_then_no T.tester (T.parts_of form.now) tests.old) }
 {
@@ -42,7 +43,7 @@ pub fn is_empty<T: Tests>(alloc: Global, form: &T::Form, tests: &mut T) -> Resul
     }
 }
 
-/// Whether every point of the first form is one of the second: nothing is left of the first outside the second.
+/// Whether every point of `a` is one of `b`: by `tests`, nothing is left of `a` outside `b`.
 pub fn within<T: Tests>(
     alloc: Global,
     a: &T::Form,
@@ -55,7 +56,7 @@ pub fn within<T: Tests>(
     is_empty(alloc, &left, tests)
 }
 
-/// Whether two forms have the same points: each is within the other.
+/// Whether `a` and `b` have the same points: by `tests`, `a` is within `b`, and then `b` within `a`.
 pub fn equal<T: Tests>(
     alloc: Global,
     a: &T::Form,
@@ -70,7 +71,7 @@ pub fn equal<T: Tests>(
     within(alloc, b, a, tests)
 }
 
-/// The relation of two forms that have parts.
+/// In which of the eight relations `a` stands to `b`, where both have parts, by `tests`.
 pub fn found_relation<T: Tests>(
     alloc: Global,
     a: &T::Form,
@@ -154,7 +155,7 @@ fn touches_outside<T: Tests>(
     tests.contact(alloc, part, &outside)
 }
 
-/// What is left of the cube outside a form.
+/// What is left of the cube outside `form`, by `tests`.
 pub fn outside<T: Tests>(alloc: Global, form: &T::Form, tests: &mut T) -> Result<T::Form, Stopped>
     ensures { Comes T.parts_of result tests.new (subtract_from_whole T.tester (T.parts_of form.now) tests.old) }
 {

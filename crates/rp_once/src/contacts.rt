@@ -14,9 +14,10 @@ use std::alloc::Global;
 /// Pairs of numbers of parts that are in contact.
 type Links = Listed<(u32, u32)>;
 
-/// The pieces of a list of parts, as lists of their numbers, counted from 1: each number stands in one list, each list
-/// rises, and the lists come in the order of their first numbers. Each two parts are tested for contact, in order. As many
-/// tests are counted as there are pairs of parts; `Limit` comes exactly where these are too many.
+/// The pieces of `form`, as lists of the numbers of its parts, counted from 1: each number stands in one list, each
+/// list rises, and the lists come in the order of their first numbers. Each two parts, of at most 1,024, are tested for
+/// contact by `tests`, in order. As many tests are counted as there are pairs of parts; `Limit` comes exactly where
+/// these are too many.
 pub fn pieces<T: Tests>(alloc: Global, form: &T::Form, tests: &mut T) -> Result<PieceList, Stopped>
     requires { length (T.parts_of form.now) ≤ most_parts }
     ensures comes { Comes numbers_of result tests.new (pieces_of_parts T.tester (T.parts_of form.now) tests.old) }

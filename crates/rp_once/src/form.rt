@@ -77,8 +77,9 @@ enum Pairing {
     Minus,
 }
 
-/// The form of an expression: its parts, at most 1,024, made test by test in reading order, with the parts kept for names. A
-/// name or lot that isn't there stands for no part. `Limit` exactly where the operations on forms say so.
+/// The form of `region`, with what `named` knows of names and lots: its parts, at most 1,024, made by `tests` in
+/// reading order, with the parts kept for names. A name or lot that isn't there stands for no part. `Limit` exactly
+/// where the operations on forms say so.
 #[cycle(forms)]
 pub fn formed<T: Tests, N: Named<T>>(
     alloc: Global,

@@ -49,7 +49,8 @@ fn passes<T: Tests, N: Named<T>>(named: &N, region: &Expr, point: &Point) -> boo
     }
 }
 
-/// Whether the point is a member of the expression: it lies in the cube and passes its test.
+/// Whether `point` is a member of `region`, with what `named` knows of names and lots: it lies in the cube and passes
+/// its test.
 pub fn is_member<T: Tests, N: Named<T>>(named: &N, region: &Expr, point: &Point) -> bool
     requires { IsKeptExpression (expression_of region.now) }
     ensures { result ≡ is_member (closed (shapes_of_parts (N.meaning named.now)) (expression_of region.now)) point.now }

@@ -44,7 +44,8 @@ fn kept_form<'a, T: Tests, N: Named<T>>(named: &'a N, region: &Expr) -> Option<&
     }
 }
 
-/// The form of an expression all of whose names are there: one that is kept is read in place.
+/// The form of `region`, all of whose names `named` knows: one that is kept is read in place, another one is made by
+/// `tests`.
 pub fn operand_of<'a, T: Tests, N: Named<T>>(
     alloc: Global,
     named: &'a N,

@@ -20,7 +20,7 @@ pub enum Question {
 }
 
 impl Question {
-    /// The answer for two forms.
+    /// The answer for the forms `first` and `second`, by `tests`.
     pub fn answer<T: Tests>(
         self,
         alloc: Global,

@@ -1,7 +1,8 @@
 #![tactic(auto)]
-//! Laws of parts and of lists of parts: which points the trapezoids of a prism have; the slim cell and the least box of a part;
-//! nearness, contact and overlap, with the eight relations; pieces, the groups into which links of contact join the parts.
-//! Each function is a law over the definitions of `rp_geometry`: its contract is the law, and its body is empty.
+//! Laws of parts and of lists of parts: which points the trapezoids of a prism have; the slim cell and the least box of
+//! a part; nearness, contact and overlap, with the eight relations; pieces, the groups into which links of contact join
+//! the parts. Each function is a law over the definitions of `rp_geometry`: its contract is the law, and its body is
+//! empty.
 
 ghost use Rattle.rp_geometry.specs.laws.PartLaws.{BoxesOfContactMeet, BoxesOfOverlapMeet, ContactIsFound, LeastBoxIsLeast, NearCellIsWeak, NearRegionIsWeak, OverlapIsFound, SlimKeepsMembers, SlimPartIsPart};
 ghost use Rattle.rp_geometry.specs.laws.PieceLaws.{GroupsAreJoined, LinksAreContacts, OnePieceIsLinked, PiecesAreGroups, PiecesAreOne};
@@ -13,7 +14,8 @@ pub fn crossings_are_even()
     ensures { CrossingsAreEven }
 {}
 
-/// The trapezoid of an edge has exactly the points that the edge spans, from the least y to below the edge by the sign rule, between the heights.
+/// The trapezoid of an edge has exactly the points that the edge spans, from the least y to below the edge by the sign
+/// rule, between the heights.
 pub fn trapezoid_is_between()
     ensures { TrapezoidIsBetween }
 {}
@@ -68,12 +70,14 @@ pub fn boxes_of_contact_meet()
     ensures { BoxesOfContactMeet }
 {}
 
-/// Two lists of parts have a common member exactly where the search finds an inside certificate of a part of each together.
+/// Two lists of parts have a common member exactly where the search finds an inside certificate of a part of each
+/// together.
 pub fn overlap_of_parts_is_found()
     ensures { OverlapOfPartsIsFound }
 {}
 
-/// Two lists of parts of which each has a member are in contact exactly where the search finds a weak point of a part of each together.
+/// Two lists of parts of which each has a member are in contact exactly where the search finds a weak point of a part
+/// of each together.
 pub fn contact_of_parts_is_found()
     ensures { ContactOfPartsIsFound }
 {}
@@ -93,12 +97,14 @@ pub fn contact_with_union_is_with_one()
     ensures { ContactWithUnionIsWithOne }
 {}
 
-/// Some bounded region is externally connected to a proper part and to its whole exactly where the part is in contact with the outside of the whole.
+/// Some bounded region is externally connected to a proper part and to its whole exactly where the part is in contact
+/// with the outside of the whole.
 pub fn tangential_part_touches_outside()
     ensures { TangentialPartTouchesOutside }
 {}
 
-/// The same of two lists of parts, where a third one has the members of the outside of the whole.
+/// Of lists of parts: where one has the members of the outside of a whole, some bounded region is externally connected
+/// to a part of this whole and to the whole exactly where the part is in contact with that list.
 pub fn tangential_part_touches_rest()
     ensures { TangentialPartTouchesRest }
 {}

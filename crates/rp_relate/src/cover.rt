@@ -10,8 +10,8 @@ ghost use Rattle.rp_relate.specs.Relations.{cover_each_other};
 use rp_region::{OpFault, Region, Work};
 use std::alloc::Global;
 
-/// Whether a region has no point. The first part that it has is shown to have one, by one more test, which isn't counted:
-/// `Limit` never comes.
+/// Whether `region` has no point. The first part that it has is shown to have one, by one more test of `work`, which
+/// isn't counted: `Limit` never comes.
 pub fn is_empty(alloc: Global, region: &Region, work: &mut Work) -> Result<bool, OpFault>
     ensures makes { Makes (λ is_so. is_so) result work.old work.new (show_then_no first_tester region.now) }
     ensures right { IfOk result (λ is_so. IsTrue is_so ↔ IsEmpty (shape_of_parts region.now)) }
@@ -23,8 +23,8 @@ pub fn is_empty(alloc: Global, region: &Region, work: &mut Work) -> Result<bool,
     work.take_over(walked, is_so)
 }
 
-/// Whether every point of the first region is one of the second: nothing is left of the first outside the second. `Limit`
-/// comes exactly where it comes for that difference.
+/// Whether every point of `a` is one of `b`: nothing is left of `a` outside `b`, by tests of `work`. `Limit` comes
+/// exactly where it comes for that difference.
 pub fn within(alloc: Global, a: &Region, b: &Region, work: &mut Work) -> Result<bool, OpFault>
     ensures makes { Makes (λ is_so. is_so) result work.old work.new (is_covered first_tester a.now b.now) }
     ensures right { IfOk result (λ is_so. IsTrue is_so ↔ IsWithin (shape_of_parts a.now) (shape_of_parts b.now)) }
@@ -37,8 +37,8 @@ pub fn within(alloc: Global, a: &Region, b: &Region, work: &mut Work) -> Result<
     work.take_over(walked, is_so)
 }
 
-/// Whether two regions have the same points: each is within the other. `Limit` comes exactly where it comes for the first
-/// inclusion or, where that holds, for the second.
+/// Whether `a` and `b` have the same points, by tests of `work`: `a` is within `b`, and `b` within `a`. `Limit` comes
+/// exactly where it comes for the first inclusion or, where that holds, for the second.
 pub fn equal(alloc: Global, a: &Region, b: &Region, work: &mut Work) -> Result<bool, OpFault>
     ensures makes { Makes (λ is_so. is_so) result work.old work.new (cover_each_other a.now b.now) }
     ensures right { IfOk result (λ is_so. IsTrue is_so ↔ SameMembers (shape_of_parts a.now) (shape_of_parts b.now)) }

@@ -11,9 +11,9 @@ use rp_groups::PieceList;
 use rp_region::{OpFault, Region, Work};
 use std::alloc::Global;
 
-/// The pieces of a region, as lists of the numbers of its parts, counted from 1: each number stands in one list, each list
-/// rises, and the lists come in the order of their first numbers. Each two parts are tested for contact, in order. As many
-/// tests are counted as there are pairs of parts; `Limit` comes exactly where these are too many.
+/// The pieces of `region`, as lists of the numbers of its parts, counted from 1: each number stands in one list, each
+/// list rises, and the lists come in the order of their first numbers. Each two parts are tested for contact by `work`,
+/// in order. As many tests are counted as there are pairs of parts; `Limit` comes exactly where these are too many.
 pub fn pieces(alloc: Global, region: &Region, work: &mut Work) -> Result<PieceList, OpFault>
     ensures makes { Makes numbers_of result work.old work.new (pieces_of_parts first_tester region.now) }
     ensures right { IfOk result (λ list. ArePieces region.now (numbers_of list)) }

@@ -10,7 +10,7 @@ ghost use Rattle.rp_region.specs.Makes.{Makes};
 use rp_region::{OpFault, Region, Work};
 use std::alloc::Global;
 
-/// Whether two regions share a point. Each part of the first is tested with each part of the second, up to the first pair
+/// Whether `a` and `b` share a point. Each part of `a` is tested by `work` with each part of `b`, up to the first pair
 /// that shares one. As many tests are counted as there are pairs; `Limit` comes exactly where these are too many.
 pub fn overlap(alloc: Global, a: &Region, b: &Region, work: &mut Work) -> Result<bool, OpFault>
     ensures makes { Makes (λ is_so. is_so) result work.old work.new (common_in_full first_tester a.now b.now) }
@@ -19,9 +19,9 @@ pub fn overlap(alloc: Global, a: &Region, b: &Region, work: &mut Work) -> Result
     Ok(a.first_common(alloc, b, false, work)?.is_some())
 }
 
-/// Whether two regions are in contact: their closures share a point of the closed cube, at a face, an edge or a corner, or
-/// inside both. Each part of the first is tested with each part of the second, up to the first pair that is in contact. As
-/// many tests are counted as there are pairs; `Limit` comes exactly where these are too many.
+/// Whether `a` and `b` are in contact: their closures share a point of the closed cube, at a face, an edge or a corner,
+/// or inside both. Each part of `a` is tested by `work` with each part of `b`, up to the first pair that is in contact.
+/// As many tests are counted as there are pairs; `Limit` comes exactly where these are too many.
 pub fn contact(alloc: Global, a: &Region, b: &Region, work: &mut Work) -> Result<bool, OpFault>
     ensures makes { Makes (λ is_so. is_so) result work.old work.new (touch_in_full first_tester a.now b.now) }
     ensures right { IfOk result (λ is_so. IsTrue is_so ↔ IsInContact (shape_of_parts a.now) (shape_of_parts b.now)) }

@@ -41,10 +41,10 @@ impl From<OpFault> for RccFault {
     }
 }
 
-/// In which of the eight relations the first region stands to the second. `EmptyRegion(1)` exactly where the first has no
-/// point, `EmptyRegion(2)` exactly where it has one and the second has none; both come before any test. `Limit` comes
-/// exactly where it comes for one of the comparisons: common points first; without one, contact; with one, what is left of
-/// each outside the other, and, where one is a part of the other, its contact with the outside of the whole.
+/// In which of the eight relations `a` stands to `b`, by tests of `work`. `EmptyRegion(1)` exactly where `a` has no
+/// point, `EmptyRegion(2)` exactly where `a` has one and `b` has none; both come before any test. `Limit` comes exactly
+/// where it comes for one of the comparisons: common points first; without one, contact; with one, what is left of each
+/// outside the other, and, where one is a part of the other, its contact with the outside of the whole.
 ///
 /// A part touches the outside of its whole exactly where some region is in contact with both and shares a point with
 /// neither: that outside is such a region. The whole cube has no outside, so each proper part of it is `NTPP`.

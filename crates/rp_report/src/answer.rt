@@ -144,8 +144,8 @@ impl Answer {
         }
     }
 
-    /// The answer to a line whose work passes a limit: it is refused, and no proof line is told.
-    /// Answers `AllocError` only for want of memory.
+    /// The answer to line `n`, with `echo`, whose work passes a limit: it is refused with `limit`, and no proof line is
+    /// told.
     pub fn past_limit(alloc: Global, n: u32, echo: &[u8]) -> Result<Answer, AllocError>
         ensures { IfOk result (λ a. answer_of a ≡ record { number = n; echo = echo.now; proofs = []; verdicts = refused limit ∷ [] }) }
     {
@@ -153,7 +153,7 @@ impl Answer {
         Answer::with_verdict(alloc, n, echo, Proofs::new(alloc), verdict)
     }
 
-    /// The answer with this echo, these proof lines and one verdict line. Answers `AllocError` only for want of memory.
+    /// The answer to line `n`, with `echo`, the lines of `proofs` and the one verdict line of `verdict`.
     pub fn with_verdict(
         alloc: Global,
         n: u32,
@@ -168,7 +168,7 @@ impl Answer {
         Answer::with_verdicts(alloc, n, echo, proofs, verdicts)
     }
 
-    /// The answer with this echo, these proof lines and these verdict lines. Answers `AllocError` only for want of memory.
+    /// The answer to line `n`, with `echo`, the lines of `proofs` and those of `verdicts`.
     pub fn with_verdicts(
         alloc: Global,
         n: u32,

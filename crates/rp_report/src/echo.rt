@@ -31,8 +31,8 @@ fn numbered(word: &[u8], place: Option<usize>) -> Option<(u32, Option<usize>)>
 /// The number of an echo line, and the place in it at which the echoed text begins: no place where the number stands
 /// alone. The place is at most the length of the line, where the text is empty.
 ///
-/// `None` exactly where the line isn't `> `, a number from 1 to 16777216 without a sign or leading zeros, and then nothing,
-/// or one space and any text. Takes no memory.
+/// `None` exactly where the line isn't `> `, a number from 1 to 16777216 without a sign or leading zeros, and then
+/// nothing, or one space and any text. Takes no memory.
 pub fn read_echo(line: &[u8]) -> Option<(u32, Option<usize>)>
     ensures read { option_map (echo_of line.now) result ≡ echo_read line.now }
     ensures within { IfSome result (λ r. IfSome r.1 (λ place. place ≤ length line.now)) }

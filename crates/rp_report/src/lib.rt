@@ -3,7 +3,8 @@
 //!
 //! [`write_answer`] appends the text of an answer, byte for byte: its echo, its proof lines unless it is to be brief,
 //! and its verdict lines; where memory ran out, a front of it. A proof line, a line that shows a slice and an echo are
-//! read exactly where they are spelled so, and no memory is taken for it.
+//! read exactly where they are spelled so, and no memory is taken for it. Calls that answer `AllocError` do so only for
+//! want of memory.
 
 mod answer;
 mod echo;

@@ -97,8 +97,8 @@ fn proof(line: &[u8]) -> Option<Proof>
 /// The proof line that a line of a report spells, without its line end.
 ///
 /// `None` exactly where the line is not the one spelling of a proof line that keeps its bounds: 1 to 4 points or
-/// multiples, half-spaces and points in lowest terms and within the bounds of their kinds, multipliers from 1 to
-/// 2^75 - 1, and boxes with numbers from -16777216 to 16777216. Takes no memory, and reads each byte a few times at most,
+/// multiples, half-spaces and points in lowest terms and within the bounds of their kinds, multipliers from 1 to 2^75 -
+/// 1, and boxes with numbers from -16777216 to 16777216. Takes no memory, and reads each byte a few times at most,
 /// whatever the line.
 pub fn read_proof(line: &[u8]) -> Option<Proof>
     ensures { option_map line_of result ≡ proof_read line.now }

@@ -181,9 +181,10 @@ fn slice(line: &[u8]) -> Option<Slice>
 
 /// The slice that a verdict line spells, without its line end.
 ///
-/// `None` exactly where the line is not the one spelling of a slice that keeps its bounds: a ring of 3 to 36 steps, edges
-/// with numbers up to 16777216 and an offset up to 2^50, and ends in lowest terms and within the bounds of points; or a
-/// flat certificate of 1 to 3 multiples. Takes no memory, and reads each byte a few times at most, whatever the line.
+/// `None` exactly where the line is not the one spelling of a slice that keeps its bounds: a ring of 3 to 36 steps,
+/// edges with numbers up to 16777216 and an offset up to 2^50, and ends in lowest terms and within the bounds of
+/// points; or a flat certificate of 1 to 3 multiples. Takes no memory, and reads each byte a few times at most,
+/// whatever the line.
 pub fn read_slice(line: &[u8]) -> Option<Slice>
     ensures { option_map slice_shown result ≡ slice_read line.now }
 {

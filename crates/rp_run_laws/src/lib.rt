@@ -1,7 +1,8 @@
 #![tactic(auto)]
-//! Laws over whole runs: the rows are right, each step keeps a state sound, the report that is computed is the one that the sets
-//! want; every report that the check accepts is true, whoever wrote it, and it accepts every report of a script.
-//! Each function is a law over the definitions of `rp_model` and `rp_reports`: its contract is the law, and its body is empty.
+//! Laws over whole runs: the rows are right, each step keeps a state sound, the report that is computed is the one that
+//! the sets want; every report that the check accepts is true, whoever wrote it, and it accepts every report of a
+//! script. Each function is a law over the definitions of `rp_model` and `rp_reports`: its contract is the law, and its
+//! body is empty.
 
 ghost use Rattle.rp_geometry.specs.parts.Parts.{IsCheckedPart, IsPart};
 ghost use Rattle.rp_reports.specs.Check.{line_tester};
@@ -11,7 +12,8 @@ ghost use Rattle.rp_reports.specs.laws.RunLaws.{AnswersDependOnMembers, AsOfInRu
 ghost use Rattle.rp_reports.specs.laws.UpgradeLaws.{UpgradeKeepsTheReport};
 ghost use Rattle.rp_walks.specs.Walk.{first_tester};
 
-/// In a sound state a row that is not stopped has the verdict lines that the rule of sets wants, and a change that the state takes: with the first certificates, and on the lines of a report.
+/// In a sound state a row that is not stopped has the verdict lines that the rule of sets wants, and a change that the
+/// state takes: with the first certificates, and on the lines of a report.
 pub fn rows_are_right()
     ensures of_first { RowIsRight IsPart first_tester }
     ensures of_lines { RowIsRight IsCheckedPart line_tester }
@@ -22,7 +24,8 @@ pub fn steps_keep_soundness()
     ensures { StepsKeepSoundness }
 {}
 
-/// The sets after a command follow its right verdict alone: one ok, and they are those that the command gives; any other verdict leaves the state as it is.
+/// The sets after a command follow its right verdict alone: one ok, and they are those that the command gives; any
+/// other verdict leaves the state as it is.
 pub fn sets_follow_verdicts()
     ensures { SetsFollowVerdicts }
 {}
@@ -57,12 +60,14 @@ pub fn runs_are_sound()
     ensures { RunsAreSound }
 {}
 
-/// After an accepted cut, subdivision or consolidation the lots that were born at its line have together exactly the points of those that ended at it.
+/// After an accepted cut, subdivision or consolidation the lots that were born at its line have together exactly the
+/// points of those that ended at it.
 pub fn reshaping_steps_keep_points()
     ensures { ReshapingStepsKeepPoints }
 {}
 
-/// What is asked as of a line after any further lines has the verdict that was right for the point after that line, in the layer that is present now.
+/// What is asked as of a line after any further lines has the verdict that was right for the point after that line, in
+/// the layer that is present now.
 pub fn as_of_in_runs()
     ensures { AsOfInRuns }
 {}
@@ -72,12 +77,14 @@ pub fn as_of_now()
     ensures { AsOfNow }
 {}
 
-/// A row that is followed on the lines of a report, from the parts of a sound state, tells the truth about its sets, and leaves such a state.
+/// A row that is followed on the lines of a report, from the parts of a sound state, tells the truth about its sets,
+/// and leaves such a state.
 pub fn followed_row_tells_truth()
     ensures { FollowedRowTellsTruth }
 {}
 
-/// The report of an upgraded script is that of the script, without the answers of bad lines and with every command echoed in its spelling of version 2.
+/// The report of an upgraded script is that of the script, without the answers of bad lines and with every command
+/// echoed in its spelling of version 2.
 pub fn upgrade_keeps_the_report()
     ensures { UpgradeKeepsTheReport }
 {}

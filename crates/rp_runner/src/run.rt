@@ -14,8 +14,9 @@ use rp_scripts::{OutputFault, next_line, put_answer, put_mark, split_mark};
 use std::alloc::Global;
 use std::thread::Threads;
 
-/// Puts the report lines of one line of the script, by way of a buffer for their text, where the report is brief without
-/// the proof lines. Answers whether one is a refusal. The number of the line is above those of all lines before it.
+/// Puts the report lines of one line of the script, by way of a buffer for their text, where the report is brief
+/// without the proof lines. Answers whether one is a refusal. The number of the line is above those of all lines before
+/// it.
 fn run_line<R: Threads + Sync, K: Sink>(
     rt: &R,
     alloc: Global,
@@ -71,9 +72,10 @@ fn put_report<R: Threads + Sync, K: Sink>(
     Ok(refused)
 }
 
-/// Puts the report of a script, answer by answer, full or without the proof lines: one machine answers the lines of its
-/// body in order. The report of a script of version 2 begins with the line `> 0 rp 2`. Answers whether something was
-/// refused; `Put` only where a put failed, `Memory` only for want of memory, and then a front of the report was put.
+/// Puts the report of `script`, of at most 16,777,216 bytes, to `sink`, answer by answer, and where `brief` without the
+/// proof lines: one machine answers the lines of its body in order. The report of a script of version 2 begins with the
+/// line `> 0 rp 2`. Answers whether something was refused; `Put` only where a put failed, `Memory` only for want of
+/// memory, and then a front of the report was put.
 pub fn run<R: Threads + Sync, K: Sink>(
     rt: &R,
     alloc: Global,

@@ -14,7 +14,7 @@ use rp_scripts::{Building, Counts, MadeLine, MadeScript, Summary};
 use std::alloc::{AllocError, Global};
 use std::thread::Threads;
 
-/// Has the machine answer the next line of a script, and counts the answer. Answers `AllocError` only for want of memory.
+/// Has the machine answer the next line of a script, and counts the answer.
 fn count_line<R: Threads + Sync>(
     rt: &R,
     alloc: Global,
@@ -57,8 +57,8 @@ fn count_made<R: Threads + Sync>(
     count_line(rt, alloc, machine, text, counts)
 }
 
-/// Has a machine that answered no line yet answer the script of a building, and counts its answers. Neither the script nor
-/// the report is held whole.
+/// Has a machine that answered no line yet answer the script of a building, and counts its answers. Neither the script
+/// nor the report is held whole.
 fn count_script<R: Threads + Sync>(
     rt: &R,
     alloc: Global,
@@ -98,8 +98,7 @@ fn summary_by<R: Threads + Sync>(
     Ok(Summary { counts, live })
 }
 
-/// The summary of the report of a building's script, which is of version 1. Answers `AllocError` only for
-/// want of memory.
+/// The summary of the report of the script of `building`, which is of version 1.
 pub fn summary_of<R: Threads + Sync>(
     rt: &R,
     alloc: Global,

@@ -10,8 +10,8 @@ use rp_scripts::{Building, OutputFault, put_lines, write_summary};
 use std::alloc::Global;
 use std::thread::Threads;
 
-/// Runs the script of a building, and puts the summary of its report, one put for each line. Answers `Put` only where a
-/// put failed, `Memory` only for want of memory, and then a front of the summary was put.
+/// Runs the script of `building`, and puts the summary of its report to `sink`, one put for each line. Answers `Put`
+/// only where a put failed, `Memory` only for want of memory, and then a front of the summary was put.
 pub fn trial<R: Threads + Sync, K: Sink>(
     rt: &R,
     alloc: Global,

@@ -13,8 +13,9 @@ use crate::refusal::has_refusal;
 use rp_io::Sink;
 use rp_report::{Answer, write_answer};
 
-/// Puts the report lines of an answer, by way of a buffer for their text, where the report is brief without the proof
-/// lines. Answers whether one is a refusal.
+/// Puts the report lines of `answer` to `sink`, and where `brief` those without the proof lines; `text` is a buffer for
+/// them. Answers whether one of them is a refusal; `Put` only where a put failed, `Memory` only for want of memory, and
+/// then a front of these lines was put.
 pub fn put_answer<K: Sink>(
     answer: &Answer,
     brief: bool,

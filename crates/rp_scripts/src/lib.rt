@@ -8,7 +8,7 @@
 //! line is put ([`put_answer`]), and what is counted in answers ([`Counts`]).
 //!
 //! Each call that puts says what came to the sink: the whole text, or where it fails a front of it. It fails only where
-//! a put did, or for want of memory.
+//! a put did, or for want of memory. Calls that answer `AllocError` do so only for want of memory.
 
 mod answer;
 mod building;

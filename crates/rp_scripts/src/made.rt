@@ -1,5 +1,5 @@
-//! The script of a building, line by line: each storey is registered, cut in two and asked for neighbours, and behind the
-//! last one stand an audit and a list.
+//! The script of a building, line by line: each storey is registered, cut in two and asked for neighbours, and behind
+//! the last one stand an audit and a list.
 ghost use Rattle.std.specs.Prelude.{◌≡◌, ◌∷◌, ◌++◌, [], ◌+◌, OnOk, IfNone, IfSome};
 ghost use Rattle.rp_reports.specs.Made.{drawn, made_script, next_seed};
 ghost use Rattle.rp_scripts.specs.declared.made.MadeLine.TheVariants.{Cut, Neighbours, Register};
@@ -160,7 +160,7 @@ fn write_neighbours(storey: u32, text: &mut Vec<u8>) -> Result<(), AllocError>
 }
 
 impl MadeLine {
-    /// Appends the line, without an ending. Answers `AllocError` only for want of memory.
+    /// Appends the line, without an ending.
     pub fn write(&self, text: &mut Vec<u8>) -> Result<(), AllocError>
         ensures { OnOk result (text.new.items ≡ text.old.items ++ made_line self.now) }
     {

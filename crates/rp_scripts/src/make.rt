@@ -11,7 +11,8 @@ use crate::made::MadeScript;
 use rp_io::Sink;
 use std::alloc::Global;
 
-/// Puts the script of a building, one put for each line. It is not held whole.
+/// Puts the script of `building` to `sink`, one put for each line. It is not held whole. Answers `Put` only where a put
+/// failed, `Memory` only for want of memory, and then a front of the script was put.
 pub fn make<K: Sink>(alloc: Global, building: Building, sink: &mut K) -> Result<(), OutputFault>
     ensures counts { K.faults sink.old ≤ K.faults sink.new }
     ensures script { OnOk result (Appends (K.said sink.old) (K.said sink.new)

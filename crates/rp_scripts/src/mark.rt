@@ -27,7 +27,8 @@ pub fn split_mark(script: &[u8]) -> (Version, &[u8])
     }
 }
 
-/// Puts the line that marks version 2, with its line feed; in version 1 nothing.
+/// Puts `mark`, the line that marks version 2, with its line feed, to `sink`, where `version` is that one, and nothing
+/// in version 1. Answers `Failed` only where a put failed, and then a front of the line was put.
 pub fn put_mark<K: Sink>(version: Version, mark: &[u8], sink: &mut K) -> Result<(), Failed>
     ensures counts { K.faults sink.old ≤ K.faults sink.new }
     ensures failed { OnErr result (HasRisen (K.faults sink.old) (K.faults sink.new)) }

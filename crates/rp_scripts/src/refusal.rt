@@ -33,8 +33,8 @@ pub fn count_refusals(verdicts: &[Verdict]) -> usize
         .count()
 }
 
-/// Whether some report line of an answer is a refusal, in a full report and in a brief one: no echo and no proof line is
-/// one.
+/// Whether some report line of an answer is a refusal, in a full report and in a brief one: no echo and no proof line
+/// is one.
 pub fn has_refusal(answer: &Answer) -> bool
     ensures { (brief : Bool) → result ≡ list_any is_refused_line (answer_lines brief (answer_of answer.now)) }
 {

@@ -38,8 +38,8 @@ fn put_command<K: Sink>(
     Ok(())
 }
 
-/// Puts the command of a line that was read so in its one spelling of a version, or nothing where there is none. Answers
-/// whether the line is bad.
+/// Puts the command of a line that was read so in its one spelling of a version, or nothing where there is none.
+/// Answers whether the line is bad.
 fn put_read<K: Sink>(
     alloc: Global,
     version: Version,
@@ -84,8 +84,9 @@ fn spell_line<K: Sink>(
     bad
 }
 
-/// Puts every command of a script in its one spelling of the script's version, one put for each, behind the line `rp 2` in
-/// version 2. Answers whether some line is bad.
+/// Puts every command of `script` to `sink` in its one spelling of the script's version, one put for each, behind the
+/// line `rp 2` in version 2. Answers whether some line is bad; `Put` only where a put failed, `Memory` only for want of
+/// memory, and then a front of the whole was put.
 pub fn spell<K: Sink>(alloc: Global, script: &[u8], sink: &mut K) -> Result<bool, OutputFault>
     ensures counts { K.faults sink.old ≤ K.faults sink.new }
     ensures spellings { IfOk result (λ bad.

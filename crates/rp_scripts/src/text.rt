@@ -20,7 +20,7 @@ fn append_spelled<I: Integer>(number: I, text: &mut Vec<u8>) -> Result<(), Alloc
     append(buffer.format(number).as_bytes(), text)
 }
 
-/// Appends a piece of a text, and a number behind it. Answers `AllocError` only for want of memory.
+/// Appends a piece of a text, and a number behind it.
 pub(crate) fn append_number<I: Integer>(
     piece: &[u8],
     number: I,
@@ -32,7 +32,7 @@ pub(crate) fn append_number<I: Integer>(
     append_spelled(number, text)
 }
 
-/// Appends a line: a word with a space behind it, and a number. Answers `AllocError` only for want of memory.
+/// Appends a line to `text`: `word`, which has its space behind it, and `number`.
 pub fn write_count<I: Integer>(word: &[u8], number: I, text: &mut Vec<u8>) -> Result<(), AllocError>
     ensures { OnOk result (text.new.items ≡ text.old.items ++ word.now ++ I.text number ++ line_end ∷ []) }
 {

@@ -38,8 +38,9 @@ fn put_upgraded<K: Sink>(
     Ok(!is_good)
 }
 
-/// Puts a script as one of version 2, one put for each line: the line `rp 2`, and then one line for each of the body.
-/// Answers whether some line is bad.
+/// Puts `script` to `sink` as one of version 2, one put for each line: the line `rp 2`, and then one line for each of
+/// the body. Answers whether some line is bad; `Put` only where a put failed, `Memory` only for want of memory, and
+/// then a front of the whole was put.
 pub fn upgrade<K: Sink>(alloc: Global, script: &[u8], sink: &mut K) -> Result<bool, OutputFault>
     ensures counts { K.faults sink.old ≤ K.faults sink.new }
     ensures script { IfOk result (λ bad.

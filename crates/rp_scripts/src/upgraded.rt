@@ -32,7 +32,8 @@ fn write_upgraded(line: &[u8], read: &Line, out: &mut Vec<u8>) -> Result<(), All
     }
 }
 
-/// Appends the line that takes the place of one that is read so, with a line feed. Answers whether it is blank or a command.
+/// Appends the line that takes the place of one that is read so, with a line feed. Answers whether it is blank or a
+/// command.
 fn write_line(line: &[u8], read: &Line, out: &mut Vec<u8>) -> Result<bool, AllocError>
     ensures line { OnOk result (out.new.items ≡ out.old.items ++ upgraded_text line.now (line_of read.now)) }
     ensures good { IfOk result (λ good. good ≡ not (is_bad_reading (line_of read.now))) }
@@ -43,11 +44,9 @@ fn write_line(line: &[u8], read: &Line, out: &mut Vec<u8>) -> Result<bool, Alloc
     Ok(!is_bad(read))
 }
 
-/// Appends the line that takes the place of a line of a script, which is read by its version, in the script as one of
-/// version 2, with its line feed: a blank line stays, a command is in its spelling of version 2, and a bad line is empty.
-/// Answers whether the line is blank or a command.
-///
-/// Answers `AllocError` only for want of memory. Then `out` has what it had and a front of that line.
+/// Appends to `out` the line that takes the place of `line`, of a script of `version`, in the script as one of version
+/// 2, with its line feed: a blank line stays, a command is in its spelling of version 2, and a bad line is empty.
+/// Answers whether `line` is blank or a command. After `AllocError` `out` has what it had and a front of that line.
 pub fn upgrade_line(
     alloc: Global,
     version: Version,

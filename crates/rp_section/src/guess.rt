@@ -1,5 +1,5 @@
-//! A guess of the ring of a section, as half-planes are usually met: by the angles of their edges, each cuts off the ends of
-//! the chain of those before it. Where a cell has a ring, the guess is that; a check of it says whether it is.
+//! A guess of the ring of a section, as half-planes are usually met: by the angles of their edges, each cuts off the
+//! ends of the chain of those before it. Where a cell has a ring, the guess is that; a check of it says whether it is.
 ghost use Rattle.std.specs.Prelude.{◌≤◌, ◌^◌, length};
 ghost use Rattle.rp_algebra.specs.Within.{IsWithin};
 ghost use Rattle.rp_geometry.specs.sections.Trace.{IsHeight};
@@ -61,7 +61,8 @@ fn size(edge: &Edge) -> i128
     edge.a.unsigned_abs() as i128 + edge.b.unsigned_abs() as i128
 }
 
-/// Steps along the sides that are left of several. `None` where sides that follow each other are parallel, as in no ring.
+/// Steps along the sides that are left of several. `None` where sides that follow each other are parallel, as in no
+/// ring.
 fn steps_round(level: &Half, sides: &[Side]) -> Option<RingSteps> {
     let chain = chain_of(level, sides)?;
     steps_along(level, chain.as_slice())
@@ -80,7 +81,8 @@ fn chain_of(level: &Half, sides: &[Side]) -> Option<Chain> {
     Some(chain)
 }
 
-/// Appends a side behind those of the chain that it leaves. `None` where it is parallel to the last one, or there is no room.
+/// Appends a side behind those of the chain that it leaves. `None` where it is parallel to the last one, or there is no
+/// room.
 fn add(chain: &mut Chain, level: &Half, side: &Side) -> Option<()> {
     drop_last(chain, side);
     drop_first(chain, side);

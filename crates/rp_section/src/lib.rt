@@ -4,7 +4,8 @@
 //!
 //! The slice of a cell of at most 32 half-spaces at a height of the cube is the one that is to be shown: its ring, or
 //! the first flat certificate, and this exactly where the cell has no point there. What a slice shows, as `check_slice`
-//! of `rp_cert` says, is said of it too. The slices of a region are those of its parts, in order.
+//! of `rp_cert` says, is said of it too. The slices of a region are those of its parts, in order. Calls that answer
+//! `AllocError` do so only for want of memory.
 
 mod flat;
 mod guess;

@@ -42,7 +42,8 @@ fn steps_along(level: &Half, sides: &[Side]) -> RingSteps
     steps_by(level, &Point::default(), sides)
 }
 
-/// The same; where two sides that follow each other are parallel, as in no ring, another point is taken for the end.
+/// A step along each of `sides` to the next one; after the last comes the first. Where two sides that follow each other
+/// are parallel, as in no ring, `other` is taken for the end.
 fn steps_by(level: &Half, other: &Point, sides: &[Side]) -> RingSteps
     requires { length sides.now ≤ 36 }
     ensures { result ≡ side_steps level.now other.now sides.now }

@@ -17,7 +17,7 @@ use std::alloc::{AllocError, Global};
 /// A list of slices.
 pub type Slices = Listed<Slice>;
 
-/// The slices of the parts of a region at a height, in order. Answers `AllocError` only for want of memory.
+/// The slices of the parts of `r` at `z`, a height of the cube, in order.
 pub fn section(alloc: Global, r: &Region, z: i32) -> Result<Slices, AllocError>
     requires { IsHeight z }
     ensures { IfOk result (λ slices. map slice_shown slices.items ≡ slices_of z r.now) }
@@ -31,8 +31,8 @@ pub fn section(alloc: Global, r: &Region, z: i32) -> Result<Slices, AllocError>
     Ok(slices)
 }
 
-/// The slice of a cell at a height: its ring, or, exactly where the cell has no point there, the first flat certificate.
-/// The cell has at most 32 half-spaces. This takes no memory.
+/// The slice of a cell at a height: its ring, or, exactly where the cell has no point there, the first flat
+/// certificate. The cell has at most 32 half-spaces. This takes no memory.
 pub fn slice(cell: &[Half], z: i32) -> Slice
     requires height { IsHeight z }
     requires few { length cell.now ≤ 32 }

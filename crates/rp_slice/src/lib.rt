@@ -1,6 +1,6 @@
 #![tactic(auto)]
-//! Laws of horizontal sections: what a ring and a flat certificate show of the members of a cell at a height, that there is
-//! one of the two, and that the searches find it.
+//! Laws of horizontal sections: what a ring and a flat certificate show of the members of a cell at a height, that
+//! there is one of the two, and that the searches find it.
 //! Each function is a law over the definitions of `rp_geometry`: its contract is the law, and its body is empty.
 
 ghost use Rattle.rp_geometry.specs.laws.SectionLaws.{ClosureIsOnTheLeft, EndsAreTheCorners, FirstFlatIsFirst, FlatIsFound, MemberHasRing, MemberOrFlat, RingHoldsTheMembers, RingIsFound, RingIsKept, RingIsShort, RingIsTheOnlyOne, RingShowsMember, SliceIsFound, SlicesShowTheMembers, TraceIsSmall, TracesMeetWherePlanesDo};
@@ -60,7 +60,8 @@ pub fn ring_is_found()
     ensures { RingIsFound }
 {}
 
-/// At each height of the cube a cell has one slice to be shown, its ring or its first flat certificate: the one that is found.
+/// At each height of the cube a cell has one slice to be shown, its ring or its first flat certificate: the one that is
+/// found.
 pub fn slice_is_found()
     ensures { SliceIsFound }
 {}

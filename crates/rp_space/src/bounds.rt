@@ -56,7 +56,8 @@ impl IntBox {
         (x1 < u2) & (u1 < x2) & (y1 < v2) & (v1 < y2) & (z1 < w2) & (w1 < z2)
     }
 
-    /// Whether each of two boxes begins no later than the other ends, on each axis: whether they meet with their boundaries.
+    /// Whether each of two boxes begins no later than the other ends, on each axis: whether they meet with their
+    /// boundaries.
     pub fn meets_closed(&self, other: &IntBox) -> bool
         ensures { result ≡ closed_boxes_meet (integer_box self.now) (integer_box other.now) }
     {

@@ -20,8 +20,8 @@ pub fn greatest_common_divisor(a: u128, b: u128) -> u128
     short_divisor(low as u64, (high % low) as u64) as u128
 }
 
-/// The greatest common divisor of two numbers of 64 bits, by the binary method (Stein 1967): halving and taking away, where
-/// Euclid's rule divides.
+/// The greatest common divisor of two numbers of 64 bits, by the binary method (Stein 1967): halving and taking away,
+/// where Euclid's rule divides.
 fn short_divisor(a: u64, b: u64) -> u64
     ensures { result ≡ gcd a b }
 {
@@ -66,7 +66,7 @@ fn odd_part(n: u64) -> u64
     n >> n.trailing_zeros()
 }
 
-/// The greatest common divisor of four whole numbers; 0 only where all are 0.
+/// The greatest common divisor of `a`, `b`, `c` and `d`; 0 only where all are 0.
 pub fn common_divisor(a: i128, b: i128, c: i128, d: i128) -> u128
     ensures { result ≡ gcd_of (a ∷ b ∷ c ∷ d ∷ []) }
 {
@@ -75,7 +75,8 @@ pub fn common_divisor(a: i128, b: i128, c: i128, d: i128) -> u128
     greatest_common_divisor(middle, a.unsigned_abs())
 }
 
-/// The exact quotient of a number by a divisor of it, which is from 1 to 2^127 - 1. Of another number it is rounded towards 0.
+/// The exact quotient of a number by a divisor of it, which is from 1 to 2^127 - 1. Of another number it is rounded
+/// towards 0.
 #[tactic(none)]
 pub fn quotient(v: i128, divisor: u128) -> i128
     requires positive { 0 < divisor }

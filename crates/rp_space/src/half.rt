@@ -61,8 +61,8 @@ impl Default for Half {
 }
 
 impl Half {
-    /// The half-space of four numbers, in lowest terms. The bounds are tested on the numbers as given:
-    /// `Range` where one is passed, `Zero` where none is and all four numbers are 0.
+    /// The half-space of the numbers `a`, `b`, `c` and `d`, in lowest terms. The bounds are tested on the numbers as
+    /// given: `Range` where one is passed, `Zero` where none is and all four numbers are 0.
     pub fn new(a: i64, b: i64, c: i64, d: i64) -> Result<Half, HalfFault>
         ensures { result ≡ made_half_space (half_space_of a b c d) }
     {

@@ -46,7 +46,7 @@ impl Inside {
         self.points.as_slice()
     }
 
-    /// The same list.
+    /// A copy: the same points in the same order.
     pub fn copy(&self) -> Inside
         ensures { result ≡ self.now }
     {

@@ -9,7 +9,8 @@
 //! point exactly where its six half-spaces do. Three planes meet in the point of Cramer's rule, or not in one point. A
 //! list takes an item at its end: where there was room for it this does not fail, and where it fails the items are as
 //! they were; room that is reserved is there, and reserving gives none back. Names are exactly the byte strings that
-//! the grammar calls names. Lists of at most four points or terms take no memory.
+//! the grammar calls names. Lists of at most four points or terms take no memory. Calls that answer `AllocError` do so
+//! only for want of memory.
 
 mod bounds;
 mod corner;

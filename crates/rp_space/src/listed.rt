@@ -31,9 +31,8 @@ impl<T: Drop> Listed<T> {
         }
     }
 
-    /// Appends an item. Answers `AllocError` only for want of memory, and then the items stay.
-    /// Where there is room to spare it succeeds, and takes one place of it at most. The first item takes room for itself
-    /// alone, since most lists have one.
+    /// Appends an item. After `AllocError` the items are as they were. Where there is room to spare it succeeds, and
+    /// takes one place of it at most. The first item takes room for itself alone, since most lists have one.
     pub fn push(&mut self, x: T) -> Result<(), AllocError>
         ensures ok { OnOk result (self.new.items ≡ self.old.items ++ x ∷ []) }
         ensures err { OnErr result (self.new.items ≡ self.old.items) }
@@ -47,8 +46,8 @@ impl<T: Drop> Listed<T> {
         Ok(())
     }
 
-    /// Appends all items of another list in order; they are moved. Answers `AllocError` only for want of memory, and then
-    /// the items stay. Where there is room for all of them it succeeds, and takes as many places of it at most.
+    /// Appends all items of another list in order; they are moved. After `AllocError` the items are as they were. Where
+    /// there is room for all of them it succeeds, and takes as many places of it at most.
     pub fn append(&mut self, other: Listed<T>) -> Result<(), AllocError>
         ensures ok { OnOk result (self.new.items ≡ self.old.items ++ other.items) }
         ensures err { OnErr result (self.new.items ≡ self.old.items) }
@@ -59,8 +58,7 @@ impl<T: Drop> Listed<T> {
         self.items.append(&mut items)
     }
 
-    /// Makes room for so many more items. Answers `AllocError` only for want of memory. In any case the items stay, and
-    /// so does the room that there was.
+    /// Makes room for `n` more items. In any case the items stay, and so does the room that there was.
     pub fn reserve(&mut self, n: usize) -> Result<(), AllocError>
         ensures items { self.new.items ≡ self.old.items }
         ensures ok { OnOk result (n ≤ self.new.spare) }
@@ -85,7 +83,7 @@ impl<T: Drop> Listed<T> {
 }
 
 impl<T: Copy + Drop> Listed<T> {
-    /// The list of these items. Answers `AllocError` only for want of memory.
+    /// The list of `items`.
     pub fn copy_of(alloc: Global, items: &[T]) -> Result<Listed<T>, AllocError>
         ensures { IfOk result (λ list. list.items ≡ items.now) }
     {

@@ -12,8 +12,8 @@ use crate::half::Half;
 use crate::point::{Point, reduced};
 use std::marker::Model;
 
-/// The common point of the planes of three half-spaces, in lowest terms.
-/// `None` exactly where the planes do not have exactly one common point.
+/// The common point of the planes of `f`, `g` and `h`, in lowest terms. `None` exactly where the planes do not have
+/// exactly one common point.
 pub fn meet(f: &Half, g: &Half, h: &Half) -> Option<Point>
     ensures { result ≡ meeting_point f.now g.now h.now }
 {
@@ -63,14 +63,15 @@ impl Meeting {
         (self.x, self.y, self.z, self.w)
     }
 
-    /// The same point in lowest terms.
+    /// The point in lowest terms.
     pub fn point(&self) -> Point
         ensures { result ≡ reduced_point self.now }
     {
         reduced(self.x, self.y, self.z, self.w)
     }
 
-    /// The side value of a half-space at the point: its sign is that at the point in lowest terms. Its size is below 2^127.
+    /// The side value of a half-space at the point: its sign is that at the point in lowest terms. Its size is below
+    /// 2^127.
     pub fn side(&self, h: &Half) -> i128
         ensures { result ≡ side_value h.now self.now }
     {

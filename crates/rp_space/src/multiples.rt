@@ -27,8 +27,8 @@ pub fn is_multiplier(by: i128) -> bool
     1 <= by && by <= MAX_MULTIPLIER
 }
 
-/// Whether the multiples of `a`, of `b` and of `c` each add up to 0. There are at most four terms, whose multipliers are
-/// from 1 to 2^75 - 1, so every sum stays within 128 bits.
+/// Whether the multiples of `a`, of `b` and of `c` each add up to 0. There are at most four terms, whose multipliers
+/// are from 1 to 2^75 - 1, so every sum stays within 128 bits.
 pub fn is_balanced(terms: &[Term]) -> bool
     requires few { length terms.now ≤ 4 }
     requires multipliers { list_all (λ t. is_multiplier t.factor) terms.now ≡ true }

@@ -72,7 +72,7 @@ impl Outside {
         self.terms.as_slice()
     }
 
-    /// The same list.
+    /// A copy: the same terms in the same order.
     pub fn copy(&self) -> Outside
         ensures { result ≡ self.now }
     {

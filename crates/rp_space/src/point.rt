@@ -60,8 +60,8 @@ impl Default for Point {
 }
 
 impl Point {
-    /// The point of four numbers, in lowest terms. `Weight` where w < 1; `Range` where w >= 1 and a bound is passed
-    /// by the numbers as given.
+    /// The point of the numbers `x`, `y`, `z` and the weight `w`, in lowest terms. `Weight` where `w` < 1; `Range`
+    /// where `w` >= 1 and a bound is passed by the numbers as given.
     pub fn new(x: i128, y: i128, z: i128, w: i128) -> Result<Point, PointFault>
         ensures { result ≡ made_point (point_of x y z w) }
     {

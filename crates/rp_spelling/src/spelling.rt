@@ -427,9 +427,8 @@ fn write_operands(version: Version, c: &Command, out: &mut Vec<u8>) -> Result<()
     }
 }
 
-/// Appends the command's one spelling in a version: its words with one space between, half-spaces and points in lowest terms.
-///
-/// Answers `AllocError` only for want of memory. Then `out` has what it had and a front of the spelling.
+/// Appends to `out` the one spelling of the command `c` in `version`: its words with one space between, half-spaces and
+/// points in lowest terms. After `AllocError` `out` has what it had and a front of the spelling.
 #[tactic(auto, unfolding(rp_language::specs::Grammar::spelling))]
 pub fn write_command(version: Version, c: &Command, out: &mut Vec<u8>) -> Result<(), AllocError>
     ensures ok { OnOk result (out.new.items ≡ out.old.items ++ spelling (version_of version) (command_of c.now)) }

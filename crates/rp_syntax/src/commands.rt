@@ -114,7 +114,7 @@ impl<'a> Words<'a> {
         Ok((id, region))
     }
 
-    /// So many children of a subdivision.
+    /// The children of a subdivision, `count` of them.
     fn children(
         &mut self,
         alloc: Global,
@@ -141,7 +141,7 @@ impl<'a> Words<'a> {
         Ok(Command::Subdivide(lot, children))
     }
 
-    /// So many ids of lots.
+    /// The ids of `count` lots.
     fn lots(&mut self, alloc: Global, count: u32) -> Result<Names, ReadFault>
         ensures { Reads (λ lots. lots.items) result self.new (many count name self.old) }
     {
@@ -232,7 +232,7 @@ impl<'a> Words<'a> {
         Ok(read)
     }
 
-    /// A whole command.
+    /// A whole command, in `version`, up to the end of the line.
     #[tactic(auto, unfolding(rp_language::specs::Grammar::command_words))]
     pub fn command(&mut self, alloc: Global, version: Version) -> Result<Command, ReadFault>
         ensures { Reads command_of result self.new (command_words (version_of version) self.old) }

@@ -27,7 +27,7 @@ impl<'a> Words<'a> {
         }
     }
 
-    /// An expression.
+    /// An expression, in `version`.
     #[tactic(auto, unfolding(rp_language::specs::Grammar::expression))]
     pub fn expression(&mut self, alloc: Global, version: Version) -> Result<Expr, ReadFault>
         ensures { Reads expression_of result self.new (expression (version_of version) self.old) }

@@ -2,7 +2,7 @@
 //! The line grammar: a line of bytes is read as a command, or refused.
 //!
 //! In each version [`read_line`] reads a line as the command that the grammar says, or finds the first fault that it
-//! says, for every sequence of bytes.
+//! says, for every sequence of bytes. Calls that answer `AllocError` do so only for want of memory.
 
 ghost use Rattle.std.specs.Prelude.{◌≡◌, IfOk};
 ghost use Rattle.rp_command.specs.Versions.{version_of};
@@ -43,9 +43,9 @@ fn is_blank(line: &[u8]) -> bool
     }
 }
 
-/// What a line says, without its ending: nothing, a command, or the first fault in reading order.
+/// What `line`, without its ending, says in `version`: nothing, a command, or the first fault in reading order.
 ///
-/// `Long` where it has more than 65,536 bytes, or 262,144 in version 2. Answers `AllocError` only for want of memory.
+/// `Long` where it has more than 65,536 bytes, or 262,144 in version 2.
 #[tactic(auto, unfolding(rp_language::specs::Grammar::reading))]
 pub fn read_line(alloc: Global, version: Version, line: &[u8]) -> Result<Line, AllocError>
     ensures { IfOk result (λ l. line_of l ≡ reading (version_of version) line.now) }

@@ -143,7 +143,7 @@ impl<'a> Words<'a> {
         })
     }
 
-    /// So many corners.
+    /// The corners of a polygon, `count` of them.
     fn corners(&mut self, alloc: Global, version: Version, count: u32) -> Result<Corners, ReadFault>
         ensures { Reads (λ corners. polygon_corners corners.items) result self.new (many count (corner_numbers (version_of version)) self.old) }
     {
@@ -155,7 +155,7 @@ impl<'a> Words<'a> {
         Ok(corners)
     }
 
-    /// The two heights of a prism and its corners.
+    /// A prism, in `version`: its two heights and its corners.
     #[tactic(auto, unfolding(rp_language::specs::Grammar::prism_numbers))]
     pub fn prism(&mut self, alloc: Global, version: Version) -> Result<Expr, ReadFault>
         ensures { Reads expression_of result self.new (read_on (λ s. gives (prism s)) (prism_numbers (version_of version) self.old)) }

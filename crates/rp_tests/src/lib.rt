@@ -1,9 +1,10 @@
 #![tactic(auto)]
 //! What a row needs of whatever answers its tests, and in which words it says what it has come to.
 //!
-//! A row is the walk of a command: its tests, one after the other, each of which may lead to another next one. [`Tests`]
-//! counts and answers them and keeps forms, [`Named`] knows the forms of names and lots. A call that makes a walk comes to
-//! the result of the walk, or is [`Stopped`] where that is.
+//! A row is the walk of a command: its tests, one after the other, each of which may lead to another next one.
+//! [`Tests`] counts and answers them and keeps forms, [`Named`] knows the forms of names and lots. A call that makes a
+//! walk comes to the result of the walk, or is [`Stopped`] where that is. Calls that answer `AllocError` do so only for
+//! want of memory.
 
 mod named;
 mod stopped;

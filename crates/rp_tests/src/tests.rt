@@ -42,7 +42,7 @@ pub trait Tests: Sized {
     fn into_halves(part: Self::Part) -> Halves
         ensures { result.items ≡ (seen part).cell };
 
-    /// The whole cube: one part without half-spaces. Answers `AllocError` only for want of memory.
+    /// The whole cube: one part without half-spaces.
     fn whole(alloc: Global) -> Result<Self::Form, AllocError>
         ensures { IfOk result (λ form. parts_of form ≡ whole_part ∷ []) };
 
@@ -50,7 +50,7 @@ pub trait Tests: Sized {
     fn none(alloc: Global) -> Self::Form
         ensures { parts_of result ≡ [] };
 
-    /// The same form again. Answers `AllocError` only for want of memory.
+    /// A copy of `form`: the same parts in the same order.
     fn copy(alloc: Global, form: &Self::Form) -> Result<Self::Form, AllocError>
         ensures { IfOk result (λ copy. parts_of copy ≡ parts_of form.now) };
 
@@ -59,15 +59,15 @@ pub trait Tests: Sized {
         requires { is_cube_point point.now ≡ true }
         ensures { result ≡ passes (shape_of_parts (parts_of form.now)) point.now };
 
-    /// Counts n more tests. `false` exactly where their number would be above 65,536; then all is as before.
+    /// Counts `n` more tests. `false` exactly where their number would be above 65,536; then all is as before.
     fn count(&mut self, n: u64) -> bool
         ensures { tester.count n self.old ≡ counted result self.new };
 
-    /// Whether a part has a point, by a strict test of it, which isn't counted.
+    /// Whether `part` has a point, by a strict test of it, which isn't counted.
     fn has_point(&mut self, alloc: Global, part: &Self::Part) -> Result<bool, Stopped>
         ensures { Comes (λ is_so. is_so) result self.new (tester.strict (seen part.now).cell self.old) };
 
-    /// Whether two parts are in contact, by a weak test of them together, which isn't counted.
+    /// Whether `first` and `second` are in contact, by a weak test of them together, which isn't counted.
     fn are_in_contact(
         &mut self,
         alloc: Global,
@@ -76,15 +76,15 @@ pub trait Tests: Sized {
     ) -> Result<bool, Stopped>
         ensures { Comes (λ is_so. is_so) result self.new (tester.weak ((seen first.now).cell ++ (seen second.now).cell) self.old) };
 
-    /// Whether two forms share a point, by all pairs of their parts, which are counted.
+    /// Whether `a` and `b` share a point, by all pairs of their parts, which are counted.
     fn overlap(&mut self, alloc: Global, a: &Self::Form, b: &Self::Form) -> Result<bool, Stopped>
         ensures { Comes (λ is_so. is_so) result self.new (common_in_full tester (parts_of a.now) (parts_of b.now) self.old) };
 
-    /// Whether two forms are in contact, by all pairs of their parts, which are counted.
+    /// Whether `a` and `b` are in contact, by all pairs of their parts, which are counted.
     fn contact(&mut self, alloc: Global, a: &Self::Form, b: &Self::Form) -> Result<bool, Stopped>
         ensures { Comes (λ is_so. is_so) result self.new (touch_in_full tester (parts_of a.now) (parts_of b.now) self.old) };
 
-    /// What is left of a first form outside a second one.
+    /// What is left of `a` outside `b`.
     fn minus(
         &mut self,
         alloc: Global,
@@ -93,7 +93,8 @@ pub trait Tests: Sized {
     ) -> Result<Self::Form, Stopped>
         ensures { Comes parts_of result self.new (subtract tester (parts_of a.now) (parts_of b.now) self.old) };
 
-    /// As `minus`, with those parts of the first form moved that stay as they are.
+    /// What is left of `first` outside `other`, as `minus` finds it; those parts of `first` that stay as they are are
+    /// moved.
     fn into_minus(
         &mut self,
         alloc: Global,
@@ -102,21 +103,21 @@ pub trait Tests: Sized {
     ) -> Result<Self::Form, Stopped>
         ensures { Comes parts_of result self.new (subtract tester (parts_of first) (parts_of other.now) self.old) };
 
-    /// What two forms have in common: a part test of each part of the first with each part of the second, which are counted.
+    /// What `a` and `b` have in common: a part test of each part of `a` with each part of `b`, which are counted.
     fn both(&mut self, alloc: Global, a: &Self::Form, b: &Self::Form) -> Result<Self::Form, Stopped>
         ensures { Comes parts_of result self.new (join tester (parts_of a.now) (parts_of b.now) self.old) };
 
-    /// Two forms together: the parts of the first, and then those of the second, which are moved. `Limit` exactly where these
-    /// are more than 1,024.
+    /// `first` and `second` together: the parts of `first`, and then those of `second`, which are moved. `Limit`
+    /// exactly where these are more than 1,024.
     fn either(&mut self, first: Self::Form, second: Self::Form) -> Result<Self::Form, Stopped>
         ensures { Comes parts_of result self.new (if_at_most most_parts (parts_of first ++ parts_of second) self.old) };
 
-    /// The form of a cell of at most 64 half-spaces, by one part test, which isn't counted.
+    /// The form of `cell`, of at most 64 half-spaces, by one part test, which isn't counted.
     fn of_cell(&mut self, alloc: Global, cell: &[Half]) -> Result<Self::Form, Stopped>
         requires { length cell.now ≤ 64 }
         ensures { Comes parts_of result self.new (parts_of_cell tester cell.now self.old) };
 
-    /// The form of a polygon raised from the one height to below the other.
+    /// The form of the polygon over `corners` raised from `low` to below `high`.
     fn of_prism(
         &mut self,
         alloc: Global,

@@ -40,8 +40,9 @@ fn put_found<K: Sink>(alloc: Global, found: Found, sink: &mut K) -> Result<(), O
     Ok(())
 }
 
-/// Checks a report, and puts the line that says whether it is accepted, or else which line is the first wrong one. Answers
-/// whether the report is refused.
+/// Checks `report`, of at most 67,108,864 bytes, and puts to `sink` the line that says whether it is accepted, or else
+/// which line is the first wrong one. Answers whether the report is refused; `Put` only where a put failed, `Memory`
+/// only for want of memory, and then a front of that line was put.
 pub fn check<K: Sink>(alloc: Global, report: &[u8], sink: &mut K) -> Result<bool, OutputFault>
     requires { length report.now ≤ most_report_bytes }
     ensures counts { K.faults sink.old ≤ K.faults sink.new }

@@ -28,30 +28,30 @@ const MOST_SCRIPT_BYTES: usize = 16_777_216;
 /// The most bytes of a report that is checked.
 const MOST_REPORT_BYTES: usize = 67_108_864;
 
-/// Does what the words of a command line ask for: reads the source to its end, writes the output to the sink, and
+/// Does what `words`, those of a command line, ask for: reads `source` to its end, writes the output to `sink`, and
 /// answers a status.
 ///
-/// These words are listed. The input is a script of at most 16,777,216 bytes, with `check` a report of at most 67,108,864
-/// bytes. The output has one put for each line.
+/// These words are listed. The input is a script of at most 16,777,216 bytes, with `check` a report of at most
+/// 67,108,864 bytes. The output has one put for each line.
 ///
-/// A script whose first line is `rp 2` is of version 2, and every other one of version 1; the lines behind that line are
-/// its body, and are numbered from 1.
+/// A script whose first line is `rp 2` is of version 2, and every other one of version 1; the lines behind that line
+/// are its body, and are numbered from 1.
 ///
-/// - `run`: the output is the report of the script, which begins with the line `> 0 rp 2` in version 2. Refused is what a
-///   verdict line says is refused.
-/// - `run brief`: the same without the proof lines.
-/// - `check`: the output is `accepted`, or `wrong n` with the number of the first line at which no accepted report goes on.
-///   Refused is a report that is not accepted.
+/// - `run`: the output is the report of the script, which begins with the line `> 0 rp 2` in version 2. Refused is what
+///   a verdict line says is refused.
+/// - `run brief`: the output is the report without its proof lines.
+/// - `check`: the output is `accepted`, or `wrong n` with the number of the first line at which no accepted report goes
+///   on. Refused is a report that is not accepted.
 /// - `script`: the output is each command of the script in its one spelling of the script's version, behind the line
-///   `rp 2` in version 2. Blank and bad lines are left out. Refused are the bad lines of the body: those that are neither
-///   blank nor a command.
-/// - `upgrade`: the output is the script as one of version 2: the line `rp 2`, and then for each line of the body one line,
-///   which is the same where it is blank, the spelling of version 2 where it is a command, and empty where it is bad.
-///   Refused are the bad lines.
-/// - `make N SEED`, N from 1 to 1,000 and SEED from 0 to 18,446,744,073,709,551,615, in the spelling of a script: nothing is
-///   read, and the output is the script of a building of N storeys, drawn from the seed. Nothing is refused.
-/// - `trial N SEED`, with the same numbers: nothing is read, and the output is what is counted in the report of that script.
-///   Nothing is refused.
+///   `rp 2` in version 2. Blank and bad lines are left out. Refused are the bad lines of the body: those that are
+///   neither blank nor a command.
+/// - `upgrade`: the output is the script as one of version 2: the line `rp 2`, and then for each line of the body one
+///   line, which is the same where it is blank, the spelling of version 2 where it is a command, and empty where it is
+///   bad. Refused are the bad lines.
+/// - `make N SEED`, N from 1 to 1,000 and SEED from 0 to 18,446,744,073,709,551,615, in the spelling of a script:
+///   nothing is read, and the output is the script of a building of N storeys, drawn from the seed. Nothing is refused.
+/// - `trial N SEED`, with the same numbers: nothing is read, and the output is what is counted in the report of that
+///   script. Nothing is refused.
 ///
 /// What each status says stands in [`crate::status`].
 pub fn tool<R: Threads + Sync, S: Source, K: Sink>(

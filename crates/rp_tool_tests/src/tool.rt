@@ -46,8 +46,8 @@ fn quiet_status<R: Threads + Sync>(
     tool(rt, alloc, words, source, sink)
 }
 
-/// The same over a source and a sink in memory, whose faults are listed: where none came the output is whole, and the
-/// source was read to its end or not at all.
+/// The contract of `tool` over a source and a sink in memory, whose faults are listed: where none came the output is
+/// whole, and the source was read to its end or not at all.
 fn memory_status<R: Threads + Sync>(
     rt: &R,
     alloc: Global,

@@ -19,8 +19,8 @@ use crate::search::are_nonnegative;
 use rp_space::{Half, IntBox, Meeting, Pair, with_cube};
 
 /// The least box with whole corners that holds all vertices of a cell, with the domain cube's six half-spaces: each
-/// coordinate of each vertex is rounded down and up. Where there is no vertex, which is where the weak system has no point,
-/// it is the cube's box. A cell has at most 64 half-spaces. Takes no memory.
+/// coordinate of each vertex is rounded down and up. Where there is no vertex, which is where the weak system has no
+/// point, it is the cube's box. A cell has at most 64 half-spaces. Takes no memory.
 pub fn box_of_vertices(cell: &[Half]) -> IntBox
     requires { length cell.now ≤ 64 }
     ensures value { integer_box result ≡ box_of_vertices (vertices cell.now) }
@@ -31,8 +31,8 @@ pub fn box_of_vertices(cell: &[Half]) -> IntBox
     box_of_system(system.as_slice()).unwrap_or(IntBox::cube())
 }
 
-/// The least box with whole corners that holds points of the closed cube, which need not be in lowest terms: each coordinate
-/// of each is rounded down and up. Where there is none, it is the cube's box. Takes no memory.
+/// The least box with whole corners that holds points of the closed cube, which need not be in lowest terms: each
+/// coordinate of each is rounded down and up. Where there is none, it is the cube's box. Takes no memory.
 pub fn box_of_points(points: &[Meeting]) -> IntBox
     requires { (p : RationalPoint) → Contains (map reduced_point points.now) p → is_closed_cube_point p ≡ true }
     ensures { integer_box result ≡ box_of_vertices (map reduced_point points.now) }
@@ -95,8 +95,8 @@ fn joined_with_two(
     bounds
 }
 
-/// The least box that holds a box and the vertex of three planes, if there is one and it is not passed over on the line of
-/// two of them.
+/// The least box that holds a box and the vertex of three planes, if there is one and it is not passed over on the line
+/// of two of them.
 fn joined_on(
     bounds: Option<IntBox>,
     system: &[Half],
@@ -114,8 +114,8 @@ fn joined_on(
     joined_with_three(bounds, system, pair, h)
 }
 
-/// The least box that holds a box and the meeting point of three planes, where it is a vertex. The point is not put into
-/// lowest terms, since its quotients are the same.
+/// The least box that holds a box and the meeting point of three planes, where it is a vertex. The point is not put
+/// into lowest terms, since its quotients are the same.
 fn joined_with_three(
     bounds: Option<IntBox>,
     system: &[Half],

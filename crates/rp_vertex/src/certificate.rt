@@ -13,7 +13,8 @@ use crate::order::Order;
 use crate::search::{Wanted, Way, first_vertex, vertex_on_few};
 use rp_space::{Half, Inside, Point, with_cube};
 
-/// From so many half-spaces on a cell is searched along lines. With fewer that is faster for some cells and slower for others.
+/// From so many half-spaces on a cell is searched along lines. With fewer that is faster for some cells and slower for
+/// others.
 const FEW_HALVES: usize = 16;
 
 /// How a cell is searched. Either way finds the same.
@@ -40,7 +41,9 @@ pub fn first_inside(cell: &[Half]) -> Option<Inside>
     first_points(way_of(cell), system.as_slice())
 }
 
-/// The same, by a search over all triples of planes, which passes over none: to compare the times.
+/// The first inside certificate of a cell, as `first_inside` finds it, by a search over all triples of planes, which
+/// passes over none: to compare the times. `None` exactly where the cell has no point. A cell has at most 64
+/// half-spaces.
 pub fn first_inside_over_triples(cell: &[Half]) -> Option<Inside>
     requires { length cell.now ≤ 64 }
     ensures first { result ≡ first_inside cell.now }
@@ -51,8 +54,8 @@ pub fn first_inside_over_triples(cell: &[Half]) -> Option<Inside>
     first_points(Way::Plain, system.as_slice())
 }
 
-/// The first weak point of a cell: the first vertex of the cell with the domain cube. No half-space of the cell and of the
-/// cube is negative there. `None` exactly where there is no such point at all. A cell has at most 64 half-spaces.
+/// The first weak point of a cell: the first vertex of the cell with the domain cube. No half-space of the cell and of
+/// the cube is negative there. `None` exactly where there is no such point at all. A cell has at most 64 half-spaces.
 /// Takes no memory.
 pub fn first_weak(cell: &[Half]) -> Option<Point>
     requires { length cell.now ≤ 64 }
@@ -69,8 +72,8 @@ pub fn first_weak(cell: &[Half]) -> Option<Point>
     )
 }
 
-/// The first inside certificate of a cell, if its first point is found on the first few lines of the first plane that may
-/// have it, and each further one on the first plane that may. `None` tells nothing, and comes soon.
+/// The first inside certificate of a cell, if its first point is found on the first few lines of the first plane that
+/// may have it, and each further one on the first plane that may. `None` tells nothing, and comes soon.
 /// A cell has at most 64 half-spaces. Takes no memory.
 pub fn inside_on_few_lines(cell: &[Half]) -> Option<Inside>
     requires { length cell.now ≤ 64 }
@@ -84,8 +87,8 @@ pub fn inside_on_few_lines(cell: &[Half]) -> Option<Inside>
     points_on_few(way, system.as_slice(), &mut order, first)
 }
 
-/// The first weak point of a cell, if it is found on the first few lines of the first plane that may have it. `None` tells
-/// nothing, and comes soon. A cell has at most 64 half-spaces. Takes no memory.
+/// The first weak point of a cell, if it is found on the first few lines of the first plane that may have it. `None`
+/// tells nothing, and comes soon. A cell has at most 64 half-spaces. Takes no memory.
 pub fn weak_on_few_lines(cell: &[Half]) -> Option<Point>
     requires { length cell.now ≤ 64 }
     ensures first { IfSome result (λ p. first_weak_point cell.now ≡ Some p) }
@@ -129,7 +132,8 @@ fn points_from(way: Way, system: &[Half], order: &mut Order, first: Point) -> Op
     Some(taken)
 }
 
-/// The same, if each is found on the first plane that may have it. `None` tells nothing.
+/// The points that are taken from `first` on, the first vertex of the list, if each further one is found on the first
+/// plane that may have it. `None` tells nothing.
 fn points_on_few(way: Way, system: &[Half], order: &mut Order, first: Point) -> Option<Inside>
     requires few { length system.now ≤ 70 }
     requires cube { HasCube system.now }

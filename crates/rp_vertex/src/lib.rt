@@ -23,9 +23,9 @@
 //! A plane on which a half-space with the same coefficients, or with the opposite ones, is negative has no vertex
 //! (`parallel.rt`): of two boxes side by side most planes are left out so, before any line on them is tried.
 //!
-//! [`inside_on_few_lines`] and [`weak_on_few_lines`] seek the first vertex on a few lines of the first plane that is not
-//! left out, where it often is; what they find is the first all the same. The boxes round all vertices, and round points
-//! that are given, are found by going over them once (`bounds.rt`).
+//! [`inside_on_few_lines`] and [`weak_on_few_lines`] seek the first vertex on a few lines of the first plane that is
+//! not left out, where it often is; what they find is the first all the same. The boxes round all vertices, and round
+//! points that are given, are found by going over them once (`bounds.rt`).
 
 mod bounds;
 mod certificate;

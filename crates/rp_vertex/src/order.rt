@@ -7,8 +7,8 @@ use rp_space::Half;
 /// The most half-spaces of a list.
 const MOST: usize = 70;
 
-/// The places of a list, in the order in which its half-spaces cut a line. One that left nothing of a line comes to the front,
-/// since it often leaves nothing of the next one. No answer depends on the order.
+/// The places of a list, in the order in which its half-spaces cut a line. One that left nothing of a line comes to the
+/// front, since it often leaves nothing of the next one. No answer depends on the order.
 #[derive(Clone, Copy)]
 pub(crate) struct Order {
     places: [u8; MOST],

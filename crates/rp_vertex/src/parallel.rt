@@ -4,8 +4,8 @@ ghost use Rattle.rp_vertex.specs.Parallel.{have_same_normal, is_further, cuts_of
 
 use rp_space::Half;
 
-/// Whether some half-space of a list is negative on the plane of `f`, as its coefficients tell at once: they are those of `f` or
-/// of its complement.
+/// Whether some half-space of a list is negative on the plane of `f`, as its coefficients tell at once: they are those
+/// of `f` or of its complement.
 pub(crate) fn is_cut_off(system: &[Half], f: &Half) -> bool
     ensures { result ≡ is_cut_off system.now f.now }
 {

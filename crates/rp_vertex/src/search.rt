@@ -14,7 +14,8 @@ use crate::order::Order;
 use crate::parallel::is_cut_off;
 use rp_space::{Half, Meeting, Pair, Point};
 
-/// So many lines of one plane are tried for the first vertex. Most often it is on one of these, where it is on the plane.
+/// How many lines of one plane are tried for the first vertex. Most often it is on one of these, where it is on the
+/// plane.
 const FEW_LINES: usize = 8;
 
 /// Which vertices are wanted.
@@ -22,7 +23,7 @@ const FEW_LINES: usize = 8;
 pub(crate) enum Wanted<'a> {
     /// Every vertex.
     Any,
-    /// Those at which one of these half-spaces is positive.
+    /// Each vertex at which one of these half-spaces is positive.
     Lifting(&'a [Half]),
 }
 
@@ -33,7 +34,7 @@ pub(crate) enum Way {
     Plain,
     /// All third planes are tried for each two that may have a wanted vertex.
     Triples,
-    /// Those that meet what the list leaves of the line of the two.
+    /// The third planes are tried that meet what the list leaves of the line of the two.
     Lines,
 }
 
@@ -57,8 +58,8 @@ pub(crate) fn first_vertex(
     None
 }
 
-/// The first wanted vertex of a list of half-spaces, if it is on one of the first few lines on the first plane that may have
-/// one. `None` tells nothing.
+/// The first wanted vertex of a list of half-spaces, if it is on one of the first few lines on the first plane that may
+/// have one. `None` tells nothing.
 #[tactic(auto, unfolding(rp_geometry::specs::searches::Vertex::first_vertex))]
 pub(crate) fn vertex_on_few(
     way: Way,
@@ -96,8 +97,8 @@ fn is_left_out(way: Way, system: &[Half], f: &Half) -> bool
     }
 }
 
-/// On how many lines of one plane a vertex is sought: the first one on a few, since there may be none on the plane, and a
-/// further one on all.
+/// On how many lines of one plane a vertex is sought: the first one on a few, since there may be none on the plane, and
+/// a further one on all.
 fn most_lines(wanted: Wanted) -> usize {
     match wanted {
         Wanted::Any => FEW_LINES,
@@ -105,8 +106,8 @@ fn most_lines(wanted: Wanted) -> usize {
     }
 }
 
-/// The first wanted vertex on the plane of `f` and two planes of `others`, if it is on one of the first few of these. `None`
-/// tells nothing.
+/// The first wanted vertex on the plane of `f` and two planes of `others`, if it is on one of the first few of these.
+/// `None` tells nothing.
 fn first_on_few(
     way: Way,
     wanted: Wanted,
