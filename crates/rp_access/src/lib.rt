@@ -1,5 +1,6 @@
 #![tactic(auto)]
-//! Shortest chains over links between numbers, and the levels that show that they are shortest.
+//! Shortest chains over links between numbers (shortest paths in a graph), and the levels (distances) that show that
+//! they are shortest.
 //!
 //! [`Links`] are made link by link, or of pairs, and go both ways; where one fails for want of memory all are as they
 //! were. [`levels`] finds, by a search breadth first, how many steps the shortest chain from each number to one number

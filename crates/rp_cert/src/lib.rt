@@ -1,7 +1,7 @@
 #![tactic(auto)]
 //! Certificates: what shows that a cell has a member, that its weak system has a point, and that there is none; and
 //! slices, which show what a cell leaves at a height. Each check is a test that whoever reads a certificate can make,
-//! whatever wrote it.
+//! whatever wrote it (the checker of a certifying algorithm).
 //!
 //! The checks answer exactly as the definitions do, and no sum leaves 128 bits. Their yes means what it is to mean. Of
 //! an inside certificate: the cell has a member; of a weak point: it solves the weak system; of an outside certificate:

@@ -1,5 +1,6 @@
 #![tactic(auto)]
-//! Prisms: polygons with whole corners, raised between two heights. The polygon may cross or touch itself.
+//! Prisms: polygons with whole corners, raised between two heights (extruded), their inside by the even-odd rule. The
+//! polygon may cross or touch itself.
 //!
 //! [`trapezoid`] makes the cell under one edge, as the definition does, and none exactly where both ends have one x.
 //! [`prism_holds`] tells whether a point is a member of a prism: it is in the cube, between the heights, and an odd

@@ -1,5 +1,5 @@
 #![tactic(auto)]
-//! The groups into which links join numbers, by trees of numbers (union-find).
+//! The groups into which links join numbers (the connected components of a graph), by trees of numbers (union-find).
 //!
 //! The groups are exactly those of the definition and in its order: lists of numbers, each rising and in the order of
 //! their first numbers. Calls that answer `AllocError` do so only for want of memory.

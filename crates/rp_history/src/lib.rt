@@ -1,5 +1,6 @@
 #![tactic(auto)]
-//! The history of lots: which were ever registered, when each was born and ended, and from which others it was made.
+//! The history of lots: which were ever registered, when each was born and ended, and from which others it was made (an
+//! append-only log of lifespans, with provenance).
 //!
 //! Births and ends are noted as the definition says, and no lot is ever taken out; want of memory leaves all as it was.
 //! The place of a lot, and of a live one, is that of its id, found without a walk. The lineage of a lot is the

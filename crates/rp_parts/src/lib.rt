@@ -1,8 +1,8 @@
 #![tactic(auto)]
-//! Laws of parts and of lists of parts: which points the trapezoids of a prism have; the slim cell and the least box of
-//! a part; nearness, contact and overlap, with the eight relations; pieces, the groups into which links of contact join
-//! the parts. Each function is a law over the definitions of `rp_geometry`: its contract is the law, and its body is
-//! empty.
+//! Laws of parts and of lists of parts: which points the trapezoids of a prism have; the slim cell (without redundant
+//! inequalities) and the least box of a part; nearness (the closure), contact and overlap, with the eight relations;
+//! pieces, the groups into which links of contact join the parts. Each function is a law over the definitions of
+//! `rp_geometry`: its contract is the law, and its body is empty.
 
 ghost use Rattle.rp_geometry.specs.laws.PartLaws.{BoxesOfContactMeet, BoxesOfOverlapMeet, ContactIsFound, LeastBoxIsLeast, NearCellIsWeak, NearRegionIsWeak, OverlapIsFound, SlimKeepsMembers, SlimPartIsPart};
 ghost use Rattle.rp_geometry.specs.laws.PieceLaws.{GroupsAreJoined, LinksAreContacts, OnePieceIsLinked, PiecesAreGroups, PiecesAreOne};

@@ -1,7 +1,7 @@
 #![tactic(auto)]
-//! Laws of horizontal sections: what a ring and a flat certificate show of the members of a cell at a height, that
-//! there is one of the two, and that the searches find it.
-//! Each function is a law over the definitions of `rp_geometry`: its contract is the law, and its body is empty.
+//! Laws of horizontal sections (cross-sections): what a ring and a flat certificate show of the members of a cell at a
+//! height, that there is one of the two, and that the searches find it. Each function is a law over the definitions of
+//! `rp_geometry`: its contract is the law, and its body is empty.
 
 ghost use Rattle.rp_geometry.specs.laws.SectionLaws.{ClosureIsOnTheLeft, EndsAreTheCorners, FirstFlatIsFirst, FlatIsFound, MemberHasRing, MemberOrFlat, RingHoldsTheMembers, RingIsFound, RingIsKept, RingIsShort, RingIsTheOnlyOne, RingShowsMember, SliceIsFound, SlicesShowTheMembers, TraceIsSmall, TracesMeetWherePlanesDo};
 

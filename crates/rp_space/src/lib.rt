@@ -1,6 +1,6 @@
 #![tactic(auto)]
-//! Half-spaces and points with exact whole numbers: the sign rule gives every point to exactly one of a half-space and
-//! its complement.
+//! Half-spaces and points (in homogeneous coordinates) with exact whole numbers: the sign rule (Thompson, 2007) gives
+//! every point to exactly one of a half-space and its complement.
 //!
 //! Four numbers make a half-space in lowest terms, or are refused for a bound that they pass as given, or else for four
 //! zeros; and a point, or are refused for a weight below 1, or else for a bound. `holds` is the sign rule, `side` its

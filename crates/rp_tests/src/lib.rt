@@ -1,5 +1,5 @@
 #![tactic(auto)]
-//! What a row needs of whatever answers its tests, and in which words it says what it has come to.
+//! What a row needs of whatever answers its tests (its oracle), and in which words it says what it has come to.
 //!
 //! A row is the walk of a command: its tests, one after the other, each of which may lead to another next one.
 //! [`Tests`] counts and answers them and keeps forms, [`Named`] knows the forms of names and lots. A call that makes a
