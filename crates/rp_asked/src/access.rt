@@ -9,7 +9,7 @@ use rp_nearby::Access;
 use rp_report::{Verdict, Verdicts};
 use std::alloc::{AllocError, Global};
 
-/// The verdict lines of access: those of the chain, and then those of the levels.
+/// The verdict lines of `access`: those of its chain, and then those of its levels.
 pub fn access_lines(alloc: Global, access: &Access) -> Result<Verdicts, AllocError>
     ensures { IfOk result (λ lines. map verdict_of lines.items ≡ told_access access.now) }
 {

@@ -40,7 +40,7 @@ pub(crate) fn piece_lines(alloc: Global, pieces: PieceList) -> Result<Verdicts, 
     Ok(lines)
 }
 
-/// The verdict lines of slices; they are moved.
+/// The verdict lines of `slices`, which are moved.
 pub fn slice_lines(alloc: Global, slices: Listed<Slice>) -> Result<Verdicts, AllocError>
     requires { length slices.items ≤ most_parts }
     ensures { IfOk result (λ lines. map verdict_of lines.items ≡ section_lines (map slice_shown slices.items)) }

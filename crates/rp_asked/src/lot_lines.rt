@@ -23,7 +23,7 @@ pub fn owner_verdict(owner: Option<Name>) -> Verdict
     }
 }
 
-/// The verdict lines of neighbours.
+/// The verdict lines that tell `ids` as neighbours.
 pub fn neighbour_lines(alloc: Global, ids: &[Name]) -> Result<Verdicts, AllocError>
     requires { length ids.now ≤ most_kept_parts }
     ensures { IfOk result (λ lines. map verdict_of lines.items ≡ neighbour_lines ids.now) }

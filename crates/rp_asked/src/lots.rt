@@ -26,7 +26,7 @@ pub fn lineage(alloc: Global, history: &History, id: Name) -> Result<Verdicts, R
     Ok(lines)
 }
 
-/// `list`: the live lots.
+/// `list`: the live lots of `history`.
 pub fn list(alloc: Global, history: &History) -> Result<Verdicts, AllocError>
     requires { length history.now ≤ most_kept_parts }
     ensures { IfOk result (λ lines. map verdict_of lines.items ≡ list_lines history.now) }

@@ -62,7 +62,7 @@ impl From<NameFault> for RowEnd {
     }
 }
 
-/// One verdict line.
+/// The one verdict line `verdict`.
 pub fn one_line(alloc: Global, verdict: Verdict) -> Result<Verdicts, AllocError>
     ensures { IfOk result (λ lines. map verdict_of lines.items ≡ verdict_of verdict ∷ []) }
 {
@@ -71,7 +71,7 @@ pub fn one_line(alloc: Global, verdict: Verdict) -> Result<Verdicts, AllocError>
     Ok(lines)
 }
 
-/// Yes or no.
+/// The one verdict line yes where `is_so`, and no otherwise.
 pub fn yes_or_no(alloc: Global, is_so: bool) -> Result<Verdicts, AllocError>
     ensures { IfOk result (λ lines. reply_lines (map verdict_of lines.items) ≡ yes_or_no is_so) }
 {

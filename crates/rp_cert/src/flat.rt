@@ -58,9 +58,9 @@ fn is_listed_with_sides(half: &Half, cell: &[Half]) -> bool
     is_listed(half, cell) || is_listed(half, &cube()[..4])
 }
 
-/// Whether at most three multiples, with multipliers from 1 to 2^75 - 1, show that no point of the height is held: the
-/// multiples of `a` and of `b` add up to 0, and either one half-space without a trace does not hold the points of the
-/// height, or each has a trace and the offsets at the height add up to at most 0.
+/// Whether `terms`, at most three multiples with multipliers from 1 to 2^75 - 1, show that no point of the height `z`
+/// is held: the multiples of `a` and of `b` add up to 0, and either one half-space without a trace does not hold the
+/// points of the height, or each has a trace and the offsets at the height add up to at most 0.
 pub fn cancels_at(terms: &[Term], z: i32) -> bool
     requires height { IsHeight z }
     requires few { length terms.now ≤ 3 }

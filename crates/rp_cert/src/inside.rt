@@ -9,8 +9,8 @@ ghost use Rattle.rp_geometry.specs.searches.Certificate.{is_one_to_four, is_posi
 
 use rp_space::{Half, Point, cube};
 
-/// Whether the points show that the cell has a member: there are one to four points, and every half-space of the cell
-/// and of the domain cube has a side value of at least 0 at all of them and above 0 at one.
+/// Whether `points` show that `cell` has a member: there are one to four points, and every half-space of the cell and
+/// of the domain cube has a side value of at least 0 at all of them and above 0 at one.
 pub fn check_inside(cell: &[Half], points: &[Point]) -> bool
     ensures value { result ≡ is_inside_certificate cell.now points.now }
     ensures member { IsTrue result → IsNonempty (shape_of_cell cell.now) }
@@ -18,8 +18,8 @@ pub fn check_inside(cell: &[Half], points: &[Point]) -> bool
     is_one_to_four(points.len()) && are_reached(cell, points) && are_reached(&cube(), points)
 }
 
-/// Whether every half-space of the cell and of the domain cube has a side value of at least 0 at the point: the point
-/// solves the weak system of the cell.
+/// Whether every half-space of `cell` and of the domain cube has a side value of at least 0 at `p`: the point solves
+/// the weak system of the cell.
 pub fn check_weak(cell: &[Half], p: &Point) -> bool
     ensures value { result ≡ is_weak_point cell.now p.now }
     ensures solution { IsTrue result → IsSolution false cell.now p.now }

@@ -243,7 +243,7 @@ fn is_upper(edge: &Edge) -> bool
     edge.b > 0 || (edge.b == 0 && edge.a > 0)
 }
 
-/// Whether the direction of the first edge has a smaller angle than that of the second.
+/// Whether the direction of `s` has a smaller angle than that of `t`.
 pub fn is_angle_before(s: &Edge, t: &Edge) -> bool
     ensures { result ≡ is_angle_before s.now t.now }
 {

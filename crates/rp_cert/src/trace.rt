@@ -10,7 +10,8 @@ ghost use Rattle.rp_cert.specs.Section.{trace_if};
 use crate::edge::Edge;
 use rp_space::{Half, greatest_common_divisor, quotient};
 
-/// The trace of a half-space at a height, in lowest terms. `None` exactly where it has none: `a` and `b` are both 0.
+/// The trace of `half` at the height `z`, in lowest terms. `None` exactly where it has none: its `a` and `b` are both
+/// 0.
 pub fn trace_at(half: &Half, z: i32) -> Option<Edge>
     requires { IsHeight z }
     ensures value { result ≡ trace_if z half.now }
@@ -31,7 +32,7 @@ pub fn has_trace(half: &Half) -> bool
     !(a == 0 && b == 0)
 }
 
-/// What `c` and `d` of a half-space come to at a height.
+/// What `c` and `d` of `half` come to at the height `z`.
 pub fn offset_at(half: &Half, z: i32) -> i64
     requires { IsHeight z }
     ensures value { result ≡ offset_at z half.now }
@@ -41,7 +42,7 @@ pub fn offset_at(half: &Half, z: i32) -> i64
     c * z as i64 + d
 }
 
-/// Whether a half-space holds the point of a height on the axis.
+/// Whether `half` holds the point of the height `z` on the axis.
 pub fn holds_level(half: &Half, z: i32) -> bool
     requires { IsHeight z }
     ensures { result ≡ holds_level z half.now }

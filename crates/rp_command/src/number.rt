@@ -86,8 +86,8 @@ fn size(version: Version, word: &[u8]) -> Option<u128>
     }
 }
 
-/// The coordinate that a word spells: a size, perhaps behind a minus sign, which isn't before 0. Where it passes 2^120
-/// in size it is held there. `None` exactly where the word spells no coordinate.
+/// The coordinate that `word` spells in `version`: a size, perhaps behind a minus sign, which isn't before 0. Where it
+/// passes 2^120 in size it is held there. `None` exactly where the word spells no coordinate.
 pub fn coordinate(version: Version, word: &[u8]) -> Option<i128>
     ensures { result ≡ option_map held (coordinate_spelled (version_of version) word.now) }
 {

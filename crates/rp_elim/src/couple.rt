@@ -36,7 +36,7 @@ impl Model for Couple {
 }
 
 impl Couple {
-    /// The couple of two half-spaces. `None` exactly where their normals are dependent.
+    /// The couple of `f` and `g`. `None` exactly where their normals are dependent.
     pub fn new(f: &Half, g: &Half) -> Option<Couple>
         ensures { MatchOption result (minor_on (axes_of f.now g.now) f.now g.now ≡ pos 0) (λ p. p ≡ two_of f.now g.now) }
     {
@@ -52,8 +52,8 @@ impl Couple {
         }
     }
 
-    /// Whether the determinant with a third half-space is seen not to be 0 by its last 64 bits, which take one product
-    /// of a word for each coefficient: then the three do not refute, since their normals are independent.
+    /// Whether the determinant with `h` as the third half-space is seen not to be 0 by its last 64 bits, which take one
+    /// product of a word for each coefficient: then the three do not refute, since their normals are independent.
     pub fn is_passed_over(&self, h: &Half) -> bool
         ensures { result ≡ true → (strict : Bool) → refutation_of_three strict self.now.first self.now.second h.now ≡ None }
     {

@@ -31,7 +31,7 @@ impl Model for Cross {
 }
 
 impl Cross {
-    /// The cross product of two half-spaces' normals.
+    /// The cross product of the normals of `f` and `g`.
     pub fn new(f: &Half, g: &Half) -> Cross
         ensures { result ≡ two_of f.now g.now }
     {
@@ -73,7 +73,7 @@ impl Cross {
         }
     }
 
-    /// The determinant of the coefficients of the two half-spaces and a third one.
+    /// The determinant of the coefficients of the two half-spaces and `h`.
     pub fn weight(&self, h: &Half) -> i128
         ensures value { result ≡ meeting_weight self.now.first self.now.second h.now }
         ensures small { IsWithin (6 * 2 ^ 72) result }
@@ -90,7 +90,7 @@ impl Cross {
         if positive { weight > 0 } else { weight < 0 }
     }
 
-    /// Whether the negative of the determinant with a third half-space is above 0. `None` where it is 0.
+    /// Whether the negative of the determinant with `h` is above 0. `None` where it is 0.
     pub fn opposite_sign(&self, h: &Half) -> Option<bool>
         ensures { MatchOption result (meeting_weight self.now.first self.now.second h.now ≡ pos 0) (λ s. has_sign s (neg_ℤ (meeting_weight self.now.first self.now.second h.now)) ≡ true) }
     {

@@ -93,7 +93,7 @@ pub fn is_without_normal(half: &Half) -> bool
     is_without(half, Axis::X) && is_without(half, Axis::Y) && is_without(half, Axis::Z)
 }
 
-/// Whether the normals of two half-spaces are dependent.
+/// Whether the normals of `f` and `g` are dependent.
 pub fn are_parallel(f: &Half, g: &Half) -> bool
     ensures { result ≡ are_parallel f.now g.now }
 {
@@ -102,7 +102,8 @@ pub fn are_parallel(f: &Half, g: &Half) -> bool
         && are_dependent(f, g, Axis::Y, Axis::Z)
 }
 
-/// Whether the normals may cancel: on each axis one coefficient is positive and the other negative, or both are 0.
+/// Whether the normals of `f` and `g` may cancel: on each axis one coefficient is positive and the other negative, or
+/// both are 0.
 pub fn may_cancel(f: &Half, g: &Half) -> bool
     ensures { result ≡ may_cancel f.now g.now }
 {
@@ -118,7 +119,7 @@ fn are_opposed(f: &Half, g: &Half, axis: Axis) -> bool
     (v > 0) == (w < 0) && (v < 0) == (w > 0)
 }
 
-/// The multiples of two half-spaces that cancel on the first axis on which the first one's coefficient is not 0.
+/// The multiples of `f` and `g` that cancel on the first axis on which the coefficient of `f` is not 0.
 pub fn minors_of_two(f: &Half, g: &Half) -> [Term; 2]
     ensures value { result ≡ minors_of_two f.now g.now }
     ensures small { AreFactorsSmall result }
@@ -149,7 +150,7 @@ fn minors_on_axis(f: &Half, g: &Half, u: Axis) -> [Term; 2]
     ]
 }
 
-/// The first two axes on which two half-spaces are independent; the last two where there are none.
+/// The first two axes on which `f` and `g` are independent; the last two where there are none.
 pub fn axes_of(f: &Half, g: &Half) -> (Axis, Axis)
     ensures { result ≡ axes_of f.now g.now }
 {

@@ -17,7 +17,8 @@ pub struct Placed {
 /// The others of a list of at most 70 half-spaces, which take no memory.
 pub type Others = ArrayVec<Placed, 69>;
 
-/// The half-spaces that stand before one, then those that stand behind it and the cube's six.
+/// The half-spaces of `before`, which stand before one, then those of `after`, which stand behind it, and the cube's
+/// six.
 pub fn others_of(before: &[Half], after: &[Half]) -> Others
     requires { length before.now + length after.now < 64 }
     ensures { result.items ≡ placed_list before.now (with_cube after.now) }

@@ -8,9 +8,10 @@ ghost use Rattle.rp_elim.specs.Factors.{AreFactorsSmall};
 use crate::lowest::lowest_terms;
 use rp_space::{Outside, Term, is_balanced, is_contradiction, is_multiplier};
 
-/// The terms with positive multipliers in lowest terms, if they refute; the multipliers may have either sign.
-/// `None` where two multipliers have different signs or one is 0: then no positive multiples of them all cancel, or a
-/// term can be dropped, and a smaller set would come first.
+/// The `terms` with positive multipliers in lowest terms, if they refute that all their half-spaces are positive
+/// (`strict`), or that none is negative; the multipliers may have either sign. `None` where two multipliers have
+/// different signs or one is 0: then no positive multiples of them all cancel, or a term can be dropped, and a smaller
+/// set would come first.
 pub fn refutation(strict: bool, terms: &[Term]) -> Option<Outside>
     requires some { 0 < length terms.now }
     requires few { length terms.now ≤ 4 }
@@ -26,7 +27,8 @@ pub fn refutation(strict: bool, terms: &[Term]) -> Option<Outside>
     None
 }
 
-/// The terms in lowest terms, if they refute; all multipliers are positive.
+/// The `terms` in lowest terms, if they refute that all their half-spaces are positive (`strict`), or that none is
+/// negative; all multipliers are positive.
 pub fn positive_refutation(strict: bool, terms: &[Term]) -> Option<Outside>
     requires some { 0 < length terms.now }
     requires few { length terms.now ≤ 4 }

@@ -29,9 +29,10 @@ pub fn first_outside(cell: &[Half], strict: bool) -> Option<Outside>
     first_refutation(strict, system.as_slice())
 }
 
-/// The first outside certificate of a cell, as `first_outside` finds it, if it has at most two terms: then one
-/// half-space holds no point, or two look away from one another. So few sets are tried that this may come before a
-/// search for points. With `None` it isn't known whether there is a point. The cell has at most 64 half-spaces.
+/// The first outside certificate of `cell`, `strict` or not, as `first_outside` finds it, if it has at most two terms:
+/// then one half-space holds no point, or two look away from one another. So few sets are tried that this may come
+/// before a search for points. With `None` it isn't known whether there is a point. The cell has at most 64
+/// half-spaces.
 pub fn first_outside_of_two(cell: &[Half], strict: bool) -> Option<Outside>
     requires { length cell.now ≤ 64 }
     ensures found { result ≡ first_of_two strict (with_cube cell.now) }
@@ -66,7 +67,8 @@ fn first_of_two(strict: bool, halves: &[Half]) -> Option<Outside>
     first_two(strict, halves)
 }
 
-/// The refutation by one half-space, if it refutes. Only one without a normal can cancel.
+/// The refutation by `h` alone, if it refutes that it is positive (`strict`), or that it is not negative. Only one
+/// without a normal can cancel.
 pub fn refutation_of_one(strict: bool, h: &Half) -> Option<Outside>
     ensures { result ≡ refutation_of_one strict h.now }
 {

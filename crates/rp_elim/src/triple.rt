@@ -33,7 +33,7 @@ impl Model for Triple {
 }
 
 impl Triple {
-    /// The triple of two half-spaces and a third one. `None` exactly where their normals are dependent.
+    /// The triple of the two half-spaces of `ef` and `g`. `None` exactly where their normals are dependent.
     pub fn new(ef: &Cross, g: &Half) -> Option<Triple>
         ensures { MatchOption result (meeting_weight ef.now.first ef.now.second g.now ≡ pos 0) (λ t. t ≡ three_of ef.now.first ef.now.second g.now) }
     {
@@ -48,8 +48,8 @@ impl Triple {
         }
     }
 
-    /// Whether the four minors of the three half-spaces and a fourth one have one sign but for their places. Where two
-    /// differ the four do not refute, in whatever order.
+    /// Whether the four minors of the three half-spaces and `h` have one sign but for their places. Where two differ
+    /// the four do not refute, in whatever order.
     pub fn has_one_sign(&self, h: &Half) -> bool
         ensures { result ≡ false → HaveMixedMinors self.now.first self.now.second self.now.third h.now }
     {

@@ -37,7 +37,7 @@ pub(crate) fn passes_form(form: &Form, point: &Point) -> bool
     is_in_some(form.items(), point)
 }
 
-/// Whether the point is in the form: it is in the cube and in a part.
+/// Whether `point` is in `form`: it is in the cube and in a part.
 pub fn holds(form: &Form, point: &Point) -> bool
     ensures member { result ≡ is_member (shape_of_parts form.now.items) point.now }
     ensures in_parts { result ≡ is_in_parts form.now.items point.now }

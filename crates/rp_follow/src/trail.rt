@@ -116,7 +116,7 @@ impl<'a> Trail<'a> {
         self.tests = 0;
     }
 
-    /// Counts n more tests. `false` exactly where their number would be above 65,536; then all is as before.
+    /// Counts `n` more tests. `false` exactly where their number would be above 65,536; then all is as before.
     pub fn count(&mut self, n: u64) -> bool
         ensures { follow_count n self.old ≡ counted result self.new }
     {

@@ -14,7 +14,7 @@ use rp_space::Name;
 use std::alloc::{AllocError, Global};
 
 impl History {
-    /// `Known(id)` exactly where the id was ever registered.
+    /// That `id` is new: `Known(id)` exactly where it was ever registered.
     pub fn check_new(&self, id: Name) -> Result<(), NameFault>
         ensures checks { InEach self.now (λ s. ChecksNames result (check_new s id)) }
         ensures fault { IfErr result (λ e. e ≡ Known id) }
@@ -35,7 +35,7 @@ impl History {
         Ok(())
     }
 
-    /// The place of a live lot. `Unknown(id)` exactly where the id isn't live.
+    /// The place of the live lot `id` among all lots. `Unknown(id)` exactly where it isn't live.
     pub fn check_live(&self, id: Name) -> Result<usize, NameFault>
         ensures checks { InEach self.now (λ s. ChecksNames result (check_live s id)) }
         ensures lot { InEach self.now (λ s. IfOk result (λ k. slice_get s.lots k ≡ live_lot id s.lots)) }
@@ -133,7 +133,7 @@ impl History {
         Ok(layer)
     }
 
-    /// The layer of a live lot.
+    /// The layer of the live lot `id`.
     pub fn layer_of(&self, id: &Name) -> Name
         requires { InEach self.now (λ s. check_live s id.now ≡ None) }
         ensures { InEach self.now (λ s. result ≡ layer_with_id s id.now) }

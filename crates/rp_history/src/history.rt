@@ -82,7 +82,7 @@ impl History {
         self.list.lots()
     }
 
-    /// The place of a lot among all lots, found without a walk over them. `None` exactly where the id was never
+    /// The place of the lot `id` among all lots, found without a walk over them. `None` exactly where it was never
     /// registered.
     pub fn place_of(&self, id: &Name) -> Option<usize>
         ensures lot { option_and_then (λ k. slice_get self.now k) result ≡ lot_with_id id.now self.now }
@@ -92,7 +92,8 @@ impl History {
         self.list.place_of(id)
     }
 
-    /// The place of a live lot among all lots, found without a walk over them. `None` exactly where the id isn't live.
+    /// The place of the live lot `id` among all lots, found without a walk over them. `None` exactly where it isn't
+    /// live.
     pub fn live_place(&self, id: &Name) -> Option<usize>
         ensures lot { option_and_then (λ k. slice_get self.now k) result ≡ live_lot id.now self.now }
         ensures within { IfSome result (λ k. k < length self.now) }

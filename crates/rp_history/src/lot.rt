@@ -16,7 +16,7 @@ pub struct LotLine {
 }
 
 impl LotLine {
-    /// Whether the lot was born at the line or before, and wasn't ended at the line or before.
+    /// Whether the lot was born at `line` or before, and wasn't ended at `line` or before.
     pub fn is_alive_after(&self, line: u32) -> bool
         ensures { result ≡ is_alive_after line (lot_of self.now) }
     {

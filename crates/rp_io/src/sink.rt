@@ -17,10 +17,10 @@ pub trait Sink {
 
     ghost faults: { Self → ℕ };
 
-    /// Appends the piece.
+    /// Appends `piece`.
     ///
-    /// Answers [`Failed`] only where the count of faults rose in this call. Then a prefix of the
-    /// piece was appended.
+    /// Answers [`Failed`] only where the count of faults rose in this call. Then a prefix of
+    /// `piece` was appended.
     fn put(&mut self, piece: &[u8]) -> Result<(), Failed>
         ensures counts { faults self.old ≤ faults self.new }
         ensures limit { faults self.new ≤ last_count }
@@ -58,7 +58,7 @@ impl<'a> Model for MemorySink<'a> {
 }
 
 impl<'a> MemorySink<'a> {
-    /// A sink with room for so many bytes, whose memory is taken here. Each entry of `failing` is the number of a put
+    /// A sink with room for `room` bytes, whose memory is taken here. Each entry of `failing` is the number of a put
     /// that fails, counted from 1, and the most bytes that it appends. The first of two entries for one put counts.
     pub fn new(
         alloc: Global,
@@ -152,7 +152,7 @@ impl Model for QuietSink {
 }
 
 impl QuietSink {
-    /// A sink with room for so many bytes, whose memory is taken here.
+    /// A sink with room for `room` bytes, whose memory is taken here.
     pub fn new(alloc: Global, room: usize) -> Result<QuietSink, AllocError>
         ensures { IfOk result (λ sink. sink ≡ record { bytes = []; room = room; is_passed = false }) }
     {

@@ -41,7 +41,7 @@ fn whole<T: Tests>(alloc: Global) -> Result<T::Form, Stopped>
     Ok(T::whole(alloc)?)
 }
 
-/// The first name or lot of the expression, in reading order, that isn't there.
+/// The first name or lot of `region`, in reading order, that `named` does not know.
 pub fn first_unknown<T: Tests, N: Named<T>>(named: &N, region: &Expr) -> Option<Name>
     ensures { result ≡ first_unknown (N.meaning named.now) (expression_of region.now) }
 {

@@ -132,7 +132,7 @@ impl Answer {
     ghost use Rattle.rp_cert.specs.Lines.{line_of};
     ghost use Rattle.rp_report.specs.Views.{verdict_of, answer_of};
 
-    /// The answer to a blank line: it says nothing.
+    /// The answer to line `n`, which is blank: it says nothing.
     pub fn blank(alloc: Global, n: u32) -> Answer
         ensures { answer_of result ≡ blank_answer n }
     {

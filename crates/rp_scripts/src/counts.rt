@@ -43,7 +43,7 @@ impl Counts {
     }
 }
 
-/// Appends the lines of a summary.
+/// Appends the lines of `summary` to `text`.
 pub fn write_summary(summary: &Summary, text: &mut Vec<u8>) -> Result<(), AllocError>
     ensures { OnOk result (text.new.items ≡ text.old.items ++ text_of_lines (summary_lines summary.now)) }
 {

@@ -160,7 +160,7 @@ fn write_neighbours(storey: u32, text: &mut Vec<u8>) -> Result<(), AllocError>
 }
 
 impl MadeLine {
-    /// Appends the line, without an ending.
+    /// Appends the line to `text`, without an ending.
     pub fn write(&self, text: &mut Vec<u8>) -> Result<(), AllocError>
         ensures { OnOk result (text.new.items ≡ text.old.items ++ made_line self.now) }
     {

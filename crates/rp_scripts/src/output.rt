@@ -6,7 +6,7 @@ ghost use Rattle.rp_io.specs.Faults.{HasRisen};
 use crate::lines::split_line;
 use rp_io::{Failed, Sink};
 
-/// Puts a text line by line, one put for each line with its line end.
+/// Puts `text` to `sink` line by line, one put for each line with its line end.
 ///
 /// Answers [`Failed`] where a put did. A front of the text was put then.
 pub fn put_lines<K: Sink>(sink: &mut K, text: &[u8]) -> Result<(), Failed>

@@ -16,8 +16,9 @@ use rp_elim::{
 };
 use rp_space::{Half, Outside, Term, cube, joined};
 
-/// The first flat certificate of a cell at a height: the first few of its half-spaces and the cube's upright sides, by
-/// their number and then by their places, with positive multiples in lowest terms. `None` where there are none.
+/// The first flat certificate of `cell` at the height `z`: the first few of its half-spaces and the cube's upright
+/// sides, by their number and then by their places, with positive multiples in lowest terms. `None` where there are
+/// none.
 pub fn first_flat(cell: &[Half], z: i32) -> Option<Outside>
     requires height { IsHeight z }
     requires few { length cell.now ≤ 32 }

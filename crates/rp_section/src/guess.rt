@@ -21,8 +21,8 @@ struct Link {
 /// At most 36 sides by the angles of their edges, which take no memory.
 type Chain = ArrayVec<Link, 36>;
 
-/// Steps that are the ring of a cell at a height, if it has one, as a check is to say: `slice` has them checked. A cell
-/// without a ring gets some steps or none.
+/// Steps that are the ring of `cell` at the height `z`, if it has one, as a check is to say: `slice` has them checked.
+/// A cell without a ring gets some steps or none.
 pub fn quick_ring(cell: &[Half], z: i32) -> RingSteps
     requires height { IsHeight z }
     requires few { length cell.now ≤ 32 }

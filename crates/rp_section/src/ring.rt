@@ -10,7 +10,7 @@ use crate::side::{Side, bounds_of, sides_of};
 use rp_cert::{RingStep, RingSteps};
 use rp_space::{Half, IntBox, Point, box_halves, meet};
 
-/// The ring of a cell at a height, if it has one. A cell without a point there gets some steps.
+/// The ring of `cell` at the height `z`, if it has one. A cell without a point there gets some steps.
 pub fn ring(cell: &[Half], z: i32) -> RingSteps
     requires height { IsHeight z }
     requires few { length cell.now ≤ 32 }

@@ -23,7 +23,7 @@ pub struct Side {
 /// At most 36 sides, which take no memory: those of a cell of 32 half-spaces and the cube's four upright ones.
 pub type Sides = ArrayVec<Side, 36>;
 
-/// The half-spaces of a cell and the cube's upright sides that have a trace at the height, each with it.
+/// The half-spaces of `cell` and the cube's upright sides that have a trace at the height `z`, each with it.
 pub fn sides_of(cell: &[Half], z: i32) -> Sides
     requires height { IsHeight z }
     requires few { length cell.now ≤ 32 }
@@ -59,7 +59,7 @@ fn push(sides: &mut Sides, half: &Half, z: i32)
     }
 }
 
-/// The sides that bound the section on a horizontal plane, by the angles of their edges.
+/// Those of `sides` that bound the section on the horizontal plane `level`, by the angles of their edges.
 pub fn bounds_of(level: &Half, sides: &[Side]) -> Sides
     requires { length sides.now ≤ 36 }
     ensures { result.items ≡ bounds_of level.now sides.now sides.now }
@@ -184,7 +184,7 @@ fn place_for(side: &Side, sides: &[Side]) -> Option<usize>
     Some(sides.len())
 }
 
-/// Whether the edge of the first side has a smaller angle than that of the second.
+/// Whether the edge of `s` has a smaller angle than that of `t`.
 pub fn is_before(s: &Side, t: &Side) -> bool
     ensures { result ≡ is_angle_before s.now.edge t.now.edge }
 {

@@ -31,7 +31,7 @@ pub fn section(alloc: Global, r: &Region, z: i32) -> Result<Slices, AllocError>
     Ok(slices)
 }
 
-/// The slice of a cell at a height: its ring, or, exactly where the cell has no point there, the first flat
+/// The slice of `cell` at the height `z`: its ring, or, exactly where the cell has no point there, the first flat
 /// certificate. The cell has at most 32 half-spaces. This takes no memory.
 pub fn slice(cell: &[Half], z: i32) -> Slice
     requires height { IsHeight z }

@@ -30,8 +30,8 @@ impl IntBox {
         }
     }
 
-    /// Whether each coordinate of the point is from the lower side of the box to below the upper one: whether all six
-    /// half-spaces of the box hold the point.
+    /// Whether each coordinate of `p` is from the lower side of the box to below the upper one: whether all six
+    /// half-spaces of the box hold it.
     pub fn holds(&self, p: &Point) -> bool
         ensures sides { result ≡ is_in_box (integer_box self.now) p.now }
         ensures half_spaces { result ≡ all_hold (box_half_spaces (integer_box self.now)) p.now }
@@ -45,7 +45,7 @@ impl IntBox {
         on_x & on_y & on_z
     }
 
-    /// Whether each of two boxes begins before the other ends, on each axis.
+    /// Whether the box and `other` each begin before the other ends, on each axis.
     pub fn meets(&self, other: &IntBox) -> bool
         ensures { result ≡ boxes_meet (integer_box self.now) (integer_box other.now) }
     {
@@ -56,7 +56,7 @@ impl IntBox {
         (x1 < u2) & (u1 < x2) & (y1 < v2) & (v1 < y2) & (z1 < w2) & (w1 < z2)
     }
 
-    /// Whether each of two boxes begins no later than the other ends, on each axis: whether they meet with their
+    /// Whether the box and `other` each begin no later than the other ends, on each axis: whether they meet with their
     /// boundaries.
     pub fn meets_closed(&self, other: &IntBox) -> bool
         ensures { result ≡ closed_boxes_meet (integer_box self.now) (integer_box other.now) }
@@ -68,7 +68,7 @@ impl IntBox {
         (x1 <= u2) & (u1 <= x2) & (y1 <= v2) & (v1 <= y2) & (z1 <= w2) & (w1 <= z2)
     }
 
-    /// The least box that holds both boxes.
+    /// The least box that holds the box and `other`.
     pub fn union(&self, other: &IntBox) -> IntBox
         ensures { integer_box result ≡ box_union (integer_box self.now) (integer_box other.now) }
     {

@@ -2,7 +2,7 @@
 ghost use Rattle.std.specs.Prelude.{◌≡◌, ◌<◌, ◌≤◌, ◌%◌, ◌^◌, ℕ, [], ◌∷◌};
 ghost use Rattle.rp_algebra.specs.Integer.{gcd, gcd_of, reduced_by};
 
-/// The greatest common divisor of two numbers, by Euclid's rule until the numbers fit in 64 bits.
+/// The greatest common divisor of `a` and `b`, by Euclid's rule until the numbers fit in 64 bits.
 #[tactic(auto, using(rp_algebra::proofs::Divisors::euclid))]
 pub fn greatest_common_divisor(a: u128, b: u128) -> u128
     ensures { result ≡ gcd a b }
@@ -75,7 +75,7 @@ pub fn common_divisor(a: i128, b: i128, c: i128, d: i128) -> u128
     greatest_common_divisor(middle, a.unsigned_abs())
 }
 
-/// The exact quotient of a number by a divisor of it, which is from 1 to 2^127 - 1. Of another number it is rounded
+/// The quotient of `v` by `divisor`, which is from 1 to 2^127 - 1: exact where that divides `v`, and else rounded
 /// towards 0.
 #[tactic(none)]
 pub fn quotient(v: i128, divisor: u128) -> i128
@@ -89,7 +89,7 @@ pub fn quotient(v: i128, divisor: u128) -> i128
     v / divisor as i128
 }
 
-/// The quotient of a coefficient by a divisor.
+/// The quotient of the coefficient `v` by `divisor`.
 #[tactic(none)]
 pub fn short_quotient(v: i64, divisor: u128) -> i64
     requires positive { 0 < divisor }

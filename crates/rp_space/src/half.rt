@@ -104,7 +104,7 @@ impl Half {
         (self.a, self.b, self.c, self.d)
     }
 
-    /// The side value at a point: positive inside, 0 on the boundary plane, negative outside. Its size is below 2^127.
+    /// The side value at `p`: positive inside, 0 on the boundary plane, negative outside. Its size is below 2^127.
     pub fn side(&self, p: &Point) -> i128
         ensures { result ≡ side_value self.now p.now }
     {
@@ -127,7 +127,7 @@ impl Half {
         self.a > 0 || (self.a == 0 && (self.b > 0 || (self.b == 0 && self.c > 0)))
     }
 
-    /// Whether the point belongs to the half-space, by Thompson's sign rule.
+    /// Whether `p` belongs to the half-space, by Thompson's sign rule.
     pub fn holds(&self, p: &Point) -> bool
         ensures { result ≡ holds self.now p.now }
     {

@@ -70,8 +70,7 @@ impl Meeting {
         reduced(self.x, self.y, self.z, self.w)
     }
 
-    /// The side value of a half-space at the point: its sign is that at the point in lowest terms. Its size is below
-    /// 2^127.
+    /// The side value of `h` at the point: its sign is that at the point in lowest terms. Its size is below 2^127.
     pub fn side(&self, h: &Half) -> i128
         ensures { result ≡ side_value h.now self.now }
     {
@@ -106,7 +105,7 @@ impl Model for Pair {
 }
 
 impl Pair {
-    /// The pair of two half-spaces.
+    /// The pair of `f` and `g`.
     pub fn new(f: &Half, g: &Half) -> Pair
         ensures { result ≡ two_of f.now g.now }
     {
@@ -124,8 +123,8 @@ impl Pair {
         }
     }
 
-    /// The common point of the two planes and a third one, in lowest terms.
-    /// `None` exactly where the three do not have exactly one common point.
+    /// The common point of the two planes and that of `h`, in lowest terms. `None` exactly where the three planes do
+    /// not have exactly one common point.
     pub fn meet(&self, h: &Half) -> Option<Point>
         ensures { result ≡ meeting_point self.now.first self.now.second h.now }
     {
@@ -133,8 +132,8 @@ impl Pair {
         Some(meeting.point())
     }
 
-    /// The common point of the two planes and a third one, with a positive weight and not yet in lowest terms.
-    /// `None` exactly where the three do not have exactly one common point.
+    /// The common point of the two planes and that of `h`, with a positive weight and not yet in lowest terms. `None`
+    /// exactly where the three planes do not have exactly one common point.
     pub fn meeting(&self, h: &Half) -> Option<Meeting>
         ensures value { result ≡ positive_point (cramer_point self.now.first self.now.second h.now) }
         ensures point { IfSome result IsPoint }

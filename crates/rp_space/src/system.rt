@@ -30,7 +30,7 @@ pub fn keep_bounds(halves: &[Half])
     }
 }
 
-/// The half-spaces of two lists, those of the first before those of the second: at most 70 together.
+/// The half-spaces of `first` and then those of `second`: at most 70 together.
 pub fn joined(first: &[Half], second: &[Half]) -> System
     requires { length first.now + length second.now ≤ 70 }
     ensures { result.items ≡ first.now ++ second.now }

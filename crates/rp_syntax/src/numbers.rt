@@ -93,7 +93,7 @@ impl<'a> Words<'a> {
         half_space(a, b, c, d)
     }
 
-    /// The four numbers of a point.
+    /// The four numbers of a point, in `version`.
     #[tactic(auto, unfolding(rp_language::specs::Grammar::point))]
     pub fn point(&mut self, version: Version) -> Result<Point, ReadFault>
         ensures { Reads (λ p. p) result self.new (point (version_of version) self.old) }
@@ -113,7 +113,7 @@ impl<'a> Words<'a> {
         Ok(v as i32)
     }
 
-    /// The six numbers of a box.
+    /// The six numbers of a box, in `version`.
     #[tactic(auto, unfolding(rp_language::specs::Grammar::box_numbers))]
     pub fn block(&mut self, version: Version) -> Result<IntBox, ReadFault>
         ensures { Reads integer_box result self.new (box_numbers (version_of version) self.old) }
@@ -167,7 +167,7 @@ impl<'a> Words<'a> {
         Ok(Expr::Prism(low, high, corners))
     }
 
-    /// A whole height of the domain cube.
+    /// A whole height of the domain cube, in `version`.
     pub fn height(&mut self, version: Version) -> Result<i32, ReadFault>
         ensures { Reads (λ z. z) result self.new (height (version_of version) self.old) }
     {

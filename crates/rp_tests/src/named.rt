@@ -15,11 +15,11 @@ pub trait Named<T: Tests> {
     fn keep_short(&self)
         ensures { StandShort (meaning self.now) };
 
-    /// The form that a name stands for.
+    /// The form that `name` stands for, where it stands for one.
     fn form_named(&self, name: &Name) -> Option<&T::Form>
         ensures { option_map T.parts_of (option_copied result) ≡ (meaning self.now).of_name name.now };
 
-    /// The form of a live lot.
+    /// The form of the lot `lot`, where it is live.
     fn form_of_lot(&self, lot: &Name) -> Option<&T::Form>
         ensures { option_map T.parts_of (option_copied result) ≡ (meaning self.now).of_lot lot.now };
 }

@@ -54,7 +54,7 @@ pub trait Tests: Sized {
     fn copy(alloc: Global, form: &Self::Form) -> Result<Self::Form, AllocError>
         ensures { IfOk result (λ copy. parts_of copy ≡ parts_of form.now) };
 
-    /// Whether a point of the cube lies in a form, by signs.
+    /// Whether `point`, of the cube, lies in `form`, by signs.
     fn holds(form: &Self::Form, point: &Point) -> bool
         requires { is_cube_point point.now ≡ true }
         ensures { result ≡ passes (shape_of_parts (parts_of form.now)) point.now };
