@@ -59,7 +59,7 @@ fn push(sides: &mut Sides, half: &Half, z: i32)
     }
 }
 
-/// Those of `sides` that bound the section on the horizontal plane `level`, by the angles of their edges.
+/// The sides, out of `sides`, that bound the section on the horizontal plane `level`, by the angles of their edges.
 pub fn bounds_of(level: &Half, sides: &[Side]) -> Sides
     requires { length sides.now ≤ 36 }
     ensures { result.items ≡ bounds_of level.now sides.now sides.now }
