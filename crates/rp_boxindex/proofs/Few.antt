@@ -1,13 +1,14 @@
 -- The bound on the steps of a whole search, in the words of the map.
-use Rattle.std.proofs.Common.{◌≡◌, ℕ, ◌+◌, ◌*◌, ◌^◌, ◌<◌, ◌≤◌, ℤ, Bool, List, length, sym, ◌∙◌, arith, subst}
+use Rattle.std.proofs.Common.{◌≡◌, ℕ, ◌+◌, ◌*◌, ◌^◌, ◌<◌, ◌≤◌, Bool, List, length, sym, ◌∙◌, arith, subst}
 use Rattle.std.proofs.lemmas.List.{length-map}
 use Rattle.std.specs.FinMap.{from_entries, entries, len, len-entries}
 use Rattle.rp_geometry.specs.Geometry.{IntegerBox}
 use Rattle.rp_boxindex.specs.Bound.{meets_on_x, count_on_x, IsGreatestExponent}
 use Rattle.rp_boxindex.specs.Boxes.{Boxes, Entry}
+use Rattle.rp_boxindex.specs.declared.place.Corner.{Corner}
 use Rattle.rp_boxindex.specs.tree.Cost.{most_steps}
 use Rattle.rp_boxindex.specs.tree.Nodes.{IsSlender}
-use Rattle.rp_boxindex.specs.tree.Order.{low, lows_of}
+use Rattle.rp_boxindex.specs.tree.Order.{corner_of, lows_of}
 use Rattle.rp_boxindex.specs.Counts.{count, SameCounts}
 use Rattle.rp_boxindex.specs.tree.Views.{TreeView}
 use Rattle.rp_boxindex.proofs.Bounds.{within_bound}
@@ -31,10 +32,10 @@ few_steps c b t m s u same slender most h greatest =
     rw k (omega arith)
 
 -- the tree of fewer than 2^63 boxes is not too high
-pub not_too_high : (t : TreeView) (pl : List (ℕ × ℤ)) → SameCounts (lows_of t.entries) pl → IsSlender (length t.entries) t.height → length pl < 2 ^ 63 → t.height ≤ 198
+pub not_too_high : (t : TreeView) (pl : List (ℕ × Corner)) → SameCounts (lows_of t.entries) pl → IsSlender (length t.entries) t.height → length pl < 2 ^ 63 → t.height ≤ 198
 not_too_high t pl same slender few =
     let n : length (lows_of t.entries) ≡ length pl = same_length (lows_of t.entries) pl same in
-    let m : length (lows_of t.entries) ≡ length t.entries = length-map t.entries (λ (e : Entry). (e.0, low e)) in
+    let m : length (lows_of t.entries) ≡ length t.entries = length-map t.entries (λ (e : Entry). (e.0, corner_of e)) in
     let small : length t.entries < 2 ^ 64 = omega arith in
     let low = height_below (length t.entries) t.height slender small in
     omega arith

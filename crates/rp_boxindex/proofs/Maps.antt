@@ -1,5 +1,5 @@
 -- The map that is made of the entries of a tree.
-use Rattle.std.proofs.Common.{◌≡◌, ℕ, ◌+◌, ◌≤◌, ℤ, Bool, true, false, cond, ◌&&◌, ltb, List, [], ◌∷◌, ◌++◌, length, Option, Some, None, MatchOption, is_some, refl, sym, ap, ap₂, ◌∙◌, arith, subst}
+use Rattle.std.proofs.Common.{◌≡◌, ℕ, ◌+◌, ◌≤◌, Bool, true, false, cond, ◌&&◌, ltb, List, [], ◌∷◌, ◌++◌, length, Option, Some, None, MatchOption, is_some, refl, sym, ap, ap₂, ◌∙◌, arith, subst}
 use Rattle.std.specs.Ordering.{nat_cmp, is_eq, int_eq}
 use Rattle.std.specs.declared.cmp.Ordering.{Ordering}
 use Rattle.std.specs.declared.cmp.Ordering.TheVariants.{Less, Equal, Greater}
@@ -13,10 +13,11 @@ use Rattle.std.specs.List.Sorted.{IsStrictlySortedBy}
 use Rattle.rp_space.specs.declared.bounds.IntBox.{IntBox}
 use Rattle.rp_boxindex.specs.Counts.{count, SameCounts}
 use Rattle.rp_boxindex.specs.Boxes.{Entry, Boxes}
+use Rattle.rp_boxindex.specs.declared.place.Corner.{Corner}
 use Rattle.rp_boxindex.specs.declared.place.Place.{Place}
-use Rattle.rp_boxindex.specs.tree.Order.{low, lows_of, place_of, is_at_place}
+use Rattle.rp_boxindex.specs.tree.Order.{corner_of, lows_of, place_of, is_at_place}
 use Rattle.rp_boxindex.proofs.Counts.{count-none, count-le, count-all, false_not_true, when, not_counted}
-use Rattle.rp_boxindex.proofs.Order.{at_place_same_id, at_place_same_low, at_place_from, and_parts, int_eq_is, int_eq_same}
+use Rattle.rp_boxindex.proofs.Order.{at_place, at_place_from, and_parts, int_eq_is, int_eq_same}
 use Rattle.rp_boxindex.proofs.Places.{has_id, IsUnique, count-map, at_is, at_itself, is_some-count, none_at, none_found, inserted_counts, removed_counts, sorted_unique, found_counts}
 use Rattle.rp_boxindex.proofs.Same.{same_box, same_box_is, same_box_itself}
 
@@ -128,38 +129,38 @@ same_entries (e ∷ es) unique p =
     ap (count p) (entries-insert nat_cmp_total (from_entries es) e.0 e.1) ∙ (a ∙ ap (λ n. cond (p e) 1 0 + n) b)
 
 -- no id stands twice in a tree whose ids stand in order beside it
-pub ids_unique : (t : List Entry) (pl : List (ℕ × ℤ)) → SameCounts (lows_of t) pl → IsStrictlySortedBy nat_cmp (keys_of pl) → IsUnique t
+pub ids_unique : (t : List Entry) (pl : List (ℕ × Corner)) → SameCounts (lows_of t) pl → IsStrictlySortedBy nat_cmp (keys_of pl) → IsUnique t
 ids_unique t pl same order q =
     let a = same (has_id q) in
     let b = sorted_unique pl order q in
-    let c = count-map (λ (e : Entry). (e.0, low e)) (has_id q) t in
+    let c = count-map (λ (e : Entry). (e.0, corner_of e)) (has_id q) t in
     omega arith
 
 -- an id stands as often in the tree as beside it
-pub same_ids_there : (t : List Entry) (pl : List (ℕ × ℤ)) (k : ℕ) → SameCounts (lows_of t) pl → count (has_id {Y = ℤ} k) pl ≡ count (has_id {Y = IntBox} k) t
-same_ids_there t pl k same = sym (same (has_id k)) ∙ count-map (λ (e : Entry). (e.0, low e)) (has_id k) t
+pub same_ids_there : (t : List Entry) (pl : List (ℕ × Corner)) (k : ℕ) → SameCounts (lows_of t) pl → count (has_id {Y = Corner} k) pl ≡ count (has_id {Y = IntBox} k) t
+same_ids_there t pl k same = sym (same (has_id k)) ∙ count-map (λ (e : Entry). (e.0, corner_of e)) (has_id k) t
 
 -- the map has a box under an id exactly where the id stands beside the tree
-pub contains_is : (t : List Entry) (pl : List (ℕ × ℤ)) (m : Boxes) (k : ℕ) → SameCounts (lows_of t) pl → from_entries t ≡ m → contains_key m k ≡ is_some (lookup (is_at (nat_cmp k)) pl)
+pub contains_is : (t : List Entry) (pl : List (ℕ × Corner)) (m : Boxes) (k : ℕ) → SameCounts (lows_of t) pl → from_entries t ≡ m → contains_key m k ≡ is_some (lookup (is_at (nat_cmp k)) pl)
 contains_is t pl m k same is = ap (λ (n : Boxes). contains_key n k) (sym is) ∙ (ap is_some (get_is t k) ∙ (is_some-count t k ∙ (ap (λ n. ltb 0 n) (sym (same_ids_there t pl k same)) ∙ sym (is_some-count pl k))))
 
 -- the place of an id that is not there is free in the tree
-pub place_is_free : (t : List Entry) (pl : List (ℕ × ℤ)) (k : ℕ) (v : IntBox) → SameCounts (lows_of t) pl → lookup (is_at (nat_cmp k)) pl ≡ None → count (is_at_place (place_of (k, v))) t ≡ 0
+pub place_is_free : (t : List Entry) (pl : List (ℕ × Corner)) (k : ℕ) (v : IntBox) → SameCounts (lows_of t) pl → lookup (is_at (nat_cmp k)) pl ≡ None → count (is_at_place (place_of (k, v))) t ≡ 0
 place_is_free t pl k v same none =
     let own : Entry = (k, v) in
     let a = none_at pl k none in
     let b = same_ids_there t pl k same in
     let there : count (has_id k) t ≡ 0 = omega arith in
-    count-none (is_at_place (place_of own)) (has_id k) (λ e h. at_itself k e.0 (at_place_same_id (place_of own) e h)) t there
+    count-none (is_at_place (place_of own)) (has_id k) (λ e h. at_itself k e.0 (at_place (place_of own) e h).id) t there
 
 -- with an entry more, the tree still has what stands beside it
-pub kept_inserted : (t s : List Entry) (pl ql : List (ℕ × ℤ)) (k : ℕ) (v : IntBox) → SameCounts (lows_of t) pl → lookup (is_at (nat_cmp k)) pl ≡ None → SameCounts s ((k, v) ∷ t) → ql ≡ insert_entry nat_cmp pl k (low (k, v)) → SameCounts (lows_of s) ql
+pub kept_inserted : (t s : List Entry) (pl ql : List (ℕ × Corner)) (k : ℕ) (v : IntBox) → SameCounts (lows_of t) pl → lookup (is_at (nat_cmp k)) pl ≡ None → SameCounts s ((k, v) ∷ t) → ql ≡ insert_entry nat_cmp pl k (corner_of (k, v)) → SameCounts (lows_of s) ql
 kept_inserted t s pl ql k v same none grown is p =
-    let f : Entry → ℕ × ℤ = λ e. (e.0, low e) in
+    let f : Entry → ℕ × Corner = λ e. (e.0, corner_of e) in
     let own : Entry = (k, v) in
     let a = same p in
     let b = grown (λ e. p (f e)) in
-    let c : count p ql ≡ cond (p (f own)) 1 0 + count p pl = ap (count p) is ∙ inserted_counts pl k (low own) none p in
+    let c : count p ql ≡ cond (p (f own)) 1 0 + count p pl = ap (count p) is ∙ inserted_counts pl k (corner_of own) none p in
     let d = count-map f p t in
     let e = count-map f p s in
     omega arith
@@ -169,55 +170,65 @@ pub record IsTakenOut (t s : List Entry) (p : Place) (gone : Option Entry) : Typ
   pub shrunk : SameCounts t (option_to_list gone ++ s)
   pub found : MatchOption gone (count (is_at_place p) t ≡ 0) (λ e. is_at_place p e ≡ true)
 
-pub record IsTaken (t s : List Entry) (ql : List (ℕ × ℤ)) (k : ℕ) : Type 0 where
+pub record IsTaken (t s : List Entry) (ql : List (ℕ × Corner)) (k : ℕ) : Type 0 where
   pub entry : Entry
   pub id : k ≡ entry.0
   pub shrunk : SameCounts t (entry ∷ s)
   pub kept : SameCounts (lows_of s) ql
 
-own_passes : (k : ℕ) (x : ℤ) → (is_at (nat_cmp k) k && int_eq x x) ≡ true
-own_passes k x = rw (at_itself k k refl) (int_eq_same x)
+-- whether two corners are one
+abbrev same_corner : Corner → Corner → Bool
+same_corner a b = int_eq a.x b.x && (int_eq a.y b.y && int_eq a.z b.z)
 
-passes_stands : (p : Place) (y : Entry) → (is_at (nat_cmp p.id) y.0 && int_eq (low y) p.x) ≡ true → is_at_place p y ≡ true
+same_corner_is : (a b : Corner) → same_corner a b ≡ true → a ≡ b
+same_corner_is a b h =
+    let x = and_parts (int_eq a.x b.x) (int_eq a.y b.y && int_eq a.z b.z) h in
+    let y = and_parts (int_eq a.y b.y) (int_eq a.z b.z) x.1 in
+    λ i. record { x = int_eq_is a.x b.x x.0 i; y = int_eq_is a.y b.y y.0 i; z = int_eq_is a.z b.z y.1 i }
+
+own_passes : (k : ℕ) (low : Corner) → (is_at (nat_cmp k) k && same_corner low low) ≡ true
+own_passes k low = rw (at_itself k k refl, int_eq_same low.x, int_eq_same low.y) (int_eq_same low.z)
+
+passes_stands : (p : Place) (y : Entry) → (is_at (nat_cmp p.id) y.0 && same_corner (corner_of y) p.low) ≡ true → is_at_place p y ≡ true
 passes_stands p y h =
-    let parts = and_parts (is_at (nat_cmp p.id) y.0) (int_eq (low y) p.x) h in
-    at_place_from p y (at_is p.id y.0 parts.0) (sym (int_eq_is (low y) p.x parts.1))
+    let parts = and_parts (is_at (nat_cmp p.id) y.0) (same_corner (corner_of y) p.low) h in
+    at_place_from p y (at_is p.id y.0 parts.0) (sym (same_corner_is (corner_of y) p.low parts.1))
 
 -- and so it has with an entry less, beside which one pair less stands
-kept_less : (t s : List Entry) (pl ql : List (ℕ × ℤ)) (k : ℕ) (x : ℤ) (gone : Entry) → SameCounts (lows_of t) pl → lookup (is_at (nat_cmp k)) pl ≡ Some x → ql ≡ remove_entry (is_at (nat_cmp k)) pl → k ≡ gone.0 → x ≡ low gone → SameCounts t (gone ∷ s) → SameCounts (lows_of s) ql
-kept_less t s pl ql k x gone same there is id least shrunk p =
-    let f : Entry → ℕ × ℤ = λ e. (e.0, low e) in
-    let own : ℕ × ℤ = (k, x) in
+kept_less : (t s : List Entry) (pl ql : List (ℕ × Corner)) (k : ℕ) (low : Corner) (gone : Entry) → SameCounts (lows_of t) pl → lookup (is_at (nat_cmp k)) pl ≡ Some low → ql ≡ remove_entry (is_at (nat_cmp k)) pl → k ≡ gone.0 → low ≡ corner_of gone → SameCounts t (gone ∷ s) → SameCounts (lows_of s) ql
+kept_less t s pl ql k low gone same there is id least shrunk p =
+    let f : Entry → ℕ × Corner = λ e. (e.0, corner_of e) in
+    let own : ℕ × Corner = (k, low) in
     let a = same p in
-    let b : count p pl ≡ cond (p own) 1 0 + count p ql = removed_counts pl k x there p ∙ ap (λ l. cond (p own) 1 0 + count p l) (sym is) in
+    let b : count p pl ≡ cond (p own) 1 0 + count p ql = removed_counts pl k low there p ∙ ap (λ l. cond (p own) 1 0 + count p l) (sym is) in
     let c = shrunk (λ e. p (f e)) in
     let d = count-map f p t in
     let e = count-map f p s in
-    let g : cond {A = ℕ} (p own) 1 0 ≡ cond {A = ℕ} (p (f gone)) 1 0 = ap₂ (λ (i : ℕ) (z : ℤ). cond {A = ℕ} (p (i, z)) 1 0) id least in
+    let g : cond {A = ℕ} (p own) 1 0 ≡ cond {A = ℕ} (p (f gone)) 1 0 = ap₂ (λ (i : ℕ) (z : Corner). cond {A = ℕ} (p (i, z)) 1 0) id least in
     omega arith
 
-pub taken : (t s : List Entry) (pl ql : List (ℕ × ℤ)) (k : ℕ) (x : ℤ) (gone : Option Entry) → SameCounts (lows_of t) pl → lookup (is_at (nat_cmp k)) pl ≡ Some x → ql ≡ remove_entry (is_at (nat_cmp k)) pl → IsTakenOut t s (record { x = x; id = k }) gone → IsTaken t s ql k
-taken t s pl ql k x None same there is out =
-    let f : Entry → ℕ × ℤ = λ e. (e.0, low e) in
-    let place : Place = record { x = x; id = k } in
-    let p : ℕ × ℤ → Bool = λ e. has_id k e && int_eq e.1 x in
-    let own : ℕ × ℤ = (k, x) in
+pub taken : (t s : List Entry) (pl ql : List (ℕ × Corner)) (k : ℕ) (low : Corner) (gone : Option Entry) → SameCounts (lows_of t) pl → lookup (is_at (nat_cmp k)) pl ≡ Some low → ql ≡ remove_entry (is_at (nat_cmp k)) pl → IsTakenOut t s (record { low = low; id = k }) gone → IsTaken t s ql k
+taken t s pl ql k low None same there is out =
+    let f : Entry → ℕ × Corner = λ e. (e.0, corner_of e) in
+    let place : Place = record { low = low; id = k } in
+    let p : ℕ × Corner → Bool = λ e. has_id k e && same_corner e.1 low in
+    let own : ℕ × Corner = (k, low) in
     let a = same p in
-    let b = removed_counts pl k x there p in
-    let c = when (p own) true (own_passes k x) in
+    let b = removed_counts pl k low there p in
+    let c = when (p own) true (own_passes k low) in
     let d = count-map f p t in
     let e = count-le (λ (y : Entry). p (f y)) (is_at_place place) (λ y h. passes_stands place y h) t in
     let none = out.found in
     absurd (omega arith)
-taken t s pl ql k x (Some gone) same there is out =
-    let place : Place = record { x = x; id = k } in
-    let id : k ≡ gone.0 = at_place_same_id place gone out.found in
-    let least : x ≡ low gone = at_place_same_low place gone out.found in
+taken t s pl ql k low (Some gone) same there is out =
+    let place : Place = record { low = low; id = k } in
+    let id : k ≡ gone.0 = (at_place place gone out.found).id in
+    let least : low ≡ corner_of gone = (at_place place gone out.found).low in
     record {
       entry = gone;
       id = id;
       shrunk = out.shrunk;
-      kept = λ p. kept_less t s pl ql k x gone same there is id least out.shrunk p;
+      kept = λ p. kept_less t s pl ql k low gone same there is id least out.shrunk p;
     }
 
 -- lists with the same items are of one length

@@ -1,10 +1,10 @@
 -- Entries in the order of the tree, round an entry.
-use Rattle.std.proofs.Common.{◌≡◌, ℕ, ◌<◌, ◌≤◌, ℤ, Bool, true, false, cond, not, ◌&&◌, ◌||◌, int_lt, ltb, List, ◌∷◌, ◌++◌, refl, sym, ap, arith, subst, ◌⊎◌, inl, inr}
+use Rattle.std.proofs.Common.{◌≡◌, ℕ, ◌<◌, ◌≤◌, ℤ, Bool, true, false, cond, not, ◌&&◌, ◌||◌, int_lt, ltb, List, ◌∷◌, ◌++◌, refl, sym, ap, ◌∙◌, arith, subst, ◌⊎◌, inl, inr}
 use Rattle.std.specs.Ordering.{int_eq}
 use Rattle.rp_boxindex.specs.Boxes.{Entry}
 use Rattle.rp_boxindex.specs.declared.place.Place.{Place}
 use Rattle.rp_boxindex.specs.tree.Nodes.{AreParts}
-use Rattle.rp_boxindex.specs.tree.Order.{low, place_of, precedes, is_before, is_at_place, AllBefore, AllAfter, IsBetween}
+use Rattle.rp_boxindex.specs.tree.Order.{corner_of, place_of, is_less_or, precedes, is_before, is_at_place, AllBefore, AllAfter, IsBetween}
 use Rattle.rp_boxindex.specs.tree.Views.{TreeView}
 use Rattle.rp_boxindex.proofs.Counts.{count-round, count-none, false_not_true}
 use Rattle.rp_boxindex.proofs.Ints.{lt_then_lt, neither_less, not_lt, le_self}
@@ -42,54 +42,84 @@ or_neither : (a b : Bool) → (a || b) ≡ false → (a ≡ false) × (b ≡ fal
 or_neither false b h = (refl, h)
 or_neither true b h = absurd (false_not_true (sym h))
 
--- the order by two numbers, of which the first decides
-both_rise : (a b c : ℤ) (i j k : ℕ) → (int_lt a b ≡ true) ⊎ ((int_eq a b && ltb i j) ≡ true) → (int_lt b c ≡ true) ⊎ ((int_eq b c && ltb j k) ≡ true) → (int_lt a c || (int_eq a c && ltb i k)) ≡ true
-both_rise a b c i j k (inl h) (inl l) = or_first (int_lt a c) _ (lt_then_lt a b c h l)
-both_rise a b c i j k (inl h) (inr l) =
+-- the order by a number and by what stands behind it
+both_rise : (a b c : ℤ) (r s t : Bool) → (r ≡ true → s ≡ true → t ≡ true) → (int_lt a b ≡ true) ⊎ ((int_eq a b && r) ≡ true) → (int_lt b c ≡ true) ⊎ ((int_eq b c && s) ≡ true) → is_less_or a c t ≡ true
+both_rise a b c r s t behind (inl h) (inl l) = or_first (int_lt a c) _ (lt_then_lt a b c h l)
+both_rise a b c r s t behind (inl h) (inr l) =
     let same : b ≡ c = int_eq_is b c (and_parts _ _ l).0 in
     let less : int_lt a c ≡ true = subst (λ t. int_lt a t ≡ true) same h in
     or_first (int_lt a c) _ less
-both_rise a b c i j k (inr h) (inl l) =
+both_rise a b c r s t behind (inr h) (inl l) =
     let same : a ≡ b = int_eq_is a b (and_parts _ _ h).0 in
     let less : int_lt a c ≡ true = subst (λ t. int_lt t c ≡ true) (sym same) l in
     or_first (int_lt a c) _ less
-both_rise a b c i j k (inr h) (inr l) =
-    let p = and_parts (int_eq a b) (ltb i j) h in
-    let q = and_parts (int_eq b c) (ltb j k) l in
+both_rise a b c r s t behind (inr h) (inr l) =
+    let p = and_parts (int_eq a b) r h in
+    let q = and_parts (int_eq b c) s l in
     let same : a ≡ b = int_eq_is a b p.0 in
     let same' : b ≡ c = int_eq_is b c q.0 in
-    let less : i < j = ltb-true i j p.1 in
-    let less' : j < k = ltb-true j k q.1 in
+    let both : (int_eq a c && t) ≡ true = rw (same, same', int_eq_same c) (behind p.1 q.1) in
+    or_second (int_lt a c) (int_eq a c && t) both
+
+less_or_rises : (a b c : ℤ) (r s t : Bool) → (r ≡ true → s ≡ true → t ≡ true) → is_less_or a b r ≡ true → is_less_or b c s ≡ true → is_less_or a c t ≡ true
+less_or_rises a b c r s t behind h k = both_rise a b c r s t behind (or_cases _ _ h) (or_cases _ _ k)
+
+less_then_less : (i j k : ℕ) → ltb i j ≡ true → ltb j k ≡ true → ltb i k ≡ true
+less_then_less i j k h l =
+    let less : i < j = ltb-true i j h in
+    let less' : j < k = ltb-true j k l in
     let up : i < k = omega arith in
-    let both : (int_eq a c && ltb i k) ≡ true = rw (same, same', int_eq_same c, lt-ltb i k up) in
-    or_second (int_lt a c) (int_eq a c && ltb i k) both
+    lt-ltb i k up
+
+-- where two corners have the same x, and the same y, the rest decides
+abbrev by_z : Place → Place → Bool
+by_z p q = is_less_or p.low.z q.low.z (ltb p.id q.id)
+
+abbrev by_y : Place → Place → Bool
+by_y p q = is_less_or p.low.y q.low.y (by_z p q)
 
 -- what precedes a place that precedes another precedes it too
 pub precedes-trans : (p q r : Place) → precedes p q ≡ true → precedes q r ≡ true → precedes p r ≡ true
-precedes-trans p q r h k = both_rise p.x q.x r.x p.id q.id r.id (or_cases _ _ h) (or_cases _ _ k)
+precedes-trans p q r =
+    less_or_rises p.low.x q.low.x r.low.x (by_y p q) (by_y q r) (by_y p r)
+    (less_or_rises p.low.y q.low.y r.low.y (by_z p q) (by_z q r) (by_z p r)
+    (less_or_rises p.low.z q.low.z r.low.z (ltb p.id q.id) (ltb q.id r.id) (ltb p.id r.id)
+    (less_then_less p.id q.id r.id)))
 
--- numbers of which neither pair is before the other
-same_numbers : (a b : ℤ) (i j : ℕ) → (int_lt a b || (int_eq a b && ltb i j)) ≡ false → (int_lt b a || (int_eq b a && ltb j i)) ≡ false → i ≡ j
-same_numbers a b i j h k =
+-- numbers of which neither is before the other are the same, and so is what stands behind them
+record AreSame (a b : ℤ) (r s : Bool) : Type 0 where
+  same : a ≡ b
+  first : r ≡ false
+  second : s ≡ false
+
+neither : (a b : ℤ) (r s : Bool) → is_less_or a b r ≡ false → is_less_or b a s ≡ false → AreSame a b r s
+neither a b r s h k =
     let p = or_neither (int_lt a b) _ h in
     let q = or_neither (int_lt b a) _ k in
     let same : a ≡ b = neither_less a b p.0 q.0 in
-    let e : ltb i j ≡ false = simp (same, int_eq_same) at p.1 in
-    let f : ltb j i ≡ false = simp (same, int_eq_same) at q.1 in
+    let e : r ≡ false = simp (same, int_eq_same) at p.1 in
+    let f : s ≡ false = simp (same, int_eq_same) at q.1 in
+    record { same = same; first = e; second = f }
+
+same_ids : (i j : ℕ) → ltb i j ≡ false → ltb j i ≡ false → i ≡ j
+same_ids i j e f =
     let le : j ≤ i = ltb-false i j e in
     let ge : i ≤ j = ltb-false j i f in
     omega arith
 
--- an entry has the id and the least x of its place
-pub at_place_same_id : (p : Place) (e : Entry) → is_at_place p e ≡ true → p.id ≡ e.0
-at_place_same_id p e h =
-    let neither = not_both (precedes p (place_of e)) (precedes (place_of e) p) h in
-    same_numbers p.x (low e) p.id e.0 neither.0 neither.1
+-- an entry has the id and the corner of its place
+pub record IsThere (p : Place) (e : Entry) : Type 0 where
+  pub id : p.id ≡ e.0
+  pub low : p.low ≡ corner_of e
 
-pub at_place_same_low : (p : Place) (e : Entry) → is_at_place p e ≡ true → p.x ≡ low e
-at_place_same_low p e h =
-    let neither = not_both (precedes p (place_of e)) (precedes (place_of e) p) h in
-    neither_less p.x (low e) (or_neither (int_lt p.x (low e)) _ neither.0).0 (or_neither (int_lt (low e) p.x) _ neither.1).0
+pub at_place : (p : Place) (e : Entry) → is_at_place p e ≡ true → IsThere p e
+at_place p e h =
+    let q : Place = place_of e in
+    let both = not_both (precedes p q) (precedes q p) h in
+    let x = neither p.low.x q.low.x (by_y p q) (by_y q p) both.0 both.1 in
+    let y = neither p.low.y q.low.y (by_z p q) (by_z q p) x.first x.second in
+    let z = neither p.low.z q.low.z (ltb p.id q.id) (ltb q.id p.id) y.first y.second in
+    record { id = same_ids p.id q.id z.first z.second; low = λ i. record { x = x.same i; y = y.same i; z = z.same i } }
 
 -- of a node's entries its own
 is_own : (b : Bool) → cond {A = ℕ} (not b) 1 0 ≡ 0 → b ≡ true
@@ -176,14 +206,18 @@ turned_twice {t} {u} {v} {i} parts a j k c m n left right e f = rw (e, f) (middl
 lt_itself : (a : ℤ) → int_lt a a ≡ false
 lt_itself a = not_lt a a (le_self a)
 
-itself : (a : ℤ) (i : ℕ) → (int_lt a a || (int_eq a a && ltb i i)) ≡ false
-itself a i =
-    let least : i ≤ i = omega arith in
-    rw (lt_itself a, le-ltb i i least)
+itself : (a : ℤ) (r : Bool) → is_less_or a a r ≡ r
+itself a r = rw (lt_itself a) refl
 
--- an entry with the id and the least x of a place stands there
-same_place_numbers : (a b : ℤ) (i j : ℕ) → a ≡ b → i ≡ j → (not (int_lt a b || (int_eq a b && ltb i j)) && not (int_lt b a || (int_eq b a && ltb j i))) ≡ true
-same_place_numbers a b i j e f = rw (e, f, itself b j)
+not_before_itself : (p : Place) → precedes p p ≡ false
+not_before_itself p =
+    let least : p.id ≤ p.id = omega arith in
+    itself p.low.x (by_y p p) ∙ (itself p.low.y (by_z p p) ∙ (itself p.low.z (ltb p.id p.id) ∙ le-ltb p.id p.id least))
 
-pub at_place_from : (p : Place) (e : Entry) → p.id ≡ e.0 → p.x ≡ low e → is_at_place p e ≡ true
-at_place_from p e same least = same_place_numbers p.x (low e) p.id e.0 least same
+-- an entry with the id and the least corner of a place stands there
+pub at_place_from : (p : Place) (e : Entry) → p.id ≡ e.0 → p.low ≡ corner_of e → is_at_place p e ≡ true
+at_place_from p e same low =
+    let q : Place = place_of e in
+    let is : p ≡ q = λ i. record { low = low i; id = same i } in
+    let neither : (not (precedes q q) && not (precedes q q)) ≡ true = rw (not_before_itself q) refl in
+    subst (λ (r : Place). (not (precedes r q) && not (precedes q r)) ≡ true) (sym is) neither

@@ -9,7 +9,7 @@ ghost use Rattle.rp_boxindex.specs.Meeting.{first_that, meeting_ids};
 use crate::choice::Choice;
 use crate::fault::IndexFault;
 use crate::lows::Lows;
-use crate::place::Place;
+use crate::place::{Corner, Place};
 use crate::query::Query;
 use crate::search::collect;
 use crate::steps::Steps;
@@ -23,7 +23,7 @@ use std::sync::ledger::Ledger;
 
 /// Boxes under their ids. A contract sees the finite map from the ids to the boxes.
 ///
-/// The boxes stand in the tree alone. Beside it stands the least x of each, by which the tree finds an id.
+/// The boxes stand in the tree alone. Beside it stands the least corner of each, by which the tree finds an id.
 #[derive(Drop)]
 pub struct Index {
     lows: Lows,
@@ -71,8 +71,10 @@ impl Index {
         if self.lows.contains(id) {
             return Err(IndexFault::Known);
         }
-        let node = Node::alone(alloc, (id, bounds))?;
-        self.lows.insert(id, bounds.lo[0])?;
+        let entry = (id, bounds);
+        let low = Corner::of(&entry);
+        let node = Node::alone(alloc, entry)?;
+        self.lows.insert(id, low)?;
         let tree = self.tree.take();
         self.tree = tree.with(node);
         Ok(())
@@ -85,11 +87,11 @@ impl Index {
     {
         // Fewer than 2^63 ids, so the tree is not too high, and none twice.
         self.lows.show_order();
-        let Some(x) = self.lows.remove(id) else {
+        let Some(low) = self.lows.remove(id) else {
             return false;
         };
         let tree = self.tree.take();
-        let (rest, _) = tree.without(&Place { x, id });
+        let (rest, _) = tree.without(&Place { low, id });
         self.tree = rest;
         true
     }

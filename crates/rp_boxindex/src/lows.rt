@@ -1,20 +1,21 @@
-//! The least x of the box under each id.
+//! The least corner of the box under each id.
 ghost use Rattle.std.specs.Prelude.{◌≡◌, ◌<◌, ◌^◌, [], length, is_some, IfNone, OnOk, OnErr};
 ghost use Rattle.std.specs.BTreeMap.{is_at, insert_entry};
 ghost use Rattle.std.specs.List.Sorted.{IsStrictlySortedBy};
 ghost use Rattle.std.specs.Map.{keys_of, lookup, remove_entry};
 ghost use Rattle.std.specs.Ordering.{nat_cmp};
 
+use crate::place::Corner;
 use std::alloc::{AllocError, Global};
 use std::collections::BTreeMap;
 
-/// The least x of the box under each id, by which the tree finds an id.
+/// The least corner of the box under each id, by which the tree finds an id.
 ///
-/// Nobody can go over the ids, or read an x without taking it out. So what a search reads of the boxes goes by counted steps:
+/// Nobody can go over the ids, or read a corner without taking it out. So what a search reads of the boxes goes by counted steps:
 /// `Tree::visit` is the one call that shows a node outside its module.
 #[derive(Drop)]
 pub(crate) struct Lows {
-    map: BTreeMap<u32, i32>,
+    map: BTreeMap<u32, Corner>,
 }
 
 impl Lows {
@@ -27,18 +28,18 @@ impl Lows {
         }
     }
 
-    /// Puts an id in with its x. Answers `AllocError` only for want of memory; then nothing has changed.
-    pub(crate) fn insert(&mut self, id: u32, x: i32) -> Result<(), AllocError>
-        ensures entries { OnOk result (self.new.map.entries ≡ insert_entry nat_cmp self.old.map.entries id x) }
+    /// Puts an id in with its corner. Answers `AllocError` only for want of memory; then nothing has changed.
+    pub(crate) fn insert(&mut self, id: u32, low: Corner) -> Result<(), AllocError>
+        ensures entries { OnOk result (self.new.map.entries ≡ insert_entry nat_cmp self.old.map.entries id low) }
         ensures ordered { OnOk result (IsStrictlySortedBy nat_cmp (keys_of self.new.map.entries)) }
         ensures err { OnErr result (self.new.map.entries ≡ self.old.map.entries) }
     {
-        self.map.insert(id, x)?;
+        self.map.insert(id, low)?;
         Ok(())
     }
 
-    /// Takes an id out and answers its x, where the id is there. Takes no memory.
-    pub(crate) fn remove(&mut self, id: u32) -> Option<i32>
+    /// Takes an id out and answers its corner, where the id is there. Takes no memory.
+    pub(crate) fn remove(&mut self, id: u32) -> Option<Corner>
         ensures value { result ≡ lookup (is_at (nat_cmp id)) self.old.map.entries }
         ensures entries { self.new.map.entries ≡ remove_entry (is_at (nat_cmp id)) self.old.map.entries }
         ensures unchanged { IfNone result (self.new.map.entries ≡ self.old.map.entries) }

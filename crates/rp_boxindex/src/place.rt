@@ -1,16 +1,35 @@
 //! The order of the tree.
 ghost use Rattle.std.specs.Prelude.{◌≡◌};
-ghost use Rattle.rp_boxindex.specs.tree.Order.{place_of, precedes};
+ghost use Rattle.rp_boxindex.specs.tree.Order.{corner_of, place_of, precedes};
 
 use rp_space::IntBox;
 
 /// An id with its box.
 pub(crate) type Entry = (u32, IntBox);
 
-/// Where an entry stands in the order of the tree: by the least x, and by the id where two have the same.
+/// The least corner of a box.
+#[derive(Clone, Copy)]
+pub(crate) struct Corner {
+    pub(crate) x: i32,
+    pub(crate) y: i32,
+    pub(crate) z: i32,
+}
+
+impl Corner {
+    /// The least corner of the box of an entry.
+    pub(crate) fn of(entry: &Entry) -> Corner
+        ensures { result ≡ corner_of entry.now }
+    {
+        let [x, y, z] = entry.1.lo;
+        Corner { x, y, z }
+    }
+}
+
+/// Where an entry stands in the order of the tree: by the least x, where two have the same by the least y, then by the least
+/// z, and by the id where their least corners are the same.
 #[derive(Clone, Copy)]
 pub(crate) struct Place {
-    pub(crate) x: i32,
+    pub(crate) low: Corner,
     pub(crate) id: u32,
 }
 
@@ -20,7 +39,7 @@ impl Place {
         ensures { result ≡ place_of entry.now }
     {
         Place {
-            x: entry.1.lo[0],
+            low: Corner::of(entry),
             id: entry.0,
         }
     }
@@ -29,6 +48,9 @@ impl Place {
     pub(crate) fn precedes(&self, other: &Place) -> bool
         ensures { result ≡ precedes self.now other.now }
     {
-        self.x < other.x || (self.x == other.x && self.id < other.id)
+        let (a, b) = (&self.low, &other.low);
+        a.x < b.x
+            || (a.x == b.x
+                && (a.y < b.y || (a.y == b.y && (a.z < b.z || (a.z == b.z && self.id < other.id)))))
     }
 }

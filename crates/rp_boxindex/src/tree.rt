@@ -1,4 +1,4 @@
-//! A search tree over boxes by their least x, balanced after Adelson-Velsky and Landis (An algorithm for the organization of
+//! A search tree over boxes by their least corners, balanced after Adelson-Velsky and Landis (An algorithm for the organization of
 //! information, 1962). Each node has the greatest x of the boxes there and below, as in the interval trees of Cormen,
 //! Leiserson, Rivest and Stein (Introduction to Algorithms, Augmenting Data Structures), and a box around them, the hull, as in
 //! the R-trees of Guttman (A dynamic index structure for spatial searching, 1984).

@@ -1,10 +1,12 @@
 -- The indexes of the boxes around lots, through a change.
-use Rattle.std.proofs.Common.{◌≡◌, ℕ, ◌+◌, ◌≤◌, List, [], ◌∷◌, ◌++◌, map, length, drop, slice_index_or, refl, sym, ap, ap₂, ◌∙◌, subst, arith}
+use Rattle.std.proofs.Common.{◌≡◌, ℕ, ◌+◌, ◌≤◌, List, [], ◌∷◌, ◌++◌, map, length, drop, slice_index_or, refl, sym, ap, ap₂, ◌∙◌, subst, append-nil, append_assoc, arith}
 use Rattle.std.specs.FinMap.{empty}
-use Rattle.std.proofs.lemmas.List.{length-append, length-map}
+use Rattle.std.proofs.lemmas.List.{length-append, length-map, map-append}
 use Rattle.rp_algebra.proofs.Lists.{images_twice}
 use Rattle.rp_geometry.specs.Geometry.{IntegerBox}
 use Rattle.rp_geometry.specs.sets.Shape.{Part}
+use Rattle.rp_space.specs.declared.bounds.IntBox.{IntBox}
+use Rattle.rp_space.specs.Boxes.{integer_box}
 use Rattle.rp_language.specs.Name.{Label, is_among}
 use Rattle.rp_model.specs.states.State.{Lot, NewLot, bare_lot, ended_at, born_at, lots_replaced, most_kept_parts}
 use Rattle.rp_history.specs.declared.lot.Birth.{Birth}
@@ -12,7 +14,7 @@ use Rattle.rp_history.specs.Lots.{new_lot_of, lots_after}
 use Rattle.rp_history.specs.Parts.{lots_with_parts, new_lots}
 use Rattle.rp_history.proofs.Together.{bare-with_parts, length-with_parts}
 use Rattle.rp_boxindex.specs.Boxes.{Boxes}
-use Rattle.rp_nearby.specs.Indexed.{joined, hull_of_parts, NoneBehind, ArePut, StaySame, IsIndexed, AreEmptied}
+use Rattle.rp_nearby.specs.Indexed.{boxes_in, joined, hull_of_parts, box_of, NoneBehind, ArePut, StaySame, IsIndexed, AreEmptied}
 use Rattle.rp_nearby.proofs.Boxed.{indexed_after, indexed_again, indexed_back, indexed_ended, indexed_none, none_behind_live, none_behind_ever}
 use Rattle.rp_kept.specs.Kept.{AreFew, AreLots}
 
@@ -23,9 +25,28 @@ new_lists [] (ps ∷ lists) e = absurd (omega (arith, e))
 new_lists (b ∷ births) [] e = absurd (omega (arith, e))
 new_lists (b ∷ births) (ps ∷ lists) e = let f : length births ≡ length lists = omega (arith, e) in ap (λ (ls : List (List Part)). ps ∷ ls) (new_lists births lists f)
 
--- so are the boxes around them
-new_hulls : (births : List Birth) (lists : List (List Part)) → length births ≡ length lists → map (λ a. hull_of_parts a.parts) (new_lots births lists) ≡ map hull_of_parts lists
-new_hulls births lists e = sym (images_twice (λ (a : NewLot (Unit {0})). a.parts) hull_of_parts (new_lots births lists)) ∙ ap (map hull_of_parts) (new_lists births lists e)
+-- the boxes of new lots
+abbrev pub boxes_of_new : List Birth → List (List Part) → List IntegerBox
+boxes_of_new births lists = map (λ a. box_of a.layer a.parts) (new_lots births lists)
+
+-- there are as many as lists
+pub boxes_counted : (births : List Birth) (lists : List (List Part)) → length births ≡ length lists → length (boxes_of_new births lists) ≡ length lists
+boxes_counted births lists e =
+    length-map (new_lots births lists) (λ a. box_of a.layer a.parts) ∙ sym (length-map (new_lots births lists) (λ (a : NewLot (Unit {0})). a.parts)) ∙ ap length (new_lists births lists e)
+
+-- one box more, for the next birth and its list
+pub one_more_box : (boxes more : List IntBox) (box : IntBox) (births rest : List Birth) (b : Birth) (lists tail : List (List Part)) (ps : List Part) → more ≡ boxes ++ box ∷ [] → integer_box box ≡ box_of b.layer ps → births ≡ b ∷ rest → lists ≡ ps ∷ tail
+    → boxes_in more ++ boxes_of_new rest tail ≡ boxes_in boxes ++ boxes_of_new births lists
+one_more_box boxes more box births rest b lists tail ps e own f g =
+    ap (λ (bs : List IntBox). boxes_in bs ++ boxes_of_new rest tail) e
+    ∙ ap (λ (cs : List IntegerBox). cs ++ boxes_of_new rest tail) (map-append integer_box boxes (box ∷ []))
+    ∙ append_assoc (boxes_in boxes) (integer_box box ∷ []) (boxes_of_new rest tail)
+    ∙ ap (λ (c : IntegerBox). boxes_in boxes ++ c ∷ boxes_of_new rest tail) own
+    ∙ sym (λ i. boxes_in boxes ++ boxes_of_new (f i) (g i))
+
+-- there are no more where no births are left
+pub all_boxes : (boxes all : List IntegerBox) (births : List Birth) (lists : List (List Part)) → births ≡ [] → boxes ++ boxes_of_new births lists ≡ all → boxes ≡ all
+all_boxes boxes all births lists none e = sym (append-nil boxes) ∙ sym (ap (λ (bs : List Birth). boxes ++ boxes_of_new bs lists) none) ∙ e
 
 -- the least box around parts, by the first of them and the others
 pub hull_by_first : {A : Type 0} (seen : A → Part) (xs : List A) (x : A) → 1 ≤ length xs → x ≡ slice_index_or xs 0 x → joined (seen x).bounds (map (λ p. (seen p).bounds) (drop 1 xs)) ≡ hull_of_parts (map seen xs)
@@ -81,11 +102,11 @@ module _ (history : List (Lot (Unit {0}))) (lists : List (List Part)) (parts : �
 
   module _ (n : ℕ) (ids : List Label) (after : List (Lot (Unit {0}))) where
     -- boxes were put in behind the lots, and those of the lots that end were taken out of the first index
-    pub indexed_replaced : (births : List Birth) (more : List (List Part)) (hulls : List IntegerBox) (m live2 ever2 : Boxes) → length births ≡ length more → after ≡ lots_after n history (lots_replaced ids (map new_lot_of births)) → hulls ≡ map hull_of_parts more
+    pub indexed_replaced : (births : List Birth) (more : List (List Part)) (hulls : List IntegerBox) (m live2 ever2 : Boxes) → length births ≡ length more → after ≡ lots_after n history (lots_replaced ids (map new_lot_of births)) → hulls ≡ boxes_of_new births more
         → ArePut live m count hulls → ArePut ever ever2 count hulls → AreEmptied after count (λ y. is_among y ids) m live2 → IsIndexed (lots_after n lots (lots_replaced ids (new_lots births more))) live2 ever2
     indexed_replaced births more hulls m live2 ever2 f is own put also emptied =
         let tail = map (born_at n) (map new_lot_of births) in
-        indexed_after n ids lots (new_lots births more) hulls (new_hulls births more f ∙ sym own) count counted after tail
+        indexed_after n ids lots (new_lots births more) hulls (sym own) count counted after tail
         (is ∙ ap (λ (ls : List (Lot (Unit {0}))). map (ended_at n ids) ls ++ tail) bare) live ever h.indexed m live2 ever2 put also emptied
 
     -- boxes of the lots that end were taken out of it

@@ -1,9 +1,12 @@
 //! The boxes around forms.
-ghost use Rattle.std.specs.Prelude.{◌≡◌, IfOk, map};
+ghost use Rattle.std.specs.Prelude.{◌≡◌, IfOk, map, length};
 ghost use Rattle.rp_space.specs.Boxes.{integer_box};
-ghost use Rattle.rp_nearby.specs.Indexed.{boxes_in, hull_of_parts, joined};
+ghost use Rattle.rp_history.specs.Parts.{new_lots};
+ghost use Rattle.rp_nearby.specs.Indexed.{boxes_in, box_of, hull_of_parts, joined};
 
 use crate::forms::Forms;
+use rp_history::Birth;
+use rp_nearby::moved;
 use rp_space::{IntBox, Listed};
 use std::alloc::{AllocError, Global};
 
@@ -28,16 +31,20 @@ fn joined<F: Forms>(first: &F::Part, rest: &[F::Part]) -> IntBox
     hull
 }
 
-/// The boxes around forms, in order. Answers `AllocError` only for want of memory.
-pub(crate) fn hulls_of<F: Forms>(
+/// The boxes of new lots with these forms, in order: each the least around the form, moved into the cube of the layer. Answers
+/// `AllocError` only for want of memory.
+pub(crate) fn boxes_of<F: Forms>(
     alloc: Global,
+    births: &[Birth],
     forms: &[F::Form],
 ) -> Result<Listed<IntBox>, AllocError>
-    ensures { IfOk result (λ hulls. boxes_in hulls.items ≡ map (λ f. hull_of_parts (F.parts_of f)) forms.now) }
+    requires { length births.now ≡ length forms.now }
+    ensures { IfOk result (λ boxes. boxes_in boxes.items ≡ map (λ a. box_of a.layer a.parts) (new_lots births.now (map F.parts_of forms.now))) }
 {
-    let mut hulls = Listed::new(alloc);
-    for form in forms {
-        hulls.push(hull_of::<F>(form))?;
+    let mut boxes = Listed::new(alloc);
+    for i in 0..forms.len() {
+        let hull = hull_of::<F>(&forms[i]);
+        boxes.push(moved(&births[i].layer, &hull))?;
     }
-    Ok(hulls)
+    Ok(boxes)
 }

@@ -10,7 +10,7 @@ ghost use Rattle.rp_nearby.specs.Owner.{is_there, owner_verdict, BoxesHold};
 ghost use Rattle.rp_kept.specs.Kept.{AreFew, has_point};
 
 use crate::forms::Forms;
-use crate::hulls::{hull_of, hulls_of};
+use crate::hulls::{boxes_of, hull_of};
 use rp_boxindex::Watch;
 use rp_history::{Birth, History};
 use rp_nearby::{Holder, LotBoxes, Moment, Reach};
@@ -167,9 +167,9 @@ impl<F: Forms> Lots<F> {
         let added = forms.items();
         let parts = count_parts::<F>(added);
         let first = self.forms.items().len();
-        let hulls = hulls_of::<F>(alloc, added)?;
+        let boxes = boxes_of::<F>(alloc, births, added)?;
         self.forms.reserve(added.len())?;
-        self.boxes.add_all(alloc, first, hulls.items())?;
+        self.boxes.add_all(alloc, first, boxes.items())?;
         if let Err(error) = self.history.note(alloc, line, births, ends) {
             self.boxes.remove_all(first, added.len());
             return Err(error);

@@ -55,12 +55,13 @@ fn storey(z: u16) -> IntBox {
     }
 }
 
-/// Many such boxes, which all meet on x and on y.
+/// Many such boxes, which all meet on x and on y, put in by no order of place.
 fn storeys(rt: &impl Abort, alloc: Global) -> Index {
     let mut index = Index::new(alloc);
-    for i in 0..1023u16 {
+    for i in 0..1023u32 {
+        let z = i * 410 % 1023;
         index
-            .insert(alloc, i as u32, storey(i))
+            .insert(alloc, z, storey(z as u16))
             .expect(rt, "no memory");
     }
     index

@@ -5,7 +5,7 @@ use crate::history::with_plot;
 use crate::names::name;
 use rp_boxindex::Quiet;
 use rp_history::History;
-use rp_nearby::{Access, Holder, LotBoxes, Moment, Reach};
+use rp_nearby::{Access, Holder, LotBoxes, Moment, Reach, moved};
 use rp_space::{IntBox, Point};
 use std::alloc::Global;
 use std::process::Abort;
@@ -19,12 +19,13 @@ fn bounds(x: i16) -> IntBox {
     }
 }
 
-/// The box around one lot with two parts, side by side.
+/// The box of one lot of the layer `land` with two parts, side by side.
 fn box_of_plot(rt: &impl Abort, alloc: Global) -> LotBoxes
     ensures live { NoneBehind result.live 1 }
     ensures ever { NoneBehind result.ever 1 }
 {
     let hull = bounds(0).union(&bounds(10));
+    let hull = moved(&name(b"land"), &hull);
     let mut boxes = LotBoxes::new(alloc);
     boxes.add_all(alloc, 0, &[hull]).expect(rt, "no memory");
     boxes
@@ -45,6 +46,13 @@ fn lots_are_found_by_the_boxes_around_them(rt: HostRuntime) {
     let history = with_plot(&rt, rt.alloc());
     let boxes = box_of_plot(&rt, rt.alloc());
     assert_eq!(rt; count_near(&rt, rt.alloc(), &history, &boxes), 1);
+}
+
+#[test]
+fn boxes_of_two_layers_do_not_touch(rt: HostRuntime) {
+    let plot = moved(&name(b"land"), &bounds(0));
+    assert!(rt; plot.meets(&moved(&name(b"land"), &bounds(9))));
+    assert!(rt; !plot.meets_closed(&moved(&name(b"air"), &bounds(0))));
 }
 
 /// Every lot has the point.

@@ -14,7 +14,7 @@ use Rattle.rp_model.specs.states.State.{Lot, NewLot, is_live, bare_lot, ended_at
 use Rattle.rp_states.proofs.Picked.{ended_yes, ended_no}
 use Rattle.rp_history.specs.Lots.{lots_after}
 use Rattle.rp_boxindex.specs.Boxes.{Boxes}
-use Rattle.rp_nearby.specs.Indexed.{hull_of_parts, box_at, NoneBehind, ArePut, StaySame, AreEmptied, hull_if, IsIndexOf, IsIndexed, AreKeptIn}
+use Rattle.rp_nearby.specs.Indexed.{box_of, box_at, NoneBehind, ArePut, StaySame, AreEmptied, hull_if, IsIndexOf, IsIndexed, AreKeptIn}
 use Rattle.rp_nearby.proofs.Put.{put_first, put_back}
 
 -- ---- lists
@@ -86,7 +86,7 @@ ended_hull n ids l among = by (is_live l) refl
   where
     by : (b : Bool) → is_live l ≡ b → hull_if is_live (Some (ended_at n ids l)) ≡ None
     by true e = ap (λ (m : Lot (Unit {0})). hull_if is_live (Some m)) (ended_yes n ids l (ap₂ ◌&&◌ e among))
-    by false e = ap (λ (m : Lot (Unit {0})). hull_if is_live (Some m)) (ended_no n ids l (ap (λ (c : Bool). c && is_among l.id ids) e)) ∙ ap (λ (c : Bool). cond c (Some (hull_of_parts l.parts)) None) e
+    by false e = ap (λ (m : Lot (Unit {0})). hull_if is_live (Some m)) (ended_no n ids l (ap (λ (c : Bool). c && is_among l.id ids) e)) ∙ ap (λ (c : Bool). cond c (Some (box_of l.layer l.parts)) None) e
 
 -- another lot has there what it had
 other_hull : (n : ℕ) (ids : List Label) (l : Lot (Unit {0})) → is_among l.id ids ≡ false → hull_if is_live (Some (ended_at n ids l)) ≡ hull_if is_live (Some l)
@@ -97,12 +97,12 @@ other_hull n ids l e = ap (λ (m : Lot (Unit {0})). hull_if is_live (Some m)) (e
     never false = refl
 
 -- new lots have the boxes around them
-born_hull : (chosen : Lot (Unit {0}) → Bool) (n : ℕ) → ((a : NewLot (Unit {0})) → chosen (born_at n a) ≡ true) → (new : List (NewLot (Unit {0}))) (d : ℕ) → hull_if chosen (slice_get (map (born_at n) new) d) ≡ slice_get (map (λ a. hull_of_parts a.parts) new) d
+born_hull : (chosen : Lot (Unit {0}) → Bool) (n : ℕ) → ((a : NewLot (Unit {0})) → chosen (born_at n a) ≡ true) → (new : List (NewLot (Unit {0}))) (d : ℕ) → hull_if chosen (slice_get (map (born_at n) new) d) ≡ slice_get (map (λ a. box_of a.layer a.parts) new) d
 born_hull chosen n all [] d = refl
-born_hull chosen n all (a ∷ new) zero = ap (λ (c : Bool). cond c (Some (hull_of_parts a.parts)) None) (all a)
+born_hull chosen n all (a ∷ new) zero = ap (λ (c : Bool). cond c (Some (box_of a.layer a.parts)) None) (all a)
 born_hull chosen n all (a ∷ new) (suc d) = born_hull chosen n all new d
 
-module _ (n : ℕ) (ids : List Label) (lots : List (Lot (Unit {0}))) (new : List (NewLot (Unit {0}))) (hulls : List IntegerBox) (own : map (λ a. hull_of_parts a.parts) new ≡ hulls) (count : ℕ) (same : count ≡ length lots) where
+module _ (n : ℕ) (ids : List Label) (lots : List (Lot (Unit {0}))) (new : List (NewLot (Unit {0}))) (hulls : List IntegerBox) (own : map (λ a. box_of a.layer a.parts) new ≡ hulls) (count : ℕ) (same : count ≡ length lots) where
   -- an index, where the boxes around new lots were put in behind the others, and of each other lot it is known what it has now
   index_after : (chosen : Lot (Unit {0}) → Bool) → ((a : NewLot (Unit {0})) → chosen (born_at n a) ≡ true) → (old m after : Boxes) → ArePut old m count hulls → ((k : ℕ) → count ≤ k → box_at after k ≡ box_at m k)
       → ((k : ℕ) (l : Lot (Unit {0})) → k < count → slice_get lots k ≡ Some l → box_at after k ≡ hull_if chosen (Some (ended_at n ids l))) → IsIndexOf chosen (lots_after n lots (lots_replaced ids new)) after

@@ -3,6 +3,7 @@ pub mod Put
 pub mod Emptied
 pub mod Boxed
 pub mod Hulls
+pub mod Layers
 pub mod Reached
 pub mod Passed
 pub mod Skipped

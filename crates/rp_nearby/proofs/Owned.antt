@@ -20,15 +20,18 @@ use Rattle.rp_language.specs.Name.{Label, label_eq}
 use Rattle.rp_model.specs.states.State.{Lot, is_live, lots_of_layer, bare_lot, lot_of_parts}
 use Rattle.rp_model.specs.commands.Verdict.{Verdict}
 use Rattle.rp_model.specs.commands.Row.{is_in_parts, owner_line}
+use Rattle.rp_states.proofs.Labels.{label_is}
 use Rattle.rp_states.proofs.Listing.{all_unmapped}
 use Rattle.rp_boxindex.specs.Boxes.{Boxes}
 use Rattle.rp_boxindex.specs.Meeting.{do_meet, meeting_ids, first_that}
 use Rattle.rp_boxindex.proofs.Exact.{meeting_ids_rise_spec}
 use Rattle.rp_nearby.specs.declared.moment.Moment.{Moment}
 use Rattle.rp_nearby.specs.declared.moment.Moment.TheVariants.{Now, After}
-use Rattle.rp_nearby.specs.Indexed.{hull_of_parts, box_at, hull_if, IsIndexOf, IsIndexed}
+use Rattle.rp_nearby.specs.Indexed.{hull_of_parts, box_of, box_at, hull_if, IsIndexOf, IsIndexed}
+use Rattle.rp_nearby.specs.Layers.{moved}
 use Rattle.rp_nearby.specs.Owner.{is_there, is_there_at, boxes_at, owner_verdict, KnowsOwners, BoxesHold, IsOwner}
 use Rattle.rp_nearby.proofs.Hulls.{part_within, wider_meet}
+use Rattle.rp_nearby.proofs.Layers.{moved_meet}
 use Rattle.rp_nearby.proofs.Reached.{box_reached}
 
 -- ---- the boxes of sound lots
@@ -186,18 +189,21 @@ module _ (has : ℕ → Bool) (y : Label) (m : Moment) (p : RationalPoint) (hist
   module _ (unit : IntegerBox) (meets : (b : IntegerBox) → IsInBox b p → do_meet false unit b ≡ true) where
     -- the places that are answered
     abbrev ids : List ℕ
-    ids = meeting_ids false unit (boxes_at m live ever)
+    ids = meeting_ids false (moved y unit) (boxes_at m live ever)
 
     -- the place of a lot that owns the point is among them
     owner_reached : (lots : List (Lot (Unit {0}))) → IsIndexed lots live ever → BoxesHold lots → (k : ℕ) (l : Lot (Unit {0})) → slice_get lots k ≡ Some l → owns (is_there m) y p l ≡ true → Listed k ids
     owner_reached lots indexed hold k l at t =
         let q = some_passes (λ (r : Part). is_in_cell r.cell p) l.parts (and_second (is_there m l && label_eq l.layer y) (is_in_parts l.parts p) t) in
-        let there = and_first (is_there m l) (label_eq l.layer y) (and_first (is_there m l && label_eq l.layer y) (is_in_parts l.parts p) t) in
+        let here = and_first (is_there m l && label_eq l.layer y) (is_in_parts l.parts p) t in
+        let there = and_first (is_there m l) (label_eq l.layer y) here in
+        let own = label_is l.layer y (and_second (is_there m l) (label_eq l.layer y) here) in
         let held = all_of (λ (r : Part). BoxHoldsCell r.bounds r.cell) l.parts (all_at lots k l at hold) q.0 q.1 in
-        let box : box_at (boxes_at m live ever) k ≡ Some (hull_of_parts l.parts) =
-        index_at m lots live ever indexed k ∙ ap (hull_if (chosen_at m)) at ∙ ap (λ (b : Bool). cond b (Some (hull_of_parts l.parts)) None) (there_chosen m l there) in
-        box_reached false unit (hull_of_parts l.parts) (boxes_at m live ever) k box
-        (wider_meet false unit q.0.bounds unit (hull_of_parts l.parts) (box_itself unit) (part_within q.0 l.parts q.1) (meets q.0.bounds (held p q.2)))
+        let box : box_at (boxes_at m live ever) k ≡ Some (box_of y l.parts) =
+        index_at m lots live ever indexed k ∙ ap (hull_if (chosen_at m)) at ∙ ap (λ (b : Bool). cond b (Some (box_of l.layer l.parts)) None) (there_chosen m l there)
+        ∙ ap (λ (x : Label). Some (box_of x l.parts)) own in
+        box_reached false (moved y unit) (box_of y l.parts) (boxes_at m live ever) k box
+        (moved_meet false y unit (hull_of_parts l.parts) (wider_meet false unit q.0.bounds unit (hull_of_parts l.parts) (box_itself unit) (part_within q.0 l.parts q.1) (meets q.0.bounds (held p q.2))))
       where
         all_at : (ls : List (Lot (Unit {0}))) (k : ℕ) (l : Lot (Unit {0})) → slice_get ls k ≡ Some l → BoxesHold ls → AllByRecursion (λ (q : Part). BoxHoldsCell q.bounds q.cell) l.parts
         all_at [] k l e h = absurd (cc)
@@ -206,7 +212,7 @@ module _ (has : ℕ → Bool) (y : Label) (m : Moment) (p : RationalPoint) (hist
 
     -- what is found is a place of the history
     pub found_within : (k : ℕ) → first_that passes ids ≡ Some k → k < length history
-    found_within k e = by (slice_get history k) refl (and_first (is_there_at m y history k) (has k) (first_is passes ids (meeting_ids_rise_spec false unit (boxes_at m live ever)) k e).passes)
+    found_within k e = by (slice_get history k) refl (and_first (is_there_at m y history k) (has k) (first_is passes ids (meeting_ids_rise_spec false (moved y unit) (boxes_at m live ever)) k e).passes)
       where
         by : (o : Option (Lot (Unit {0}))) → slice_get history k ≡ o → is_there_at m y history k ≡ true → k < length history
         by None at t = absurd (false_not_true (is_there_at m y history k) t (ap (λ (o : Option (Lot (Unit {0}))). elim o as (λ _. Bool) [ None ↦ false | Some l ↦ is_there m l && label_eq l.layer y ]) at))
@@ -220,7 +226,7 @@ module _ (has : ℕ → Bool) (y : Label) (m : Moment) (p : RationalPoint) (hist
     -- the first of them that passes has it
     pub owner_found : (k : ℕ) (line : Lot (Unit {0})) → first_that passes ids ≡ Some k → slice_get history k ≡ Some line → IsOwner has y m p history live ever (Some line.id)
     owner_found k line e there lots bare indexed hold knows =
-        let least = first_is passes ids (meeting_ids_rise_spec false unit (boxes_at m live ever)) k e in
+        let least = first_is passes ids (meeting_ids_rise_spec false (moved y unit) (boxes_at m live ever)) k e in
         by (slice_get lots k) refl (sym (slice_get-map bare_lot lots k) ∙ sym (ap (λ (ls : List (Lot (Unit {0}))). slice_get ls k) bare) ∙ there) least
       where
         by : (o : Option (Lot (Unit {0}))) → slice_get lots k ≡ o → option_map bare_lot (slice_get lots k) ≡ Some line → IsLeast passes ids k → owner_verdict (Some line.id) ≡ owner_among (is_there m) y p lots

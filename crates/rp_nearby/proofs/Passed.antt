@@ -23,7 +23,8 @@ use Rattle.rp_model.specs.commands.Row.{count_pairs, lot_parts}
 use Rattle.rp_boxindex.specs.Boxes.{Boxes}
 use Rattle.rp_boxindex.specs.Meeting.{meeting_ids}
 use Rattle.rp_nearby.specs.declared.near.Reach.{Reach}
-use Rattle.rp_nearby.specs.Indexed.{hull_of_parts, NoneBehind}
+use Rattle.rp_nearby.specs.Indexed.{box_of, NoneBehind}
+use Rattle.rp_nearby.specs.Layers.{moved}
 use Rattle.rp_nearby.specs.Near.{may_meet, others_in, pairs_with, is_near, is_closed, is_other_in, is_other_at, lots_at, other_places, AreWithin, AreNear}
 use Rattle.rp_nearby.proofs.Boxed.{none_behind_lots}
 use Rattle.rp_nearby.proofs.Reached.{places_from, places_rise, places_within, AreAllNear, places_near}
@@ -57,15 +58,16 @@ module _ (r : Reach) (ps : List Part) (y x : Label) where
       by true = refl
       by false = refl
 
-  -- a lot that is ended or not near is passed over
-  passed : (l : Lot (Unit {0})) (ls : List (Lot (Unit {0}))) → (is_live l ≡ true → is_near r ps l ≡ true → ⊥) → chosen (l ∷ ls) ≡ chosen ls
-  passed l ls n = chosen_first l ls ∙ ap (λ (b : Bool). cond b (l ∷ chosen ls) (chosen ls)) (by (is_live l) (is_near r ps l) (label_eq l.layer y && not (label_eq x l.id)) n)
+  -- a lot that is ended, of another layer or not near is passed over
+  passed : (l : Lot (Unit {0})) (ls : List (Lot (Unit {0}))) → (is_live l ≡ true → label_eq l.layer y ≡ true → is_near r ps l ≡ true → ⊥) → chosen (l ∷ ls) ≡ chosen ls
+  passed l ls n = chosen_first l ls ∙ ap (λ (b : Bool). cond b (l ∷ chosen ls) (chosen ls)) (by (is_live l) (label_eq l.layer y) (is_near r ps l) (not (label_eq x l.id)) n)
     where
-      by : (a b c : Bool) → (a ≡ true → b ≡ true → ⊥) → ((a && c) && b) ≡ false
-      by true true c n = absurd (n refl refl)
-      by true false true n = refl
-      by true false false n = refl
-      by false b c n = refl
+      by : (a b c d : Bool) → (a ≡ true → b ≡ true → c ≡ true → ⊥) → ((a && (b && d)) && c) ≡ false
+      by true true true d n = absurd (n refl refl refl)
+      by true true false true n = refl
+      by true true false false n = refl
+      by true false c d n = refl
+      by false b c d n = refl
 
   -- two lists with the same first lot
   same_first : (l : Lot (Unit {0})) (ls ms : List (Lot (Unit {0}))) → chosen ls ≡ chosen ms → chosen (l ∷ ls) ≡ chosen (l ∷ ms)
@@ -111,31 +113,31 @@ not_below : (n : ℕ) (places : List ℕ) → AllByRecursion (λ j. n + 1 ≤ j)
 not_below n places above l = absurd (let f = all_of (λ (j : ℕ). n + 1 ≤ j) places above n l in omega (arith, f))
 
 module _ (r : Reach) (ps : List Part) (y x : Label) (lots : List (Lot (Unit {0}))) where
-  module _ (n : ℕ) (l : Lot (Unit {0})) (within : n < length lots) (at : slice_get lots n ≡ Some l) (rest : (places : List ℕ) → AreAllNear r ps lots (n + 1) places → chosen r ps y x (lots_at lots places) ≡ chosen r ps y x (drop (n + 1) lots)) where
+  module _ (n : ℕ) (l : Lot (Unit {0})) (within : n < length lots) (at : slice_get lots n ≡ Some l) (rest : (places : List ℕ) → AreAllNear r ps y lots (n + 1) places → chosen r ps y x (lots_at lots places) ≡ chosen r ps y x (drop (n + 1) lots)) where
     -- the first lot from the place on
     left_first : drop n lots ≡ l ∷ drop (n + 1) lots
     left_first = drop_item lots n l within (sym (get_or_from_slice_get lots n l l at))
 
     -- a lot whose place isn't left is passed over
-    step_over : (places : List ℕ) → (Listed n places → ⊥) → AllByRecursion (λ j. n + 1 ≤ j) places → AreAllNear r ps lots n places → chosen r ps y x (lots_at lots places) ≡ chosen r ps y x (drop n lots)
+    step_over : (places : List ℕ) → (Listed n places → ⊥) → AllByRecursion (λ j. n + 1 ≤ j) places → AreAllNear r ps y lots n places → chosen r ps y x (lots_at lots places) ≡ chosen r ps y x (drop n lots)
     step_over places none above h =
-        rest places (record { rising = h.rising; behind = above; within = h.within; all = λ k m f on live near. h.all k m (omega (arith, f)) on live near })
-        ∙ sym (ap (chosen r ps y x) left_first ∙ passed r ps y x l (drop (n + 1) lots) (λ live near. none (h.all n l (omega arith) at live near)))
+        rest places (record { rising = h.rising; behind = above; within = h.within; all = λ k m f on live own near. h.all k m (omega (arith, f)) on live own near })
+        ∙ sym (ap (chosen r ps y x) left_first ∙ passed r ps y x l (drop (n + 1) lots) (λ live own near. none (h.all n l (omega arith) at live own near)))
 
     -- the lot of the first place
-    step_on : (k : ℕ) (places : List ℕ) → k ≡ n → AreAllNear r ps lots n (k ∷ places) → chosen r ps y x (lots_at lots (k ∷ places)) ≡ chosen r ps y x (drop n lots)
+    step_on : (k : ℕ) (places : List ℕ) → k ≡ n → AreAllNear r ps y lots n (k ∷ places) → chosen r ps y x (lots_at lots (k ∷ places)) ≡ chosen r ps y x (drop n lots)
     step_on k places same h =
         ap (λ (o : Option (Lot (Unit {0}))). chosen r ps y x (option_to_list o ++ lots_at lots places)) (ap (slice_get lots) same ∙ at)
         ∙ same_first r ps y x l (lots_at lots places) (drop (n + 1) lots) (rest places (record {
           rising = sorted_tail nat_cmp k places h.rising;
           behind = subst (λ (i : ℕ). AllByRecursion (λ j. i + 1 ≤ j) places) same (above_first k places h.rising);
           within = h.within.1;
-          all = λ i m f on live near. not_first k i places (λ g. absurd (omega (arith, f, g, same))) (h.all i m (omega (arith, f)) on live near);
+          all = λ i m f on live own near. not_first k i places (λ g. absurd (omega (arith, f, g, same))) (h.all i m (omega (arith, f)) on live own near);
         }))
         ∙ sym (ap (chosen r ps y x) left_first)
 
     -- a lot is passed over or taken
-    step : (places : List ℕ) → AreAllNear r ps lots n places → chosen r ps y x (lots_at lots places) ≡ chosen r ps y x (drop n lots)
+    step : (places : List ℕ) → AreAllNear r ps y lots n places → chosen r ps y x (lots_at lots places) ≡ chosen r ps y x (drop n lots)
     step [] h = step_over [] (none_listed n) tt h
     step (k ∷ places) h = ⊎_elim
         (λ same. step_on k places same h)
@@ -147,12 +149,12 @@ module _ (r : Reach) (ps : List Part) (y x : Label) (lots : List (Lot (Unit {0})
         (same_or_not k n)
 
   -- behind the last lot no place is left
-  left_none : (n : ℕ) (places : List ℕ) → n ≡ length lots → AreAllNear r ps lots n places → chosen r ps y x (lots_at lots places) ≡ chosen r ps y x (drop n lots)
+  left_none : (n : ℕ) (places : List ℕ) → n ≡ length lots → AreAllNear r ps y lots n places → chosen r ps y x (lots_at lots places) ≡ chosen r ps y x (drop n lots)
   left_none n [] e h = sym (ap (chosen r ps y x) (drop_all n lots (omega (arith, e))))
   left_none n (k ∷ places) e h = absurd (let f = h.behind.0 in let g = h.within.0 in omega (arith, e, f, g))
 
   -- the lots at the places that are left are all that are chosen
-  left_chosen : (d n : ℕ) → n + d ≡ length lots → (places : List ℕ) → AreAllNear r ps lots n places → chosen r ps y x (lots_at lots places) ≡ chosen r ps y x (drop n lots)
+  left_chosen : (d n : ℕ) → n + d ≡ length lots → (places : List ℕ) → AreAllNear r ps y lots n places → chosen r ps y x (lots_at lots places) ≡ chosen r ps y x (drop n lots)
   left_chosen zero n e places h = left_none n places (omega (arith, e)) h
   left_chosen (suc d) n e places h =
       let within : n < length lots = omega (arith, e) in
@@ -160,7 +162,7 @@ module _ (r : Reach) (ps : List Part) (y x : Label) (lots : List (Lot (Unit {0})
       step n item.0 within item.1 (left_chosen d (n + 1) (omega (arith, e))) places h
 
   -- the lots at the places that are near are all that are chosen from a place on
-  near_chosen : (from : ℕ) (places : List ℕ) → from ≤ length lots → AreAllNear r ps lots from places → chosen r ps y x (lots_at lots places) ≡ chosen r ps y x (drop from lots)
+  near_chosen : (from : ℕ) (places : List ℕ) → from ≤ length lots → AreAllNear r ps y lots from places → chosen r ps y x (lots_at lots places) ≡ chosen r ps y x (drop from lots)
   near_chosen from places f h = left_chosen (length lots - from) from (omega (arith, f)) places h
 
 -- the others among lots at places stand at the places of the others
@@ -187,10 +189,10 @@ others_at y x lots history e (k ∷ places) w =
 pub others_near : (r : Reach) (hull : IntegerBox) (y x : Label) (from : ℕ) (history : List (Lot (Unit {0}))) (live : Boxes) → from ≤ length history → AreNear r hull y x from history live (other_places r hull y x from history live)
 others_near r hull y x from history live f lots ps kept own =
     let many : length history ≡ length lots = ap length kept.bare ∙ length-map lots bare_lot in
-    let all = places_near r ps lots live from kept.indexed (none_behind_lots is_live lots live kept.indexed) in
-    ap (λ (b : IntegerBox). chosen r ps y x lots history (places_from from (meeting_ids (is_closed r) b live))) own
-    ∙ ap (filter (is_near r ps)) (others_at y x lots history kept.bare (places_from from (meeting_ids (is_closed r) (hull_of_parts ps) live)) all.within)
-    ∙ near_chosen r ps y x lots from (places_from from (meeting_ids (is_closed r) (hull_of_parts ps) live)) (omega (arith, f, many)) all
+    let all = places_near r ps y lots live from kept.indexed (none_behind_lots is_live lots live kept.indexed) in
+    ap (λ (b : IntegerBox). chosen r ps y x lots history (places_from from (meeting_ids (is_closed r) (moved y b) live))) own
+    ∙ ap (filter (is_near r ps)) (others_at y x lots history kept.bare (places_from from (meeting_ids (is_closed r) (box_of y ps) live)) all.within)
+    ∙ near_chosen r ps y x lots from (places_from from (meeting_ids (is_closed r) (box_of y ps) live)) (omega (arith, f, many)) all
   where
     chosen : Reach → List Part → Label → Label → List (Lot (Unit {0})) → List (Lot (Unit {0})) → List ℕ → List (Lot (Unit {0}))
     chosen r ps y x lots history ks = filter (is_near r ps) (lots_at lots (filter (is_other_at y x history) ks))
@@ -221,8 +223,9 @@ pub record ArePlaces {A : Type 0} (xs : List A) (places : List ℕ) : Type 0 whe
 pub others_places : {S : Type 0} (r : Reach) (hull : IntegerBox) (y x : Label) (from : ℕ) (history : List (Lot S)) (live : Boxes) → NoneBehind live (length history) → ArePlaces history (other_places r hull y x from history live)
 others_places r hull y x from history live none =
     let test = is_other_at y x history in
-    let reached = places_from from (meeting_ids (is_closed r) hull live) in
-    let within = all_filter (λ (k : ℕ). k < length history) test reached (places_within (is_closed r) hull live from history none) in
-    let rising = IsStrictlySortedBy-filter nat_cmp test reached (places_rise (is_closed r) hull live from) in
+    let box = moved y hull in
+    let reached = places_from from (meeting_ids (is_closed r) box live) in
+    let within = all_filter (λ (k : ℕ). k < length history) test reached (places_within (is_closed r) box live from history none) in
+    let rising = IsStrictlySortedBy-filter nat_cmp test reached (places_rise (is_closed r) box live from) in
     let few = rising_few 0 (length history) (filter test reached) rising (above_none (filter test reached)) within (omega arith) in
     record { within = within; rising = rising; few = omega (arith, few) }

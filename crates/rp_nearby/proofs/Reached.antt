@@ -15,6 +15,8 @@ use Rattle.rp_geometry.specs.Geometry.{IntegerBox}
 use Rattle.rp_geometry.specs.sets.Shape.{Part}
 use Rattle.rp_space.specs.declared.bounds.IntBox.{IntBox}
 use Rattle.rp_space.specs.Boxes.{integer_box}
+use Rattle.rp_language.specs.Name.{Label, label_eq}
+use Rattle.rp_states.proofs.Labels.{label_is}
 use Rattle.rp_model.specs.states.State.{Lot, is_live}
 use Rattle.rp_model.specs.commands.Row.{count_pairs}
 use Rattle.rp_boxindex.specs.Boxes.{Boxes}
@@ -23,9 +25,10 @@ use Rattle.rp_boxindex.specs.Meeting.{do_meet, meeting_ids}
 use Rattle.rp_boxindex.proofs.Exact.{meeting_ids_are_exact_spec, meeting_ids_rise_spec}
 use Rattle.rp_nearby.specs.declared.near.Reach.{Reach}
 use Rattle.rp_nearby.specs.declared.near.Reach.TheVariants.{Overlap, Touch}
-use Rattle.rp_nearby.specs.Indexed.{hull_of_parts, box_at, NoneBehind, hull_if, IsIndexOf}
+use Rattle.rp_nearby.specs.Indexed.{hull_of_parts, box_of, box_at, NoneBehind, hull_if, IsIndexOf}
 use Rattle.rp_nearby.specs.Near.{may_meet, is_near, is_closed, AreWithin}
 use Rattle.rp_nearby.proofs.Hulls.{part_within, wider_meet}
+use Rattle.rp_nearby.proofs.Layers.{moved_meet}
 
 -- ---- what stands in a list
 
@@ -133,23 +136,23 @@ module _ (closed : Bool) (b : IntegerBox) (boxes : Boxes) (from : ℕ) where
       by : (k : ℕ) → Listed k (meeting_ids closed b boxes) → (k < length xs) ⊎ (length xs ≤ k) → k < length xs
       by k l c = ⊎_elim (λ f. f) (λ f. absurd (reached_box closed b boxes k l (none k f))) c
 
--- places from one on, in rising order, with those of all live lots that have a part that may meet one of a list
-pub record AreAllNear (r : Reach) (ps : List Part) (lots : List (Lot (Unit {0}))) (from : ℕ) (places : List ℕ) : Type 0 where
+-- places from one on, in rising order, with those of all live lots of a layer that have a part that may meet one of a list
+pub record AreAllNear (r : Reach) (ps : List Part) (y : Label) (lots : List (Lot (Unit {0}))) (from : ℕ) (places : List ℕ) : Type 0 where
   pub rising : IsStrictlySortedBy nat_cmp places
   pub behind : AllByRecursion (λ k. from ≤ k) places
   pub within : AreWithin lots places
-  pub all : (k : ℕ) (l : Lot (Unit {0})) → from ≤ k → slice_get lots k ≡ Some l → is_live l ≡ true → is_near r ps l ≡ true → Listed k places
+  pub all : (k : ℕ) (l : Lot (Unit {0})) → from ≤ k → slice_get lots k ≡ Some l → is_live l ≡ true → label_eq l.layer y ≡ true → is_near r ps l ≡ true → Listed k places
 
 -- the places around which the box meets that around the list are such
-pub places_near : (r : Reach) (ps : List Part) (lots : List (Lot (Unit {0}))) (live : Boxes) (from : ℕ) → IsIndexOf is_live lots live → NoneBehind live (length lots) → AreAllNear r ps lots from (places_from from (meeting_ids (is_closed r) (hull_of_parts ps) live))
-places_near r ps lots live from h none = record {
-  rising = places_rise (is_closed r) (hull_of_parts ps) live from;
+pub places_near : (r : Reach) (ps : List Part) (y : Label) (lots : List (Lot (Unit {0}))) (live : Boxes) (from : ℕ) → IsIndexOf is_live lots live → NoneBehind live (length lots) → AreAllNear r ps y lots from (places_from from (meeting_ids (is_closed r) (box_of y ps) live))
+places_near r ps y lots live from h none = record {
+  rising = places_rise (is_closed r) (box_of y ps) live from;
   behind = of_all (λ (k : ℕ). from ≤ k) (places_from from ids) (λ k l. leb-true from k (stayed (λ c. leb from c) k ids l).1);
-  within = places_within (is_closed r) (hull_of_parts ps) live from lots none;
-  all = λ k l f at lives near.
-      let box : box_at live k ≡ Some (hull_of_parts l.parts) = h k ∙ ap (hull_if is_live) at ∙ ap (λ (b : Bool). cond b (Some (hull_of_parts l.parts)) None) lives in
-      keeps (λ c. leb from c) ids k (box_reached (is_closed r) (hull_of_parts ps) (hull_of_parts l.parts) live k box (hulls_meet r ps l near)) (le-leb from k f);
+  within = places_within (is_closed r) (box_of y ps) live from lots none;
+  all = λ k l f at lives own near.
+      let box : box_at live k ≡ Some (box_of y l.parts) = h k ∙ ap (hull_if is_live) at ∙ ap (λ (b : Bool). cond b (Some (box_of l.layer l.parts)) None) lives ∙ ap (λ (x : Label). Some (box_of x l.parts)) (label_is l.layer y own) in
+      keeps (λ c. leb from c) ids k (box_reached (is_closed r) (box_of y ps) (box_of y l.parts) live k box (moved_meet (is_closed r) y (hull_of_parts ps) (hull_of_parts l.parts) (hulls_meet r ps l near))) (le-leb from k f);
 }
   where
     ids : List ℕ
-    ids = meeting_ids (is_closed r) (hull_of_parts ps) live
+    ids = meeting_ids (is_closed r) (box_of y ps) live

@@ -9,6 +9,7 @@ use Rattle.rp_space.specs.declared.bounds.IntBox.{IntBox}
 use Rattle.rp_space.specs.Boxes.{integer_box}
 use Rattle.rp_model.specs.states.State.{Lot, is_live, bare_lot}
 use Rattle.rp_boxindex.specs.Boxes.{Boxes}
+use Rattle.rp_nearby.specs.Layers.{moved}
 
 -- the boxes of parts, in order
 abbrev pub bounds_of : List Part → List IntegerBox
@@ -31,6 +32,10 @@ hull_of (b ∷ bs) = joined b bs
 -- the least box around parts
 abbrev pub hull_of_parts : List Part → IntegerBox
 hull_of_parts ps = hull_of (bounds_of ps)
+
+-- the box of a lot of a layer with these parts: the least one around them, moved into the cube of the layer
+abbrev pub box_of : Label → List Part → IntegerBox
+box_of y ps = moved y (hull_of_parts ps)
 
 -- the box under a place
 abbrev pub box_at : Boxes → ℕ → Option IntegerBox
@@ -55,21 +60,21 @@ pub record AreEmptied {S : Type 0} (history : List (Lot S)) (n : ℕ) (test : La
   pub kept : (k : ℕ) (l : Lot S) → slice_get history k ≡ Some l → test l.id ≡ false → box_at new k ≡ box_at old k
   pub rest : (k : ℕ) → n ≤ k → box_at new k ≡ box_at old k
 
--- the box around a lot, if there is one, and it is chosen
+-- the box of a lot, if there is one, and it is chosen
 abbrev pub hull_if : {S : Type 0} → (Lot S → Bool) → Option (Lot S) → Option IntegerBox
 hull_if chosen None = None
-hull_if chosen (Some l) = cond (chosen l) (Some (hull_of_parts l.parts)) None
+hull_if chosen (Some l) = cond (chosen l) (Some (box_of l.layer l.parts)) None
 
--- the index has the box around each of the lots that are chosen, and no others
+-- the index has the box of each of the lots that are chosen, and no others
 abbrev pub IsIndexOf : {S : Type 0} → (Lot S → Bool) → List (Lot S) → Boxes → Type 0
 IsIndexOf chosen lots boxes = (k : ℕ) → box_at boxes k ≡ hull_if chosen (slice_get lots k)
 
--- one index has the boxes around all live lots, and the other one those around all lots
+-- one index has the boxes of all live lots, and the other one those of all lots
 pub record IsIndexed {S : Type 0} (lots : List (Lot S)) (first second : Boxes) : Type 0 where
   pub live : IsIndexOf is_live lots first
   pub ever : IsIndexOf (λ _. true) lots second
 
--- lots stand in a history without their parts, and in an index with the boxes around the live ones
+-- lots stand in a history without their parts, and in an index with the boxes of the live ones
 pub record AreKeptIn (history : List (Lot (Unit {0}))) (live : Boxes) (lots : List (Lot (Unit {0}))) : Type 0 where
   pub bare : history ≡ map bare_lot lots
   pub indexed : IsIndexOf is_live lots live

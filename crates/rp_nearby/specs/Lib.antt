@@ -1,4 +1,5 @@
 pub mod Indexed
+pub mod Layers
 pub mod Near
 pub mod Owner
 pub mod Access

@@ -13,6 +13,7 @@ use Rattle.rp_boxindex.specs.Meeting.{meeting_ids}
 use Rattle.rp_nearby.specs.declared.near.Reach.{Reach}
 use Rattle.rp_nearby.specs.declared.near.Reach.TheVariants.{Overlap, Touch}
 use Rattle.rp_nearby.specs.Indexed.{hull_of_parts, AreKeptIn}
+use Rattle.rp_nearby.specs.Layers.{moved}
 
 -- the boxes of two parts let them meet
 abbrev pub may_meet : Reach → Part → Part → Bool
@@ -53,9 +54,9 @@ abbrev pub is_closed : Reach → Bool
 is_closed Overlap = false
 is_closed Touch = true
 
--- the places from one on of the live lots of the layer that have another id, around which the box meets this one
+-- the places from one on of the live lots of the layer that have another id, whose boxes this one meets, moved into the cube of the layer
 abbrev pub other_places : {S : Type 0} → Reach → IntegerBox → Label → Label → ℕ → List (Lot S) → Boxes → List ℕ
-other_places r hull y x from history live = filter (is_other_at y x history) (filter (λ k. nat_le from k) (meeting_ids (is_closed r) hull live))
+other_places r hull y x from history live = filter (is_other_at y x history) (filter (λ k. nat_le from k) (meeting_ids (is_closed r) (moved y hull) live))
 
 -- of all lots that are kept in the history and the index, those at the places have among them, in order, exactly the live lots of the layer, from a place on, that have another id and a part that may meet one of the parts within this hull
 abbrev pub AreNear : Reach → IntegerBox → Label → Label → ℕ → List (Lot (Unit {0})) → Boxes → List ℕ → Type 0

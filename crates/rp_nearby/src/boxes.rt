@@ -1,4 +1,4 @@
-//! A box around each lot, in two indexes: of the live lots, and of all that ever were.
+//! A box around each lot, in the cube of its layer, in two indexes: of the live lots, and of all that ever were.
 ghost use Rattle.std.specs.Prelude.{◌≡◌, ◌+◌, ◌≤◌, [], false, length, OnOk, OnErr};
 ghost use Rattle.std.specs.FinMap as map;
 ghost use Rattle.rp_language.specs.Name.{label_eq, is_among};
@@ -12,7 +12,8 @@ use rp_space::{IntBox, Name};
 use std::alloc::{AllocError, Global};
 use std::fmt;
 
-/// A box around each lot, under the place of the lot: of the live ones in one index, and of all that ever were in another.
+/// A box around each lot, moved into the cube of its layer, under the place of the lot: of the live ones in one index, and of
+/// all that ever were in another.
 #[derive(Drop)]
 pub struct LotBoxes {
     pub(crate) live: Index,
@@ -35,7 +36,7 @@ fn want_of_memory(fault: IndexFault) -> AllocError
     }
 }
 
-/// Puts the boxes around new lots into an index: of the lots from a place on, which have none yet.
+/// Puts the boxes of new lots into an index: of the lots from a place on, which have none yet.
 /// Answers `AllocError` only for want of memory; then all is as before.
 fn put_all(
     index: &mut Index,
@@ -80,7 +81,8 @@ impl LotBoxes {
         }
     }
 
-    /// Takes in the boxes around new lots, which are live: of the lots from a place on, which have none yet.
+    /// Takes in the boxes `hulls` around new lots, which are live: of the lots from the place `first` on, which have none yet.
+    /// Each stands in the cube of its layer ([`moved`](crate::moved)).
     /// Answers `AllocError` only for want of memory; then all is as before.
     pub fn add_all(
         &mut self,

@@ -1,6 +1,9 @@
 #![tactic(auto)]
 //! A box around each lot, in indexes that find the lots which may meet a shape, or have a point, without a look at each.
 //!
+//! Each layer has a cube of its own, as far as its name tells, into which its boxes are moved ([`moved`]): so what is asked of
+//! a layer does not meet the lots of the others.
+//!
 //! The boxes are kept under the places of the lots: those of new lots are all taken in, or none where memory runs out, and
 //! lots that end leave the index of live ones without memory. [`LotBoxes::near`] answers the places of live lots of a layer,
 //! from a place on, with another id than one, around which the box meets a box: so of each that has a part which may meet a
@@ -12,6 +15,7 @@
 
 mod access;
 mod boxes;
+mod layer;
 mod moment;
 mod near;
 mod numbered;
@@ -19,6 +23,7 @@ mod owner;
 
 pub use access::{Access, Levels};
 pub use boxes::LotBoxes;
+pub use layer::moved;
 pub use moment::{Moment, is_there};
 pub use near::Reach;
 pub use owner::Holder;

@@ -6,9 +6,11 @@ ghost use Rattle.rp_space.specs.Boxes.{integer_box};
 ghost use Rattle.rp_history.specs.Lots.{lot_of};
 ghost use Rattle.rp_boxindex.specs.Meeting.{meeting_ids};
 ghost use Rattle.rp_nearby.specs.Indexed.{NoneBehind};
+ghost use Rattle.rp_nearby.specs.Layers.{moved};
 ghost use Rattle.rp_nearby.specs.Near.{is_closed, is_other_in, is_other_at, other_places, AreWithin, AreNear};
 
 use crate::boxes::LotBoxes;
+use crate::layer::moved;
 use rp_boxindex::{Steps, Watch};
 use rp_history::{History, LotLine};
 use rp_space::{IntBox, Listed, Name};
@@ -27,7 +29,8 @@ pub enum Reach {
 
 impl LotBoxes {
     /// The places, in rising order, of the live lots of a layer, from a place on, that have another id and around which the
-    /// box meets a box: so of each of them that has a part which may meet a part within that box.
+    /// box meets a box, both in the cube of the layer: so of each of them that has a part which may meet a part within that
+    /// box.
     /// Answers `AllocError` only for want of memory.
     pub fn near<W: Watch>(
         &self,
@@ -48,7 +51,8 @@ impl LotBoxes {
         ensures rising { IfOk result (λ places. IsStrictlySortedBy nat_cmp places.items) }
         ensures few { IfOk result (λ places. length places.items ≤ length history.now) }
     {
-        let places = self.reached::<W, Brand>(alloc, watch, hull, from, reach, Blank::new(1))?;
+        let hull = moved(layer, hull);
+        let places = self.reached::<W, Brand>(alloc, watch, &hull, from, reach, Blank::new(1))?;
         others(alloc, history, &places, layer, id)
     }
 

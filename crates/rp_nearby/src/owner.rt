@@ -9,6 +9,7 @@ ghost use Rattle.rp_boxindex.specs.Meeting.{do_meet, first_that, meeting_ids};
 ghost use Rattle.rp_nearby.specs.Owner.{boxes_at, is_there_at, IsOwner};
 
 use crate::boxes::LotBoxes;
+use crate::layer::moved;
 use crate::moment::{Moment, is_there};
 use rp_boxindex::{Choice, Index, Quiet, Steps};
 use rp_history::History;
@@ -71,7 +72,8 @@ impl LotBoxes {
             holder,
         };
         let index = self.boxes_at(moment);
-        let place = first::<_, Brand>(index, &unit_box(p), &owners, Blank::new(1))?;
+        let unit = moved(layer, &unit_box(p));
+        let place = first::<_, Brand>(index, &unit, &owners, Blank::new(1))?;
         Some(history.lots()[place as usize].id)
     }
 

@@ -4,23 +4,32 @@ use Rattle.std.specs.Ordering.{int_eq}
 use Rattle.rp_space.specs.Boxes.{integer_box}
 use Rattle.rp_boxindex.specs.Boxes.{Entry}
 use Rattle.rp_boxindex.specs.Counts.{count}
+use Rattle.rp_boxindex.specs.declared.place.Corner.{Corner}
 use Rattle.rp_boxindex.specs.declared.place.Place.{Place}
 
 -- the least x of an entry's box
 abbrev pub low : Entry → ℤ
 low e = (integer_box e.1).x1
 
--- the id of each entry, with the least x of its box
-abbrev pub lows_of : List Entry → List (ℕ × ℤ)
-lows_of es = map (λ e. (e.0, low e)) es
+-- the least corner of an entry's box
+abbrev pub corner_of : Entry → Corner
+corner_of e = record { x = (integer_box e.1).x1; y = (integer_box e.1).y1; z = (integer_box e.1).z1 }
+
+-- the id of each entry, with the least corner of its box
+abbrev pub lows_of : List Entry → List (ℕ × Corner)
+lows_of es = map (λ e. (e.0, corner_of e)) es
 
 -- the place of an entry in the order
 abbrev pub place_of : Entry → Place
-place_of e = record { x = low e; id = e.0 }
+place_of e = record { low = corner_of e; id = e.0 }
 
--- a place comes before another: by the least x, and by the id where two have the same
+-- a number is less than another, or the same, and what stands behind it decides
+abbrev pub is_less_or : ℤ → ℤ → Bool → Bool
+is_less_or a b behind = int_lt a b || (int_eq a b && behind)
+
+-- a place comes before another: by the least x, by the least y where that is the same, then by the least z, and by the id where the corners are the same
 abbrev pub precedes : Place → Place → Bool
-precedes p q = int_lt p.x q.x || (int_eq p.x q.x && nat_lt p.id q.id)
+precedes p q = is_less_or p.low.x q.low.x (is_less_or p.low.y q.low.y (is_less_or p.low.z q.low.z (nat_lt p.id q.id)))
 
 -- an entry comes before another
 abbrev pub is_before : Entry → Entry → Bool

@@ -13,10 +13,10 @@ add_all-requires-clause-ever_free g c = subst (λ (m : Boxes). NoneBehind m 0) (
 
 pub returns-clause-live : goal.returns-clause-live
 returns-clause-live g c =
-    let put = subst (λ r. OnOk r (ArePut c.new-boxes.result.live c.add_all.new.self.live 0 (boxes_in (c.union-hull.result ∷ [])))) c.expect.ensures c.add_all.ensures.live in
-    none_behind_put c.new-boxes.result.live c.add_all.new.self.live 0 1 (boxes_in (c.union-hull.result ∷ [])) put (omega arith)
+    let put = subst (λ r. OnOk r (ArePut c.new-boxes.result.live c.add_all.new.self.live 0 (boxes_in (c.moved-hull.result ∷ [])))) c.expect.ensures c.add_all.ensures.live in
+    none_behind_put c.new-boxes.result.live c.add_all.new.self.live 0 1 (boxes_in (c.moved-hull.result ∷ [])) put (omega arith)
 
 pub returns-clause-ever : goal.returns-clause-ever
 returns-clause-ever g c =
-    let put = subst (λ r. OnOk r (ArePut c.new-boxes.result.ever c.add_all.new.self.ever 0 (boxes_in (c.union-hull.result ∷ [])))) c.expect.ensures c.add_all.ensures.ever in
-    none_behind_put c.new-boxes.result.ever c.add_all.new.self.ever 0 1 (boxes_in (c.union-hull.result ∷ [])) put (omega arith)
+    let put = subst (λ r. OnOk r (ArePut c.new-boxes.result.ever c.add_all.new.self.ever 0 (boxes_in (c.moved-hull.result ∷ [])))) c.expect.ensures c.add_all.ensures.ever in
+    none_behind_put c.new-boxes.result.ever c.add_all.new.self.ever 0 1 (boxes_in (c.moved-hull.result ∷ [])) put (omega arith)

@@ -1,13 +1,11 @@
-use Rattle.std.proofs.Common.{◌≡◌, ℤ, false, ◌∷◌, None, sym, ap, ◌∙◌, rules, w32}
-use Rattle.std.proofs.lemmas.Int.{to_z-of_z}
-use mir.Val.{SFits}
+use Rattle.std.proofs.Common.{◌≡◌, false, ◌∷◌, None, sym, ap, ◌∙◌}
 use Rattle.std.specs.Ordering.{nat_cmp}
 use Rattle.std.specs.FinMap.{insert, contains_key}
 use Rattle.std.specs.Map.{lookup}
 use Rattle.std.specs.BTreeMap.{is_at, insert_entry}
 use Rattle.rp_boxindex.specs.Counts.{SameCounts}
 use Rattle.rp_boxindex.specs.Boxes.{Boxes}
-use Rattle.rp_boxindex.specs.tree.Order.{low, lows_of}
+use Rattle.rp_boxindex.specs.tree.Order.{corner_of, lows_of}
 use Rattle.rp_boxindex.proofs.Few.{not_too_high}
 use Rattle.rp_boxindex.proofs.Known.{none_of, memory_is_not_known}
 use Rattle.rp_boxindex.proofs.Maps.{contains_is, ids_unique, place_is_free, kept_inserted, map_inserted}
@@ -40,10 +38,7 @@ invariant_of-self-2 c =
     let absent : lookup (is_at (nat_cmp c.args.id)) c.self.inside.lows.map.entries ≡ None = none_of _ (sym c.contains.ensures ∙ c.if-contains.false) in
     let given = c.with.ensures.entries in
     let grown : SameCounts c.with.result.entries ((c.args.id, c.args.bounds) ∷ c.self.inside.tree.entries) = rw (c.in_ok-node.ensures, c.take-tree.ensures.taken) at given in
-    let x : ℤ = low (c.args.id, c.args.bounds) in
-    let x_fits : SFits w32 x = search rules in
-    let put_given = c.in_ok-insert.ensures.entries in
-    let put : c.insert.new.self.map.entries ≡ insert_entry nat_cmp c.self.inside.lows.map.entries c.args.id x = simp to_z-of_z at put_given in
+    let put : c.insert.new.self.map.entries ≡ insert_entry nat_cmp c.self.inside.lows.map.entries c.args.id (corner_of (c.args.id, c.args.bounds)) = c.in_ok-insert.ensures.entries ∙ ap (insert_entry nat_cmp c.self.inside.lows.map.entries c.args.id) c.of-low.ensures in
     kept_inserted c.self.inside.tree.entries c.with.result.entries c.self.inside.lows.map.entries c.insert.new.self.map.entries c.args.id c.args.bounds c.self.invariant absent grown put
 
 pub returns-clause-new : goal.returns-clause-new

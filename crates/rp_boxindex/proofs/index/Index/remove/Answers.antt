@@ -1,12 +1,11 @@
-use Rattle.std.proofs.Common.{◌≡◌, ℕ, ℤ, true, ◌++◌, List, Option, Some, MatchOption, sym, ap, ◌∙◌, rules, is_some, w32}
-use Rattle.std.proofs.lemmas.Int.{to_z-of_z}
-use mir.Val.{SFits}
+use Rattle.std.proofs.Common.{◌≡◌, ℕ, true, ◌++◌, List, Option, Some, MatchOption, sym, ap, ◌∙◌, is_some}
 use Rattle.std.specs.Ordering.{nat_cmp}
 use Rattle.std.specs.FinMap.{remove}
 use Rattle.std.specs.Map.{lookup}
 use Rattle.std.specs.BTreeMap.{is_at}
 use Rattle.std.specs.Option.{option_to_list}
 use Rattle.rp_boxindex.specs.Counts.{count, SameCounts}
+use Rattle.rp_boxindex.specs.declared.place.Corner.{Corner}
 use Rattle.rp_boxindex.specs.declared.place.Place.{Place}
 use Rattle.rp_boxindex.specs.Boxes.{Boxes, Entry}
 use Rattle.rp_boxindex.specs.tree.Order.{is_at_place}
@@ -23,19 +22,18 @@ without-rest-requires c =
 entry_taken : (c : goal.Joined-self-rest) → IsTaken c.self.inside.tree.entries c.without-rest.result.0.entries c.remove.new.self.map.entries c.args.id
 entry_taken c =
     let k : ℕ = c.args.id in
-    let x : ℤ = c.in-Some.x in
+    let low : Corner = c.in-Some.low in
     let t : List Entry = c.self.inside.tree.entries in
     let gone : Option Entry = c.without-rest.result.1 in
     let rest : List Entry = c.without-rest.result.0.entries in
-    let there : lookup (is_at (nat_cmp k)) c.self.inside.lows.map.entries ≡ Some x = sym c.remove.ensures.value ∙ c.in-Some.is in
+    let there : lookup (is_at (nat_cmp k)) c.self.inside.lows.map.entries ≡ Some low = sym c.remove.ensures.value ∙ c.in-Some.is in
     let shrunk_given = c.without-rest.ensures.entries in
     let shrunk : SameCounts t (option_to_list gone ++ rest) = rw c.take-tree.ensures.taken at shrunk_given in
     let found_given = c.without-rest.ensures.gone in
-    let place : Place = record { x = x; id = k } in
-    let x_fits : SFits w32 x = search rules in
-    let found : MatchOption gone (count (is_at_place place) t ≡ 0) (λ e. is_at_place place e ≡ true) = simp (c.take-tree.ensures.taken, to_z-of_z) at found_given in
+    let place : Place = record { low = low; id = k } in
+    let found : MatchOption gone (count (is_at_place place) t ≡ 0) (λ e. is_at_place place e ≡ true) = rw c.take-tree.ensures.taken at found_given in
     let out : IsTakenOut t rest place gone = record { shrunk = shrunk; found = found } in
-    taken t rest c.self.inside.lows.map.entries c.remove.new.self.map.entries k x gone c.self.invariant there c.remove.ensures.entries out
+    taken t rest c.self.inside.lows.map.entries c.remove.new.self.map.entries k low gone c.self.invariant there c.remove.ensures.entries out
 
 pub invariant_of-self-2 : goal.invariant_of-self-2
 invariant_of-self-2 c = (entry_taken c).kept

@@ -7,13 +7,12 @@ use Rattle.rp_states.proofs.Plain.{image_sums}
 use Rattle.rp_history.specs.Lots.{lots_after, AreBornBefore, AreNew}
 use Rattle.rp_history.specs.Parts.{lots_with_parts, new_lots}
 use Rattle.rp_history.proofs.Together.{born_before, new_to_history, after_with_parts, parts_after, new_parts}
-use Rattle.rp_algebra.proofs.Lists.{images_twice}
 use Rattle.rp_boxindex.specs.Boxes.{Boxes}
-use Rattle.rp_nearby.specs.Indexed.{boxes_in, hull_of_parts, ArePut}
+use Rattle.rp_nearby.specs.Indexed.{boxes_in, ArePut}
 use Rattle.rp_nearby.proofs.Put.{none_behind_put}
 use Rattle.rp_kept.specs.Kept.{AreFew, AreLots}
 use Rattle.rp_kept.proofs.Together.{lots_counted, lots_few, lots_parts, lots_kept_after}
-use Rattle.rp_kept.proofs.Boxed.{room_for, free_live, free_ever, lots_stay, lots_restored, indexed_replaced}
+use Rattle.rp_kept.proofs.Boxed.{boxes_of_new, boxes_counted, room_for, free_live, free_ever, lots_stay, lots_restored, indexed_replaced}
 use Rattle.rp_kept.proofs.lots.Lots.replace.Goals as goal
 
 pub count_parts-parts-requires : goal.count_parts-parts-requires
@@ -33,11 +32,11 @@ add_all-requires-clause-small g c =
     let first = ap length c.items-first.ensures ∙ sym (length-map i.forms.items parts) in
     let room = room_for i.history (map parts i.forms.items) i.parts i.boxes.live i.boxes.ever c.self.invariant (length c.items-first.result.now) first c.args.line c.args.ends.now c.args.births.now more (c.requires.each ∙ sym (length-map c.args.forms.items parts))
     (subst (λ (ls : List (Lot (Unit {0}))). AreFew (lots_after c.args.line ls (lots_replaced c.args.ends.now (new_lots c.args.births.now more)))) (sym c.self.view_is) c.requires.few) in
-    let hulls = ap length c.items.ensures in
-    let each = sym (length-map c.in_ok-hulls.hulls.items integer_box) ∙ ap length c.in_ok-hulls.ensures ∙ length-map c.items-added.result.now (λ f. hull_of_parts (parts f)) in
+    let boxes = ap length c.items.ensures in
+    let each = sym (length-map c.in_ok-boxes.boxes.items integer_box) ∙ ap length c.in_ok-boxes.ensures ∙ boxes_counted c.args.births.now (map parts c.items-added.result.now) (c.requires.each ∙ sym (ap length c.items-added.ensures) ∙ sym (length-map c.items-added.result.now parts)) ∙ length-map c.items-added.result.now parts in
     let new = ap length c.items-added.ensures in
     let many = length-map c.args.forms.items parts in
-    omega (arith, room, hulls, each, new, many)
+    omega (arith, room, boxes, each, new, many)
 
 pub add_all-requires-clause-live_free : goal.add_all-requires-clause-live_free
 add_all-requires-clause-live_free g c =
@@ -86,12 +85,14 @@ remove_all-requires-clause-small g c =
 
 pub remove_all-requires-clause-live_behind : goal.remove_all-requires-clause-live_behind
 remove_all-requires-clause-live_behind g c =
-    let many = ap length (ap boxes_in c.items.ensures ∙ c.in_ok-hulls.ensures) ∙ length-map c.items-added.result.now (λ f. hull_of_parts (g.F.Forms.parts_of f)) in
+    let parts = g.F.Forms.parts_of in
+    let many = ap length (ap boxes_in c.items.ensures ∙ c.in_ok-boxes.ensures) ∙ boxes_counted c.args.births.now (map parts c.items-added.result.now) (c.requires.each ∙ sym (ap length c.items-added.ensures) ∙ sym (length-map c.items-added.result.now parts)) ∙ length-map c.items-added.result.now parts in
     none_behind_put c.self.inside.boxes.live c.add_all.new.self.live (length c.items-first.result.now) _ (boxes_in c.items.result.now) c.in_ok-add_all.ensures.live (ap (λ (n : ℕ). length c.items-first.result.now + n) (sym many))
 
 pub remove_all-requires-clause-ever_behind : goal.remove_all-requires-clause-ever_behind
 remove_all-requires-clause-ever_behind g c =
-    let many = ap length (ap boxes_in c.items.ensures ∙ c.in_ok-hulls.ensures) ∙ length-map c.items-added.result.now (λ f. hull_of_parts (g.F.Forms.parts_of f)) in
+    let parts = g.F.Forms.parts_of in
+    let many = ap length (ap boxes_in c.items.ensures ∙ c.in_ok-boxes.ensures) ∙ boxes_counted c.args.births.now (map parts c.items-added.result.now) (c.requires.each ∙ sym (ap length c.items-added.ensures) ∙ sym (length-map c.items-added.result.now parts)) ∙ length-map c.items-added.result.now parts in
     none_behind_put c.self.inside.boxes.ever c.add_all.new.self.ever (length c.items-first.result.now) _ (boxes_in c.items.result.now) c.in_ok-add_all.ensures.ever (ap (λ (n : ℕ). length c.items-first.result.now + n) (sym many))
 
 pub invariant_of-self-in-Err : goal.invariant_of-self-in-Err
@@ -132,10 +133,10 @@ invariant_of-self-2 g c =
     let first = ap length c.items-first.ensures ∙ sym (length-map i.forms.items parts) in
     let appended = rw c.unwrap.ensures at c.append.ensures.ok in
     let all = ap (map parts) (appended ∙ ap (λ (fs : List _). fs ++ c.args.forms.items) c.in_ok-reserve.ensures.items) ∙ map-append parts i.forms.items c.args.forms.items in
-    let hulls = ap boxes_in c.items.ensures ∙ c.in_ok-hulls.ensures ∙ ap (map (λ f. hull_of_parts (parts f))) c.items-added.ensures ∙ sym (images_twice parts hull_of_parts c.args.forms.items) in
+    let boxes = ap boxes_in c.items.ensures ∙ c.in_ok-boxes.ensures ∙ ap (λ fs. boxes_of_new c.args.births.now (map parts fs)) c.items-added.ensures in
     let also = subst (λ (m : Boxes). ArePut i.boxes.ever m (length c.items-first.result.now) (boxes_in c.items.result.now)) (sym c.end_all.ensures.ever) c.in_ok-add_all.ensures.ever in
     let indexed = indexed_replaced i.history (map parts i.forms.items) i.parts i.boxes.live i.boxes.ever c.self.invariant (length c.items-first.result.now) first c.args.line c.args.ends.now c.note.new.self c.args.births.now more
-    (boxes_in c.items.result.now) c.add_all.new.self.live c.end_all.new.self.live c.end_all.new.self.ever each c.in_default.ensures.ok hulls c.in_ok-add_all.ensures.live also c.end_all.ensures.live in
+    (boxes_in c.items.result.now) c.add_all.new.self.live c.end_all.new.self.live c.end_all.new.self.ever each c.in_default.ensures.ok boxes c.in_ok-add_all.ensures.live also c.end_all.ensures.live in
     lots_kept_after c.args.line c.args.ends.now c.args.births.now i.history c.note.new.self (map parts i.forms.items) more (map parts c.append.new.self.items) i.parts c.count_parts-parts.result i.boxes.live i.boxes.ever c.end_all.new.self.live c.end_all.new.self.ever c.self.invariant each
     (subst (λ (ls : List (Lot (Unit {0}))). AreFew (lots_after c.args.line ls (lots_replaced c.args.ends.now (new_lots c.args.births.now more)))) (sym c.self.view_is) c.requires.few)
     c.in_default.ensures.well.distinct c.in_default.ensures.ok all

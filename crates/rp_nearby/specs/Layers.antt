@@ -1,0 +1,37 @@
+-- Where the boxes of each layer stand: in a cube of its own, as far as its name tells.
+use Rattle.std.specs.Prelude.{ℕ, ◌+◌, ◌*◌, ◌/◌, ◌%◌, Bool, cond, ◌&&◌, ℤ, pos, negsuc, ◌+ℤ◌, ◌-ℤ◌, ◌*ℤ◌, int_le, List, [], ◌∷◌}
+use Rattle.rp_geometry.specs.Geometry.{IntegerBox}
+use Rattle.rp_language.specs.Name.{Label}
+
+-- a number below 64 * 64 * 64 that is made of bytes, after another number
+abbrev pub mixed : ℕ → List ℕ → ℕ
+mixed n [] = n
+mixed n (b ∷ bs) = mixed ((n * 131 + b) % 262144) bs
+
+-- the number of a layer
+abbrev pub cube_number : Label → ℕ
+cube_number y = mixed 0 y
+
+-- how far the cube of a number is moved along an axis
+abbrev pub step_of : ℕ → ℤ
+step_of n = ((pos n -ℤ pos 32) *ℤ pos 67108864) +ℤ pos 33554432
+
+-- a coordinate is one of the domain, or next to it
+abbrev pub is_near_domain : ℤ → Bool
+is_near_domain v = int_le (negsuc 16777216) v && int_le v (pos 16777217)
+
+-- a lower side, moved; one outside of the domain goes as far as a machine number
+abbrev pub moved_low : ℤ → ℤ → ℤ
+moved_low t v = cond (is_near_domain v) (t +ℤ v) (negsuc 2147483647)
+
+-- an upper side, moved
+abbrev pub moved_high : ℤ → ℤ → ℤ
+moved_high t v = cond (is_near_domain v) (t +ℤ v) (pos 2147483647)
+
+-- a box, moved by a step on each axis
+abbrev pub moved_by : ℤ → ℤ → ℤ → IntegerBox → IntegerBox
+moved_by x y z b = record { x1 = moved_low x b.x1; x2 = moved_high x b.x2; y1 = moved_low y b.y1; y2 = moved_high y b.y2; z1 = moved_low z b.z1; z2 = moved_high z b.z2 }
+
+-- a box, moved into the cube of a layer
+unfoldable pub moved : Label → IntegerBox → IntegerBox
+moved y b = let n = cube_number y in moved_by (step_of (n % 64)) (step_of (n / 64 % 64)) (step_of (n / 4096 % 64)) b
