@@ -1,8 +1,11 @@
 -- What the searches that a decision calls have found, and that one of them always finds something.
-use Rattle.std.proofs.Common.{◌≡◌, true, false, List, Option, Some, None, refl, sym, ap, ◌∙◌, subst}
+use Rattle.std.proofs.Common.{◌≡◌, true, false, List, ◌∷◌, Option, Some, None, refl, sym, ap, ◌∙◌, subst}
 use Rattle.std.specs.Prelude.{◌↔◌, IsSome, IsNone, IfSome, IsTrue, unwrap_or, []}
 use Rattle.rp_algebra.proofs.Options.{of_some}
-use Rattle.rp_geometry.specs.Geometry.{RationalPoint, HalfSpace}
+use Rattle.rp_algebra.specs.Integer.{is_positive, is_nonnegative}
+use Rattle.rp_algebra.proofs.IntLaws.{nonneg_of_pos_ℤ}
+use Rattle.rp_algebra.proofs.Tests.{and_first, and_second, and_true, positive_is, is_nonnegative_true}
+use Rattle.rp_geometry.specs.Geometry.{RationalPoint, HalfSpace, side_value, all_positive, all_nonnegative, with_cube}
 use Rattle.rp_geometry.specs.sets.Shape.{shape_of_cell}
 use Rattle.rp_geometry.specs.sets.Sets.{IsEmpty, IsNonempty}
 use Rattle.rp_geometry.specs.searches.Certificate.{Multiple, is_inside_certificate}
@@ -71,6 +74,14 @@ decided_inside cell same o points e f k s =
     let passes = subst (λ (hs : List HalfSpace). IsTrue (is_inside_certificate hs points)) e (of_some (λ ps. IsTrue (is_inside_certificate same ps)) o points s k) in
     (sym (f ∙ ap first_inside e) ∙ s, passes, inside_certificate_shows_member_spec cell points passes)
 
+-- where all half-spaces are positive none is negative
+nonnegative_where_positive : (hs : List HalfSpace) (p : RationalPoint) → IsTrue (all_positive hs p) → IsTrue (all_nonnegative hs p)
+nonnegative_where_positive [] p e = refl
+nonnegative_where_positive (h ∷ hs) p e =
+    and_true (is_nonnegative (side_value h p)) (all_nonnegative hs p)
+    (is_nonnegative_true (side_value h p) (nonneg_of_pos_ℤ (side_value h p) (positive_is (side_value h p) (and_first (is_positive (side_value h p)) (all_positive hs p) e))))
+    (nonnegative_where_positive hs p (and_second (is_positive (side_value h p)) (all_positive hs p) e))
+
 -- a cell without a strict solution has no member
 pub empty_without_solution : (cell : List HalfSpace) → AreHalfSpaces cell → ((p : RationalPoint) → ¬ IsSolution true cell p) → IsEmpty (shape_of_cell cell)
 empty_without_solution cell bounds none q m = let s = member_moves_inside_spec cell bounds (q, m) in none s.0 s.1
@@ -85,3 +96,9 @@ pub line_of_apart : (cell : List HalfSpace) (terms : List Multiple) → AreHalfS
     → apart_line terms ≡ weak_line cell
 line_of_apart cell terms bounds none first =
     line_apart cell terms (none_unless (first_weak_point cell) (λ s. let m = (weak_point_is_found_spec cell bounds).some.0 s in none m.0 m.1)) first
+
+-- a cell with a member has a solution of its weak system too
+pub weak_solution_of : (cell : List HalfSpace) → AreHalfSpaces cell → IsNonempty (shape_of_cell cell) → (p : RationalPoint) × IsSolution false cell p
+weak_solution_of cell bounds some =
+    let s = member_moves_inside_spec cell bounds some in
+    (s.0, (s.1.0, nonnegative_where_positive (with_cube cell) s.0 s.1.1))

@@ -1,8 +1,8 @@
 //! Whether a cell has a point, and whether its weak system has one.
-ghost use Rattle.std.specs.Prelude.{◌≡◌, ◌≤◌, true, false, length, IsTrue, IfSome, Some};
+ghost use Rattle.std.specs.Prelude.{◌≡◌, ◌≤◌, ◌++◌, true, false, length, IsTrue, IfSome, Some};
 ghost use Rattle.rp_geometry.specs.Geometry.{RationalPoint, with_cube};
 ghost use Rattle.rp_geometry.specs.sets.Shape.{shape_of_cell};
-ghost use Rattle.rp_geometry.specs.sets.Sets.{IsEmpty};
+ghost use Rattle.rp_geometry.specs.sets.Sets.{IsEmpty, IsNonempty};
 ghost use Rattle.rp_geometry.specs.laws.CellLaws.{IsSolution};
 ghost use Rattle.rp_geometry.specs.searches.Certificate.{is_outside_certificate};
 ghost use Rattle.rp_geometry.specs.searches.Elimination.{first_outside};
@@ -13,7 +13,7 @@ ghost use Rattle.rp_cell.specs.Decisions.{line_of_strict, line_of_weak, DecidesS
 
 use crate::held::Held;
 use rp_clip::{inside_on_polygons, weak_on_polygon};
-use rp_elim::{first_outside, first_outside_of_two};
+use rp_elim::{first_outside, first_outside_between, first_outside_of_two};
 use rp_space::{Half, Inside, Outside, Point, keep_bounds};
 use rp_vertex::{first_inside, first_weak, inside_on_few_lines, weak_on_few_lines};
 
@@ -54,47 +54,61 @@ pub fn decide_strict(cell: &[Half]) -> Strict
     ensures decides { DecidesStrict cell.now result }
     ensures line { line_of_strict result ≡ strict_line cell.now }
 {
-    if cell.len() < FEW_FOR_PAIRS {
-        return search_strict(cell);
-    }
-    if cell.len() < MANY {
-        return refute_first(cell);
-    }
-    match inside_on_polygons(cell) {
-        Some(points) => Strict::Inside(points),
-        None => refute_first(cell),
-    }
-}
-
-/// The same, by a refutation by two half-spaces, if there is one.
-fn refute_first(cell: &[Half]) -> Strict
-    requires { length cell.now ≤ 64 }
-    ensures decides { DecidesStrict cell.now result }
-    ensures line { line_of_strict result ≡ strict_line cell.now }
-{
-    if let Some(terms) = refute_by_two(cell) {
-        return Strict::Outside(terms);
-    }
-    if cell.len() < FEW {
-        return search_strict(cell);
-    }
-    try_strict(cell)
-}
-
-/// The same, by a search on a few lines, and over vertices where one of the points is on none of them.
-fn try_strict(cell: &[Half]) -> Strict
-    requires { length cell.now ≤ 64 }
-    ensures decides { DecidesStrict cell.now result }
-    ensures line { line_of_strict result ≡ strict_line cell.now }
-{
-    match inside_on_few_lines(cell) {
-        Some(points) => Strict::Inside(points),
+    match strict_soon(cell) {
+        Some(found) => found,
         None => hold_strict(cell),
     }
 }
 
-/// The same, over vertices. It is apart so that nobody else makes room for them.
-fn hold_strict(cell: &[Half]) -> Strict
+/// Whether a cell has a point, as `decide_strict` answers, where that is found without its vertices; with `None` it is left
+/// open. A cell has at most 64 half-spaces. Takes no memory.
+pub fn strict_soon(cell: &[Half]) -> Option<Strict>
+    requires { length cell.now ≤ 64 }
+    ensures decides { IfSome result (λ found. DecidesStrict cell.now found) }
+    ensures line { IfSome result (λ found. line_of_strict found ≡ strict_line cell.now) }
+{
+    if cell.len() < FEW_FOR_PAIRS {
+        return Some(search_strict(cell));
+    }
+    if cell.len() < MANY {
+        return refute_soon(cell);
+    }
+    match inside_on_polygons(cell) {
+        Some(points) => Some(Strict::Inside(points)),
+        None => refute_soon(cell),
+    }
+}
+
+/// The same, by a refutation by two half-spaces, if there is one.
+fn refute_soon(cell: &[Half]) -> Option<Strict>
+    requires { length cell.now ≤ 64 }
+    ensures decides { IfSome result (λ found. DecidesStrict cell.now found) }
+    ensures line { IfSome result (λ found. line_of_strict found ≡ strict_line cell.now) }
+{
+    if let Some(terms) = refute_by_two(cell) {
+        return Some(Strict::Outside(terms));
+    }
+    if cell.len() < FEW {
+        return Some(search_strict(cell));
+    }
+    try_strict(cell)
+}
+
+/// The same, by a search on a few lines. With `None` one of the points is on none of them.
+fn try_strict(cell: &[Half]) -> Option<Strict>
+    requires { length cell.now ≤ 64 }
+    ensures decides { IfSome result (λ found. DecidesStrict cell.now found) }
+    ensures line { IfSome result (λ found. line_of_strict found ≡ strict_line cell.now) }
+{
+    match inside_on_few_lines(cell) {
+        Some(points) => Some(Strict::Inside(points)),
+        None => None,
+    }
+}
+
+/// Whether a cell has a point, as `decide_strict` answers: by the cell's vertices at once. A cell has at most 64 half-spaces. Takes no
+/// memory. It is apart so that nobody else makes room for the vertices.
+pub fn hold_strict(cell: &[Half]) -> Strict
     requires { length cell.now ≤ 64 }
     ensures decides { DecidesStrict cell.now result }
     ensures line { line_of_strict result ≡ strict_line cell.now }
@@ -122,18 +136,31 @@ pub fn decide_weak(cell: &[Half]) -> Weak
     ensures decides { DecidesWeak cell.now result }
     ensures line { line_of_weak result ≡ weak_line cell.now }
 {
-    if cell.len() < FEW_FOR_PAIRS {
-        return search_weak(cell);
-    }
     match weak_soon(cell) {
-        Some(p) => Weak::At(p),
-        None => refute_weak_first(cell),
+        Some(found) => found,
+        None => hold_weak(cell),
+    }
+}
+
+/// Whether the weak system of a cell has a point, as `decide_weak` answers, where that is found without the cell's vertices;
+/// with `None` it is left open. A cell has at most 64 half-spaces. Takes no memory.
+pub fn weak_soon(cell: &[Half]) -> Option<Weak>
+    requires { length cell.now ≤ 64 }
+    ensures decides { IfSome result (λ found. DecidesWeak cell.now found) }
+    ensures line { IfSome result (λ found. line_of_weak found ≡ weak_line cell.now) }
+{
+    if cell.len() < FEW_FOR_PAIRS {
+        return Some(search_weak(cell));
+    }
+    match point_soon(cell) {
+        Some(p) => Some(Weak::At(p)),
+        None => refute_weak_soon(cell),
     }
 }
 
 /// The first weak point of a cell, if it is where it is sought first: on a few lines, or on the polygon of the first plane
 /// of a large cell. `None` tells nothing. In small cells a point is not sought so.
-fn weak_soon(cell: &[Half]) -> Option<Point>
+fn point_soon(cell: &[Half]) -> Option<Point>
     requires { length cell.now ≤ 64 }
     ensures first { IfSome result (λ p. first_weak_point cell.now ≡ Some p) }
     ensures passes { IfSome result (λ p. IsSolution false cell.now p) }
@@ -147,40 +174,41 @@ fn weak_soon(cell: &[Half]) -> Option<Point>
     weak_on_polygon(cell)
 }
 
-/// The same, by a refutation by two half-spaces, if there is one.
-fn refute_weak_first(cell: &[Half]) -> Weak
+/// The same as `weak_soon`, by a refutation by two half-spaces, if there is one.
+fn refute_weak_soon(cell: &[Half]) -> Option<Weak>
     requires { length cell.now ≤ 64 }
-    ensures decides { DecidesWeak cell.now result }
-    ensures line { line_of_weak result ≡ weak_line cell.now }
+    ensures decides { IfSome result (λ found. DecidesWeak cell.now found) }
+    ensures line { IfSome result (λ found. line_of_weak found ≡ weak_line cell.now) }
 {
     // Only so that it is known of all half-spaces that they keep their bounds.
     keep_bounds(cell);
     if let Some(terms) = first_outside_of_two(cell, false) {
-        return Weak::Outside(terms);
+        return Some(Weak::Outside(terms));
     }
     if cell.len() < FEW {
-        return search_weak(cell);
+        return Some(search_weak(cell));
     }
     if cell.len() < MANY {
-        return hold_weak(cell);
+        return None;
     }
     try_weak(cell)
 }
 
-/// The same, by a search on a few lines of one plane, and over vertices where the first point is on none of them.
-fn try_weak(cell: &[Half]) -> Weak
+/// The same, by a search on a few lines of one plane. With `None` the first point is on none of them.
+fn try_weak(cell: &[Half]) -> Option<Weak>
     requires { length cell.now ≤ 64 }
-    ensures decides { DecidesWeak cell.now result }
-    ensures line { line_of_weak result ≡ weak_line cell.now }
+    ensures decides { IfSome result (λ found. DecidesWeak cell.now found) }
+    ensures line { IfSome result (λ found. line_of_weak found ≡ weak_line cell.now) }
 {
     match weak_on_few_lines(cell) {
-        Some(p) => Weak::At(p),
-        None => hold_weak(cell),
+        Some(p) => Some(Weak::At(p)),
+        None => None,
     }
 }
 
-/// The same, over vertices. It is apart so that nobody else makes room for them.
-fn hold_weak(cell: &[Half]) -> Weak
+/// Whether the weak system of a cell has a point, as `decide_weak` answers: by the cell's vertices at once. A cell has at most 64 half-spaces. Takes no
+/// memory. It is apart so that nobody else makes room for the vertices.
+pub fn hold_weak(cell: &[Half]) -> Weak
     requires { length cell.now ≤ 64 }
     ensures decides { DecidesWeak cell.now result }
     ensures line { line_of_weak result ≡ weak_line cell.now }
@@ -213,6 +241,33 @@ pub fn refute_by_two(cell: &[Half]) -> Option<Outside>
     // Only so that it is known of all half-spaces that they keep their bounds.
     keep_bounds(cell);
     first_outside_of_two(cell, true)
+}
+
+/// The first outside certificate of two cells together, each of which has a point, where it has at most two terms: then they
+/// share no point. With `None` that is not known. Only one half-space of the first with one of the second may refute, so the
+/// cells need not be joined. They have at most 64 half-spaces together. Takes no memory.
+pub fn refute_between(first: &[Half], second: &[Half]) -> Option<Outside>
+    requires first { IsNonempty (shape_of_cell first.now) }
+    requires second { IsNonempty (shape_of_cell second.now) }
+    ensures { IfSome result (λ terms. out_line terms ≡ strict_line (first.now ++ second.now)) }
+{
+    // Only so that it is known of all half-spaces that they keep their bounds.
+    keep_bounds(first);
+    keep_bounds(second);
+    first_outside_between(first, second, true)
+}
+
+/// The same of the weak systems of two cells, each of which has a point: the first outside certificate that is not strict of
+/// both together, where it has at most two terms.
+pub fn refute_weak_between(first: &[Half], second: &[Half]) -> Option<Outside>
+    requires first { IsNonempty (shape_of_cell first.now) }
+    requires second { IsNonempty (shape_of_cell second.now) }
+    ensures { IfSome result (λ terms. apart_line terms ≡ weak_line (first.now ++ second.now)) }
+{
+    // Only so that it is known of all half-spaces that they keep their bounds.
+    keep_bounds(first);
+    keep_bounds(second);
+    first_outside_between(first, second, false)
 }
 
 /// The first outside certificate of a cell that is known to have no point. Points are not searched for.

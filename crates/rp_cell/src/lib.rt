@@ -43,7 +43,8 @@ mod slimming;
 
 pub use bounds::{Sides, box_of, sides_of};
 pub use decide::{
-    Strict, Weak, decide_strict, decide_weak, refute_by_two, refute_strict, refute_weak,
+    Strict, Weak, decide_strict, decide_weak, hold_strict, hold_weak, refute_between,
+    refute_by_two, refute_strict, refute_weak, refute_weak_between, strict_soon, weak_soon,
 };
 pub use held::Held;
 pub use side_proofs::SideProofs;

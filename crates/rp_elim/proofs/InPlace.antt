@@ -84,7 +84,7 @@ through_all strict xs k ys e =
     (or_else (through_three (refutation_of_three strict) xs k ys t.0 i) (through_four (refutation_of_four strict) xs k ys t.1 i)))
 
 -- none is none
-is_none : (o : Option (List Multiple)) → IsNone o → o ≡ None
+pub is_none : (o : Option (List Multiple)) → IsNone o → o ≡ None
 is_none None e = refl
 is_none (Some terms) e = absurd (cc)
 

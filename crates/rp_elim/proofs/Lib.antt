@@ -9,3 +9,4 @@ pub mod Dependent
 pub mod Opposed
 pub mod Unfit
 pub mod InPlace
+pub mod Between

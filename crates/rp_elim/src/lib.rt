@@ -19,7 +19,8 @@
 //! Where all but one half-space have a solution, that one is in every certificate, and only the sets that contain it
 //! are tried ([`first_outside_through`]). Of the sets of one size that share a half-space the first is the one whose
 //! others come first, so what is found is the first of all. A certificate of at most two terms is found by itself
-//! ([`first_outside_of_two`]), where it is the first: two boxes apart always have one.
+//! ([`first_outside_of_two`]), where it is the first: two boxes apart always have one. Of two cells that have solutions it
+//! has one term of each ([`first_outside_between`]).
 
 mod couple;
 mod cross;
@@ -34,5 +35,5 @@ mod triple;
 pub use lowest::lowest_terms;
 pub use minors::{Axis, minors_of_two, minors_on_axes};
 pub use refutation::{are_multipliers, are_negated_multipliers, negated};
-pub use search::{first_outside, first_outside_of_two};
+pub use search::{first_outside, first_outside_between, first_outside_of_two};
 pub use through::first_outside_through;

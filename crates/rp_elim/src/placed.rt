@@ -1,6 +1,5 @@
 //! The half-spaces of a list beside one that is held fast.
-ghost use Rattle.std.specs.Prelude.{◌≡◌, ◌+◌, ◌<◌, ◌≤◌, ◌++◌, true, false, length, map};
-ghost use Rattle.arrayvec.specs.ArrayVec.{array_vec_len};
+ghost use Rattle.std.specs.Prelude.{◌≡◌, ◌+◌, ◌≤◌, [], ◌++◌, true, false, length, map};
 ghost use Rattle.rp_geometry.specs.Geometry.{with_cube};
 ghost use Rattle.rp_elim.specs.HeldFast.{placed_at, placed_list};
 
@@ -14,25 +13,25 @@ pub struct Placed {
     pub before: bool,
 }
 
-/// The others of a list of at most 70 half-spaces, which take no memory.
-pub type Others = ArrayVec<Placed, 69>;
-
-/// The half-spaces of `before`, which stand before one, then those of `after`, which stand behind it, and the cube's
-/// six.
-pub fn others_of(before: &[Half], after: &[Half]) -> Others
-    requires { length before.now + length after.now < 64 }
-    ensures { result.items ≡ placed_list before.now (with_cube after.now) }
+/// Appends to `others` the half-spaces of `before`, which stand before one, then those of `after`, which stand behind it,
+/// and the cube's six; there is room for them.
+pub fn place<const MOST: usize>(
+    others: &mut ArrayVec<Placed, MOST>,
+    before: &[Half],
+    after: &[Half],
+)
+    requires room { length before.now + length after.now + 6 ≤ MOST }
+    requires empty { others.old.items ≡ [] }
+    ensures { others.new.items ≡ placed_list before.now (with_cube after.now) }
 {
-    let mut others = Others::new();
-    extend(&mut others, before, true);
-    extend(&mut others, after, false);
-    extend(&mut others, &cube(), false);
-    others
+    extend(others, before, true);
+    extend(others, after, false);
+    extend(others, &cube(), false);
 }
 
 /// Appends half-spaces, for which there is room.
-fn extend(others: &mut Others, halves: &[Half], before: bool)
-    requires { array_vec_len others.old + length halves.now ≤ 69 }
+fn extend<const MOST: usize>(others: &mut ArrayVec<Placed, MOST>, halves: &[Half], before: bool)
+    requires { length others.old.items + length halves.now ≤ MOST }
     ensures { others.new.items ≡ others.old.items ++ map (placed_at before) halves.now }
 {
     for half in halves {

@@ -1,5 +1,5 @@
 //! Searches over one, two, three and four half-spaces, in the order of their places.
-ghost use Rattle.std.specs.Prelude.{◌≡◌, ◌↔◌, ◌≤◌, Bool, true, length, None, Some, IsNone, IfSome, IsTrue};
+ghost use Rattle.std.specs.Prelude.{◌≡◌, ◌↔◌, ◌≤◌, ◌++◌, Bool, true, length, None, Some, IsNone, IfSome, IsTrue};
 ghost use Rattle.rp_geometry.specs.Geometry.{RationalPoint, with_cube};
 ghost use Rattle.rp_geometry.specs.laws.CellLaws.{IsSolution};
 ghost use Rattle.rp_geometry.specs.searches.Certificate.{is_outside_certificate};
@@ -12,7 +12,7 @@ use crate::cross::Cross;
 use crate::minors::{are_parallel, is_without_normal, may_cancel, minors_of_two};
 use crate::refutation::{positive_refutation, refutation};
 use crate::triple::Triple;
-use rp_space::{Half, Outside, Term, with_cube};
+use rp_space::{Half, Outside, Term, keep_bounds, with_cube};
 
 /// The first outside certificate of a cell (Farkas, Motzkin): the first few of its half-spaces and the cube's six, by
 /// their number and then by their places, with positive multiples that cancel and whose offsets add up to at most 0
@@ -42,6 +42,35 @@ pub fn first_outside_of_two(cell: &[Half], strict: bool) -> Option<Outside>
 {
     let system = with_cube(cell);
     first_of_two(strict, system.as_slice())
+}
+
+/// The first outside certificate of two cells together, if it has at most two terms, as `first_outside_of_two` finds it. Each
+/// of the cells has a solution, so that only one half-space of the first with one of the second may refute, and no other two
+/// are tried. The cells have at most 64 half-spaces together.
+pub fn first_outside_between(first: &[Half], second: &[Half], strict: bool) -> Option<Outside>
+    requires first { (p : RationalPoint) × IsSolution strict first.now p }
+    requires second { (p : RationalPoint) × IsSolution strict second.now p }
+    ensures found { result ≡ first_of_two strict (with_cube (first.now ++ second.now)) }
+    ensures first { IfSome result (λ terms. first_outside strict (first.now ++ second.now) ≡ Some terms) }
+    ensures passes { IfSome result (λ terms. IsTrue (is_outside_certificate strict (first.now ++ second.now) terms)) }
+    ensures none { IfSome result (λ terms. (p : RationalPoint) → ¬ IsSolution strict (first.now ++ second.now) p) }
+{
+    // Only so that it is known of all half-spaces that they keep their bounds.
+    keep_bounds(first);
+    keep_bounds(second);
+    first_between(strict, first, second)
+}
+
+/// The first refutation by one half-space of a list and one of a second list.
+fn first_between(strict: bool, gs: &[Half], hs: &[Half]) -> Option<Outside>
+    ensures { result ≡ first_of (λ g. first_of (refutation_of_two strict g) hs.now) gs.now }
+{
+    for g in gs {
+        if let Some(terms) = first_two_with(strict, g, hs) {
+            return Some(terms);
+        }
+    }
+    None
 }
 
 /// The first refutation among the half-spaces of a list, by number of terms and then by places.
@@ -91,7 +120,7 @@ pub fn refutation_of_two(strict: bool, g: &Half, h: &Half) -> Option<Outside>
 
 /// Whether the signs of the coefficients tell that two half-spaces do not refute. Most pairs are passed over so,
 /// without room for terms.
-fn are_passed_over(g: &Half, h: &Half) -> bool
+pub fn are_passed_over(g: &Half, h: &Half) -> bool
     ensures { result ≡ true → (strict : Bool) → refutation_of_two strict g.now h.now ≡ None }
 {
     !may_cancel(g, h)

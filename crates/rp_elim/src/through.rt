@@ -1,6 +1,6 @@
 //! The search for the first refutation where one half-space is known to be in each.
-ghost use Rattle.std.specs.Prelude.{◌≡◌, ◌↔◌, ◌+◌, ◌<◌, ◌∷◌, ◌++◌, true, pos, neg_ℤ, length, IsNone, IfSome, IsTrue};
-ghost use Rattle.rp_geometry.specs.Geometry.{RationalPoint};
+ghost use Rattle.std.specs.Prelude.{◌≡◌, ◌↔◌, ◌+◌, ◌<◌, ◌≤◌, ◌∷◌, ◌++◌, Bool, true, pos, neg_ℤ, length, None, IsNone, IfSome, IsTrue};
+ghost use Rattle.rp_geometry.specs.Geometry.{RationalPoint, with_cube};
 ghost use Rattle.rp_geometry.specs.laws.CellLaws.{IsSolution};
 ghost use Rattle.rp_geometry.specs.searches.Certificate.{is_outside_certificate};
 ghost use Rattle.rp_geometry.specs.searches.Search.{first_of, first_of_pairs, first_of_triples};
@@ -8,16 +8,26 @@ ghost use Rattle.rp_geometry.specs.searches.Vertex.{meeting_weight};
 ghost use Rattle.rp_geometry.specs.searches.Elimination.{refutation_of_two, refutation_of_three, refutation_of_four, first_outside};
 ghost use Rattle.rp_space.specs.TwoHalfSpaces.{two_of};
 ghost use Rattle.rp_elim.specs.Sides.{three_of};
-ghost use Rattle.rp_elim.specs.HeldFast.{two_in_order, three_in_order, four_in_order, first_through};
+ghost use Rattle.rp_elim.specs.HeldFast.{placed_list, two_in_order, three_in_order, four_in_order, first_through};
 
 use crate::couple::Couple;
 use crate::cross::Cross;
 use crate::minors::minors_of_four;
-use crate::placed::{Placed, others_of};
+use crate::placed::{Placed, place};
 use crate::refutation::refutation;
-use crate::search::{refutation_of_one, refutation_of_two};
+use crate::search::{are_passed_over, refutation_of_one, refutation_of_two};
 use crate::triple::Triple;
+use arrayvec::ArrayVec;
 use rp_space::{Half, Outside, keep_bounds};
+
+/// So many others are few.
+const FEW: usize = 14;
+
+/// The places of a list of few others and the cube's six half-spaces.
+const FEW_PLACES: usize = 20;
+
+/// The places of a list of 63 others and the cube's six half-spaces.
+const MOST_PLACES: usize = 69;
 
 /// The first outside certificate of the cell of `before`, `half` and `after`, in this order, where `before` and `after`
 /// alone have a solution: a point at which all of them are positive (`strict`), or none is negative. At that point no
@@ -40,7 +50,37 @@ pub fn first_outside_through(
     keep_bounds(before);
     let _ = half.numbers();
     keep_bounds(after);
-    let others = others_of(before, after);
+    first_beside(strict, before, half, after)
+}
+
+/// The first refutation by a half-space and others, of which most cells have so few that a short list has room for them.
+fn first_beside(strict: bool, before: &[Half], half: &Half, after: &[Half]) -> Option<Outside>
+    requires { length before.now + length after.now < 64 }
+    ensures { result ≡ first_through strict half.now (placed_list before.now (with_cube after.now)) }
+{
+    if before.len() + after.len() <= FEW {
+        return first_beside_few(strict, before, half, after);
+    }
+    first_beside_many(strict, before, half, after)
+}
+
+/// The same, with the others in a short list. It is apart so that nobody else makes room for it.
+fn first_beside_few(strict: bool, before: &[Half], half: &Half, after: &[Half]) -> Option<Outside>
+    requires { length before.now + length after.now ≤ 14 }
+    ensures { result ≡ first_through strict half.now (placed_list before.now (with_cube after.now)) }
+{
+    let mut others = ArrayVec::<Placed, FEW_PLACES>::new();
+    place(&mut others, before, after);
+    first_through(strict, half, others.as_slice())
+}
+
+/// The same, with the others in a long list.
+fn first_beside_many(strict: bool, before: &[Half], half: &Half, after: &[Half]) -> Option<Outside>
+    requires { length before.now + length after.now < 64 }
+    ensures { result ≡ first_through strict half.now (placed_list before.now (with_cube after.now)) }
+{
+    let mut others = ArrayVec::<Placed, MOST_PLACES>::new();
+    place(&mut others, before, after);
     first_through(strict, half, others.as_slice())
 }
 
@@ -64,12 +104,25 @@ fn first_through(strict: bool, k: &Half, others: &[Placed]) -> Option<Outside>
 fn first_two(strict: bool, k: &Half, ps: &[Placed]) -> Option<Outside>
     ensures { result ≡ first_of (two_in_order (refutation_of_two strict) k.now) ps.now }
 {
-    for i in 0..ps.len() {
-        if let Some(terms) = two_in_order(strict, k, &ps[i]) {
+    for p in ps {
+        if is_passed_over(k, p) {
+            continue;
+        }
+        if let Some(terms) = two_in_order(strict, k, p) {
             return Some(terms);
         }
     }
     None
+}
+
+/// Whether the signs of the coefficients tell that a half-space and another one do not refute, in the order of their places.
+fn is_passed_over(k: &Half, p: &Placed) -> bool
+    ensures { result ≡ true → (strict : Bool) → two_in_order (refutation_of_two strict) k.now p.now ≡ None }
+{
+    if p.before {
+        return are_passed_over(&p.half, k);
+    }
+    are_passed_over(k, &p.half)
 }
 
 /// The refutation by a half-space and another one, in the order of their places, if they refute.

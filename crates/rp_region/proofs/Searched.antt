@@ -1,5 +1,5 @@
 -- What is left of a search over a list, item by item, up to the first that is found.
-use Rattle.std.proofs.Common.{◌≡◌, ℕ, ◌+◌, ◌<◌, ◌≤◌, Bool, true, false, List, [], ◌∷◌, ◌++◌, length, get_or, take, drop, refl, ap, ◌∙◌}
+use Rattle.std.proofs.Common.{◌≡◌, ℕ, ◌+◌, ◌<◌, ◌≤◌, Bool, true, false, List, [], ◌∷◌, ◌++◌, length, get_or, drop, refl, ap, ◌∙◌}
 use Rattle.std.proofs.Math.ListN.{drop_of_length-le}
 use Rattle.rp_algebra.proofs.Lists.{drop_item}
 use Rattle.rp_geometry.specs.Geometry.{HalfSpace}
@@ -10,11 +10,6 @@ use Rattle.rp_region.specs.declared.fault.OpFault.{OpFault}
 use Rattle.rp_region.specs.Makes.{OnlyTells, IsFaultOf}
 use Rattle.rp_region.proofs.Grows.{then_tells, pass_tells}
 use Rattle.rp_region.proofs.Left.{IsLeft, left_as, next_left, fault_left, end_left}
-
--- a list with another one behind it begins with it
-pub begins_with : {X : Type 0} (xs ys : List X) → take (length xs) (xs ++ ys) ≡ xs
-begins_with [] ys = refl
-begins_with (x ∷ xs) ys = ap (λ zs. x ∷ zs) (begins_with xs ys)
 
 -- what comes behind one item: the end, where it was found, and else the rest
 abbrev pub unless_found : Walk Work Bool → Bool → Walk Work Bool

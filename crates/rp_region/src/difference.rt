@@ -14,7 +14,7 @@ use crate::work::Work;
 use rp_space::{Half, Listed};
 use std::alloc::Global;
 
-/// The parts of a list without those of a second list, one after the other. Each part that is carved is held in turn.
+/// The parts of a list without those of a second list, one after the other.
 pub(crate) fn subtract(
     alloc: Global,
     parts: Listed<Part>,
@@ -23,10 +23,25 @@ pub(crate) fn subtract(
 ) -> Result<Listed<Part>, OpFault>
     ensures { Makes (λ left. left.items) result work.old work.new (subtract first_tester parts.items others.now) }
 {
+    let mut room = work.take_room()?;
+    let left = subtract_each(alloc, parts, others, &mut room, work)?;
+    work.keep_room(room);
+    Ok(left)
+}
+
+/// The same. Each part that is carved is held in turn, whatever was held before.
+fn subtract_each(
+    alloc: Global,
+    parts: Listed<Part>,
+    others: &[Part],
+    front: &mut Front,
+    work: &mut Work,
+) -> Result<Listed<Part>, OpFault>
+    ensures { Makes (λ left. left.items) result work.old work.new (subtract first_tester parts.items others.now) }
+{
     let mut current = parts;
-    let mut front = Front::new();
     for other in others {
-        current = subtract_part(alloc, current, other, &mut front, work)?;
+        current = subtract_part(alloc, current, other, front, work)?;
         if current.items().len() > MAX_PARTS {
             return Err(OpFault::Limit);
         }
@@ -68,7 +83,7 @@ fn subtract_pair(
         return Ok(());
     }
     count_test(work)?;
-    let meets = front.meets(part.halves(), other.halves(), work)?;
+    let meets = front.meets(&part, other, work)?;
     if !meets {
         left.push(part)?;
         return Ok(());

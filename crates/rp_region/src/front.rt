@@ -3,19 +3,21 @@ ghost use Rattle.std.specs.Prelude.{◌≡◌, ◌+◌, ◌<◌, ◌≤◌, [], 
 ghost use Rattle.rp_geometry.specs.parts.Parts.{IsPart};
 ghost use Rattle.rp_walks.specs.FormLaws.{IsMadeOf};
 ghost use Rattle.rp_walks.specs.Walk.{strict_test, part_test};
+ghost use Rattle.rp_geometry.specs.searches.ProofLine.{strict_line, weak_line};
+ghost use Rattle.rp_cell.specs.Decisions.{line_of_strict, line_of_weak, DecidesStrict, DecidesWeak};
 ghost use Rattle.rp_region.specs.Makes.{op_result, Makes};
 
 use crate::fault::OpFault;
 use crate::part::Part;
 use crate::work::Work;
-use rp_cell::{Held, refute_by_two};
+use rp_cell::{Held, Strict, Weak};
 use rp_cert::Proof;
-use rp_space::{Half, joined};
+use rp_space::Half;
 use std::alloc::{AllocError, Global};
 use std::marker::Model;
 
 /// A cell that is held with its vertices, to be tested with further half-spaces behind its own: what it shares with these
-/// cells is held once. A contract sees its half-spaces. Takes no memory.
+/// cells is held once. A contract sees its half-spaces. Takes no memory. It is large, so a work keeps one and lends it.
 #[derive(Drop)]
 pub(crate) struct Front {
     cell: Held,
@@ -51,6 +53,41 @@ impl Front {
         self.cell.hold(cell);
     }
 
+    /// Holds a cell, and answers whether it has a point as `decide_strict` does.
+    pub(crate) fn decide_strict(&mut self, cell: &[Half]) -> Strict
+        requires { length cell.now ≤ 64 }
+        ensures decides { DecidesStrict cell.now result }
+        ensures line { line_of_strict result ≡ strict_line cell.now }
+    {
+        self.hold(cell);
+        self.cell.strict()
+    }
+
+    /// Holds a cell, and answers whether its weak system has a point as `decide_weak` does.
+    pub(crate) fn decide_weak(&mut self, cell: &[Half]) -> Weak
+        requires { length cell.now ≤ 64 }
+        ensures decides { DecidesWeak cell.now result }
+        ensures line { line_of_weak result ≡ weak_line cell.now }
+    {
+        self.hold(cell);
+        self.cell.weak()
+    }
+
+    /// Holds a cell, and makes a part test of it. As for `part_with`.
+    pub(crate) fn part_of(
+        &mut self,
+        alloc: Global,
+        cell: &[Half],
+        work: &mut Work,
+    ) -> Result<Option<Part>, OpFault>
+        requires { length cell.now ≤ 64 }
+        ensures makes { Makes (λ o. o) result work.old work.new (part_test cell.now) }
+        ensures made { IfOk result (λ o. IsMadeOf IsPart cell.now o) }
+    {
+        self.hold(cell);
+        work.held_part(alloc, &self.cell)
+    }
+
     /// Puts a half-space behind those of the cell, of which there are fewer than 64.
     pub(crate) fn push(&mut self, half: Half)
         requires { length self.old < 64 }
@@ -59,26 +96,25 @@ impl Front {
         self.cell.push(half);
     }
 
-    /// A strict test of a cell with further half-spaces behind its own: at most 64 together. Whether it has a point, and then
-    /// the cell is held. Its line is appended; it isn't counted.
+    /// A strict test of two parts together. Whether they share a point, and then the cell of the first is held. Its line is
+    /// appended; it isn't counted.
     pub(crate) fn meets(
         &mut self,
-        cell: &[Half],
-        more: &[Half],
+        part: &Part,
+        other: &Part,
         work: &mut Work,
     ) -> Result<bool, AllocError>
-        requires { length cell.now + length more.now ≤ 64 }
-        ensures makes { Makes (λ has_one. has_one) (op_result result) work.old work.new (strict_test (cell.now ++ more.now)) }
-        ensures held { IfOk result (λ has_one. has_one ≡ true → self.new ≡ cell.now) }
+        ensures makes { Makes (λ has_one. has_one) (op_result result) work.old work.new (strict_test (part.now.cell ++ other.now.cell)) }
+        ensures held { IfOk result (λ has_one. has_one ≡ true → self.new ≡ part.now.cell) }
     {
         // Two half-spaces tell most neighbours apart, and then the cell need not be held.
-        if let Some(terms) = refute_by_two(joined(cell, more).as_slice()) {
+        if let Some(terms) = part.refute_with(other) {
             work.tell(Proof::Out(terms))?;
             return Ok(false);
         }
-        self.hold(cell);
+        self.hold(part.halves());
         self.longer.copy_from(&self.cell);
-        self.longer.extend(more);
+        self.longer.extend(other.halves());
         work.held_test(&self.longer)
     }
 

@@ -14,9 +14,24 @@ use crate::work::Work;
 use rp_space::Listed;
 use std::alloc::Global;
 
-/// Each part of a list with each part of a second list: what they have in common comes behind the parts made already. Each
-/// part of the first is held in turn, whatever was held before.
+/// Each part of a list with each part of a second list: what they have in common comes behind the parts made already.
 pub(crate) fn join_each(
+    alloc: Global,
+    made: &mut Listed<Part>,
+    parts: &[Part],
+    others: &[Part],
+    work: &mut Work,
+) -> Result<(), OpFault>
+    ensures { Makes (λ _. made.new.items) result work.old work.new (join_each first_tester made.old.items parts.now others.now) }
+{
+    let mut room = work.take_room()?;
+    join_in_turn(alloc, made, parts, others, &mut room, work)?;
+    work.keep_room(room);
+    Ok(())
+}
+
+/// The same. Each part of the first is held in turn, whatever was held before.
+fn join_in_turn(
     alloc: Global,
     made: &mut Listed<Part>,
     parts: &[Part],

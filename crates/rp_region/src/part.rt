@@ -1,15 +1,16 @@
 //! Parts: cells with a member, each with the least box round its members.
-ghost use Rattle.std.specs.Prelude.{◌≡◌, ◌≤◌, ◌++◌, false, length, IfOk};
+ghost use Rattle.std.specs.Prelude.{◌≡◌, ◌≤◌, ◌++◌, false, length, IfOk, IfSome};
 ghost use Rattle.rp_geometry.specs.Geometry.{RationalPoint, boxes_meet, closed_boxes_meet};
 ghost use Rattle.rp_geometry.specs.sets.Shape.{shape_of_cell};
 ghost use Rattle.rp_geometry.specs.sets.Sets.{IsEmpty};
 ghost use Rattle.rp_geometry.specs.laws.CellLaws.{IsSolution};
+ghost use Rattle.rp_geometry.specs.searches.ProofLine.{out_line, apart_line, strict_line, weak_line};
 ghost use Rattle.rp_geometry.specs.parts.PartTest.{whole_part};
 ghost use Rattle.rp_geometry.specs.parts.Parts.{IsPart, most_half_spaces};
 ghost use Rattle.rp_space.specs.Boxes.{integer_box};
 
-use rp_cell::Cell;
-use rp_space::{Half, IntBox};
+use rp_cell::{Cell, refute_between, refute_weak_between};
+use rp_space::{Half, IntBox, Outside};
 use std::alloc::{AllocError, Global};
 use std::marker::Model;
 
@@ -82,6 +83,21 @@ impl Part {
             halves: Cell::copy_of(alloc, self.halves.items())?,
             bounds: self.bounds,
         })
+    }
+
+    /// The first outside certificate of two parts together, where it has at most two terms, one of each: then they share no
+    /// point. With `None` that is not known.
+    pub(crate) fn refute_with(&self, other: &Part) -> Option<Outside>
+        ensures { IfSome result (λ terms. out_line terms ≡ strict_line (self.now.cell ++ other.now.cell)) }
+    {
+        refute_between(self.halves.items(), other.halves.items())
+    }
+
+    /// The same of their weak systems: then the parts are not in contact.
+    pub(crate) fn refute_contact_with(&self, other: &Part) -> Option<Outside>
+        ensures { IfSome result (λ terms. apart_line terms ≡ weak_line (self.now.cell ++ other.now.cell)) }
+    {
+        refute_weak_between(self.halves.items(), other.halves.items())
     }
 
     /// Whether the boxes of two parts share more than boundary. Else the parts share no point.

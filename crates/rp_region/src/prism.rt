@@ -11,7 +11,6 @@ ghost use Rattle.rp_region.specs.Makes.{Makes};
 use crate::fault::OpFault;
 use crate::region::Region;
 use crate::work::Work;
-use rp_cell::Held;
 use rp_footprint::trapezoid;
 use rp_space::{Corner, Half};
 use std::alloc::Global;
@@ -53,7 +52,7 @@ impl Region {
         let Some(halves) = cell else {
             return Ok(self);
         };
-        let Some(part) = work.held_part(alloc, &Held::new(&halves))? else {
+        let Some(part) = work.part_test(alloc, &halves)? else {
             return Ok(self);
         };
         let made = Region::of_part(alloc, part)?;

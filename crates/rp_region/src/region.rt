@@ -15,13 +15,11 @@ ghost use Rattle.rp_region.specs.Pairs.{common_by, touch_by, first_pair_by, IsLa
 
 use crate::difference::subtract;
 use crate::fault::OpFault;
-use crate::front::Front;
 use crate::join::join_each;
 use crate::pairs::first_pair;
 use crate::part::Part;
 use crate::witness::Witness;
 use crate::work::Work;
-use rp_cell::Held;
 use rp_space::{Half, Inside, Listed, Point};
 use std::alloc::{AllocError, Global};
 use std::marker::Model;
@@ -84,7 +82,7 @@ impl Region {
         ensures members { IfOk result (λ region. SameMembers (shape_of_parts region) (shape_of_cell cell.now)) }
     {
         let mut parts = Listed::new(alloc);
-        if let Some(part) = work.held_part(alloc, &Held::new(cell))? {
+        if let Some(part) = work.part_test(alloc, cell)? {
             parts.push(part)?;
         }
         Ok(Region { parts })
@@ -103,7 +101,7 @@ impl Region {
             return Err(OpFault::Limit);
         }
         let mut parts = Listed::new(alloc);
-        join_each(alloc, &mut parts, first, second, &mut Front::new(), work)?;
+        join_each(alloc, &mut parts, first, second, work)?;
         Ok(Region { parts })
     }
 

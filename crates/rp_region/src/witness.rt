@@ -1,5 +1,5 @@
 //! What shows that two parts meet, and how it is looked for.
-ghost use Rattle.std.specs.Prelude.{◌≡◌, ◌++◌, ◌≤◌, Bool, false, List, length, is_some, IfOk, IfSome};
+ghost use Rattle.std.specs.Prelude.{◌≡◌, ◌++◌, Bool, false, List, is_some, IfOk, IfSome};
 ghost use Rattle.rp_geometry.specs.Geometry.{RationalPoint, HalfSpace};
 ghost use Rattle.rp_geometry.specs.sets.Shape.{Part, shape_of_cell};
 ghost use Rattle.rp_geometry.specs.sets.Sets.{IsEmpty};
@@ -13,7 +13,7 @@ ghost use Rattle.rp_region.specs.Tells.{strict_tells, weak_tells};
 
 use crate::part::Part;
 use crate::work::Work;
-use rp_space::{Half, Inside, Point};
+use rp_space::{Inside, Point};
 use std::alloc::AllocError;
 
 /// What shows that two parts meet: an inside certificate of both together shows a common member, a weak point shows that
@@ -32,17 +32,15 @@ pub(crate) trait Witness: Sized {
         ensures value { result ≡ may_meet first.now second.now }
         ensures apart { result ≡ false → has_none (first.now.cell ++ second.now.cell) };
 
-    /// Looks for a witness of the cell of two parts together, by one test.
-    fn find(work: &mut Work, cell: &[Half]) -> Result<Option<Self>, AllocError>
-        requires { length cell.now ≤ 64 }
-        ensures makes { Makes is_some (op_result result) work.old work.new (test cell.now) }
+    /// Looks for a witness of two parts together, by one test.
+    fn find(work: &mut Work, first: &Part, second: &Part) -> Result<Option<Self>, AllocError>
+        ensures makes { Makes is_some (op_result result) work.old work.new (test (first.now.cell ++ second.now.cell)) }
         ensures told { IfOk result (λ o. IfSome o (λ x. IsLast (line x) work.new.proofs)) };
 
-    /// The same test of a cell that is known to have no witness, which is not looked for.
-    fn refute(work: &mut Work, cell: &[Half]) -> Result<(), AllocError>
-        requires few { length cell.now ≤ 64 }
-        requires none { has_none cell.now }
-        ensures { Makes (λ _. false) (op_result result) work.old work.new (test cell.now) };
+    /// The same test of two parts that are known to have no witness, which is not looked for.
+    fn refute(work: &mut Work, first: &Part, second: &Part) -> Result<(), AllocError>
+        requires { has_none (first.now.cell ++ second.now.cell) }
+        ensures { Makes (λ _. false) (op_result result) work.old work.new (test (first.now.cell ++ second.now.cell)) };
 
     ghost only_tells: { (cell : List HalfSpace) → OnlyTells (test cell) };
 }
@@ -62,12 +60,12 @@ impl Witness for Inside {
         first.may_overlap(second)
     }
 
-    fn find(work: &mut Work, cell: &[Half]) -> Result<Option<Inside>, AllocError> {
-        work.strict_test(cell)
+    fn find(work: &mut Work, first: &Part, second: &Part) -> Result<Option<Inside>, AllocError> {
+        work.strict_test_of(first, second)
     }
 
-    fn refute(work: &mut Work, cell: &[Half]) -> Result<(), AllocError> {
-        work.refute_strict(cell)
+    fn refute(work: &mut Work, first: &Part, second: &Part) -> Result<(), AllocError> {
+        work.refute_strict_of(first, second)
     }
 }
 
@@ -86,11 +84,11 @@ impl Witness for Point {
         first.may_touch(second)
     }
 
-    fn find(work: &mut Work, cell: &[Half]) -> Result<Option<Point>, AllocError> {
-        work.weak_test(cell)
+    fn find(work: &mut Work, first: &Part, second: &Part) -> Result<Option<Point>, AllocError> {
+        work.weak_test_of(first, second)
     }
 
-    fn refute(work: &mut Work, cell: &[Half]) -> Result<(), AllocError> {
-        work.refute_weak(cell)
+    fn refute(work: &mut Work, first: &Part, second: &Part) -> Result<(), AllocError> {
+        work.refute_weak_of(first, second)
     }
 }

@@ -3,23 +3,25 @@ ghost use Rattle.std.specs.Prelude.{◌≡◌, ◌+◌, ◌≤◌, ◌↔◌, �
 ghost use Rattle.rp_geometry.specs.Geometry.{RationalPoint};
 ghost use Rattle.rp_geometry.specs.sets.Shape.{shape_of_cell};
 ghost use Rattle.rp_geometry.specs.sets.Sets.{IsNonempty, IsEmpty};
-ghost use Rattle.rp_geometry.specs.searches.ProofLine.{in_line, at_line, strict_line};
+ghost use Rattle.rp_geometry.specs.searches.ProofLine.{in_line, at_line, strict_line, weak_line};
 ghost use Rattle.rp_geometry.specs.searches.Vertex.{first_inside, first_weak_point};
 ghost use Rattle.rp_geometry.specs.laws.CellLaws.{IsSolution};
 ghost use Rattle.rp_geometry.specs.parts.Parts.{IsPart};
 ghost use Rattle.rp_walks.specs.FormLaws.{IsMadeOf};
 ghost use Rattle.rp_walks.specs.Walk.{most_tests, no_work, with_lines, count_tests, strict_test, weak_test, part_test};
 ghost use Rattle.rp_cert.specs.Lines.{line_of};
+ghost use Rattle.rp_cell.specs.Decisions.{line_of_strict, line_of_weak, DecidesStrict, DecidesWeak};
 ghost use Rattle.rp_cell.specs.Lines.{drop_line_of, side_line_of};
 ghost use Rattle.rp_region.specs.Makes.{counted, op_result, telling, Makes};
 ghost use Rattle.rp_region.specs.Pairs.{IsLast};
 ghost use Rattle.rp_region.specs.Stops.{TakesOver};
 
 use crate::fault::OpFault;
+use crate::front::Front;
 use crate::part::Part;
 use rp_cell::{
-    DroppedHalf, Drops, Held, SideProofs, Sides, Slimmed, Strict, Weak, decide_strict, decide_weak,
-    refute_strict, refute_weak,
+    DroppedHalf, Drops, Held, SideProofs, Sides, Slimmed, Strict, Weak, hold_strict, hold_weak,
+    refute_strict, refute_weak, strict_soon, weak_soon,
 };
 use rp_cert::{Proof, Proofs};
 use rp_space::{Half, Inside, Point, joined};
@@ -39,6 +41,9 @@ const MAX_HALVES: usize = 32;
 pub struct Work {
     tests: u32,
     proofs: Proofs,
+    /// Room for cells with their vertices, from the first difference or intersection on, unless it is lent.
+    room: Option<Box<Front>>,
+    alloc: Global,
 }
 
 impl Model for Work {
@@ -61,6 +66,8 @@ impl Work {
         Work {
             tests: 0,
             proofs: Proofs::new(alloc),
+            room: None,
+            alloc,
         }
     }
 
@@ -132,7 +139,28 @@ impl Work {
         Work {
             tests: self.tests,
             proofs: Proofs::new(alloc),
+            room: None,
+            alloc,
         }
+    }
+
+    /// Lends the room for cells with their vertices, which is made where there is none. Answers `AllocError` only for want of
+    /// memory. In any case all is as before.
+    pub(crate) fn take_room(&mut self) -> Result<Box<Front>, AllocError>
+        ensures { self.new ≡ self.old }
+    {
+        if let Some(room) = self.room.take() {
+            return Ok(room);
+        }
+        let room = Box::new(self.alloc, Front::new())?;
+        Ok(room)
+    }
+
+    /// Keeps the room for further tests.
+    pub(crate) fn keep_room(&mut self, room: Box<Front>)
+        ensures { self.new ≡ self.old }
+    {
+        self.room = Some(room);
     }
 
     /// What a row has come to on a work that was begun fresh: its count takes the place of the one here, and its proof lines
@@ -149,6 +177,9 @@ impl Work {
         }
         self.proofs.append(walked.proofs)?;
         self.tests = walked.tests;
+        if let Some(room) = walked.room {
+            self.keep_room(room);
+        }
         match came {
             Ok(result) => Ok(result),
             Err(_) => Err(OpFault::Limit),
@@ -180,7 +211,7 @@ impl Work {
         ensures none { IfOk result (λ o. IsNone o ↔ IsEmpty (shape_of_cell cell.now)) }
         ensures told { IfOk result (λ o. IfSome o (λ points. IsLast (in_line points) self.new.proofs)) }
     {
-        match decide_strict(cell) {
+        match self.decide_strict(cell) {
             Strict::Inside(points) => {
                 let found = points.copy();
                 self.tell(Proof::In(points))?;
@@ -218,7 +249,7 @@ impl Work {
         ensures none { IfOk result (λ o. IsNone o ↔ ((p : RationalPoint) → ¬ IsSolution false cell.now p)) }
         ensures told { IfOk result (λ o. IfSome o (λ p. IsLast (at_line p) self.new.proofs)) }
     {
-        match decide_weak(cell) {
+        match self.decide_weak(cell) {
             Weak::At(point) => {
                 self.tell(Proof::At(point))?;
                 Ok(Some(point))
@@ -243,6 +274,61 @@ impl Work {
         Ok(self.weak_test(cell.as_slice())?.is_some())
     }
 
+    /// A strict test of two parts together.
+    pub(crate) fn strict_test_of(
+        &mut self,
+        first: &Part,
+        second: &Part,
+    ) -> Result<Option<Inside>, AllocError>
+        ensures makes { Makes is_some (op_result result) self.old self.new (strict_test (first.now.cell ++ second.now.cell)) }
+        ensures told { IfOk result (λ o. IfSome o (λ x. IsLast (in_line x) self.new.proofs)) }
+    {
+        if let Some(terms) = first.refute_with(second) {
+            self.tell(Proof::Out(terms))?;
+            return Ok(None);
+        }
+        self.strict_test(joined(first.halves(), second.halves()).as_slice())
+    }
+
+    /// A strict test of two parts together that are known to share no point, which is not searched for.
+    pub(crate) fn refute_strict_of(&mut self, first: &Part, second: &Part) -> Result<(), AllocError>
+        requires { IsEmpty (shape_of_cell (first.now.cell ++ second.now.cell)) }
+        ensures { Makes (λ _. false) (op_result result) self.old self.new (strict_test (first.now.cell ++ second.now.cell)) }
+    {
+        if let Some(terms) = first.refute_with(second) {
+            return self.tell(Proof::Out(terms));
+        }
+        self.refute_strict(joined(first.halves(), second.halves()).as_slice())
+    }
+
+    /// A weak test of two parts together.
+    pub(crate) fn weak_test_of(
+        &mut self,
+        first: &Part,
+        second: &Part,
+    ) -> Result<Option<Point>, AllocError>
+        ensures makes { Makes is_some (op_result result) self.old self.new (weak_test (first.now.cell ++ second.now.cell)) }
+        ensures told { IfOk result (λ o. IfSome o (λ x. IsLast (at_line x) self.new.proofs)) }
+    {
+        if let Some(terms) = first.refute_contact_with(second) {
+            self.tell(Proof::Apart(terms))?;
+            return Ok(None);
+        }
+        self.weak_test(joined(first.halves(), second.halves()).as_slice())
+    }
+
+    /// A weak test of two parts together that are known to have no point of their weak systems in common, which is not
+    /// searched for.
+    pub(crate) fn refute_weak_of(&mut self, first: &Part, second: &Part) -> Result<(), AllocError>
+        requires { (p : RationalPoint) → ¬ IsSolution false (first.now.cell ++ second.now.cell) p }
+        ensures { Makes (λ _. false) (op_result result) self.old self.new (weak_test (first.now.cell ++ second.now.cell)) }
+    {
+        if let Some(terms) = first.refute_contact_with(second) {
+            return self.tell(Proof::Apart(terms));
+        }
+        self.refute_weak(joined(first.halves(), second.halves()).as_slice())
+    }
+
     /// A strict test of a cell that is known to have no point, which is not searched for one.
     pub(crate) fn refute_strict(&mut self, cell: &[Half]) -> Result<(), AllocError>
         requires few { length cell.now ≤ 64 }
@@ -261,6 +347,42 @@ impl Work {
         self.tell(Proof::Apart(refute_weak(cell)))
     }
 
+    /// Whether a cell has a point, as `decide_strict` answers, over the room where there is one. All stays as it is.
+    fn decide_strict(&mut self, cell: &[Half]) -> Strict
+        requires { length cell.now ≤ 64 }
+        ensures same { self.new ≡ self.old }
+        ensures decides { DecidesStrict cell.now result }
+        ensures line { line_of_strict result ≡ strict_line cell.now }
+    {
+        if let Some(found) = strict_soon(cell) {
+            return found;
+        }
+        let Some(mut room) = self.room.take() else {
+            return hold_strict(cell);
+        };
+        let found = room.decide_strict(cell);
+        self.keep_room(room);
+        found
+    }
+
+    /// Whether the weak system of a cell has a point, as `decide_weak` answers, over the room where there is one. All stays as it is.
+    fn decide_weak(&mut self, cell: &[Half]) -> Weak
+        requires { length cell.now ≤ 64 }
+        ensures same { self.new ≡ self.old }
+        ensures decides { DecidesWeak cell.now result }
+        ensures line { line_of_weak result ≡ weak_line cell.now }
+    {
+        if let Some(found) = weak_soon(cell) {
+            return found;
+        }
+        let Some(mut room) = self.room.take() else {
+            return hold_weak(cell);
+        };
+        let found = room.decide_weak(cell);
+        self.keep_room(room);
+        found
+    }
+
     /// A strict test of a cell that is held: whether it has a point. Its line is appended; it isn't counted.
     pub(crate) fn held_test(&mut self, cell: &Held) -> Result<bool, AllocError>
         ensures { Makes (λ has_one. has_one) (op_result result) self.old self.new (strict_test cell.now) }
@@ -275,6 +397,33 @@ impl Work {
                 Ok(false)
             }
         }
+    }
+
+    /// A part test of a cell of at most 64 half-spaces, as of one that is held: over the room where there is one.
+    pub(crate) fn part_test(
+        &mut self,
+        alloc: Global,
+        cell: &[Half],
+    ) -> Result<Option<Part>, OpFault>
+        requires { length cell.now ≤ 64 }
+        ensures makes { Makes (λ o. o) result self.old self.new (part_test cell.now) }
+        ensures made { IfOk result (λ o. IsMadeOf IsPart cell.now o) }
+    {
+        let Some(mut room) = self.room.take() else {
+            return self.part_alone(alloc, cell);
+        };
+        let part = room.part_of(alloc, cell, self)?;
+        self.keep_room(room);
+        Ok(part)
+    }
+
+    /// The same over room of its own. It is apart so that nobody else makes room for the vertices.
+    fn part_alone(&mut self, alloc: Global, cell: &[Half]) -> Result<Option<Part>, OpFault>
+        requires { length cell.now ≤ 64 }
+        ensures makes { Makes (λ o. o) result self.old self.new (part_test cell.now) }
+        ensures made { IfOk result (λ o. IsMadeOf IsPart cell.now o) }
+    {
+        self.held_part(alloc, &Held::new(cell))
     }
 
     /// A part test of a cell that is held: the part of its slim cell, and `None` exactly where the cell has no point. Its lines

@@ -1,11 +1,11 @@
-use Rattle.std.proofs.Common.{◌≡◌, Some}
+use Rattle.std.proofs.Common.{◌≡◌}
 use Rattle.rp_algebra.proofs.Options.{of_some}
-use Rattle.rp_geometry.specs.searches.Vertex.{first_weak_point}
-use Rattle.rp_cell.proofs.Answered.{line_at}
+use Rattle.rp_geometry.specs.searches.ProofLine.{weak_line}
+use Rattle.rp_cell.specs.Decisions.{line_of_weak, DecidesWeak}
 use Rattle.rp_cell.proofs.decide.decide_weak.Goals as goal
 
-first : (c : goal.In-Some) → first_weak_point c.args.cell.now ≡ Some c.in-Some.p
-first c = of_some (λ p. first_weak_point c.args.cell.now ≡ Some p) c.weak_soon.result c.in-Some.p c.in-Some.is c.weak_soon.ensures.first
+pub returns-in-Some-clause-decides : goal.returns-in-Some-clause-decides
+returns-in-Some-clause-decides c = of_some (λ found. DecidesWeak c.args.cell.now found) c.weak_soon.result c.in-Some.found c.in-Some.is c.weak_soon.ensures.decides
 
 pub returns-in-Some-clause-line : goal.returns-in-Some-clause-line
-returns-in-Some-clause-line c = line_at c.args.cell.now c.in-Some.p (first c)
+returns-in-Some-clause-line c = of_some (λ found. line_of_weak found ≡ weak_line c.args.cell.now) c.weak_soon.result c.in-Some.found c.in-Some.is c.weak_soon.ensures.line

@@ -1,7 +1,6 @@
 use Rattle.std.proofs.Common.{sym, subst, ◌++◌, ◌∷◌, ◌∙◌}
 use Rattle.rp_algebra.proofs.Listed.{all_append}
 use Rattle.rp_geometry.specs.Geometry.{HalfSpace, IsHalfSpace}
-use Rattle.rp_elim.specs.HeldFast.{first_through}
 use Rattle.rp_elim.proofs.Found.{found_passes, none_where_solution}
 use Rattle.rp_elim.proofs.InPlace.{first_with_others}
 use Rattle.rp_elim.proofs.through.first_outside_through.Goals as goal
@@ -10,8 +9,7 @@ pub returns-clause-first : goal.returns-clause-first
 returns-clause-first c =
     let before = c.args.before.now in
     let after = c.args.after.now in
-    c.first_through.ensures
-    ∙ (λ i. first_through c.args.strict c.args.half.now ((c.as_slice.ensures.value ∙ c.others_of-others.ensures) i))
+    c.first_beside.ensures
     ∙ sym (first_with_others c.args.strict before c.args.half.now after (all_append IsHalfSpace before after c.keep_bounds.ensures c.keep_bounds-2.ensures) c.requires.others)
 
 pub returns-clause-passes : goal.returns-clause-passes
@@ -19,11 +17,11 @@ returns-clause-passes c =
     let before = c.args.before.now in
     let rest = c.args.half.now ∷ c.args.after.now in
     let bounds = all_append IsHalfSpace before rest c.keep_bounds.ensures (subst (λ (h : HalfSpace). IsHalfSpace h) c.numbers.ensures.numbers c.numbers.ensures.small, c.keep_bounds-2.ensures) in
-    found_passes c.args.strict (before ++ rest) bounds c.first_through.result (returns-clause-first c)
+    found_passes c.args.strict (before ++ rest) bounds c.first_beside.result (returns-clause-first c)
 
 pub returns-clause-none : goal.returns-clause-none
 returns-clause-none c =
     let before = c.args.before.now in
     let rest = c.args.half.now ∷ c.args.after.now in
     let bounds = all_append IsHalfSpace before rest c.keep_bounds.ensures (subst (λ (h : HalfSpace). IsHalfSpace h) c.numbers.ensures.numbers c.numbers.ensures.small, c.keep_bounds-2.ensures) in
-    none_where_solution c.args.strict (before ++ rest) bounds c.first_through.result (returns-clause-first c)
+    none_where_solution c.args.strict (before ++ rest) bounds c.first_beside.result (returns-clause-first c)

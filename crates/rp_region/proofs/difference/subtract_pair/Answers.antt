@@ -1,8 +1,6 @@
-use Rattle.std.proofs.Common.{Bool, true, false, List, ◌∷◌, [], ◌++◌, sym, ap, ◌∙◌, subst}
+use Rattle.std.proofs.Common.{Bool, true, false, ◌∷◌, [], ◌++◌, refl, sym, ap, ◌∙◌}
 use Rattle.std.proofs.lemmas.Result.{err_from_is_err_and}
 use Rattle.rp_region.specs.declared.fault.OpFault.TheVariants.{Memory}
-use Rattle.rp_geometry.specs.Geometry.{HalfSpace}
-use Rattle.rp_region.specs.Makes.{IsCutShort}
 use Rattle.rp_walks.specs.Walk.{done, pass, strict_test, first_tester}
 use Rattle.rp_walks.specs.Form.{carve, carve_or_keep}
 use Rattle.rp_region.proofs.Grows.{pass_tells, carve_or_keep_tells}
@@ -25,8 +23,7 @@ returns-in_err-meets c =
     rw (p.1, p.2)
     (fault_left (strict_test (part.cell ++ other.cell)) (λ found. carve_or_keep first_tester found made part other)
     (λ found. carve_or_keep_tells found made part other) (pair_counted made part other (sym c.if-not-may_overlap.ensures.value) c.in_ok-count_test.ensures) (Memory c.in_err-meets.field-0.0) v
-    (subst (λ (cell : List HalfSpace). IsCutShort c.count_test.new.work v (strict_test cell c.count_test.new.work))
-    (λ i. c.halves.ensures.value i ++ c.halves-2.ensures.value i) c.in_err-meets.ensures.makes))
+    c.in_err-meets.ensures.makes)
 
 pub returns-in_err-push-2 : goal.returns-in_err-push-2
 returns-in_err-push-2 c =
@@ -36,7 +33,7 @@ returns-in_err-push-2 c =
     let other = c.args.other.now in
     rw (p.1, p.2)
     (given_up (pass (made ++ part ∷ [])) (pass_tells (made ++ part ∷ []))
-    (pair_tested made part other (c.halves.result.now ++ c.halves-2.result.now) {found = false} (λ i. c.halves.ensures.value i ++ c.halves-2.ensures.value i) (sym c.if-not-may_overlap.ensures.value) c.in_ok-count_test.ensures
+    (pair_tested made part other (part.cell ++ other.cell) {found = false} refl (sym c.if-not-may_overlap.ensures.value) c.in_ok-count_test.ensures
     (c.in_ok-meets.ensures.makes ∙ ap (λ (has_one : Bool). done has_one c.meets.new.work) c.if-not-meets.true)))
 
 pub returns : goal.returns
@@ -45,7 +42,7 @@ returns c =
     let part = c.args.part in
     let other = c.args.other.now in
     makes_left _ c.carve.result c.carve.new.work
-    (left_as (λ i. carve first_tester made (sym (c.in_ok-meets.ensures.held c.if-not-meets.false ∙ c.halves.ensures.value) i) [] (sym c.halves-3.ensures.value i))
-    (pair_tested made part other (c.halves.result.now ++ c.halves-2.result.now) {found = true} (λ i. c.halves.ensures.value i ++ c.halves-2.ensures.value i) (sym c.if-not-may_overlap.ensures.value) c.in_ok-count_test.ensures
+    (left_as (λ i. carve first_tester made (sym (c.in_ok-meets.ensures.held c.if-not-meets.false) i) [] (sym c.halves.ensures.value i))
+    (pair_tested made part other (part.cell ++ other.cell) {found = true} refl (sym c.if-not-may_overlap.ensures.value) c.in_ok-count_test.ensures
     (c.in_ok-meets.ensures.makes ∙ ap (λ (has_one : Bool). done has_one c.meets.new.work) c.if-not-meets.false)))
     c.carve.ensures

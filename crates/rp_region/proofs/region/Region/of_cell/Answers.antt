@@ -1,10 +1,9 @@
-use Rattle.std.proofs.Common.{List, [], ◌∷◌, ◌++◌, sym, ap, ◌∙◌, subst, ◌≡◌}
+use Rattle.std.proofs.Common.{◌≡◌, List, [], ◌∷◌, ◌++◌, sym, ap, ◌∙◌, subst}
 use Rattle.std.proofs.lemmas.Result.{err_from_is_err_and}
-use Rattle.rp_geometry.specs.Geometry.{HalfSpace}
 use Rattle.rp_geometry.specs.sets.Shape.{Part, shape_of_cell, shape_of_parts}
 use Rattle.rp_geometry.specs.sets.Sets.{SameMembers}
 use Rattle.rp_geometry.specs.parts.Parts.{IsPart, IsRegion}
-use Rattle.rp_walks.specs.Walk.{done, pass, part_test, first_tester}
+use Rattle.rp_walks.specs.Walk.{pass, part_test, first_tester}
 use Rattle.rp_walks.specs.Form.{made_part, parts_of_cell}
 use Rattle.rp_walks.specs.FormLaws.{IsMadeOf}
 use Rattle.rp_region.proofs.Grows.{part_tells, pass_tells}
@@ -20,7 +19,7 @@ returns-in_err-push-clause-makes c =
     let parts = made_part c.in_ok-part.field-0 in
     rw (p.1, p.2)
     (given_up (pass parts) (pass_tells parts)
-    (next_left (part_test cell) (λ o. pass (made_part o)) (part_tells cell) (all_left c.args.work.now (parts_of_cell first_tester cell)) (subst (λ (hs : List HalfSpace). part_test hs c.args.work.now ≡ done c.in_ok-part.field-0 c.held_part.new.self) c.new.ensures c.in_ok-part.ensures.makes)))
+    (next_left (part_test cell) (λ o. pass (made_part o)) (part_tells cell) (all_left c.args.work.now (parts_of_cell first_tester cell)) c.in_ok-part.ensures.makes))
 
 -- the parts are those that the test has made
 parts_made : (c : goal.Joined-branch-2) → c.match-branch-2.parts.items ≡ made_part c.in_ok-part.field-0
@@ -31,7 +30,7 @@ parts_made c = elim c.match-branch-2.branch [
 
 -- and it is of the cell
 made_of : (c : goal.Joined-branch-2) → IsMadeOf IsPart c.args.cell.now c.in_ok-part.field-0
-made_of c = subst (λ (hs : List HalfSpace). IsMadeOf IsPart hs c.in_ok-part.field-0) c.new.ensures c.in_ok-part.ensures.made
+made_of c = c.in_ok-part.ensures.made
 
 pub returns-clause-members : goal.returns-clause-members
 returns-clause-members c = subst (λ (ps : List Part). SameMembers (shape_of_parts ps) (shape_of_cell c.args.cell.now)) (sym (parts_made c)) (made_of c).members

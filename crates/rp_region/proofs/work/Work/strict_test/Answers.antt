@@ -1,8 +1,8 @@
-use Rattle.std.proofs.Common.{sym}
+use Rattle.std.proofs.Common.{◌∷◌, [], sym, ap, ◌∙◌}
 use Rattle.std.specs.Prelude.{Some, None}
 use Rattle.std.proofs.lemmas.Result.{err_from_is_err_and}
 use Rattle.rp_geometry.specs.searches.ProofLine.{in_line, out_line}
-use Rattle.rp_walks.specs.Walk.{strict_test}
+use Rattle.rp_walks.specs.Walk.{strict_test, with_lines}
 use Rattle.rp_region.specs.Tells.{strict_tells}
 use Rattle.rp_region.proofs.Left.{not_begun}
 use Rattle.rp_region.proofs.Tested.{no_points, strict_told}
@@ -12,21 +12,21 @@ pub returns-in_err-tell-in-Inside-clause-makes : goal.returns-in_err-tell-in-Ins
 returns-in_err-tell-in-Inside-clause-makes c =
     let p = err_from_is_err_and c.from_residual.result c.from_residual.ensures.1 in
     let cell = c.args.cell.now in
-    rw (p.1) (not_begun (strict_test cell) c.args.self.now c.tell.new.self (strict_tells cell) c.in_err-tell-in-Inside.ensures.err)
+    rw (p.1) (not_begun (strict_test cell) c.args.self.now c.tell.new.self (strict_tells cell) (c.in_err-tell-in-Inside.ensures.err ∙ c.decide_strict.ensures.same))
 
 pub returns-in_err-tell-in-Outside-clause-makes : goal.returns-in_err-tell-in-Outside-clause-makes
 returns-in_err-tell-in-Outside-clause-makes c =
     let p = err_from_is_err_and c.from_residual-in_err-tell-in-Outside.result c.from_residual-in_err-tell-in-Outside.ensures.1 in
     let cell = c.args.cell.now in
-    rw (p.1) (not_begun (strict_test cell) c.args.self.now c.tell-in-Outside.new.self (strict_tells cell) c.in_err-tell-in-Outside.ensures.err)
+    rw (p.1) (not_begun (strict_test cell) c.args.self.now c.tell-in-Outside.new.self (strict_tells cell) (c.in_err-tell-in-Outside.ensures.err ∙ c.decide_strict.ensures.same))
 
 pub returns-in_ok-tell-in-Inside-clause-makes : goal.returns-in_ok-tell-in-Inside-clause-makes
 returns-in_ok-tell-in-Inside-clause-makes c =
-    (strict_told c.args.cell.now (Some c.in-Inside.points) (in_line c.in-Inside.points) c.args.self.now c.tell.new.self c.in-Inside.ensures.decides.0 c.in-Inside.ensures.line c.in_ok-tell-in-Inside.ensures.ok)
+    (strict_told c.args.cell.now (Some c.in-Inside.points) (in_line c.in-Inside.points) c.args.self.now c.tell.new.self c.in-Inside.ensures.decides.0 c.in-Inside.ensures.line (c.in_ok-tell-in-Inside.ensures.ok ∙ ap (λ w. with_lines w (in_line c.in-Inside.points ∷ [])) c.decide_strict.ensures.same))
 
 pub returns-in_ok-tell-in-Outside-clause-makes : goal.returns-in_ok-tell-in-Outside-clause-makes
 returns-in_ok-tell-in-Outside-clause-makes c =
-    (strict_told c.args.cell.now None (out_line c.in-Outside.terms) c.args.self.now c.tell-in-Outside.new.self (no_points c.args.cell.now c.in-Outside.terms c.in-Outside.ensures.line) c.in-Outside.ensures.line c.in_ok-tell-in-Outside.ensures.ok)
+    (strict_told c.args.cell.now None (out_line c.in-Outside.terms) c.args.self.now c.tell-in-Outside.new.self (no_points c.args.cell.now c.in-Outside.terms c.in-Outside.ensures.line) c.in-Outside.ensures.line (c.in_ok-tell-in-Outside.ensures.ok ∙ ap (λ w. with_lines w (out_line c.in-Outside.terms ∷ [])) c.decide_strict.ensures.same))
 
 pub returns-in_ok-tell-in-Outside-clause-first : goal.returns-in_ok-tell-in-Outside-clause-first
 returns-in_ok-tell-in-Outside-clause-first c =

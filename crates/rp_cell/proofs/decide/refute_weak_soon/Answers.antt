@@ -6,7 +6,7 @@ use Rattle.rp_geometry.specs.searches.Certificate.{is_outside_certificate}
 use Rattle.rp_geometry.specs.searches.Elimination.{first_outside}
 use Rattle.rp_geometry.specs.laws.CellLaws.{IsSolution}
 use Rattle.rp_cell.proofs.Answered.{line_of_apart}
-use Rattle.rp_cell.proofs.decide.refute_weak_first.Goals as goal
+use Rattle.rp_cell.proofs.decide.refute_weak_soon.Goals as goal
 
 first : (c : goal.In-Some) → first_outside false c.args.cell.now ≡ Some c.in-Some.terms
 first c = of_some (λ terms. first_outside false c.args.cell.now ≡ Some terms) c.first_outside_of_two.result c.in-Some.terms c.in-Some.is c.first_outside_of_two.ensures.first

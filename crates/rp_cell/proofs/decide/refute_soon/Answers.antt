@@ -6,7 +6,7 @@ use Rattle.rp_geometry.specs.sets.Sets.{IsEmpty}
 use Rattle.rp_geometry.specs.searches.Certificate.{is_outside_certificate}
 use Rattle.rp_geometry.specs.searches.Elimination.{first_outside}
 use Rattle.rp_geometry.specs.searches.ProofLine.{strict_line, out_line}
-use Rattle.rp_cell.proofs.decide.refute_first.Goals as goal
+use Rattle.rp_cell.proofs.decide.refute_soon.Goals as goal
 
 pub returns-in-Some-clause-decides : goal.returns-in-Some-clause-decides
 returns-in-Some-clause-decides c =

@@ -2,7 +2,7 @@ use Rattle.std.proofs.Common.{drop}
 use Rattle.rp_walks.specs.Walk.{first_tester}
 use Rattle.rp_walks.specs.Form.{subtract}
 use Rattle.rp_region.proofs.Left.{IsLeft}
-use Rattle.rp_region.proofs.difference.subtract.Given as goal
+use Rattle.rp_region.proofs.difference.subtract_each.Given as goal
 
 -- the other parts still to come are left
 abbrev pub invariant-loop-other : goal.invariant-loop-other

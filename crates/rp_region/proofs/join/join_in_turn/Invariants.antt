@@ -2,7 +2,7 @@ use Rattle.std.proofs.Common.{drop}
 use Rattle.rp_walks.specs.Walk.{first_tester}
 use Rattle.rp_walks.specs.Form.{join_each}
 use Rattle.rp_region.proofs.Left.{IsLeft}
-use Rattle.rp_region.proofs.join.join_each.Given as goal
+use Rattle.rp_region.proofs.join.join_in_turn.Given as goal
 
 -- the parts still to come are left
 abbrev pub invariant-loop-part : goal.invariant-loop-part

@@ -1,0 +1,20 @@
+use Rattle.std.proofs.Common.{◌++◌}
+use Rattle.std.specs.Prelude.{None}
+use Rattle.std.proofs.lemmas.Result.{err_from_is_err_and}
+use Rattle.rp_geometry.specs.searches.ProofLine.{apart_line}
+use Rattle.rp_walks.specs.Walk.{weak_test}
+use Rattle.rp_region.specs.Tells.{weak_tells}
+use Rattle.rp_region.proofs.Left.{not_begun}
+use Rattle.rp_region.proofs.Tested.{no_weak_point, weak_told}
+use Rattle.rp_region.proofs.work.Work.weak_test_of.Goals as goal
+
+pub returns-in_err-tell-clause-makes : goal.returns-in_err-tell-clause-makes
+returns-in_err-tell-clause-makes c =
+    let p = err_from_is_err_and c.from_residual.result c.from_residual.ensures.1 in
+    let cell = c.args.first.now.cell ++ c.args.second.now.cell in
+    rw (p.1) (not_begun (weak_test cell) c.args.self.now c.tell.new.self (weak_tells cell) c.in_err-tell.ensures.err)
+
+pub returns-in-Some-clause-makes : goal.returns-in-Some-clause-makes
+returns-in-Some-clause-makes c =
+    let cell = c.args.first.now.cell ++ c.args.second.now.cell in
+    weak_told cell None (apart_line c.in-Some.terms) c.args.self.now c.tell.new.self (no_weak_point cell c.in-Some.terms c.in-Some.ensures) c.in-Some.ensures c.in_ok-tell.ensures.ok
