@@ -1,5 +1,5 @@
 -- A history and the lists of parts of its lots, together.
-use Rattle.std.proofs.Common.{◌≡◌, ℕ, ◌+◌, ◌≤◌, Bool, false, List, [], ◌++◌, map, length, Option, Some, None, slice_get, sum_by, refl, sym, ap, ap₂, ◌∙◌, subst, append-nil}
+use Rattle.std.proofs.Common.{◌≡◌, ℕ, ◌+◌, ◌≤◌, Bool, false, List, [], ◌∷◌, ◌++◌, map, length, Option, Some, None, slice_get, sum_by, refl, sym, ap, ap₂, ◌∙◌, subst, append-nil, arith}
 use Rattle.std.specs.Prelude.{IsTrue, option_map}
 use Rattle.std.proofs.lemmas.List.{length-append, length-map}
 use Rattle.rp_geometry.specs.Geometry.{RationalPoint}
@@ -7,7 +7,7 @@ use Rattle.rp_geometry.specs.sets.Shape.{Part}
 use Rattle.rp_language.specs.Name.{Label}
 use Rattle.rp_model.specs.states.State.{Lot, ids_of, bare_lot, ended_at, born_at, lots_replaced, parts_under_lots, most_kept_parts}
 use Rattle.rp_model.specs.states.Sound.{are_distinct}
-use Rattle.rp_model.specs.commands.Row.{is_in_parts}
+use Rattle.rp_model.specs.commands.Row.{is_in_parts, lot_parts}
 use Rattle.rp_states.proofs.Replaced.{ended_parts}
 use Rattle.rp_history.specs.declared.lot.Birth.{Birth}
 use Rattle.rp_history.specs.Lots.{lots_after, new_lot_of}
@@ -19,11 +19,22 @@ use Rattle.rp_nearby.specs.Owner.{KnowsOwners}
 use Rattle.rp_nearby.proofs.Boxed.{kept_in}
 use Rattle.rp_kept.specs.Kept.{AreFew, AreLots, has_point}
 
+-- the lists of parts of lots with their parts
+all_lists : (ls : List (Lot (Unit {0}))) (lists : List (List Part)) → length ls ≡ length lists → lot_parts (lots_with_parts ls lists) ≡ lists
+all_lists [] [] e = refl
+all_lists [] (ps ∷ lists) e = absurd (omega arith)
+all_lists (l ∷ ls) [] e = absurd (omega arith)
+all_lists (l ∷ ls) (ps ∷ lists) e = let f : length ls ≡ length lists = omega arith in ap (λ (qs : List (List Part)). ps ∷ qs) (all_lists ls lists f)
+
 -- what lots keep of their own
 module _ (ls : List (Lot (Unit {0}))) (lists : List (List Part)) (parts : ℕ) (live ever : Boxes) (lots : List (Lot (Unit {0}))) (h : AreLots ls lists parts live ever) (seen : lots_with_parts ls lists ≡ lots) where
   -- as many lots as lists
   pub lots_counted : length lots ≡ length lists
   lots_counted = sym (ap length seen) ∙ length-with_parts ls lists h.each
+
+  -- its lots have the lists as their parts
+  pub lots_lists : lot_parts lots ≡ lists
+  lots_lists = sym (ap lot_parts seen) ∙ all_lists ls lists h.each
 
   -- its history has its lots without their parts
   pub lots_bare : ls ≡ map bare_lot lots

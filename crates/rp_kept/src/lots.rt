@@ -2,7 +2,7 @@
 ghost use Rattle.std.specs.Prelude.{◌≡◌, ◌+◌, ◌<◌, ◌≤◌, [], ◌∷◌, length, map, filter, drop, nat_le, slice_get, sum_by, option_copied, option_map, Some, IsTrue, IfOk, OnOk, OnErr};
 ghost use Rattle.rp_model.specs.states.State.{live_lot, lots_of_layer, parts_of_lot, bare_lot, ids_of, lots_replaced, parts_under_lots, most_kept_parts};
 ghost use Rattle.rp_model.specs.states.Sound.{are_distinct};
-ghost use Rattle.rp_model.specs.commands.Row.{owner_line};
+ghost use Rattle.rp_model.specs.commands.Row.{lot_parts, owner_line};
 ghost use Rattle.rp_history.specs.Lots.{lots_after, AreBornBefore, AreNew};
 ghost use Rattle.rp_history.specs.Parts.{new_lots};
 ghost use Rattle.rp_nearby.specs.Near.{others_in, is_near, lots_at, AreWithin};
@@ -100,6 +100,13 @@ impl<F: Forms> Lots<F> {
         ensures { option_map (λ l. l.parts) (slice_get self.now place) ≡ Some (F.parts_of result.now) }
     {
         &self.forms.items()[place]
+    }
+
+    /// The forms of all lots, by their places.
+    pub fn forms(&self) -> &[F::Form]
+        ensures { map F.parts_of result.now ≡ lot_parts self.now }
+    {
+        self.forms.items()
     }
 
     /// Places among which are, in rising order, those from a place on of all live lots of a layer that have another id and a

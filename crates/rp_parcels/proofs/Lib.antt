@@ -6,7 +6,6 @@ pub mod Tells
 pub mod Walked
 pub mod Counted
 pub mod Searched
-pub mod Sieved
 pub mod Fit
 pub mod Rows
 pub mod Composed
@@ -15,11 +14,10 @@ pub mod Audited
 pub mod Framed
 pub mod Shown
 pub mod Touched
-pub mod Linked
 pub mod Paired
-pub mod Numbers
 pub mod Accessed
 pub mod Untold
 pub mod Subdivided
 pub mod Children
 pub mod Later
+pub mod Crewed

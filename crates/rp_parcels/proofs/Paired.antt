@@ -1,195 +1,37 @@
--- The places of live lots: they rise, and behind each stand the lots of its layer; what is counted and shown of the pairs behind each is what the walks over the lots count and show.
-use Rattle.std.proofs.Common.{◌≡◌, ℕ, zero, suc, ◌+◌, ◌<◌, ◌≤◌, Bool, true, false, ◌&&◌, cond, List, [], ◌∷◌, ◌++◌, map, filter, length, drop, get_or, slice_get, Option, Some, None, refl, sym, ap, ap₂, ◌∙◌, subst, arith, append_assoc, append-nil}
-use Rattle.std.specs.Prelude.{IsTrue, IfOk, Result, Ok, Err}
+-- The places of live lots: behind each stand the lots of its layer; what is counted and shown of the pairs behind each is what the walks over the lots count and show.
+use Rattle.std.proofs.Common.{◌≡◌, ℕ, ◌+◌, ◌<◌, Bool, true, false, ◌&&◌, cond, List, [], ◌∷◌, ◌++◌, map, filter, length, drop, get_or, slice_get, Some, None, refl, sym, ap, ap₂, ◌∙◌, subst, append_assoc}
+use Rattle.std.specs.Prelude.{IfOk, Result, Ok, Err}
 use Rattle.std.specs.List.{AllByRecursion}
-use Rattle.std.proofs.lemmas.List.{drop_more, drop_all, length-drop, map-append}
+use Rattle.std.proofs.lemmas.List.{drop_more, map-append}
 use Rattle.rp_algebra.proofs.Listed.{all_append}
-use Rattle.rp_algebra.proofs.Lists.{get_some, all_filter}
+use Rattle.rp_algebra.proofs.Lists.{all_filter}
 use Rattle.rp_geometry.specs.sets.Shape.{Part, shape_of_parts}
 use Rattle.rp_geometry.specs.sets.Sets.{Overlaps}
 use Rattle.rp_geometry.specs.parts.Parts.{IsRegion}
-use Rattle.rp_language.specs.Name.{Label, label_eq, is_among}
 use Rattle.rp_walks.specs.Walk.{done, Work, after_first, first_tester}
-use Rattle.rp_walks.specs.Form.{near_pair, touching_pair}
-use Rattle.rp_model.specs.states.State.{Lot, bare_lot, is_live, live_lots, lots_of_layer, ids_of}
-use Rattle.rp_model.specs.states.Sound.{are_distinct}
-use Rattle.rp_model.specs.commands.Row.{count_with_each, count_among, count_in_layers, lot_parts, all_apart, all_apart_from}
-use Rattle.rp_states.proofs.Labels.{label_is}
-use Rattle.rp_history.specs.declared.lot.LotLine.{LotLine}
-use Rattle.rp_history.specs.Lots.{lot_of}
-use Rattle.rp_history.proofs.Found.{first_alone, rest_distinct, there}
+use Rattle.rp_walks.specs.Form.{near_pair}
+use Rattle.rp_model.specs.states.State.{Lot, is_live, live_lots, lots_of_layer}
+use Rattle.rp_model.specs.commands.Row.{count_in_layers, lot_parts, all_apart, all_apart_from}
 use Rattle.rp_region.specs.declared.fault.OpFault.{OpFault}
 use Rattle.rp_nearby.specs.declared.near.Reach.{Reach}
-use Rattle.rp_nearby.specs.declared.near.Reach.TheVariants.{Overlap, Touch}
-use Rattle.rp_nearby.specs.Near.{others_in, pairs_with, is_near, lots_at, AreWithin}
-use Rattle.rp_nearby.proofs.Behind.{others_behind}
+use Rattle.rp_nearby.specs.declared.near.Reach.TheVariants.{Overlap}
+use Rattle.rp_nearby.specs.Near.{pairs_with, is_near, lots_at, AreWithin}
+use Rattle.rp_lots.specs.Behind.{live_places, lots_behind}
+use Rattle.rp_lots.proofs.Paired.{left_further, left_within, behind_here}
 use Rattle.rp_parcels.specs.declared.near.Near.{Near}
 use Rattle.rp_parcels.specs.declared.pairs.Pair.{Pair}
 use Rattle.rp_parcels.specs.Kept.{AreSound}
 use Rattle.rp_parcels.specs.Judged.{pair_of, parts_at, judged, with_all_lines, IsPairWithin}
-use Rattle.rp_parcels.specs.Touching.{lists_at, is_touching, places_with, places_among, AreRising}
-use Rattle.rp_parcels.specs.Behind.{is_live_in, live_places, lots_behind, tests_behind, AreNearBehind, ArePairsBehind}
-use Rattle.rp_parcels.proofs.Found.{ids_distinct}
-use Rattle.rp_history.proofs.Bare.{line_at}
+use Rattle.rp_parcels.specs.Behind.{tests_later, AreNearLater, ArePairsLater}
 use Rattle.rp_parcels.proofs.Sizes.{region_each}
-use Rattle.rp_parcels.proofs.Shown.{first_at, second_parts, pairs_within, lines_append, judged_with, apart_shown}
+use Rattle.rp_parcels.proofs.Shown.{second_parts, pairs_within, lines_append, judged_with, apart_shown}
 use Rattle.rp_parcels.proofs.Audited.{apart_behind, near_alone}
-use Rattle.rp_parcels.proofs.Linked.{lists_of_lots}
-
--- ---- one place for each lot
-
--- the first lot does not stand again behind itself
-not_again : (h : Lot (Unit {0})) (ls : List (Lot (Unit {0}))) → IsTrue (are_distinct (ids_of (h ∷ ls))) → (k : ℕ) (l : Lot (Unit {0})) → Some h ≡ Some l → slice_get ls k ≡ Some l → ⊥
-not_again h ls d k l e f =
-    let same : h ≡ l = cc in
-    let alone = first_alone h ls d in
-    let twice : is_among h.id (ids_of ls) ≡ true = subst (λ (m : Lot (Unit {0})). is_among m.id (ids_of ls) ≡ true) (sym same) (there ls k l f) in
-    cc (alone, twice)
-
--- a lot has one place
-one_place : (lots : List (Lot (Unit {0}))) → IsTrue (are_distinct (ids_of lots)) → (j k : ℕ) (l : Lot (Unit {0})) → slice_get lots j ≡ Some l → slice_get lots k ≡ Some l → j ≡ k
-one_place [] d j k l e f = absurd (cc)
-one_place (h ∷ ls) d zero zero l e f = refl
-one_place (h ∷ ls) d zero (suc k) l e f = absurd (not_again h ls d k l e f)
-one_place (h ∷ ls) d (suc j) zero l e f = absurd (not_again h ls d j l f e)
-one_place (h ∷ ls) d (suc j) (suc k) l e f = ap suc (one_place ls (rest_distinct h ls d) j k l e f)
-
--- the places of lots are known by the lots
-places_once : (lots : List (Lot (Unit {0}))) → IsTrue (are_distinct (ids_of lots)) → (js ks : List ℕ) → AreWithin lots js → AreWithin lots ks → lots_at lots js ≡ lots_at lots ks → js ≡ ks
-places_once lots d [] [] g h e = refl
-places_once lots d [] (k ∷ ks) g h e =
-    let item = get_some lots k h.0 in
-    let f : [] ≡ item.0 ∷ lots_at lots ks = e ∙ first_at lots k k item.0 item.1 ks in
-    absurd (cc f)
-places_once lots d (j ∷ js) [] g h e =
-    let item = get_some lots j g.0 in
-    let f : [] ≡ item.0 ∷ lots_at lots js = sym e ∙ first_at lots j j item.0 item.1 js in
-    absurd (cc f)
-places_once lots d (j ∷ js) (k ∷ ks) g h e =
-    let first = get_some lots j g.0 in
-    let second = get_some lots k h.0 in
-    let f : first.0 ∷ lots_at lots js ≡ second.0 ∷ lots_at lots ks = sym (first_at lots j j first.0 first.1 js) ∙ e ∙ first_at lots k k second.0 second.1 ks in
-    let same : first.0 ≡ second.0 = cc in
-    let rest : lots_at lots js ≡ lots_at lots ks = cc in
-    ap₂ ◌∷◌ (one_place lots d j k first.0 first.1 (second.1 ∙ ap Some (sym same))) (places_once lots d js ks g.1 h.1 rest)
-
--- what is left of a list, one item further
-left_further : {A : Type 0} (xs : List A) (k : ℕ) (x : A) (ys : List A) → drop k xs ≡ x ∷ ys → (slice_get xs k ≡ Some x) × (drop (k + 1) xs ≡ ys)
-left_further [] zero x ys e = absurd (cc)
-left_further [] (suc k) x ys e = absurd (cc)
-left_further (z ∷ xs) zero x ys e = let head : z ≡ x = cc in let tail : xs ≡ ys = cc in (ap Some head, tail)
-left_further (z ∷ xs) (suc k) x ys e =
-    let r = left_further xs k x ys e in
-    let f : suc k + 1 ≡ suc (k + 1) = omega arith in
-    (r.0, ap (λ (n : ℕ). drop n (z ∷ xs)) f ∙ r.1)
-
--- ---- the places of live lots
-
--- none stands before the first
-none_before : (o : Option Label) (k : ℕ) (ls : List (Lot (Unit {0}))) (m : ℕ) → m ≤ k → AllByRecursion (λ j. m ≤ j) (live_places o k ls)
-none_before o k [] m h = tt
-none_before o k (l ∷ ls) m h = by (is_live_in o l) (none_before o (k + 1) ls m (omega (arith, h)))
-  where
-    by : (b : Bool) → AllByRecursion (λ j. m ≤ j) (live_places o (k + 1) ls) → AllByRecursion (λ j. m ≤ j) (cond b (k ∷ live_places o (k + 1) ls) (live_places o (k + 1) ls))
-    by true later = (h, later)
-    by false later = later
-
--- all are below the end
-places_below : (n : ℕ) (o : Option Label) (k : ℕ) (ls : List (Lot (Unit {0}))) → k + length ls ≤ n → AllByRecursion (λ j. j < n) (live_places o k ls)
-places_below n o k [] h = tt
-places_below n o k (l ∷ ls) h = by (is_live_in o l) (places_below n o (k + 1) ls (omega (arith, h)))
-  where
-    by : (b : Bool) → AllByRecursion (λ j. j < n) (live_places o (k + 1) ls) → AllByRecursion (λ j. j < n) (cond b (k ∷ live_places o (k + 1) ls) (live_places o (k + 1) ls))
-    by true later = (omega (arith, h), later)
-    by false later = later
-
--- all are within
-pub places_within : (lots : List (Lot (Unit {0}))) (o : Option Label) → AreWithin lots (live_places o 0 lots)
-places_within lots o = places_below (length lots) o 0 lots (omega arith)
-
--- they rise
-places_rise : (o : Option Label) (k : ℕ) (ls : List (Lot (Unit {0}))) (i j : ℕ) → i < j → j < length (live_places o k ls) → get_or (live_places o k ls) i 0 < get_or (live_places o k ls) j 0
-places_rise o k [] i j h g = absurd (omega (arith, g))
-places_rise o k (l ∷ ls) i j h g = by (is_live_in o l) i j h (places_rise o (k + 1) ls) (none_before o (k + 1) ls (k + 1) (omega arith)) g
-  where
-    places : List ℕ
-    places = live_places o (k + 1) ls
-
-    above : (ks : List ℕ) → AllByRecursion (λ m. k + 1 ≤ m) ks → (n : ℕ) → n < length ks → k < get_or ks n 0
-    above [] h n g = absurd (omega (arith, g))
-    above (m ∷ ks) h zero g = let f = h.0 in omega (arith, f)
-    above (m ∷ ks) h (suc n) g = above ks h.1 n (omega (arith, g))
-
-    by : (b : Bool) (i j : ℕ) → i < j → ((i j : ℕ) → i < j → j < length places → get_or places i 0 < get_or places j 0) → AllByRecursion (λ m. k + 1 ≤ m) places → j < length (cond b (k ∷ places) places) → get_or (cond b (k ∷ places) places) i 0 < get_or (cond b (k ∷ places) places) j 0
-    by true i zero h later all g = absurd (omega (arith, h))
-    by true zero (suc j) h later all g = above places all j (omega (arith, g))
-    by true (suc i) (suc j) h later all g = later i j (omega (arith, h)) (omega (arith, g))
-    by false i j h later all g = later i j h g
-
--- all of them rise
-pub all_rise : (lots : List (Lot (Unit {0}))) (o : Option Label) → AreRising (live_places o 0 lots)
-all_rise lots o = places_rise o 0 lots
-
--- the lots at those of a layer
-pub layer_there : (lots : List (Lot (Unit {0}))) (y : Label) (k : ℕ) (ls : List (Lot (Unit {0}))) → drop k lots ≡ ls → lots_at lots (live_places (Some y) k ls) ≡ lots_of_layer y (live_lots ls)
-layer_there lots y k [] e = refl
-layer_there lots y k (l ∷ ls) e =
-    let left = left_further lots k l ls e in
-    by (is_live l) (label_eq l.layer y) refl left.0 (layer_there lots y (k + 1) ls left.1)
-  where
-    places : List ℕ
-    places = live_places (Some y) (k + 1) ls
-
-    by : (a b : Bool) → label_eq l.layer y ≡ b → slice_get lots k ≡ Some l → lots_at lots places ≡ lots_of_layer y (live_lots ls) → lots_at lots (cond (a && b) (k ∷ places) places) ≡ lots_of_layer y (cond a (l ∷ live_lots ls) (live_lots ls))
-    by true true f at later =
-        first_at lots k k l at places
-        ∙ ap (λ (ms : List (Lot (Unit {0}))). l ∷ ms) later
-        ∙ sym (ap (λ (b : Bool). cond b (l ∷ lots_of_layer y (live_lots ls)) (lots_of_layer y (live_lots ls))) f)
-    by true false f at later = later ∙ sym (ap (λ (b : Bool). cond b (l ∷ lots_of_layer y (live_lots ls)) (lots_of_layer y (live_lots ls))) f)
-    by false b f at later = later
-
--- one more place is taken
-pub place_taken : (lots : List (Lot (Unit {0}))) (o : Option Label) (k : ℕ) (l : Lot (Unit {0})) (places new all : List ℕ) → drop k lots ≡ l ∷ drop (k + 1) lots → is_live_in o l ≡ true → places ++ live_places o k (drop k lots) ≡ all → new ≡ places ++ k ∷ [] →
-    new ++ live_places o (k + 1) (drop (k + 1) lots) ≡ all
-place_taken lots o k l places new all left live so_far e =
-    let rest = live_places o (k + 1) (drop (k + 1) lots) in
-    ap (λ (ks : List ℕ). ks ++ rest) e
-    ∙ append_assoc places (k ∷ []) rest
-    ∙ sym (ap (λ (b : Bool). places ++ cond b (k ∷ rest) rest) live)
-    ∙ sym (ap (λ (ls : List (Lot (Unit {0}))). places ++ live_places o k ls) left)
-    ∙ so_far
-
--- or passed over
-pub place_passed : (lots : List (Lot (Unit {0}))) (o : Option Label) (k : ℕ) (l : Lot (Unit {0})) (places all : List ℕ) → drop k lots ≡ l ∷ drop (k + 1) lots → is_live_in o l ≡ false → places ++ live_places o k (drop k lots) ≡ all →
-    places ++ live_places o (k + 1) (drop (k + 1) lots) ≡ all
-place_passed lots o k l places all left ended so_far =
-    let rest = live_places o (k + 1) (drop (k + 1) lots) in
-    sym (ap (λ (b : Bool). places ++ cond b (k ∷ rest) rest) ended) ∙ sym (ap (λ (ls : List (Lot (Unit {0}))). places ++ live_places o k ls) left) ∙ so_far
-
--- none is left behind the last
-pub places_ended : (lots : List (Lot (Unit {0}))) (o : Option Label) (k : ℕ) (places all : List ℕ) → length lots ≤ k → places ++ live_places o k (drop k lots) ≡ all → places ≡ all
-places_ended lots o k places all past so_far = sym (append-nil places) ∙ sym (ap (λ (ls : List (Lot (Unit {0}))). places ++ live_places o k ls) (drop_all k lots past)) ∙ so_far
 
 -- ---- the lots behind a place
 
--- a place that has an item is within
-left_within : {A : Type 0} (xs : List A) (k : ℕ) (x : A) (ys : List A) → drop k xs ≡ x ∷ ys → k < length xs
-left_within xs k x ys e = let n = length-drop k xs in let m = ap length e in omega (arith, n, m)
-
--- the lots behind a place at which a lot is known
-pub behind_here : (lots : List (Lot (Unit {0}))) (k : ℕ) (l : Lot (Unit {0})) → slice_get lots k ≡ Some l → lots_behind lots k ≡ lots_of_layer l.layer (live_lots (drop (k + 1) lots))
-behind_here lots k l at = ap (λ (o : Option (Lot (Unit {0}))). elim o as (λ _. List (Lot (Unit {0}))) [ None ↦ [] | Some m ↦ lots_of_layer m.layer (live_lots (drop (k + 1) lots)) ]) at
-
--- the others behind a live lot are all lots of its layer there
-pub others_are : (lots : List (Lot (Unit {0}))) → AreSound lots → (history : List (Lot (Unit {0}))) (lines : List LotLine) → history ≡ map bare_lot lots → map lot_of lines ≡ history → (k : ℕ) (line : LotLine) → k < length lots → line ≡ get_or lines k line →
-    others_in line.layer line.id (drop (k + 1) lots) ≡ lots_behind lots k
-others_are lots sound history lines e f k line within is =
-    let item = line_at lots history lines e f k line within is in
-    sym (ap (λ (m : Lot (Unit {0})). others_in m.layer m.id (drop (k + 1) lots)) item.2) ∙ others_behind lots (ids_distinct lots sound) k item.0 within item.1 ∙ sym (behind_here lots k item.0 item.1)
-
 -- what was found behind a lot
 pub near_behind : (r : Reach) (lots : List (Lot (Unit {0}))) (k : ℕ) (ps : List Part) (ls : List (Lot (Unit {0}))) (found : Result Near OpFault) → ps ≡ parts_at lots k → ls ≡ lots_behind lots k
-    → IfOk found (λ near. AreWithin lots near.places.items) → IfOk found (λ near. lots_at lots near.places.items ≡ filter (is_near r ps) ls) → IfOk found (λ near. AreNearBehind r lots k near.places.items)
+    → IfOk found (λ near. AreWithin lots near.places.items) → IfOk found (λ near. lots_at lots near.places.items ≡ filter (is_near r ps) ls) → IfOk found (λ near. AreNearLater r lots k near.places.items)
 near_behind r lots k ps ls (Ok near) own others within there = record { within = within; there = there ∙ ap₂ (λ (qs : List Part) (ms : List (Lot (Unit {0}))). filter (is_near r qs) ms) own others }
 near_behind r lots k ps ls (Err e) own others within there = tt
 
@@ -205,20 +47,20 @@ module _ (lots : List (Lot (Unit {0}))) (k : ℕ) (l : Lot (Unit {0})) (ls : Lis
 -- ---- all live lots
 
 -- their tests are counted
-pub all_counted : (lots : List (Lot (Unit {0}))) (k : ℕ) (ls : List (Lot (Unit {0}))) → drop k lots ≡ ls → tests_behind Overlap lots (live_places None k ls) ≡ count_in_layers near_pair (live_lots ls)
+pub all_counted : (lots : List (Lot (Unit {0}))) (k : ℕ) (ls : List (Lot (Unit {0}))) → drop k lots ≡ ls → tests_later Overlap lots (live_places None k ls) ≡ count_in_layers near_pair (live_lots ls)
 all_counted lots k [] e = refl
 all_counted lots k (l ∷ ls) e = by (is_live l) (all_counted lots (k + 1) ls (left_further lots k l ls e).1)
   where
     places : List ℕ
     places = live_places None (k + 1) ls
 
-    by : (b : Bool) → tests_behind Overlap lots places ≡ count_in_layers near_pair (live_lots ls) → tests_behind Overlap lots (cond (b && true) (k ∷ places) places) ≡ count_in_layers near_pair (cond b (l ∷ live_lots ls) (live_lots ls))
+    by : (b : Bool) → tests_later Overlap lots places ≡ count_in_layers near_pair (live_lots ls) → tests_later Overlap lots (cond (b && true) (k ∷ places) places) ≡ count_in_layers near_pair (cond b (l ∷ live_lots ls) (live_lots ls))
     by true later = ap₂ ◌+◌ (ap₂ (λ ps (ms : List (Lot (Unit {0}))). pairs_with Overlap ps ms) (own_parts lots k l ls e) (behind_first lots k l ls e)) later
     by false later = later
 
 module _ (lots : List (Lot (Unit {0}))) (sound : AreSound lots) where
   -- the near lots behind a live one share no point with it
-  near_apart : (k : ℕ) (l : Lot (Unit {0})) → k < length lots → slice_get lots k ≡ Some l → is_live l ≡ true → (js : List ℕ) → AreNearBehind Overlap lots k js →
+  near_apart : (k : ℕ) (l : Lot (Unit {0})) → k < length lots → slice_get lots k ≡ Some l → is_live l ≡ true → (js : List ℕ) → AreNearLater Overlap lots k js →
       AllByRecursion (λ m. ¬ Overlaps (shape_of_parts (parts_at lots k)) (shape_of_parts m.parts)) (lots_at lots js)
   near_apart k l within at live js near =
       let IsApart = λ (m : Lot (Unit {0})). ¬ Overlaps (shape_of_parts (parts_at lots k)) (shape_of_parts m.parts) in
@@ -229,7 +71,7 @@ module _ (lots : List (Lot (Unit {0}))) (sound : AreSound lots) where
       (apart_behind lots sound k l within at live))))
 
   -- the tests of a live lot with those behind it show what those of the near pairs show
-  own_shown : (k : ℕ) (l : Lot (Unit {0})) (ls : List (Lot (Unit {0}))) → drop k lots ≡ l ∷ ls → is_live l ≡ true → (js : List ℕ) → AreNearBehind Overlap lots k js → (w : Work) →
+  own_shown : (k : ℕ) (l : Lot (Unit {0})) (ls : List (Lot (Unit {0}))) → drop k lots ≡ l ∷ ls → is_live l ≡ true → (js : List ℕ) → AreNearLater Overlap lots k js → (w : Work) →
       all_apart_from first_tester l.parts (lot_parts (lots_of_layer l.layer (live_lots ls))) w ≡ done tt (with_all_lines w (judged_with lots k Overlap js))
   own_shown k l ls left live js near w =
       let at = (left_further lots k l ls left).0 in
@@ -239,20 +81,20 @@ module _ (lots : List (Lot (Unit {0}))) (sound : AreSound lots) where
       ∙ apart_shown lots k sound region js near.within (near_apart k l (left_within lots k l ls left) at live js near) w
 
   -- the pairs are within
-  pub all_paired : (ks : List ℕ) → AreWithin lots ks → (pairs : List Pair) → ArePairsBehind Overlap lots ks pairs → AllByRecursion (IsPairWithin lots) pairs
+  pub all_paired : (ks : List ℕ) → AreWithin lots ks → (pairs : List Pair) → ArePairsLater Overlap lots ks pairs → AllByRecursion (IsPairWithin lots) pairs
   all_paired [] w pairs h = subst (AllByRecursion (IsPairWithin lots)) (sym h) tt
   all_paired (k ∷ ks) w pairs h = subst (AllByRecursion (IsPairWithin lots)) (sym h.2) (all_append (IsPairWithin lots) (map (pair_of k) h.0) h.1 (pairs_within lots k h.0 w.0 h.3.within) (all_paired ks w.1 h.1 h.4))
 
   -- what is shown of all live lots is what the tests of the pairs show
-  pub all_shown : (k : ℕ) (ls : List (Lot (Unit {0}))) → drop k lots ≡ ls → (pairs : List Pair) → ArePairsBehind Overlap lots (live_places None k ls) pairs → (w : Work) → all_apart first_tester (live_lots ls) w ≡ done tt (with_all_lines w (map (judged Overlap lots) pairs))
+  pub all_shown : (k : ℕ) (ls : List (Lot (Unit {0}))) → drop k lots ≡ ls → (pairs : List Pair) → ArePairsLater Overlap lots (live_places None k ls) pairs → (w : Work) → all_apart first_tester (live_lots ls) w ≡ done tt (with_all_lines w (map (judged Overlap lots) pairs))
   all_shown k [] e pairs h w = sym (ap (λ (ps : List Pair). done tt (with_all_lines w (map (judged Overlap lots) ps))) h)
   all_shown k (l ∷ ls) e pairs h w = by (is_live l) refl (all_shown (k + 1) ls (left_further lots k l ls e).1) pairs h
     where
       places : List ℕ
       places = live_places None (k + 1) ls
 
-      by : (b : Bool) → is_live l ≡ b → ((more : List Pair) → ArePairsBehind Overlap lots places more → (v : Work) → all_apart first_tester (live_lots ls) v ≡ done tt (with_all_lines v (map (judged Overlap lots) more)))
-          → (ps : List Pair) → ArePairsBehind Overlap lots (cond (b && true) (k ∷ places) places) ps → all_apart first_tester (cond b (l ∷ live_lots ls) (live_lots ls)) w ≡ done tt (with_all_lines w (map (judged Overlap lots) ps))
+      by : (b : Bool) → is_live l ≡ b → ((more : List Pair) → ArePairsLater Overlap lots places more → (v : Work) → all_apart first_tester (live_lots ls) v ≡ done tt (with_all_lines v (map (judged Overlap lots) more)))
+          → (ps : List Pair) → ArePairsLater Overlap lots (cond (b && true) (k ∷ places) places) ps → all_apart first_tester (cond b (l ∷ live_lots ls) (live_lots ls)) w ≡ done tt (with_all_lines w (map (judged Overlap lots) ps))
       by true live later ps g =
           let own = judged_with lots k Overlap g.0 in
           ap (after_first (λ _. all_apart first_tester (live_lots ls))) (own_shown k l ls e live g.0 g.3 w)
@@ -261,98 +103,16 @@ module _ (lots : List (Lot (Unit {0}))) (sound : AreSound lots) where
           ∙ sym (ap (λ (js : _). done tt (with_all_lines w js)) (ap (map (judged Overlap lots)) g.2 ∙ map-append (judged Overlap lots) (map (pair_of k) g.0) g.1))
       by false ended later ps g = later ps g w
 
--- ---- the live lots of a layer
-
-module _ (lots : List (Lot (Unit {0}))) (y : Label) where
-  -- the lots behind the first of those that are left stand at the further places
-  behind_places : (k : ℕ) (l : Lot (Unit {0})) (ls : List (Lot (Unit {0}))) → drop k lots ≡ l ∷ ls → label_eq l.layer y ≡ true → lots_behind lots k ≡ lots_at lots (live_places (Some y) (k + 1) ls)
-  behind_places k l ls left own = behind_first lots k l ls left ∙ ap (λ (z : Label). lots_of_layer z (live_lots ls)) (label_is l.layer y own) ∙ sym (layer_there lots y (k + 1) ls (left_further lots k l ls left).1)
-
-  -- those places are within
-  further_within : (k : ℕ) (l : Lot (Unit {0})) (ls : List (Lot (Unit {0}))) → drop k lots ≡ l ∷ ls → AreWithin lots (live_places (Some y) (k + 1) ls)
-  further_within k l ls left =
-      let n = length-drop k lots in
-      let m = ap length left in
-      let within = left_within lots k l ls left in
-      places_below (length lots) (Some y) (k + 1) ls (omega (arith, n, m, within))
-
-  -- their tests are counted
-  pub layer_counted : (k : ℕ) (ls : List (Lot (Unit {0}))) → drop k lots ≡ ls → tests_behind Touch lots (live_places (Some y) k ls) ≡ count_among touching_pair (lists_at lots (live_places (Some y) k ls))
-  layer_counted k [] e = refl
-  layer_counted k (l ∷ ls) e = by (is_live l) (label_eq l.layer y) refl (layer_counted (k + 1) ls (left_further lots k l ls e).1)
-    where
-      places : List ℕ
-      places = live_places (Some y) (k + 1) ls
-
-      by : (a b : Bool) → label_eq l.layer y ≡ b → tests_behind Touch lots places ≡ count_among touching_pair (lists_at lots places) → tests_behind Touch lots (cond (a && b) (k ∷ places) places) ≡ count_among touching_pair (lists_at lots (cond (a && b) (k ∷ places) places))
-      by true true own later = ap₂ ◌+◌ (ap (count_with_each touching_pair (parts_at lots k)) (ap lot_parts (behind_places k l ls e own) ∙ lists_of_lots lots places (further_within k l ls e))) later
-      by true false own later = later
-      by false b own later = later
-
-  -- the pairs of a lot with those of some places that may touch it
-  with_kept : (k : ℕ) (js : List ℕ) → map (pair_of k) (filter (λ j. is_touching (parts_at lots k) (parts_at lots j)) js) ≡ places_with lots k js
-  with_kept k [] = refl
-  with_kept k (j ∷ js) = by (is_touching (parts_at lots k) (parts_at lots j)) (with_kept k js)
-    where
-      kept : List ℕ
-      kept = filter (λ i. is_touching (parts_at lots k) (parts_at lots i)) js
-
-      by : (b : Bool) → map (pair_of k) kept ≡ places_with lots k js → map (pair_of k) (cond b (j ∷ kept) kept) ≡ cond b (pair_of k j ∷ places_with lots k js) (places_with lots k js)
-      by true later = ap (λ (ps : List Pair). pair_of k j ∷ ps) later
-      by false later = later
-
-  -- the lots of these places
-  kept_there : (k : ℕ) (js : List ℕ) → AreWithin lots js → lots_at lots (filter (λ j. is_touching (parts_at lots k) (parts_at lots j)) js) ≡ filter (is_near Touch (parts_at lots k)) (lots_at lots js)
-  kept_there k [] w = refl
-  kept_there k (j ∷ js) w =
-      let item = get_some lots j w.0 in
-      let m = item.0 in
-      by m item.1 (is_touching (parts_at lots k) (parts_at lots j)) (sym (ap (is_touching (parts_at lots k)) (second_parts lots j j m item.1))) (kept_there k js w.1)
-      ∙ sym (ap (λ (ms : List (Lot (Unit {0}))). filter (is_near Touch (parts_at lots k)) ms) (first_at lots j j m item.1 js))
-    where
-      kept : List ℕ
-      kept = filter (λ i. is_touching (parts_at lots k) (parts_at lots i)) js
-
-      near : List (Lot (Unit {0}))
-      near = filter (is_near Touch (parts_at lots k)) (lots_at lots js)
-
-      by : (m : Lot (Unit {0})) → slice_get lots j ≡ Some m → (b : Bool) → is_near Touch (parts_at lots k) m ≡ b → lots_at lots kept ≡ near → lots_at lots (cond b (j ∷ kept) kept) ≡ filter (is_near Touch (parts_at lots k)) (m ∷ lots_at lots js)
-      by m at true e later = first_at lots j j m at kept ∙ ap (λ (ms : List (Lot (Unit {0}))). m ∷ ms) later ∙ sym (ap (λ (b : Bool). cond b (m ∷ near) near) e)
-      by m at false e later = later ∙ sym (ap (λ (b : Bool). cond b (m ∷ near) near) e)
-
-  -- the pairs of a lot with the near ones behind it
-  own_paired : AreSound lots → (k : ℕ) (ks : List ℕ) → AreWithin lots ks → lots_behind lots k ≡ lots_at lots ks → (js : List ℕ) → AreNearBehind Touch lots k js → map (pair_of k) js ≡ places_with lots k ks
-  own_paired sound k ks within behind js near =
-      let kept = filter (λ j. is_touching (parts_at lots k) (parts_at lots j)) ks in
-      let same : js ≡ kept =
-      places_once lots (ids_distinct lots sound) js kept near.within (all_filter (λ j. j < length lots) (λ j. is_touching (parts_at lots k) (parts_at lots j)) ks within)
-      (near.there ∙ ap (λ (ms : List (Lot (Unit {0}))). filter (is_near Touch (parts_at lots k)) ms) behind ∙ sym (kept_there k ks within)) in
-      ap (map (pair_of k)) same ∙ with_kept k ks
-
-  -- the pairs behind each are those of each two places
-  pub layer_paired : AreSound lots → (k : ℕ) (ls : List (Lot (Unit {0}))) → drop k lots ≡ ls → (pairs : List Pair) → ArePairsBehind Touch lots (live_places (Some y) k ls) pairs → pairs ≡ places_among lots (live_places (Some y) k ls)
-  layer_paired sound k [] e pairs h = h
-  layer_paired sound k (l ∷ ls) e pairs h = by (is_live l) (label_eq l.layer y) refl (layer_paired sound (k + 1) ls (left_further lots k l ls e).1) pairs h
-    where
-      places : List ℕ
-      places = live_places (Some y) (k + 1) ls
-
-      by : (a b : Bool) → label_eq l.layer y ≡ b → ((more : List Pair) → ArePairsBehind Touch lots places more → more ≡ places_among lots places)
-          → (ps : List Pair) → ArePairsBehind Touch lots (cond (a && b) (k ∷ places) places) ps → ps ≡ places_among lots (cond (a && b) (k ∷ places) places)
-      by true true own later ps g = g.2 ∙ ap₂ ◌++◌ (own_paired sound k places (further_within k l ls e) (behind_places k l ls e own) g.0 g.3) (later g.1 g.4)
-      by true false own later ps g = later ps g
-      by false b own later ps g = later ps g
-
 -- ---- one place after the other
 
 -- the pairs behind one more place
-pub pairs_more : (r : Reach) (lots : List (Lot (Unit {0}))) (places : List ℕ) (i : ℕ) → i < length places → (pairs new : List Pair) → ((more : List Pair) → ArePairsBehind r lots (drop i places) more → ArePairsBehind r lots places (pairs ++ more))
-    → (js : List ℕ) → AreNearBehind r lots (get_or places i 0) js → new ≡ pairs ++ map (pair_of (get_or places i 0)) js → (more : List Pair) → ArePairsBehind r lots (drop (i + 1) places) more → ArePairsBehind r lots places (new ++ more)
+pub pairs_more : (r : Reach) (lots : List (Lot (Unit {0}))) (places : List ℕ) (i : ℕ) → i < length places → (pairs new : List Pair) → ((more : List Pair) → ArePairsLater r lots (drop i places) more → ArePairsLater r lots places (pairs ++ more))
+    → (js : List ℕ) → AreNearLater r lots (get_or places i 0) js → new ≡ pairs ++ map (pair_of (get_or places i 0)) js → (more : List Pair) → ArePairsLater r lots (drop (i + 1) places) more → ArePairsLater r lots places (new ++ more)
 pairs_more r lots places i h pairs new so_far js near e more g =
     let k = get_or places i 0 in
-    subst (ArePairsBehind r lots places) (sym (ap (λ (ps : List Pair). ps ++ more) e ∙ append_assoc pairs (map (pair_of k) js) more))
-    (so_far (map (pair_of k) js ++ more) (subst (λ (ks : List ℕ). ArePairsBehind r lots ks (map (pair_of k) js ++ more)) (sym (drop_more places i 0 h)) (js, more, refl, near, g)))
+    subst (ArePairsLater r lots places) (sym (ap (λ (ps : List Pair). ps ++ more) e ∙ append_assoc pairs (map (pair_of k) js) more))
+    (so_far (map (pair_of k) js ++ more) (subst (λ (ks : List ℕ). ArePairsLater r lots ks (map (pair_of k) js ++ more)) (sym (drop_more places i 0 h)) (js, more, refl, near, g)))
 
 -- the tests behind one more place
-pub tests_more : (r : Reach) (lots : List (Lot (Unit {0}))) (places : List ℕ) (i : ℕ) → i < length places → tests_behind r lots (drop i places) ≡ pairs_with r (parts_at lots (get_or places i 0)) (lots_behind lots (get_or places i 0)) + tests_behind r lots (drop (i + 1) places)
-tests_more r lots places i h = ap (tests_behind r lots) (drop_more places i 0 h)
+pub tests_more : (r : Reach) (lots : List (Lot (Unit {0}))) (places : List ℕ) (i : ℕ) → i < length places → tests_later r lots (drop i places) ≡ pairs_with r (parts_at lots (get_or places i 0)) (lots_behind lots (get_or places i 0)) + tests_later r lots (drop (i + 1) places)
+tests_more r lots places i h = ap (tests_later r lots) (drop_more places i 0 h)

@@ -1,5 +1,5 @@
 -- What the tests of pairs show by themselves, put together, is what the walks over the lots show.
-use Rattle.std.proofs.Common.{◌≡◌, ℕ, zero, suc, ◌<◌, Bool, true, false, cond, List, [], ◌∷◌, ◌++◌, map, filter, length, get_or, Option, Some, None, slice_get, refl, sym, ap, ◌∙◌, subst, append_assoc, append-nil}
+use Rattle.std.proofs.Common.{◌≡◌, ℕ, zero, suc, ◌<◌, Bool, true, false, List, [], ◌∷◌, ◌++◌, map, length, get_or, Option, Some, None, slice_get, refl, sym, ap, ◌∙◌, subst}
 use Rattle.std.specs.Prelude.{IsTrue, ◌↔◌, option_map}
 use Rattle.std.specs.List.{AllByRecursion}
 use Rattle.std.specs.Option.{option_to_list}
@@ -13,18 +13,18 @@ use Rattle.rp_walks.specs.FormLaws.{IfDone}
 use Rattle.rp_forms.proofs.First.{first_tester_is_right_spec}
 use Rattle.rp_forms.proofs.Common.{common_is_right_spec}
 use Rattle.rp_model.specs.states.State.{Lot}
-use Rattle.rp_model.specs.commands.Row.{lot_parts, touched_lots, all_apart_from}
+use Rattle.rp_model.specs.commands.Row.{lot_parts, all_apart_from}
 use Rattle.rp_region.specs.Makes.{work_after}
 use Rattle.rp_crew.specs.Meanings.{meanings_from, meanings_of}
 use Rattle.rp_nearby.specs.declared.near.Reach.{Reach}
-use Rattle.rp_nearby.specs.declared.near.Reach.TheVariants.{Overlap, Touch}
+use Rattle.rp_nearby.specs.declared.near.Reach.TheVariants.{Overlap}
 use Rattle.rp_parcels.specs.declared.pairs.Pair.{Pair}
 use Rattle.rp_parcels.specs.declared.pairs.Judged.{Judged}
 use Rattle.rp_nearby.specs.Near.{lots_at, AreWithin}
-use Rattle.rp_parcels.specs.Judged.{pair_of, parts_at, id_at, pair_test, is_passed, pair_outcome, judged, ids_that_meet, with_all_lines, IsPairWithin, CountsNothing}
+use Rattle.rp_parcels.specs.Judged.{pair_of, parts_at, id_at, pair_test, is_passed, pair_outcome, judged, with_all_lines, IsPairWithin, CountsNothing}
 use Rattle.rp_parcels.specs.Kept.{AreSound}
 use Rattle.rp_parcels.proofs.Sizes.{region_each}
-use Rattle.rp_nearby.proofs.Skipped.{touched_by, apart_on}
+use Rattle.rp_nearby.proofs.Skipped.{apart_on}
 use Rattle.rp_parcels.proofs.Framed.{shown_behind, none_counted}
 
 -- ---- items of a list by their numbers
@@ -90,35 +90,10 @@ module _ (lots : List (Lot (Unit {0}))) (j k : ℕ) (l : Lot (Unit {0})) (at : s
   pub first_at : (ks : List ℕ) → lots_at lots (k ∷ ks) ≡ l ∷ lots_at lots ks
   first_at ks = ap (λ (o : Option (Lot (Unit {0}))). option_to_list o ++ lots_at lots ks) at
 
--- ---- lots in contact
-
--- the ids of those that meet, with that of the first pair
-ids_with_first : (found : List Label) (x : Label) (b : Bool) (one : Judged) (js : List Judged) → x ≡ one.id → one.meets ≡ b →
-    (elim b as (λ _. List Label) [ true ↦ found ++ x ∷ [] | false ↦ found ]) ++ ids_that_meet js ≡ found ++ ids_that_meet (one ∷ js)
-ids_with_first found x true one js e f =
-    append_assoc found (x ∷ []) (ids_that_meet js)
-    ∙ ap (λ (y : Label). found ++ y ∷ ids_that_meet js) e
-    ∙ sym (ap (λ (d : Bool). found ++ map (λ (j : Judged). j.id) (cond d (one ∷ filter (λ (j : Judged). j.meets) js) (filter (λ (j : Judged). j.meets) js))) f)
-ids_with_first found x false one js e f = sym (ap (λ (d : Bool). found ++ map (λ (j : Judged). j.id) (cond d (one ∷ filter (λ (j : Judged). j.meets) js) (filter (λ (j : Judged). j.meets) js))) f)
-
 module _ (lots : List (Lot (Unit {0}))) (j : ℕ) where
   -- what the tests of its pairs with others show
   abbrev pub judged_with : Reach → List ℕ → List Judged
   judged_with r ks = map (judged r lots) (map (pair_of j) ks)
-
-  -- the walk over others finds those that meet, and has the lines of all
-  pub touched_shown : (ks : List ℕ) → AreWithin lots ks → (found : List Label) (w : Work) →
-      touched_lots first_tester found (parts_at lots j) (lots_at lots ks) w ≡ done (found ++ ids_that_meet (judged_with Touch ks)) (with_all_lines w (judged_with Touch ks))
-  touched_shown [] h found w = ap (λ (ids : List Label). done ids w) (sym (append-nil found))
-  touched_shown (k ∷ ks) h found w =
-      let item = get_some lots k h.0 in
-      let l = item.0 in
-      let one = judged Touch lots (pair_of j k) in
-      let behind = with_lines w one.work.proofs in
-      ap (λ (ls : List (Lot (Unit {0}))). touched_lots first_tester found (parts_at lots j) ls w) (first_at lots j k l item.1 ks)
-      ∙ ap (λ (o : Outcome Work Bool). after_first (λ more. touched_lots first_tester more (parts_at lots j) (lots_at lots ks)) (after_first (touched_by found l.id) o)) (tested lots j k l item.1 Touch w)
-      ∙ touched_shown ks h.1 (elim one.meets as (λ _. List Label) [ true ↦ found ++ l.id ∷ [] | false ↦ found ]) behind
-      ∙ ap (λ (ids : List Label). done ids (with_all_lines behind (judged_with Touch ks))) (ids_with_first found l.id one.meets one (judged_with Touch ks) (sym (second_id lots j k l item.1)) refl)
 
   -- ---- lots that are apart
 

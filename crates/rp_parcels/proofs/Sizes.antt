@@ -3,7 +3,7 @@ use Rattle.std.proofs.Common.{◌≡◌, ℕ, zero, suc, ◌<◌, ◌≤◌, Lis
 use Rattle.std.specs.List.{AllByRecursion}
 use Rattle.rp_geometry.specs.sets.Shape.{Shape, shape_of_parts}
 use Rattle.rp_geometry.specs.sets.Sets.{IsNonempty}
-use Rattle.rp_geometry.specs.parts.Parts.{AreOf, IsPart, IsRegion}
+use Rattle.rp_geometry.specs.parts.Parts.{AreOf, IsPart, IsRegion, most_parts}
 use Rattle.rp_model.specs.states.State.{Lot, lot_of_parts, parts_under_lots, most_kept_parts}
 use Rattle.rp_states.proofs.Listing.{all_unmapped}
 use Rattle.rp_states.proofs.Plain.{image_sums}
@@ -41,3 +41,11 @@ region_each lots h = by lots (all_unmapped (λ (l : Lot Shape). AreOf IsPart l.s
     by [] all k l e = absurd (cc)
     by (m ∷ ls) all zero l e = let same : m ≡ l = cc in subst (λ (a : Lot (Unit {0})). IsRegion a.parts) same all.0.all
     by (m ∷ ls) all (suc k) l e = by ls all.1 k l e
+
+-- so each has few
+pub all_short : (lots : List (Lot (Unit {0}))) → AreSound lots → AllByRecursion (λ l. length l.parts ≤ most_parts) lots
+all_short lots h = by lots (all_unmapped (λ (l : Lot Shape). AreOf IsPart l.set l.parts) lot_of_parts lots h.lots_keep_parts)
+  where
+    by : (ls : List (Lot (Unit {0}))) → AllByRecursion (λ l. AreOf IsPart (shape_of_parts l.parts) l.parts) ls → AllByRecursion (λ l. length l.parts ≤ most_parts) ls
+    by [] all = tt
+    by (l ∷ ls) all = (all.0.all.few, by ls all.1)

@@ -1,41 +1,23 @@
--- Live lots by their places, and those behind each, in its layer, that may meet it.
-use Rattle.std.specs.Prelude.{◌≡◌, ℕ, ◌+◌, Bool, true, ◌&&◌, cond, List, [], ◌∷◌, ◌++◌, map, filter, drop, Option, Some, None, slice_get}
-use Rattle.rp_language.specs.Name.{Label, label_eq}
-use Rattle.rp_model.specs.states.State.{Lot, is_live, live_lots, lots_of_layer}
+-- Lots behind each of some, in its layer, that may meet it.
+use Rattle.std.specs.Prelude.{◌≡◌, ℕ, ◌+◌, List, [], ◌∷◌, ◌++◌, map, filter}
+use Rattle.rp_model.specs.states.State.{Lot}
 use Rattle.rp_nearby.specs.declared.near.Reach.{Reach}
 use Rattle.rp_nearby.specs.Near.{pairs_with, is_near, lots_at, AreWithin}
+use Rattle.rp_lots.specs.Behind.{lots_behind}
 use Rattle.rp_parcels.specs.declared.pairs.Pair.{Pair}
 use Rattle.rp_parcels.specs.Judged.{pair_of, parts_at}
 
--- a layer is the one that is asked for, if one is
-abbrev pub is_asked : Option Label → Label → Bool
-is_asked None z = true
-is_asked (Some y) z = label_eq z y
-
--- the lot is live, and of the layer that is asked for
-abbrev pub is_live_in : {S : Type 0} → Option Label → Lot S → Bool
-is_live_in o l = is_live l && is_asked o l.layer
-
--- the places of such lots, where the first of all has the place k
-abbrev pub live_places : {S : Type 0} → Option Label → ℕ → List (Lot S) → List ℕ
-live_places o k [] = []
-live_places o k (l ∷ ls) = cond (is_live_in o l) (k ∷ live_places o (k + 1) ls) (live_places o (k + 1) ls)
-
--- the live lots behind a place, of the layer of the lot at it
-abbrev pub lots_behind : {S : Type 0} → List (Lot S) → ℕ → List (Lot S)
-lots_behind lots k = elim (slice_get lots k) [ None ↦ [] | Some l ↦ lots_of_layer l.layer (live_lots (drop (k + 1) lots)) ]
-
 -- how many pairs of parts, of the lot at each of some places and of those behind it, may meet
-abbrev pub tests_behind : {S : Type 0} → Reach → List (Lot S) → List ℕ → ℕ
-tests_behind r lots [] = 0
-tests_behind r lots (k ∷ ks) = pairs_with r (parts_at lots k) (lots_behind lots k) + tests_behind r lots ks
+abbrev pub tests_later : {S : Type 0} → Reach → List (Lot S) → List ℕ → ℕ
+tests_later r lots [] = 0
+tests_later r lots (k ∷ ks) = pairs_with r (parts_at lots k) (lots_behind lots k) + tests_later r lots ks
 
 -- the places are those of the lots behind one that may meet the lot there
-pub record AreNearBehind (r : Reach) (lots : List (Lot (Unit {0}))) (k : ℕ) (ks : List ℕ) : Type 0 where
+pub record AreNearLater (r : Reach) (lots : List (Lot (Unit {0}))) (k : ℕ) (ks : List ℕ) : Type 0 where
   pub within : AreWithin lots ks
   pub there : lots_at lots ks ≡ filter (is_near r (parts_at lots k)) (lots_behind lots k)
 
 -- the pairs are those of the lot at each of some places, in order, with the lots behind it that may meet it
-abbrev pub ArePairsBehind : Reach → List (Lot (Unit {0})) → List ℕ → List Pair → Type 0
-ArePairsBehind r lots [] pairs = pairs ≡ []
-ArePairsBehind r lots (k ∷ ks) pairs = (js : List ℕ) × (more : List Pair) × (pairs ≡ map (pair_of k) js ++ more) × AreNearBehind r lots k js × ArePairsBehind r lots ks more
+abbrev pub ArePairsLater : Reach → List (Lot (Unit {0})) → List ℕ → List Pair → Type 0
+ArePairsLater r lots [] pairs = pairs ≡ []
+ArePairsLater r lots (k ∷ ks) pairs = (js : List ℕ) × (more : List Pair) × (pairs ≡ map (pair_of k) js ++ more) × AreNearLater r lots k js × ArePairsLater r lots ks more

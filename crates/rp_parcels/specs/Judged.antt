@@ -3,11 +3,10 @@ use Rattle.std.specs.Prelude.{◌≡◌, ℕ, ◌<◌, Bool, false, List, [], �
 use Rattle.rp_geometry.specs.sets.Shape.{Part}
 use Rattle.rp_language.specs.Name.{Label}
 use Rattle.rp_walks.specs.Walk.{Outcome, done, stopped, Walk, Work, no_work, with_lines, first_tester}
-use Rattle.rp_walks.specs.Form.{common_nearby, touch_nearby}
 use Rattle.rp_model.specs.states.State.{Lot}
 use Rattle.rp_region.specs.Makes.{work_after}
 use Rattle.rp_nearby.specs.declared.near.Reach.{Reach}
-use Rattle.rp_nearby.specs.declared.near.Reach.TheVariants.{Overlap, Touch}
+use Rattle.rp_lots.specs.Meets.{pair_test as tests_of_pair}
 use Rattle.rp_parcels.specs.declared.pairs.Pair.{Pair}
 use Rattle.rp_parcels.specs.declared.pairs.Judged.{Judged}
 
@@ -33,8 +32,7 @@ id_at lots k = elim (slice_get lots k) [ None ↦ [] | Some l ↦ l.id ]
 
 -- the tests of two lists of parts: of the pairs whose boxes let them meet alone, up to the first that does
 abbrev pub pair_test : Reach → List Part → List Part → Walk Work Bool
-pair_test Overlap ps qs = common_nearby first_tester ps qs
-pair_test Touch ps qs = touch_nearby first_tester ps qs
+pair_test r ps qs = tests_of_pair first_tester r ps qs
 
 -- a test was passed
 abbrev pub is_passed : Outcome Work Bool → Bool

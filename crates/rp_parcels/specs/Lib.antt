@@ -3,9 +3,9 @@ pub mod Kept
 pub mod Register
 pub mod Rows
 pub mod Judged
+pub mod Crew
 pub mod Counted
 pub mod Behind
-pub mod Touching
 pub mod Access
 pub mod Walks
 pub mod Points

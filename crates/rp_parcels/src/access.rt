@@ -1,24 +1,24 @@
 //! Access from one parcel to another, from each to one in contact with it.
-ghost use Rattle.std.specs.Prelude.{◌≡◌, ◌<◌, ◌≤◌, [], length, IfOk};
-ghost use Rattle.std.specs.List.{AllByRecursion};
+ghost use Rattle.std.specs.Prelude.{◌≡◌, ◌≤◌, [], None};
 ghost use Rattle.rp_walks.specs.Walk.{first_tester};
-ghost use Rattle.rp_model.specs.states.State.{ids_of, place_among, most_kept_parts};
+ghost use Rattle.rp_model.specs.states.State.{layer_with_id};
+ghost use Rattle.rp_model.specs.commands.Checks.{check_access};
 ghost use Rattle.rp_model.specs.commands.Row.{row_access};
+ghost use Rattle.rp_tests.specs.Comes.{Comes};
 ghost use Rattle.rp_history.specs.Lots.{lots_in};
-ghost use Rattle.rp_nearby.specs.Near.{lots_at, AreWithin};
-ghost use Rattle.rp_parcels.specs.Access.{access_reply, IsToldBy};
-ghost use Rattle.rp_parcels.specs.Touching.{AreRising, IsPairOf};
+ghost use Rattle.rp_parcels.specs.Access.{access_reply};
 ghost use Rattle.rp_parcels.specs.Rows.{Answers};
 
+use crate::crew::meet_in_halves;
 use crate::fault::ParcelFault;
-use crate::links::{met_pairs, numbered_pairs};
-use crate::pairs::{Judged, Pair, append_all};
 use crate::parcels::Parcels;
 use rp_boxindex::Watch;
+use rp_lots::{access_told, layer_left};
 use rp_nearby::{Access, Reach};
 use rp_region::Work;
-use rp_space::{Name, Names};
-use std::alloc::{AllocError, Global};
+use rp_space::Name;
+use rp_tests::Stopped;
+use std::alloc::Global;
 use std::thread::Threads;
 
 impl Parcels {
@@ -43,50 +43,40 @@ impl Parcels {
         ensures row { Answers access_reply result work.old work.new (row_access first_tester (lots_in [] self.now) from to) }
     {
         let layer = self.history().check_access(from, to)?;
-        let places = self.live_places(alloc, Some(layer))?;
-        let near = self.later_pairs(alloc, watch, &places, Reach::Touch)?;
-        let all = self.judge_counted(rt, alloc, watch, grain, &near, Reach::Touch, work)?;
-        let told = self.told_access(alloc, &places, &near.pairs, &all, &from, &to)?;
-        append_all(alloc, work, all)?;
-        Ok(told)
+        let mut walked = work.fresh(alloc);
+        let came = self.walk_access(rt, alloc, watch, grain, layer, from, to, &mut walked);
+        Ok(work.take_over(walked, came)?)
     }
 
-    /// Access from one of the parcels of some rising places to another, by what the tests of pairs of them have shown.
-    /// Answers `AllocError` only for want of memory.
-    fn told_access(
+    /// The row behind its checks, on a work of its own.
+    fn walk_access<R: Threads + Sync, W: Watch>(
         &self,
+        rt: &R,
         alloc: Global,
-        places: &[usize],
-        pairs: &[Pair],
-        all: &[Judged],
-        from: &Name,
-        to: &Name,
-    ) -> Result<Access, AllocError>
-        requires places { AreWithin self.now places.now }
-        requires few { length places.now ≤ most_kept_parts }
-        requires rising { AreRising places.now }
-        requires pairs { AllByRecursion (IsPairOf places.now) pairs.now }
-        requires each { length pairs.now ≡ length all.now }
-        requires from_there { place_among from.now (ids_of (lots_at self.now places.now)) < length (ids_of (lots_at self.now places.now)) }
-        requires to_there { place_among to.now (ids_of (lots_at self.now places.now)) < length (ids_of (lots_at self.now places.now)) }
-        ensures { IfOk result (IsToldBy (ids_of (lots_at self.now places.now)) places.now pairs.now all.now from.now to.now) }
+        watch: &W,
+        grain: usize,
+        layer: Name,
+        from: Name,
+        to: Name,
+        work: &mut Work,
+    ) -> Result<Access, Stopped>
+        requires grain { 1 ≤ grain }
+        requires checks { check_access (lots_in [] self.now) from to ≡ None }
+        requires layer { layer ≡ layer_with_id (lots_in [] self.now) from }
+        ensures { Comes access_reply result work.new (row_access first_tester (lots_in [] self.now) from to work.old) }
     {
-        let numbers = numbered_pairs(alloc, places, pairs)?;
-        let met = met_pairs(alloc, &numbers, all)?;
-        let ids = self.ids_at(alloc, places)?;
-        Access::along(alloc, ids.items(), &met, from, to)
-    }
-
-    /// The ids of the parcels at some places. Answers `AllocError` only for want of memory.
-    fn ids_at(&self, alloc: Global, places: &[usize]) -> Result<Names, AllocError>
-        requires { AreWithin self.now places.now }
-        ensures { IfOk result (λ ids. ids.items ≡ ids_of (lots_at self.now places.now)) }
-    {
-        let lots = self.history().lots();
-        let mut ids = Names::new(alloc);
-        for place in places {
-            ids.push(lots[*place].id)?;
-        }
-        Ok(ids)
+        let left = layer_left::<Work, Parcels>(alloc, self, layer, from, to, work)?;
+        let forms = self.lots().forms();
+        let met = meet_in_halves(
+            rt,
+            alloc,
+            watch,
+            grain,
+            forms,
+            &left.pairs,
+            Reach::Touch,
+            work,
+        )?;
+        Ok(access_told(alloc, &left, &met)?)
     }
 }

@@ -11,6 +11,7 @@ use crate::fault::ParcelFault;
 use crate::pairs::append_all;
 use crate::parcels::Parcels;
 use rp_boxindex::Watch;
+use rp_lots::live_places;
 use rp_nearby::Reach;
 use rp_region::Work;
 use std::alloc::Global;
@@ -33,7 +34,7 @@ impl Parcels {
         requires { 1 ≤ grain }
         ensures row { Answers (λ n. reply (clear n)) result work.old work.new (row_audit first_tester (lots_in [] self.now)) }
     {
-        let places = self.live_places(alloc, None)?;
+        let places = live_places(alloc, self.history().lots(), None)?;
         let near = self.later_pairs(alloc, watch, &places, Reach::Overlap)?;
         let all = self.judge_counted(rt, alloc, watch, grain, &near, Reach::Overlap, work)?;
         append_all(alloc, work, all)?;

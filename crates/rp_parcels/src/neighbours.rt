@@ -1,8 +1,9 @@
 //! Which parcels are in contact with one.
-ghost use Rattle.std.specs.Prelude.{◌<◌, ◌≤◌, [], length};
+ghost use Rattle.std.specs.Prelude.{◌<◌, ◌≤◌, [], get_or, length};
 ghost use Rattle.rp_walks.specs.Walk.{first_tester};
 ghost use Rattle.rp_model.specs.commands.Verdict.{neighbour_lines};
-ghost use Rattle.rp_model.specs.commands.Row.{reply_lines, row_neighbours};
+ghost use Rattle.rp_model.specs.commands.Row.{reply_lines, lot_parts, row_neighbours};
+ghost use Rattle.rp_tests.specs.Comes.{Comes};
 ghost use Rattle.rp_region.specs.Makes.{Makes};
 ghost use Rattle.rp_history.specs.Lots.{lots_in};
 ghost use Rattle.rp_nearby.specs.Near.{others_in};
@@ -10,13 +11,15 @@ ghost use Rattle.rp_parcels.specs.Judged.{parts_at};
 ghost use Rattle.rp_parcels.specs.Walks.{touch_counted};
 ghost use Rattle.rp_parcels.specs.Rows.{Answers};
 
+use crate::crew::meet_in_halves;
 use crate::fault::ParcelFault;
-use crate::pairs::{NearPairs, add_pairs, append_all, ids_that_meet};
 use crate::parcels::Parcels;
 use rp_boxindex::Watch;
+use rp_lots::{contacts_left, ids_met};
 use rp_nearby::Reach;
 use rp_region::{OpFault, Work};
 use rp_space::{Name, Names};
+use rp_tests::Stopped;
 use std::alloc::Global;
 use std::thread::Threads;
 
@@ -61,17 +64,39 @@ impl Parcels {
         requires place { place < length self.now }
         ensures { Makes (λ ids. ids.items) result work.old work.new (touch_counted (parts_at self.now place) (others_in layer.now id.now self.now)) }
     {
-        let region = self.region_at(place);
-        let near = self.near(alloc, watch, region, layer, id, 0, Reach::Touch)?;
-        let mut pairs = Vec::new(alloc);
-        add_pairs(&mut pairs, place, near.places.items())?;
-        let near = NearPairs {
-            tests: near.pairs,
-            pairs,
-        };
-        let all = self.judge_counted(rt, alloc, watch, grain, &near, Reach::Touch, work)?;
-        let ids = ids_that_meet(alloc, &all)?;
-        append_all(alloc, work, all)?;
-        Ok(ids)
+        let mut walked = work.fresh(alloc);
+        let came = self.walk_touched(rt, alloc, watch, grain, layer, id, place, &mut walked);
+        work.take_over(walked, came)
+    }
+
+    /// The same walk on a work of its own.
+    fn walk_touched<R: Threads + Sync, W: Watch>(
+        &self,
+        rt: &R,
+        alloc: Global,
+        watch: &W,
+        grain: usize,
+        layer: &Name,
+        id: &Name,
+        place: usize,
+        work: &mut Work,
+    ) -> Result<Names, Stopped>
+        requires grain { 1 ≤ grain }
+        requires place { place < length self.now }
+        ensures { Comes (λ ids. ids.items) result work.new (touch_counted (get_or (lot_parts self.now) place []) (others_in layer.now id.now self.now) work.old) }
+    {
+        let left = contacts_left::<Work, Parcels>(alloc, self, place, layer, id, work)?;
+        let forms = self.lots().forms();
+        let met = meet_in_halves(
+            rt,
+            alloc,
+            watch,
+            grain,
+            forms,
+            &left.pairs,
+            Reach::Touch,
+            work,
+        )?;
+        Ok(ids_met(alloc, self.history().lots(), left.places.items(), &met)?)
     }
 }

@@ -3,7 +3,7 @@ ghost use Rattle.std.specs.Prelude.{◌≡◌, ◌≤◌, ◌++◌, length, map,
 ghost use Rattle.std.specs.List.{AllByRecursion};
 ghost use Rattle.rp_walks.specs.Walk.{most_tests, count_tests};
 ghost use Rattle.rp_region.specs.Makes.{op_result, Makes};
-ghost use Rattle.rp_parcels.specs.Judged.{pair_of, ids_that_meet, pair_test, judged, judged_at, telling_all, IsPairWithin, ArePairsWithin, CountsNothing};
+ghost use Rattle.rp_parcels.specs.Judged.{pair_of, pair_test, judged, judged_at, telling_all, IsPairWithin, ArePairsWithin, CountsNothing};
 
 use crate::near::count_tests;
 use crate::parcels::Parcels;
@@ -11,7 +11,7 @@ use rp_boxindex::Watch;
 use rp_crew::{Judge, judge_all};
 use rp_nearby::Reach;
 use rp_region::{OpFault, Region, Work};
-use rp_space::{Name, Names};
+use rp_space::Name;
 use std::alloc::{AllocError, Global};
 use std::thread::Threads;
 
@@ -163,19 +163,6 @@ pub(crate) fn add_pairs(
         })?;
     }
     Ok(())
-}
-
-/// The ids of the second parcels of those pairs that meet, in order. Answers `AllocError` only for want of memory.
-pub(crate) fn ids_that_meet(alloc: Global, all: &[Judged]) -> Result<Names, AllocError>
-    ensures { IfOk result (λ ids. ids.items ≡ ids_that_meet all.now) }
-{
-    let mut ids = Names::new(alloc);
-    for one in all {
-        if one.meets {
-            ids.push(one.id)?;
-        }
-    }
-    Ok(ids)
 }
 
 /// Appends the proof lines of all pairs in order; they are moved. Answers `AllocError` only for want of memory; then the

@@ -1,38 +1,19 @@
 //! Commands that ask something about lots.
 ghost use Rattle.rp_language.specs.Expression.{ask_history, ask_at, ask_as_of, ask_list};
-ghost use Rattle.rp_model.specs.commands.Row.{row, row_neighbours, row_audit};
+ghost use Rattle.rp_model.specs.commands.Row.{row, row_audit};
 ghost use Rattle.rp_reports.specs.Check.{Trail, line_tester};
 ghost use Rattle.rp_asked.specs.Replies.{Tells};
 
 use crate::apart::show_apart;
 use crate::behind::pairs_in_layers;
 use crate::live::count_live;
-use crate::touched::touched;
-use rp_asked::{RowEnd, neighbour_lines, one_line, owner_verdict};
+use rp_asked::{RowEnd, one_line, owner_verdict};
 use rp_follow::Trail;
-use rp_nearby::{Moment, Reach};
+use rp_nearby::Moment;
 use rp_register::{Register, count_tests};
-use rp_report::{Refusal, Verdict, Verdicts};
+use rp_report::{Verdict, Verdicts};
 use rp_space::{Name, Point};
 use std::alloc::Global;
-
-/// `neighbours`: the other live lots of the lot's layer in contact with it.
-pub fn neighbours(
-    alloc: Global,
-    register: &Register,
-    id: Name,
-    trail: &mut Trail<'_>,
-) -> Result<Verdicts, RowEnd>
-    ensures { Tells result trail.new (row_neighbours line_tester register.now id trail.old) }
-{
-    let Some(lot) = register.live_parcel(&id) else {
-        return Err(RowEnd::Refused(Refusal::Unknown(id)));
-    };
-    let near = register.near(alloc, lot.form, &lot.line.layer, &id, 0, Reach::Touch)?;
-    count_tests(trail, near.pairs)?;
-    let ids = touched(alloc, lot.form, near.parcels.items(), trail)?;
-    Ok(neighbour_lines(alloc, ids.items())?)
-}
 
 /// `audit`: how many live lots there are, of which no two of one layer share a point. `TakenWrong` where a line shows that
 /// two do.

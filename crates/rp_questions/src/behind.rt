@@ -5,7 +5,8 @@ ghost use Rattle.rp_walks.specs.Form.{near_pair};
 ghost use Rattle.rp_model.specs.states.State.{live_lots};
 ghost use Rattle.rp_model.specs.commands.Row.{count_with_each, count_in_layers, lot_parts};
 ghost use Rattle.rp_nearby.specs.Near.{is_near, may_meet};
-ghost use Rattle.rp_register.specs.There.{lot_here, lots_here, CountsUpTo};
+ghost use Rattle.rp_lots.specs.Counted.{CountsUpTo};
+ghost use Rattle.rp_register.specs.There.{lot_here, lots_here};
 ghost use Rattle.rp_questions.specs.Asked.{lots_behind};
 
 use rp_nearby::{Moment, Reach, is_there};

@@ -7,13 +7,10 @@
 mod apart;
 mod asked;
 mod behind;
-mod layer;
-mod links;
+mod contacts;
 mod live;
-mod routes;
 mod slices;
-mod touched;
 
-pub use asked::{audit, lineage, list, neighbours, owner, owner_then};
-pub use routes::access;
+pub use asked::{audit, lineage, list, owner, owner_then};
+pub use contacts::{access, neighbours};
 pub use slices::section;

@@ -7,7 +7,7 @@ use Rattle.rp_reports.specs.Check.{Trail, follow_count}
 use Rattle.rp_tests.specs.declared.stopped.Stopped.{Stopped}
 use Rattle.rp_tests.specs.declared.stopped.Stopped.TheVariants.{Wrong, TakenWrong, Told, Limit, Memory}
 use Rattle.rp_tests.specs.Comes.{StopsBy}
-use Rattle.rp_register.specs.There.{CountsUpTo}
+use Rattle.rp_lots.specs.Counted.{CountsUpTo}
 
 -- where pairs were not counted, so many tests are not
 pub count_lost : {A : Type 0} (count : A → ℕ) (e : Stopped) (n : ℕ) (t : Trail) → CountsUpTo count (Err e) n → StopsBy e t (follow_count n t)
@@ -20,14 +20,6 @@ count_lost count Limit n t h = by (nat_le (t.tests + n) most_tests) refl
     by true f = absurd (grind (arith, nat_tests))
     by false f = refl
 count_lost count (Memory k) n t h = tt
-
--- nor are more
-pub more_lost : {A B : Type 0} (count : A → ℕ) (other : B → ℕ) (e : Stopped) (n m : ℕ) → CountsUpTo count (Err e) n → n ≤ m → CountsUpTo other (Err e) m
-more_lost count other Wrong n m h f = absurd h
-more_lost count other TakenWrong n m h f = absurd h
-more_lost count other Told n m h f = absurd h
-more_lost count other Limit n m h f = omega (arith, h, f)
-more_lost count other (Memory k) n m h f = tt
 
 -- where there are few, memory alone was wanting
 pub memory_lost : {A B : Type 0} (count : A → ℕ) (e : Stopped) (n : ℕ) (t : Trail) (o : Outcome Trail B) → CountsUpTo count (Err e) n → n ≤ most_tests → StopsBy e t o

@@ -3,3 +3,4 @@ pub mod BornLots
 pub mod Counted
 pub mod Known
 pub mod Present
+pub mod Turns

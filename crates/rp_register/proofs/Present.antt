@@ -1,19 +1,15 @@
 -- Lots at their places, with their forms.
 use Rattle.std.proofs.Common.{◌≡◌, ℕ, zero, suc, ◌<◌, ◌≤◌, List, [], ◌∷◌, map, length, get_or, Some, slice_get, sym, ap, ◌∙◌, subst}
-use Rattle.std.specs.Prelude.{IsTrue, option_map}
+use Rattle.std.specs.Prelude.{option_map}
 use Rattle.std.specs.List.{AllByRecursion}
 use Rattle.rp_geometry.specs.sets.Shape.{Part}
 use Rattle.rp_geometry.specs.parts.Parts.{AreOf, IsCheckedPart, most_parts}
-use Rattle.rp_language.specs.Name.{Label}
-use Rattle.rp_model.specs.states.State.{Lot, PlainState, live_lot, ids_of, bare_lot, lot_of_parts}
-use Rattle.rp_model.specs.states.Sound.{are_distinct}
+use Rattle.rp_model.specs.states.State.{Lot, PlainState, bare_lot, lot_of_parts}
 use Rattle.rp_history.specs.declared.lot.LotLine.{LotLine}
 use Rattle.rp_history.specs.Lots.{lot_of}
-use Rattle.rp_register.specs.declared.parcel.Parcel.{Parcel}
 use Rattle.rp_register.specs.Kept.{IsSoundOnLines}
 use Rattle.rp_history.specs.Parts.{with_parts}
-use Rattle.rp_register.specs.There.{lot_here}
-use Rattle.rp_history.proofs.Bare.{live_here, line_at}
+use Rattle.rp_history.proofs.Bare.{line_at}
 
 -- ---- sizes
 
@@ -22,6 +18,11 @@ few_at : (lots : List (Lot (Unit {0}))) → AllByRecursion (λ l. AreOf IsChecke
 few_at [] h k ps e = absurd (cc)
 few_at (l ∷ ls) h zero ps e = let f : l.parts ≡ ps = cc in subst (λ (qs : List Part). length qs ≤ most_parts) f h.0.all.few
 few_at (l ∷ ls) h (suc k) ps e = few_at ls h.1 k ps e
+
+-- each lot has few parts
+pub all_short : (lots : List (Lot (Unit {0}))) → AllByRecursion (λ l. AreOf IsCheckedPart l.set l.parts) (map lot_of_parts lots) → AllByRecursion (λ l. length l.parts ≤ most_parts) lots
+all_short [] h = tt
+all_short (l ∷ ls) h = (h.0.all.few, all_short ls h.1)
 
 -- in a sound state
 pub few_parts : (s : PlainState) → IsSoundOnLines s → (k : ℕ) (ps : List Part) → option_map (λ l. l.parts) (slice_get s.lots k) ≡ Some ps → length ps ≤ most_parts
@@ -41,7 +42,3 @@ lot_at_place lots history lines k line ps e f within is parts =
     let same : Some item.0.parts ≡ Some ps = sym (ap (option_map (λ (m : Lot (Unit {0})). m.parts)) item.1) ∙ parts in
     let own : item.0.parts ≡ ps = cc in
     item.1 ∙ ap Some (line_with_parts item.0 line ps item.2 own)
-
--- so is the live lot of an id
-pub live_lot_at : (x : Label) (lots history : List (Lot (Unit {0}))) (k : ℕ) (p : Parcel) → IsTrue (are_distinct (ids_of lots)) → history ≡ map bare_lot lots → k < length lots → slice_get history k ≡ live_lot x history → slice_get lots k ≡ Some (lot_here p) → Some (lot_here p) ≡ live_lot x lots
-live_lot_at x lots history k p d e within found at = sym at ∙ live_here x lots history d e k within found

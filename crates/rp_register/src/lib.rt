@@ -9,12 +9,14 @@
 mod born;
 mod count;
 mod form;
+mod keeper;
 mod near;
 mod parcel;
 mod register;
 mod reply;
 mod shown;
 mod there;
+mod turn;
 
 pub use count::count_tests;
 pub use near::count_pairs;
@@ -22,3 +24,4 @@ pub use parcel::Parcel;
 pub use register::Register;
 pub use reply::{Born, Change, Reply};
 pub use there::Near;
+pub use turn::meet_in_turn;

@@ -2,7 +2,7 @@
 ghost use Rattle.std.specs.Prelude.{◌≡◌, ◌+◌, ◌<◌, ◌≤◌, ◌&&◌, Some, length, map, filter, drop, nat_le, slice_get, option_copied, option_map, IfOk, OnOk};
 ghost use Rattle.rp_model.specs.states.State.{opening, base_layer, parts_in, state_of_parts, bare_lot, lots_of_layer, changed, parts_under_names, parts_under_lots, most_names, most_kept_parts};
 ghost use Rattle.rp_model.specs.states.Sound.{IsLaterThan};
-ghost use Rattle.rp_model.specs.commands.Row.{owner_line};
+ghost use Rattle.rp_model.specs.commands.Row.{lot_parts, owner_line};
 ghost use Rattle.rp_nearby.specs.Near.{others_in, is_near, lots_at, AreWithin};
 ghost use Rattle.rp_nearby.specs.Owner.{is_there, owner_verdict, BoxesHold};
 ghost use Rattle.rp_register.specs.Kept.{IsSoundOnLines, ComesFromKnown};
@@ -105,6 +105,13 @@ impl Register {
         ensures { option_map (λ l. l.parts) (slice_get self.now.lots place) ≡ Some result.now.items }
     {
         self.lots.form_at(place)
+    }
+
+    /// The forms of all lots, by their places.
+    pub fn forms(&self) -> &[Form]
+        ensures { map (λ f. f.items) result.now ≡ lot_parts self.now.lots }
+    {
+        self.lots.forms()
     }
 
     /// The places, in rising order, of live lots of a layer, from a place on, that have another id: of all those that have a

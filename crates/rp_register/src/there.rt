@@ -1,11 +1,12 @@
 //! The lots that are near a form, and the one that has a point, beside their forms.
-ghost use Rattle.std.specs.Prelude.{◌≡◌, ◌<◌, ◌≤◌, Some, IfOk, filter, length, drop, slice_get, option_map};
+ghost use Rattle.std.specs.Prelude.{◌≡◌, ◌<◌, ◌≤◌, Some, IfOk, filter, length, drop, slice_get};
 ghost use Rattle.rp_geometry.specs.parts.Parts.{most_parts};
-ghost use Rattle.rp_model.specs.states.State.{live_lot, lots_of_layer, most_kept_parts};
+ghost use Rattle.rp_model.specs.states.State.{lots_of_layer, most_kept_parts};
 ghost use Rattle.rp_model.specs.commands.Row.{owner_line};
 ghost use Rattle.rp_nearby.specs.Near.{others_in, is_near, pairs_with, lots_at, AreWithin};
 ghost use Rattle.rp_nearby.specs.Owner.{is_there, owner_verdict};
-ghost use Rattle.rp_register.specs.There.{lot_here, lots_here, CountsUpTo};
+ghost use Rattle.rp_lots.specs.Counted.{CountsUpTo};
+ghost use Rattle.rp_register.specs.There.{lot_here, lots_here};
 
 use crate::near::count_pairs;
 use crate::parcel::Parcel;
@@ -43,14 +44,6 @@ impl Register {
         let line = &self.history().lots()[place];
         let form = self.form_at(place);
         Parcel { line, form }
-    }
-
-    /// The live lot of an id, found without a walk over all lots. `None` exactly where the id isn't live.
-    pub fn live_parcel(&self, id: &Name) -> Option<Parcel<'_>>
-        ensures { option_map lot_here result ≡ live_lot id.now self.now.lots }
-    {
-        let place = self.history().live_place(id)?;
-        Some(self.parcel_at(place))
     }
 
     /// The live lots of a layer, from a place on, that have another id and a part that may meet one of a form's, in the order

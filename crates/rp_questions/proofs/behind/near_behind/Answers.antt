@@ -4,7 +4,8 @@ use Rattle.rp_model.specs.states.State.{Lot}
 use Rattle.rp_nearby.specs.Near.{is_near, pairs_with}
 use Rattle.rp_nearby.proofs.Behind.{others_behind}
 use Rattle.rp_register.specs.declared.there.Near.{Near}
-use Rattle.rp_register.specs.There.{lot_here, CountsUpTo}
+use Rattle.rp_lots.specs.Counted.{CountsUpTo}
+use Rattle.rp_register.specs.There.{lot_here}
 use Rattle.rp_register.proofs.Applied.{sound_are_few, sound_ids}
 use Rattle.rp_questions.proofs.behind.near_behind.Goals as goal
 

@@ -2,7 +2,7 @@ use Rattle.std.proofs.Common.{ℕ, ◌<◌, length, sym, arith}
 use Rattle.std.proofs.lemmas.Result.{err_from_is_err_and}
 use Rattle.rp_register.specs.declared.there.Near.{Near}
 use Rattle.rp_register.specs.There.{lot_here}
-use Rattle.rp_register.proofs.Counted.{more_lost}
+use Rattle.rp_lots.proofs.Counted.{count_more}
 use Rattle.rp_questions.proofs.PairsLeft.{pairs_from, live_pairs, ended_pairs}
 use Rattle.rp_questions.proofs.behind.pairs_in_layers.Goals as goal
 use Rattle.rp_questions.proofs.behind.pairs_in_layers.Goals.{then-is_there+in_ok-near_behind+in_ok-pairs, else-is_there}
@@ -19,7 +19,7 @@ returns-in_err-near_behind c =
     let all = live_pairs lots k l within c.parcel_at-lot.ensures (sym c.if-is_there.ensures) in
     let left = c.loop-place.invariant.left in
     rw (p.1, p.2)
-    (more_lost (λ (n : Near). n.pairs) (λ (n : ℕ). n) c.in_err-near_behind.field-0.0 _ (pairs_from lots 0) c.in_err-near_behind.ensures.pairs (omega (arith, all, left)))
+    (count_more (λ (n : Near). n.pairs) (λ (n : ℕ). n) c.in_err-near_behind.field-0.0 _ (pairs_from lots 0) (omega (arith, all, left)) c.in_err-near_behind.ensures.pairs)
 
 pub returns-in_err-pairs : goal.returns-in_err-pairs
 returns-in_err-pairs c =
@@ -34,7 +34,7 @@ returns-in_err-pairs c =
     let own = c.in_ok-near_behind.ensures.pairs.0 in
     let left = c.loop-place.invariant.left in
     rw (p.1, p.2)
-    (more_lost (λ (n : ℕ). n) (λ (n : ℕ). n) c.in_err-pairs.field-0.0 _ (pairs_from lots 0) c.in_err-pairs.ensures (omega (arith, all, own, left)))
+    (count_more (λ (n : ℕ). n) (λ (n : ℕ). n) c.in_err-pairs.field-0.0 _ (pairs_from lots 0) (omega (arith, all, own, left)) c.in_err-pairs.ensures)
 
 pub loop-place-preserved : goal.loop-place-preserved
 loop-place-preserved c =

@@ -13,7 +13,7 @@ use Rattle.rp_history.specs.declared.lot.LotLine.{LotLine}
 use Rattle.rp_nearby.specs.Near.{lots_at}
 use Rattle.rp_nearby.proofs.Places.{place_within}
 use Rattle.rp_nearby.proofs.Skipped.{search_on}
-use Rattle.rp_parcels.proofs.Found.{item_parts}
+use Rattle.rp_lots.proofs.Sieved.{item_parts}
 use Rattle.rp_history.proofs.Bare.{line_at}
 use Rattle.rp_parcels.proofs.Tells.{search_tells, overlapped_tells}
 use Rattle.rp_parcels.proofs.Searched.{search_left, search_next}

@@ -2,7 +2,7 @@ use Rattle.std.proofs.Common.{ℕ, ◌++◌, [], List, map, get_or, sym, ap, ◌
 use Rattle.std.proofs.lemmas.List.{drop_all}
 use Rattle.std.proofs.lemmas.Result.{err_from_is_err_and}
 use Rattle.rp_parcels.specs.Judged.{pair_of}
-use Rattle.rp_parcels.specs.Behind.{tests_behind, ArePairsBehind}
+use Rattle.rp_parcels.specs.Behind.{tests_later, ArePairsLater}
 use Rattle.rp_parcels.proofs.Counted.{counted_more}
 use Rattle.rp_parcels.proofs.Paired.{pairs_more, tests_more}
 use Rattle.rp_parcels.proofs.parcels.Parcels.later_pairs.Goals as goal
@@ -36,12 +36,12 @@ loop-place-preserved g c =
 
 pub returns-clause-tests : goal.returns-clause-tests
 returns-clause-tests g c =
-    let none = ap (tests_behind c.args.reach c.args.self.now) (drop_all c.loop-place.place-index c.args.places.now c.loop-place-test.false) in
+    let none = ap (tests_later c.args.reach c.args.self.now) (drop_all c.loop-place.place-index c.args.places.now c.loop-place-test.false) in
     let left = c.loop-place.invariant.counted in
     let few = c.loop-place.invariant.few in
     (omega (arith, none, left), omega (arith, none, left, few))
 
 pub returns-clause-pairs : goal.returns-clause-pairs
 returns-clause-pairs g c =
-    subst (ArePairsBehind c.args.reach c.args.self.now c.args.places.now) (append-nil c.loop-place.pairs.items)
-    (c.loop-place.invariant.paired [] (subst (λ (ks : List ℕ). ArePairsBehind c.args.reach c.args.self.now ks []) (sym (drop_all c.loop-place.place-index c.args.places.now c.loop-place-test.false)) (λ i. [])))
+    subst (ArePairsLater c.args.reach c.args.self.now c.args.places.now) (append-nil c.loop-place.pairs.items)
+    (c.loop-place.invariant.paired [] (subst (λ (ks : List ℕ). ArePairsLater c.args.reach c.args.self.now ks []) (sym (drop_all c.loop-place.place-index c.args.places.now c.loop-place-test.false)) (λ i. [])))

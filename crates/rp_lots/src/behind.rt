@@ -1,0 +1,115 @@
+//! Live lots by their places, and the pairs of each with those behind it, in its layer, that may meet it.
+ghost use Rattle.std.specs.Prelude.{◌≡◌, ◌&&◌, ◌<◌, ◌≤◌, ◌++◌, length, map, IfOk, OnOk};
+ghost use Rattle.rp_history.specs.Lots.{lot_of};
+ghost use Rattle.rp_nearby.specs.Near.{pairs_with, AreWithin};
+ghost use Rattle.rp_lots.specs.Meets.{pair_of, parts_at};
+ghost use Rattle.rp_lots.specs.Counted.{CountsUpTo};
+ghost use Rattle.rp_lots.specs.Behind.{is_asked, is_live_in, live_places, lots_behind, tests_behind, AreNearBehind, ArePairsBehind};
+
+use crate::keeper::Keeper;
+use crate::near::{MAX_TESTS, Near, form_at, lots_near};
+use crate::pair::Pair;
+use rp_history::LotLine;
+use rp_nearby::Reach;
+use rp_space::Name;
+use rp_tests::{Stopped, Tests};
+use std::alloc::{AllocError, Global};
+
+/// Pairs of lots, by their places, and how many pairs of their parts may meet.
+#[derive(Drop)]
+pub struct NearPairs {
+    pub tests: u64,
+    pub pairs: Vec<Pair>,
+}
+
+/// The places of the live lots, in order: of those of a layer, where one is asked for, and else of all. Answers `AllocError`
+/// only for want of memory.
+pub fn live_places(
+    alloc: Global,
+    lots: &[LotLine],
+    layer: Option<Name>,
+) -> Result<Vec<usize>, AllocError>
+    ensures places { IfOk result (λ places. places.items ≡ live_places layer 0 (map lot_of lots.now)) }
+    ensures few { IfOk result (λ places. length places.items ≤ length lots.now) }
+{
+    let mut places = Vec::new(alloc);
+    for place in 0..lots.len() {
+        if is_live_in(&lots[place], &layer) {
+            places.push(place)?;
+        }
+    }
+    Ok(places)
+}
+
+/// Whether a lot is live, and of the layer that is asked for.
+fn is_live_in(lot: &LotLine, layer: &Option<Name>) -> bool
+    ensures { result ≡ is_live_in layer.now (lot_of lot.now) }
+{
+    lot.ended.is_none() && is_asked(&lot.layer, layer)
+}
+
+/// Whether a layer is the one that is asked for, if one is.
+fn is_asked(layer: &Name, asked: &Option<Name>) -> bool
+    ensures { result ≡ is_asked asked.now layer.now }
+{
+    match asked {
+        None => true,
+        Some(one) => *layer == *one,
+    }
+}
+
+/// The live lots behind a live one, of its layer, that have a part that may meet one of its own. `Limit` exactly where there
+/// are more pairs of such parts than a command may test.
+fn later_near<T: Tests, K: Keeper<T>>(
+    alloc: Global,
+    keeper: &K,
+    place: usize,
+    reach: Reach,
+) -> Result<Near, Stopped>
+    requires { place < length (K.state keeper.now).lots }
+    ensures pairs { CountsUpTo (λ near. near.pairs) result (pairs_with reach (parts_at (K.state keeper.now).lots place) (lots_behind (K.state keeper.now).lots place)) }
+    ensures near { IfOk result (λ near. AreNearBehind reach (K.state keeper.now).lots place near.places.items) }
+{
+    let lot = &keeper.history().lots()[place];
+    let form = form_at::<T, K>(keeper, place);
+    lots_near::<T, K>(alloc, keeper, form, &lot.layer, &lot.id, place + 1, reach)
+}
+
+/// The pairs of each of some live lots with those behind it, of its layer, that have a part that may meet one of its own, in
+/// the order of the first and then of the second. `Limit` exactly where there are more pairs of such parts than a command may
+/// test.
+pub fn later_pairs<T: Tests, K: Keeper<T>>(
+    alloc: Global,
+    keeper: &K,
+    places: &[usize],
+    reach: Reach,
+) -> Result<NearPairs, Stopped>
+    requires { AreWithin (K.state keeper.now).lots places.now }
+    ensures tests { CountsUpTo (λ near. near.tests) result (tests_behind reach (K.state keeper.now).lots places.now) }
+    ensures pairs { IfOk result (λ near. ArePairsBehind reach (K.state keeper.now).lots places.now near.pairs.items) }
+{
+    let mut tests = 0;
+    let mut pairs = Vec::new(alloc);
+    for place in places {
+        let near = later_near::<T, K>(alloc, keeper, *place, reach)?;
+        tests += near.pairs;
+        if tests > MAX_TESTS {
+            return Err(Stopped::Limit);
+        }
+        add_pairs(&mut pairs, *place, near.places.items())?;
+    }
+    Ok(NearPairs { tests, pairs })
+}
+
+/// Appends the pairs of a lot with each of some others, by their places. Answers `AllocError` only for want of memory.
+fn add_pairs(pairs: &mut Vec<Pair>, first: usize, others: &[usize]) -> Result<(), AllocError>
+    ensures { OnOk result (pairs.new.items ≡ pairs.old.items ++ map (pair_of first) others.now) }
+{
+    for second in others {
+        pairs.push(Pair {
+            first,
+            second: *second,
+        })?;
+    }
+    Ok(())
+}

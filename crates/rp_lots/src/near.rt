@@ -1,0 +1,157 @@
+//! The lots that may meet a form, and how many pairs of parts these are. They are found here alone, by the boxes around
+//! them.
+ghost use Rattle.std.specs.Prelude.{◌≡◌, ◌<◌, ◌≤◌, ◌*◌, IfOk, Some, count_by, length, map, drop, filter, slice_get, option_map};
+ghost use Rattle.rp_geometry.specs.parts.Parts.{most_parts};
+ghost use Rattle.rp_model.specs.commands.Row.{count_pairs};
+ghost use Rattle.rp_nearby.specs.Near.{may_meet, others_in, pairs_with, is_near, lots_at, AreWithin};
+ghost use Rattle.rp_space.specs.Boxes.{integer_box};
+ghost use Rattle.rp_tests.specs.Comes.{Comes};
+ghost use Rattle.rp_lots.specs.Counted.{CountsUpTo};
+ghost use Rattle.rp_lots.specs.Meets.{boxes_let};
+
+use crate::keeper::Keeper;
+use rp_nearby::Reach;
+use rp_space::{IntBox, Listed, Name};
+use rp_tests::{Stopped, Tests};
+use std::alloc::Global;
+
+/// The most tests that are counted in a command.
+pub(crate) const MAX_TESTS: u64 = 65536;
+
+/// The lots that may meet a form: their places among all lots, and how many pairs of parts may meet.
+#[derive(Debug, Drop)]
+pub(crate) struct Near {
+    pub(crate) pairs: u64,
+    pub(crate) places: Listed<usize>,
+}
+
+/// How many pairs of a part of `form` and one of `other` may meet.
+fn count_pairs<T: Tests, K: Keeper<T>>(form: &T::Form, other: &T::Form, reach: Reach) -> u64
+    requires first { length (T.parts_of form.now) ≤ most_parts }
+    requires second { length (T.parts_of other.now) ≤ most_parts }
+    ensures value { result ≡ count_pairs (may_meet reach) (T.parts_of form.now) (T.parts_of other.now) }
+    ensures few { result ≤ most_parts * most_parts }
+{
+    count_among::<T, K>(T::parts(form), T::parts(other), reach)
+}
+
+/// How many pairs of a part of `parts` and one of `others` may meet.
+fn count_among<T: Tests, K: Keeper<T>>(parts: &[T::Part], others: &[T::Part], reach: Reach) -> u64
+    requires first { length parts.now ≤ most_parts }
+    requires second { length others.now ≤ most_parts }
+    ensures value { result ≡ count_pairs (may_meet reach) (map T.seen parts.now) (map T.seen others.now) }
+    ensures few { result ≤ most_parts * most_parts }
+{
+    let mut count = 0;
+    for part in parts {
+        count += count_with_part::<T, K>(part, others, reach);
+    }
+    count
+}
+
+/// How many of `others` may meet `part`.
+fn count_with_part<T: Tests, K: Keeper<T>>(part: &T::Part, others: &[T::Part], reach: Reach) -> u64
+    requires { length others.now ≤ most_parts }
+    ensures value { result ≡ count_by (λ q. may_meet reach (T.seen part.now) q) (map T.seen others.now) }
+    ensures few { result ≤ length others.now }
+{
+    let mut count = 0;
+    for other in others {
+        if may_meet::<T, K>(part, other, reach) {
+            count += 1;
+        }
+    }
+    count
+}
+
+/// Whether the boxes of two parts let them meet.
+fn may_meet<T: Tests, K: Keeper<T>>(first: &T::Part, second: &T::Part, reach: Reach) -> bool
+    ensures { result ≡ may_meet reach (T.seen first.now) (T.seen second.now) }
+{
+    do_boxes_meet(K::bounds(first), K::bounds(second), reach)
+}
+
+/// The live lots of `layer`, from the place `from` on, that have another id than `id` and a part that may meet one of
+/// `form`'s, in the order of registration. `Limit` exactly where there are more pairs of such parts than a command may test.
+pub(crate) fn lots_near<T: Tests, K: Keeper<T>>(
+    alloc: Global,
+    keeper: &K,
+    form: &T::Form,
+    layer: &Name,
+    id: &Name,
+    from: usize,
+    reach: Reach,
+) -> Result<Near, Stopped>
+    requires from { from ≤ length (K.state keeper.now).lots }
+    requires few { length (T.parts_of form.now) ≤ most_parts }
+    ensures pairs { CountsUpTo (λ near. near.pairs) result (pairs_with reach (T.parts_of form.now) (others_in layer.now id.now (drop from (K.state keeper.now).lots))) }
+    ensures lots { IfOk result (λ near. lots_at (K.state keeper.now).lots near.places.items ≡ filter (is_near reach (T.parts_of form.now)) (others_in layer.now id.now (drop from (K.state keeper.now).lots))) }
+    ensures within { IfOk result (λ near. AreWithin (K.state keeper.now).lots near.places.items) }
+    ensures few { IfOk result (λ near. length near.places.items ≤ near.pairs) }
+{
+    let places = keeper.near(alloc, form, layer, id, from, reach)?;
+    count_at::<T, K>(alloc, keeper, form, places.items(), reach)
+}
+
+/// Those of some places whose lots have a part that may meet one of `form`'s, in order, and how many pairs of such parts
+/// there are. `Limit` exactly where these are more than a command may test.
+fn count_at<T: Tests, K: Keeper<T>>(
+    alloc: Global,
+    keeper: &K,
+    form: &T::Form,
+    places: &[usize],
+    reach: Reach,
+) -> Result<Near, Stopped>
+    requires within { AreWithin (K.state keeper.now).lots places.now }
+    requires few { length (T.parts_of form.now) ≤ most_parts }
+    ensures pairs { CountsUpTo (λ near. near.pairs) result (pairs_with reach (T.parts_of form.now) (lots_at (K.state keeper.now).lots places.now)) }
+    ensures lots { IfOk result (λ near. lots_at (K.state keeper.now).lots near.places.items ≡ filter (is_near reach (T.parts_of form.now)) (lots_at (K.state keeper.now).lots places.now)) }
+    ensures within { IfOk result (λ near. AreWithin (K.state keeper.now).lots near.places.items) }
+    ensures few { IfOk result (λ near. length near.places.items ≤ near.pairs) }
+{
+    // Only so that it is known that each lot has few parts.
+    let _ = keeper.history();
+    let mut near = Near {
+        pairs: 0,
+        places: Listed::new(alloc),
+    };
+    for place in places {
+        let pairs = count_pairs::<T, K>(form, form_at::<T, K>(keeper, *place), reach);
+        if pairs > MAX_TESTS - near.pairs {
+            return Err(Stopped::Limit);
+        }
+        if pairs > 0 {
+            near.pairs += pairs;
+            near.places.push(*place)?;
+        }
+    }
+    Ok(near)
+}
+
+/// Whether two boxes let parts within them meet.
+fn do_boxes_meet(first: &IntBox, second: &IntBox, reach: Reach) -> bool
+    ensures { result ≡ boxes_let reach (integer_box first.now) (integer_box second.now) }
+{
+    match reach {
+        Reach::Overlap => first.meets(second),
+        Reach::Touch => first.meets_closed(second),
+    }
+}
+
+/// The form of the lot at a place, ended or not.
+pub(crate) fn form_at<T: Tests, K: Keeper<T>>(keeper: &K, place: usize) -> &T::Form
+    requires { place < length (K.state keeper.now).lots }
+    ensures { option_map (λ l. l.parts) (slice_get (K.state keeper.now).lots place) ≡ Some (T.parts_of result.now) }
+{
+    &keeper.forms()[place]
+}
+
+/// Counts so many tests. `Limit` exactly where these are too many.
+pub(crate) fn count_tests<T: Tests>(tests: &mut T, n: u64) -> Result<(), Stopped>
+    ensures { Comes (λ x. x) result tests.new (T.tester.count n tests.old) }
+{
+    if !tests.count(n) {
+        return Err(Stopped::Limit);
+    }
+    Ok(())
+}

@@ -1,0 +1,69 @@
+//! The parcels as what keeps lots, for the rows that are written once.
+ghost use Rattle.std.specs.Prelude.{◌≡◌, ◌<◌, ◌≤◌, ℕ, ◌+◌, [], IfOk, length, map, filter, drop, nat_le};
+ghost use Rattle.std.specs.List.{AllByRecursion};
+ghost use Rattle.rp_geometry.specs.parts.Parts.{most_parts};
+ghost use Rattle.rp_walks.specs.Walk.{Work as ModelWork, stopped, limit_met, most_tests, count_tests};
+ghost use Rattle.rp_space.specs.Boxes.{integer_box};
+ghost use Rattle.rp_model.specs.states.State.{bare_lot, parts_under_lots, most_kept_parts};
+ghost use Rattle.rp_model.specs.commands.Row.{lot_parts};
+ghost use Rattle.rp_history.specs.Lots.{lots_in};
+ghost use Rattle.rp_nearby.specs.Near.{others_in, is_near, lots_at, AreWithin};
+
+use crate::parcels::Parcels;
+use rp_boxindex::Quiet;
+use rp_history::History;
+use rp_lots::Keeper;
+use rp_nearby::Reach;
+use rp_region::{Part, Region, Work};
+use rp_space::{IntBox, Listed, Name};
+use std::alloc::{AllocError, Global};
+
+impl Keeper<Work> for Parcels {
+    ghost state = { λ lots. lots_in [] lots };
+
+    fn keep_limit(&self)
+        ensures { (n : ℕ) (w : ModelWork) → most_tests < n → count_tests n w ≡ stopped limit_met w }
+    {}
+
+    fn bounds(part: &Part) -> &IntBox {
+        part.bounds()
+    }
+
+    fn history(&self) -> &History
+        ensures value { result.now ≡ map bare_lot self.now }
+        ensures few { length self.now ≤ most_kept_parts }
+        ensures short { AllByRecursion (λ l. length l.parts ≤ most_parts) self.now }
+    {
+        self.history()
+    }
+
+    fn forms(&self) -> &[Region]
+        ensures { result.now ≡ lot_parts self.now }
+    {
+        self.lots().forms()
+    }
+
+    fn near(
+        &self,
+        alloc: Global,
+        form: &Region,
+        layer: &Name,
+        id: &Name,
+        from: usize,
+        reach: Reach,
+    ) -> Result<Listed<usize>, AllocError>
+        requires { from ≤ length self.now }
+        ensures near { IfOk result (λ places. filter (is_near reach form.now) (lots_at self.now places.items) ≡ filter (is_near reach form.now) (others_in layer.now id.now (drop from self.now))) }
+        ensures within { IfOk result (λ places. AreWithin self.now places.items) }
+        ensures few { IfOk result (λ places. length places.items ≤ most_kept_parts) }
+    {
+        self.lots()
+            .near(alloc, &Quiet, form, layer, id, from, reach)
+    }
+
+    fn have_room_for(&self, parts: usize) -> bool
+        ensures { result ≡ nat_le (parts_under_lots self.now + parts) most_kept_parts }
+    {
+        self.have_room_for(parts)
+    }
+}

@@ -1,0 +1,46 @@
+//! Commands that ask which lots are in contact.
+ghost use Rattle.rp_language.specs.Expression.{ask_access};
+ghost use Rattle.rp_model.specs.commands.Row.{row, row_neighbours};
+ghost use Rattle.rp_reports.specs.Check.{line_tester};
+ghost use Rattle.rp_asked.specs.Replies.{Tells};
+
+use rp_asked::{RowEnd, access_lines, neighbour_lines};
+use rp_follow::Trail;
+use rp_lots::{access_left, access_told, ids_met, touch_left};
+use rp_nearby::Reach;
+use rp_register::{Register, meet_in_turn};
+use rp_report::Verdicts;
+use rp_space::Name;
+use std::alloc::Global;
+
+/// `neighbours`: the other live lots of the lot's layer in contact with it.
+pub fn neighbours(
+    alloc: Global,
+    register: &Register,
+    id: Name,
+    trail: &mut Trail<'_>,
+) -> Result<Verdicts, RowEnd>
+    ensures { Tells result trail.new (row_neighbours line_tester register.now id trail.old) }
+{
+    let left = touch_left::<Trail<'_>, Register>(alloc, register, id, trail)?;
+    let met = meet_in_turn(alloc, register.forms(), &left.pairs, Reach::Touch, trail)?;
+    let ids = ids_met(alloc, register.history().lots(), left.places.items(), &met)?;
+    Ok(neighbour_lines(alloc, ids.items())?)
+}
+
+/// `access`: a shortest chain of live lots of one layer from one to another, each in contact with the next, and the level of
+/// each lot of the layer that has one.
+pub fn access(
+    alloc: Global,
+    register: &Register,
+    from: Name,
+    to: Name,
+    trail: &mut Trail<'_>,
+) -> Result<Verdicts, RowEnd>
+    ensures { Tells result trail.new (row line_tester register.now (ask_access from to) trail.old) }
+{
+    let left = access_left::<Trail<'_>, Register>(alloc, register, from, to, trail)?;
+    let met = meet_in_turn(alloc, register.forms(), &left.pairs, Reach::Touch, trail)?;
+    let access = access_told(alloc, &left, &met)?;
+    Ok(access_lines(alloc, &access)?)
+}

@@ -1,0 +1,69 @@
+//! The register as what keeps lots, for the rows that are written once.
+ghost use Rattle.std.specs.Prelude.{◌≡◌, ◌<◌, ◌≤◌, ℕ, ◌+◌, IfOk, length, map, filter, drop, nat_le};
+ghost use Rattle.std.specs.List.{AllByRecursion};
+ghost use Rattle.rp_geometry.specs.parts.Parts.{most_parts};
+ghost use Rattle.rp_walks.specs.Walk.{stopped, limit_met, most_tests};
+ghost use Rattle.rp_reports.specs.Check.{Trail as ModelTrail, follow_count};
+ghost use Rattle.rp_space.specs.Boxes.{integer_box};
+ghost use Rattle.rp_model.specs.states.State.{bare_lot, parts_under_lots, most_kept_parts};
+ghost use Rattle.rp_model.specs.commands.Row.{lot_parts};
+ghost use Rattle.rp_nearby.specs.Near.{others_in, is_near, lots_at, AreWithin};
+
+use crate::register::Register;
+use rp_follow::{Form, Kept, Trail};
+use rp_history::History;
+use rp_lots::Keeper;
+use rp_nearby::Reach;
+use rp_space::{IntBox, Listed, Name};
+use std::alloc::{AllocError, Global};
+
+impl<'a> Keeper<Trail<'a>> for Register {
+    ghost state = { λ s. s };
+
+    fn keep_limit(&self)
+        ensures { (n : ℕ) (w : ModelTrail) → most_tests < n → follow_count n w ≡ stopped limit_met w }
+    {}
+
+    fn bounds(part: &Kept) -> &IntBox
+        ensures { integer_box result.now ≡ part.now.bounds }
+    {
+        &part.bounds
+    }
+
+    fn history(&self) -> &History
+        ensures value { result.now ≡ map bare_lot self.now.lots }
+        ensures few { length self.now.lots ≤ most_kept_parts }
+        ensures short { AllByRecursion (λ l. length l.parts ≤ most_parts) self.now.lots }
+    {
+        self.history()
+    }
+
+    fn forms(&self) -> &[Form]
+        ensures { map (λ f. f.items) result.now ≡ lot_parts self.now.lots }
+    {
+        self.forms()
+    }
+
+    fn near(
+        &self,
+        alloc: Global,
+        form: &Form,
+        layer: &Name,
+        id: &Name,
+        from: usize,
+        reach: Reach,
+    ) -> Result<Listed<usize>, AllocError>
+        requires { from ≤ length self.now.lots }
+        ensures near { IfOk result (λ places. filter (is_near reach form.now.items) (lots_at self.now.lots places.items) ≡ filter (is_near reach form.now.items) (others_in layer.now id.now (drop from self.now.lots))) }
+        ensures within { IfOk result (λ places. AreWithin self.now.lots places.items) }
+        ensures few { IfOk result (λ places. length places.items ≤ most_kept_parts) }
+    {
+        self.places_near(alloc, form, layer, id, from, reach)
+    }
+
+    fn have_room_for(&self, parts: usize) -> bool
+        ensures { result ≡ nat_le (parts_under_lots self.now.lots + parts) most_kept_parts }
+    {
+        self.has_room_for_parts(parts)
+    }
+}

@@ -1,0 +1,57 @@
+//! Pairs of lots, judged one after the other on the next lines of a report.
+ghost use Rattle.std.specs.Prelude.{◌≡◌, ◌++◌, ◌∷◌, [], IfOk, OnOk, length, map};
+ghost use Rattle.std.specs.List.{AllByRecursion};
+ghost use Rattle.rp_reports.specs.Check.{line_tester};
+ghost use Rattle.rp_tests.specs.Comes.{Comes};
+ghost use Rattle.rp_lots.specs.Meets.{pair_test, meet_each, IsPairWithin};
+
+use rp_follow::{Form, Trail, common, touching};
+use rp_lots::Pair;
+use rp_nearby::Reach;
+use rp_tests::Stopped;
+use std::alloc::{AllocError, Global};
+
+/// Of each pair of lots, in order, whether the two meet, whose forms stand at their places, on the next lines of a report. Only
+/// those pairs of parts are tested whose boxes let them meet, up to the first that does; nothing is counted.
+pub fn meet_in_turn(
+    alloc: Global,
+    forms: &[Form],
+    pairs: &[Pair],
+    reach: Reach,
+    trail: &mut Trail<'_>,
+) -> Result<Vec<bool>, Stopped>
+    requires { AllByRecursion (IsPairWithin forms.now) pairs.now }
+    ensures comes { Comes (λ met. met.items) result trail.new (meet_each line_tester reach (map (λ f. f.items) forms.now) [] pairs.now trail.old) }
+    ensures each { IfOk result (λ met. length met.items ≡ length pairs.now) }
+{
+    let mut met = Vec::new(alloc);
+    for i in 0..pairs.len() {
+        let pair = pairs[i];
+        let meets = do_meet(&forms[pair.first], &forms[pair.second], reach, trail)?;
+        put(&mut met, meets)?;
+    }
+    Ok(met)
+}
+
+/// Puts an answer behind others. Answers `AllocError` only for want of memory.
+fn put(met: &mut Vec<bool>, meets: bool) -> Result<(), AllocError>
+    ensures { OnOk result (met.new.items ≡ met.old.items ++ meets ∷ []) }
+{
+    met.push(meets)?;
+    Ok(())
+}
+
+/// Whether two forms meet, on the next lines. Only those pairs of parts are tested whose boxes let them; nothing is counted.
+fn do_meet(
+    first: &Form,
+    second: &Form,
+    reach: Reach,
+    trail: &mut Trail<'_>,
+) -> Result<bool, Stopped>
+    ensures { Comes (λ meets. meets) result trail.new (pair_test line_tester reach first.now.items second.now.items trail.old) }
+{
+    match reach {
+        Reach::Overlap => common(first, second, true, trail),
+        Reach::Touch => touching(first, second, true, trail),
+    }
+}
