@@ -1,6 +1,9 @@
-pub mod Checked
-pub mod ChildLemmas
+pub mod Counted
 pub mod Divided
-pub mod Registered
 pub mod TakenAway
 pub mod United
+pub mod Searched
+pub mod Alone
+pub mod Steps
+pub mod ChildLemmas
+pub mod BornLots

@@ -6,7 +6,6 @@ use Rattle.rp_geometry.specs.parts.Parts.{most_parts}
 use Rattle.rp_walks.specs.Walk.{Outcome, done, stopped, Walk, Tester, after_first, ◌>>=◌}
 use Rattle.rp_walks.specs.Form.{subtract, subtract_part, if_at_most}
 use Rattle.rp_model.specs.commands.Row.{child_parts, joined_parts}
-use Rattle.rp_reports.specs.Check.{Trail, line_tester}
 use Rattle.rp_tests.proofs.Left.{IsLeft}
 use Rattle.rp_changes.specs.declared.child.Child.{Child}
 use Rattle.rp_changes.specs.Children.{formed_child}
@@ -24,12 +23,12 @@ subtract_both tester (p ∷ ps) qs current w =
     (λ left v. then_split (if_at_most most_parts left v) (λ next. subtract tester next (ps ++ qs)) (λ next. subtract tester next ps) (λ rest. subtract tester rest qs) (λ next u. subtract_both tester ps qs next u))
 
 -- the parts of children
-abbrev pub parts_of_all : List Child → List Part
-parts_of_all children = joined_parts (child_parts (map formed_child children))
+abbrev pub parts_of_all : {F : Type 0} → (F → List Part) → List (Child F) → List Part
+parts_of_all view children = joined_parts (child_parts (map (formed_child view) children))
 
 -- the next child is taken away first
-pub child_left : (children : List Child) (i : ℕ) (c : Child) (left : List Part) {start now : Trail} {whole : Walk Trail (List Part)} → i < length children → c ≡ get_or children i c → IsLeft start whole now (subtract line_tester left (parts_of_all (drop i children)))
-    → IsLeft start whole now (subtract line_tester left c.form.items >>= (λ next. subtract line_tester next (parts_of_all (drop (i + 1) children))))
-child_left children i c left {now = now} h e k = record {
-  same = sym (subtract_both line_tester c.form.items (parts_of_all (drop (i + 1) children)) left now) ∙ sym (ap (λ (cs : List Child). subtract line_tester left (parts_of_all cs) now) (drop_item children i c h e)) ∙ k.same;
+pub child_left : {F W : Type 0} (view : F → List Part) (tester : Tester W) (children : List (Child F)) (i : ℕ) (c : Child F) (left : List Part) {start now : W} {whole : Walk W (List Part)} → i < length children → c ≡ get_or children i c
+    → IsLeft start whole now (subtract tester left (parts_of_all view (drop i children))) → IsLeft start whole now (subtract tester left (view c.form) >>= (λ next. subtract tester next (parts_of_all view (drop (i + 1) children))))
+child_left {F} view tester children i c left {now = now} h e k = record {
+  same = sym (subtract_both tester (view c.form) (parts_of_all view (drop (i + 1) children)) left now) ∙ sym (ap (λ (cs : List (Child F)). subtract tester left (parts_of_all view cs) now) (drop_item children i c h e)) ∙ k.same;
 }

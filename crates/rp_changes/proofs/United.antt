@@ -10,76 +10,71 @@ use Rattle.rp_walks.specs.Form.{if_at_most, parts_or_none}
 use Rattle.rp_model.specs.states.State.{PlainState, parts_of_lot, live_lot, parts_under_lots, layer_of_first, lots_replaced, most_kept_parts}
 use Rattle.rp_model.specs.commands.Checks.{check_consolidate}
 use Rattle.rp_model.specs.commands.Row.{Reply, accepted, check, check_size, new_lot, parts_with_id, joined_parts, row_consolidate}
-use Rattle.rp_reports.specs.Check.{Trail}
 use Rattle.rp_tests.specs.declared.stopped.Stopped.{Stopped}
 use Rattle.rp_tests.specs.Comes.{stop_of, StopsBy}
 use Rattle.rp_tests.proofs.Left.{IsLeft, all_left, left_as, next_left, stops_on, stop_left}
 
--- a trail of no lines
-abbrev pub no_trail : Trail
-no_trail = record { lines = []; number = 0; tests = 0 }
-
 -- ---- a list that is not too long
 
 -- by its test
-abbrev at_most_by : List Part → Bool → Walk Trail (List Part)
-at_most_by xs b = elim b as (λ _. Walk Trail (List Part)) [ true ↦ pass xs | false ↦ stop limit_met ]
+abbrev at_most_by : {W : Type 0} → List Part → Bool → Walk W (List Part)
+at_most_by {W} xs b = elim b as (λ _. Walk W (List Part)) [ true ↦ pass xs | false ↦ stop limit_met ]
 
 -- a size by its test
-abbrev size_by : Bool → Walk Trail (Unit {0})
-size_by b = elim b as (λ _. Walk Trail (Unit {0})) [ true ↦ pass tt | false ↦ stop limit_met ]
+abbrev size_by : {W : Type 0} → Bool → Walk W (Unit {0})
+size_by {W} b = elim b as (λ _. Walk W (Unit {0})) [ true ↦ pass tt | false ↦ stop limit_met ]
 
 -- a short list passes
-pub short_passes : (xs zs : List Part) → xs ≡ zs → length xs ≤ most_parts → (t : Trail) → if_at_most most_parts xs t ≡ done zs t
+pub short_passes : {W : Type 0} (xs zs : List Part) → xs ≡ zs → length xs ≤ most_parts → (t : W) → if_at_most most_parts xs t ≡ done zs t
 short_passes xs zs e h t = by (nat_le (length xs) most_parts) refl
   where
     by : (b : Bool) → nat_le (length xs) most_parts ≡ b → at_most_by xs b t ≡ done zs t
     by true f = ap (λ (ys : List Part). done ys t) e
     by false f = absurd (grind arith)
 
--- a list that passes is short, and what it comes to
-pub at_most_made : (xs ys : List Part) (t : Trail) → if_at_most most_parts xs t ≡ done ys t → (length xs ≤ most_parts) × (xs ≡ ys)
-at_most_made xs ys t e = by (nat_le (length xs) most_parts) refl e
+-- a list that passes is short, what it comes to, and nothing is done
+pub at_most_made : {W : Type 0} (xs ys : List Part) (t u : W) → if_at_most most_parts xs t ≡ done ys u → (length xs ≤ most_parts) × (xs ≡ ys) × (t ≡ u)
+at_most_made xs ys t u e = by (nat_le (length xs) most_parts) refl e
   where
-    by : (b : Bool) → nat_le (length xs) most_parts ≡ b → at_most_by xs b t ≡ done ys t → (length xs ≤ most_parts) × (xs ≡ ys)
-    by true f g = (grind arith, cc)
+    by : (b : Bool) → nat_le (length xs) most_parts ≡ b → at_most_by xs b t ≡ done ys u → (length xs ≤ most_parts) × (xs ≡ ys) × (t ≡ u)
+    by true f g = (grind arith, cc, cc)
     by false f g = absurd (cc)
 
 -- nothing stops where a list passes
-passes_on : {A : Type 0} (e : Stopped) (xs : List Part) (t : Trail) (o : Outcome Trail A) → StopsBy e t (at_most_by xs true t) → StopsBy e t o
-passes_on e xs t o h = by (stop_of e) h
+passes_on : {W A : Type 0} (e : Stopped) (xs : List Part) (t u : W) (o : Outcome W A) → StopsBy e u (at_most_by xs true t) → StopsBy e u o
+passes_on e xs t u o h = by (stop_of e) h
   where
-    by : (s : Option Stop) → IfSome s (λ (why : Stop). at_most_by xs true t ≡ stopped why t) → IfSome s (λ (why : Stop). o ≡ stopped why t)
+    by : (s : Option Stop) → IfSome s (λ (why : Stop). at_most_by xs true t ≡ stopped why u) → IfSome s (λ (why : Stop). o ≡ stopped why u)
     by None k = tt
     by (Some why) k = absurd (cc)
 
 -- a list that does not pass stops at a limit, as its size does
-size_of_stopped : (e : Stopped) (xs : List Part) (t : Trail) → StopsBy e t (at_most_by xs false t) → StopsBy e t (size_by false t)
-size_of_stopped e xs t h = stops_on (λ _. pass tt) e t (at_most_by xs false t) h
+size_of_stopped : {W : Type 0} (e : Stopped) (xs : List Part) (t u : W) → StopsBy e u (at_most_by xs false t) → StopsBy e u (size_by false t)
+size_of_stopped e xs t u h = stops_on (λ _. pass tt) e u (at_most_by xs false t) h
 
 -- where a list is too long, so is a longer one
-pub longer_stops : (e : Stopped) (xs ys : List Part) (t : Trail) → StopsBy e t (if_at_most most_parts xs t) → StopsBy e t (if_at_most most_parts (xs ++ ys) t)
-longer_stops e xs ys t h = by (nat_le (length xs) most_parts) (nat_le (length (xs ++ ys)) most_parts) refl refl h
+pub longer_stops : {W : Type 0} (e : Stopped) (xs ys : List Part) (t u : W) → StopsBy e u (if_at_most most_parts xs t) → StopsBy e u (if_at_most most_parts (xs ++ ys) t)
+longer_stops e xs ys t u h = by (nat_le (length xs) most_parts) (nat_le (length (xs ++ ys)) most_parts) refl refl h
   where
-    by : (b c : Bool) → nat_le (length xs) most_parts ≡ b → nat_le (length (xs ++ ys)) most_parts ≡ c → StopsBy e t (at_most_by xs b t) → StopsBy e t (at_most_by (xs ++ ys) c t)
-    by true c f g k = passes_on e xs t (at_most_by (xs ++ ys) c t) k
+    by : (b c : Bool) → nat_le (length xs) most_parts ≡ b → nat_le (length (xs ++ ys)) most_parts ≡ c → StopsBy e u (at_most_by xs b t) → StopsBy e u (at_most_by (xs ++ ys) c t)
+    by true c f g k = passes_on e xs t u (at_most_by (xs ++ ys) c t) k
     by false true f g k = let n = length-append xs ys in absurd (grind (arith, n))
     by false false f g k = k
 
 -- and so is its size
-pub size_stops : (e : Stopped) (xs : List Part) (t : Trail) → StopsBy e t (if_at_most most_parts xs t) → StopsBy e t (check_size (length xs) most_parts t)
-size_stops e xs t h = by (nat_le (length xs) most_parts) h
+pub size_stops : {W : Type 0} (e : Stopped) (xs : List Part) (t u : W) → StopsBy e u (if_at_most most_parts xs t) → StopsBy e u (check_size (length xs) most_parts t)
+size_stops e xs t u h = by (nat_le (length xs) most_parts) h
   where
-    by : (b : Bool) → StopsBy e t (at_most_by xs b t) → StopsBy e t (size_by b t)
-    by true k = passes_on e xs t (size_by true t) k
-    by false k = size_of_stopped e xs t k
+    by : (b : Bool) → StopsBy e u (at_most_by xs b t) → StopsBy e u (size_by b t)
+    by true k = passes_on e xs t u (size_by true t) k
+    by false k = size_of_stopped e xs t u k
 
 -- a size that is short passes
-pub size_passes : (xs ys : List Part) (t : Trail) → if_at_most most_parts xs t ≡ done ys t → check_size (length xs) most_parts t ≡ done tt t
-size_passes xs ys t h = by (nat_le (length xs) most_parts) h
+pub size_passes : {W : Type 0} (xs ys : List Part) (t u : W) → if_at_most most_parts xs t ≡ done ys u → check_size (length xs) most_parts t ≡ done tt u
+size_passes xs ys t u h = by (nat_le (length xs) most_parts) h
   where
-    by : (b : Bool) → at_most_by xs b t ≡ done ys t → size_by b t ≡ done tt t
-    by true k = refl
+    by : (b : Bool) → at_most_by xs b t ≡ done ys u → size_by b t ≡ done tt u
+    by true k = cc
     by false k = absurd (cc)
 
 -- ---- the lots
@@ -102,9 +97,9 @@ pub record IsUniting (s : PlainState) (made : List Part) (rest whole : List Labe
   pub few : length made ≤ most_parts
 
 -- the parts of one more id
-pub unites_more : (s : PlainState) (made more ps : List Part) (x : Label) (rest xs whole : List Label) → IsUniting s made rest whole → rest ≡ x ∷ xs → parts_with_id s x ≡ ps → if_at_most most_parts (made ++ ps) no_trail ≡ done more no_trail → IsUniting s more xs whole
-unites_more s made more ps x rest xs whole h e f g =
-    let short = at_most_made (made ++ ps) more no_trail g in
+pub unites_more : {W : Type 0} (s : PlainState) (made more ps : List Part) (x : Label) (rest xs whole : List Label) (t u : W) → IsUniting s made rest whole → rest ≡ x ∷ xs → parts_with_id s x ≡ ps → if_at_most most_parts (made ++ ps) t ≡ done more u → IsUniting s more xs whole
+unites_more s made more ps x rest xs whole t u h e f g =
+    let short = at_most_made (made ++ ps) more t u g in
     record {
       all = ap (λ (qs : List Part). qs ++ joined_of s xs) (sym short.1) ∙ append_assoc made ps (joined_of s xs) ∙ ap (λ (qs : List Part). made ++ (qs ++ joined_of s xs)) (sym f) ∙ ap (λ (ids : List Label). made ++ joined_of s ids) (sym e) ∙ h.all;
       few = subst (λ (qs : List Part). length qs ≤ most_parts) short.1 short.0;
@@ -118,14 +113,14 @@ unites_none s made x rest xs whole h e f = record {
 }
 
 -- the parts of one more id are too many
-pub unites_stops : (s : PlainState) (made ps : List Part) (x : Label) (rest xs whole : List Label) → IsUniting s made rest whole → rest ≡ x ∷ xs → parts_with_id s x ≡ ps → (e : Stopped) (t : Trail) → StopsBy e t (if_at_most most_parts (made ++ ps) t) → StopsBy e t (if_at_most most_parts (joined_of s whole) t)
-unites_stops s made ps x rest xs whole h e f l t g =
-    subst (λ (qs : List Part). StopsBy l t (if_at_most most_parts qs t))
+pub unites_stops : {W : Type 0} (s : PlainState) (made ps : List Part) (x : Label) (rest xs whole : List Label) → IsUniting s made rest whole → rest ≡ x ∷ xs → parts_with_id s x ≡ ps → (e : Stopped) (t u : W) → StopsBy e u (if_at_most most_parts (made ++ ps) t) → StopsBy e u (if_at_most most_parts (joined_of s whole) t)
+unites_stops s made ps x rest xs whole h e f l t u g =
+    subst (λ (qs : List Part). StopsBy l u (if_at_most most_parts qs t))
     (append_assoc made ps (joined_of s xs) ∙ ap (λ (qs : List Part). made ++ (qs ++ joined_of s xs)) (sym f) ∙ ap (λ (ids : List Label). made ++ joined_of s ids) (sym e) ∙ h.all)
-    (longer_stops l (made ++ ps) (joined_of s xs) t g)
+    (longer_stops l (made ++ ps) (joined_of s xs) t u g)
 
 -- all are joined
-pub united : (s : PlainState) (made : List Part) (rest whole : List Label) → IsUniting s made rest whole → rest ≡ [] → (t : Trail) → if_at_most most_parts (joined_of s whole) t ≡ done made t
+pub united : {W : Type 0} (s : PlainState) (made : List Part) (rest whole : List Label) → IsUniting s made rest whole → rest ≡ [] → (t : W) → if_at_most most_parts (joined_of s whole) t ≡ done made t
 united s made rest whole h e t =
     let all : made ≡ joined_of s whole = sym (append-nil made) ∙ ap (λ (ids : List Label). made ++ joined_of s ids) (sym e) ∙ h.all in
     short_passes (joined_of s whole) made (sym all) (subst (λ (qs : List Part). length qs ≤ most_parts) all h.few) t
@@ -137,19 +132,19 @@ abbrev pub united_lot : PlainState → Label → List Label → List Part → Re
 united_lot s x ids ps = accepted (lots_replaced ids (new_lot (layer_of_first s ids) x ps ids ∷ []))
 
 -- what is left of a consolidation behind its checks
-abbrev pub behind_checks : PlainState → Label → List Label → Walk Trail Reply
+abbrev pub behind_checks : {W : Type 0} → PlainState → Label → List Label → Walk W Reply
 behind_checks s x ids = check_size (length (joined_of s ids)) most_parts >> (check_size (parts_under_lots s.lots + length (joined_of s ids)) most_kept_parts >> pass (united_lot s x ids (joined_of s ids)))
 
 -- the checks passed
-pub checks_passed : (s : PlainState) (x : Label) (ids : List Label) (t : Trail) → check_consolidate s x ids ≡ None → IsLeft t (row_consolidate s x ids) t (behind_checks s x ids)
+pub checks_passed : {W : Type 0} (s : PlainState) (x : Label) (ids : List Label) (t : W) → check_consolidate s x ids ≡ None → IsLeft t (row_consolidate s x ids) t (behind_checks s x ids)
 checks_passed s x ids t e = left_as (ap (λ o. check o (behind_checks s x ids)) e) (all_left t (row_consolidate s x ids))
 
 -- there are few parts
-pub parts_are_few : (s : PlainState) (x : Label) (ids : List Label) (ps : List Part) (t : Trail) → check_consolidate s x ids ≡ None → if_at_most most_parts (joined_of s ids) t ≡ done ps t → IsLeft t (row_consolidate s x ids) t (check_size (parts_under_lots s.lots + length ps) most_kept_parts >> pass (united_lot s x ids ps))
-parts_are_few s x ids ps t e f =
-    left_as (ap (λ (qs : List Part). check_size (parts_under_lots s.lots + length qs) most_kept_parts >> pass (united_lot s x ids qs)) (at_most_made (joined_of s ids) ps t f).1)
-    (next_left (check_size (length (joined_of s ids)) most_parts) (λ _. check_size (parts_under_lots s.lots + length (joined_of s ids)) most_kept_parts >> pass (united_lot s x ids (joined_of s ids))) (checks_passed s x ids t e) (size_passes (joined_of s ids) ps t f))
+pub parts_are_few : {W : Type 0} (s : PlainState) (x : Label) (ids : List Label) (ps : List Part) (t u : W) → check_consolidate s x ids ≡ None → if_at_most most_parts (joined_of s ids) t ≡ done ps u → IsLeft t (row_consolidate s x ids) u (check_size (parts_under_lots s.lots + length ps) most_kept_parts >> pass (united_lot s x ids ps))
+parts_are_few s x ids ps t u e f =
+    left_as (ap (λ (qs : List Part). check_size (parts_under_lots s.lots + length qs) most_kept_parts >> pass (united_lot s x ids qs)) (at_most_made (joined_of s ids) ps t u f).1)
+    (next_left (check_size (length (joined_of s ids)) most_parts) (λ _. check_size (parts_under_lots s.lots + length (joined_of s ids)) most_kept_parts >> pass (united_lot s x ids (joined_of s ids))) (checks_passed s x ids t e) (size_passes (joined_of s ids) ps t u f))
 
 -- there are too many
-pub parts_are_many : (s : PlainState) (x : Label) (ids : List Label) (t : Trail) (l : Stopped) → check_consolidate s x ids ≡ None → StopsBy l t (if_at_most most_parts (joined_of s ids) t) → StopsBy l t (row_consolidate s x ids t)
-parts_are_many s x ids t l e f = stop_left (check_size (length (joined_of s ids)) most_parts) (λ _. check_size (parts_under_lots s.lots + length (joined_of s ids)) most_kept_parts >> pass (united_lot s x ids (joined_of s ids))) (checks_passed s x ids t e) l t (size_stops l (joined_of s ids) t f)
+pub parts_are_many : {W : Type 0} (s : PlainState) (x : Label) (ids : List Label) (t u : W) (l : Stopped) → check_consolidate s x ids ≡ None → StopsBy l u (if_at_most most_parts (joined_of s ids) t) → StopsBy l u (row_consolidate s x ids t)
+parts_are_many s x ids t u l e f = stop_left (check_size (length (joined_of s ids)) most_parts) (λ _. check_size (parts_under_lots s.lots + length (joined_of s ids)) most_kept_parts >> pass (united_lot s x ids (joined_of s ids))) (checks_passed s x ids t e) l u (size_stops l (joined_of s ids) t u f)

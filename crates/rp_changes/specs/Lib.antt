@@ -1,2 +1,3 @@
-pub mod Checks
+pub mod Changes
 pub mod Children
+pub mod Steps

@@ -1,16 +1,25 @@
 #![tactic(auto)]
-//! The rows of the commands that change something, followed on the next lines of a report.
+//! The rows of the commands that change something, written once over whatever answers their tests and keeps the register.
 //!
-//! Each comes to the change, the refusal or the limit that the definition has for it. No change is made here: it is
-//! answered, and the register makes it once the verdict line was read.
+//! Each comes to the change, the refusal or the stop that its definition has for it, and makes exactly the tests of that.
+//! No change is made here: it is answered, and what keeps the register makes it.
 
-mod changes;
+mod change;
 mod checks;
 mod child;
 mod children;
-mod divide;
+mod dividing;
+mod joining;
+mod making;
 mod orders;
-mod overlaps;
+mod registry;
+mod subdividing;
 
-pub use changes::{consolidate, retire};
-pub use orders::{cutting, definition, registration, subdivision};
+pub use change::{Change, Replaced};
+pub use child::Child;
+pub use dividing::cut;
+pub use joining::{consolidate, define, retire};
+pub use making::make_lot;
+pub use orders::{consolidation, cutting, definition, registration, retirement, subdivision};
+pub use registry::{Overlaps, Registry};
+pub use subdividing::subdivide;

@@ -1,100 +1,156 @@
 //! The rows of commands that change something: first the forms of their expressions are made, then the rest is walked.
-ghost use Rattle.std.specs.Prelude.{◌≡◌, ◌≤◌, [], IfOk, length, map};
+ghost use Rattle.std.specs.Prelude.{◌≡◌, ◌≤◌, [], List, IfOk, length, map};
 ghost use Rattle.std.specs.List.{AllByRecursion};
 ghost use Rattle.rp_command.specs.Views.{expression_of, child_of, shapes_of};
-ghost use Rattle.rp_language.specs.Expression.{IsKeptExpression, first_unknown_among, define, register as register_lot, cut, subdivide};
+ghost use Rattle.rp_geometry.specs.sets.Shape.{Part};
+ghost use Rattle.rp_geometry.specs.parts.Parts.{most_parts};
+ghost use Rattle.rp_language.specs.Expression.{IsKeptExpression, first_unknown_among, define, register as register_lot, cut, subdivide, consolidate, retire};
+ghost use Rattle.rp_walks.specs.Walk.{Walk};
 ghost use Rattle.rp_model.specs.states.State.{parts_in};
-ghost use Rattle.rp_model.specs.commands.Row.{row, form_children};
-ghost use Rattle.rp_reports.specs.Check.{Trail, line_tester};
+ghost use Rattle.rp_model.specs.commands.Row.{Reply, row, form_children};
+ghost use Rattle.rp_asked.specs.Replies.{GoesOn, row_of_form};
 ghost use Rattle.rp_tests.specs.Comes.{Comes};
-ghost use Rattle.rp_changes.specs.Children.{formed_children};
-ghost use Rattle.rp_register.specs.Replies.{Replies};
+ghost use Rattle.rp_changes.specs.Changes.{Changes, change_of, replacing};
+ghost use Rattle.rp_changes.specs.Children.{formed_children, IsShort};
 
-use crate::changes::define;
+use crate::change::{Change, Replaced};
 use crate::child::Child;
-use crate::divide::{cut, subdivide};
-use crate::overlaps::make_lot;
+use crate::dividing::cut;
+use crate::joining::{consolidate, define, retire};
+use crate::making::make_lot;
+use crate::registry::Registry;
+use crate::subdividing::subdivide;
 use rp_asked::{RowEnd, row_form, short_form};
 use rp_command::Expr;
-use rp_follow::Trail;
-use rp_register::{Register, Reply};
+use rp_once::first_unknown;
 use rp_report::Refusal;
 use rp_space::{Listed, Name};
-use rp_tests::Stopped;
+use rp_tests::{Stopped, Tests};
 use std::alloc::Global;
 
 /// `let`: the form of the expression under a new name.
-pub fn definition(
+pub fn definition<T: Tests, K: Registry<T>>(
     alloc: Global,
-    register: &Register,
+    keeper: &K,
     name: Name,
     region: &Expr,
-    trail: &mut Trail<'_>,
-) -> Result<Reply, RowEnd>
+    tests: &mut T,
+) -> Result<Change<T::Form>, RowEnd>
     requires { IsKeptExpression (expression_of region.now) }
-    ensures { Replies result trail.new (row line_tester register.now (define name (expression_of region.now)) trail.old) }
+    ensures { Changes (change_of T.parts_of) result tests.new (row T.tester (K.state keeper.now) (define name (expression_of region.now)) tests.old) }
 {
-    let form = row_form(alloc, register, region, trail)?;
-    define(register, name, form)
+    let form = formed_by(alloc, keeper, region, tests)?;
+    define::<T, K>(keeper, name, form)
 }
 
-/// `register`: the form of the expression as a new lot.
-pub fn registration(
+/// `register`: the form of the expression as a new lot of the present layer.
+pub fn registration<T: Tests, K: Registry<T>>(
     alloc: Global,
-    register: &Register,
+    keeper: &K,
     id: Name,
     region: &Expr,
-    trail: &mut Trail<'_>,
-) -> Result<Reply, RowEnd>
+    tests: &mut T,
+) -> Result<Change<T::Form>, RowEnd>
     requires { IsKeptExpression (expression_of region.now) }
-    ensures { Replies result trail.new (row line_tester register.now (register_lot id (expression_of region.now)) trail.old) }
+    ensures { Changes (change_of T.parts_of) result tests.new (row T.tester (K.state keeper.now) (register_lot id (expression_of region.now)) tests.old) }
 {
-    let form = row_form(alloc, register, region, trail)?;
-    make_lot(alloc, register, id, form, trail)
+    let form = formed_by(alloc, keeper, region, tests)?;
+    replacing(make_lot(alloc, keeper, keeper.layer(), id, form, tests))
 }
 
 /// `cut`: a lot in two, by the form of the expression.
-pub fn cutting(
+pub fn cutting<T: Tests, K: Registry<T>>(
     alloc: Global,
-    register: &Register,
+    keeper: &K,
     id: Name,
     region: &Expr,
     first: Name,
     second: Name,
-    trail: &mut Trail<'_>,
-) -> Result<Reply, RowEnd>
+    tests: &mut T,
+) -> Result<Change<T::Form>, RowEnd>
     requires { IsKeptExpression (expression_of region.now) }
-    ensures { Replies result trail.new (row line_tester register.now (cut id (expression_of region.now) first second) trail.old) }
+    ensures { Changes (change_of T.parts_of) result tests.new (row T.tester (K.state keeper.now) (cut id (expression_of region.now) first second) tests.old) }
 {
-    let form = row_form(alloc, register, region, trail)?;
-    cut(alloc, register, id, &form, first, second, trail)
+    let form = formed_by(alloc, keeper, region, tests)?;
+    replacing(cut(alloc, keeper, id, &form, first, second, tests))
+}
+
+/// `consolidate`: lots of one layer become one.
+pub fn consolidation<T: Tests, K: Registry<T>>(
+    alloc: Global,
+    keeper: &K,
+    new: Name,
+    ids: &[Name],
+    tests: &mut T,
+) -> Result<Change<T::Form>, RowEnd>
+    ensures { Changes (change_of T.parts_of) result tests.new (row T.tester (K.state keeper.now) (consolidate new ids.now) tests.old) }
+{
+    replacing(consolidate(alloc, keeper, new, ids, tests))
+}
+
+/// `retire`: a lot ends.
+pub fn retirement<T: Tests, K: Registry<T>>(
+    alloc: Global,
+    keeper: &K,
+    id: Name,
+) -> Result<Change<T::Form>, RowEnd>
+    ensures { (w : T) → Changes (change_of T.parts_of) result w (row T.tester (K.state keeper.now) (retire id) w) }
+{
+    replacing(retire::<T, K>(alloc, keeper, id))
 }
 
 /// `subdivide`: a lot into the forms of the expressions.
-pub fn subdivision(
+pub fn subdivision<T: Tests, K: Registry<T>>(
     alloc: Global,
-    register: &Register,
+    keeper: &K,
     id: Name,
     entries: &[(Name, Expr)],
-    trail: &mut Trail<'_>,
-) -> Result<Reply, RowEnd>
+    tests: &mut T,
+) -> Result<Change<T::Form>, RowEnd>
     requires kept { AllByRecursion IsKeptExpression (shapes_of entries.now) }
     requires few { length entries.now ≤ 1024 }
-    ensures { Replies result trail.new (row line_tester register.now (subdivide id (map child_of entries.now)) trail.old) }
+    ensures { Changes (change_of T.parts_of) result tests.new (row T.tester (K.state keeper.now) (subdivide id (map child_of entries.now)) tests.old) }
 {
-    if let Some(name) = first_unknown_shape(register, entries) {
+    if let Some(name) = first_unknown_shape::<T, K>(keeper, entries) {
         return Err(RowEnd::Refused(Refusal::Unknown(name)));
     }
-    let children = children(alloc, register, entries, trail)?;
-    subdivide(alloc, register, id, children, trail)
+    let children = children(alloc, keeper, entries, tests)?;
+    replacing(subdivide(alloc, keeper, id, children, tests))
+}
+
+/// The change of a row that lets lots end and others be born.
+fn replacing<F: Drop>(row: Result<Replaced<F>, RowEnd>) -> Result<Change<F>, RowEnd>
+    ensures { result ≡ replacing row }
+{
+    Ok(Change::Replaced(row?))
+}
+
+/// The form of the one expression of a command, behind which its row goes on. `Refused` exactly for the first name or
+/// lot, in reading order, that isn't there; it comes before any test.
+fn formed_by<T: Tests, K: Registry<T>>(
+    alloc: Global,
+    keeper: &K,
+    region: &Expr,
+    tests: &mut T,
+) -> Result<T::Form, RowEnd>
+    requires { IsKeptExpression (expression_of region.now) }
+    ensures goes_on { (next : List Part → Walk T Reply) → GoesOn T.parts_of result tests.new next (row_of_form T.tester (parts_in (K.state keeper.now)) (expression_of region.now) next tests.old) }
+    ensures few { IfOk result (λ form. length (T.parts_of form) ≤ most_parts) }
+{
+    keeper.keep_meaning();
+    row_form(alloc, keeper, region, tests)
 }
 
 /// The first name or lot of the expressions, in reading order, that isn't there.
-fn first_unknown_shape(register: &Register, entries: &[(Name, Expr)]) -> Option<Name>
-    ensures { result ≡ first_unknown_among (parts_in register.now) (shapes_of entries.now) }
+fn first_unknown_shape<T: Tests, K: Registry<T>>(
+    keeper: &K,
+    entries: &[(Name, Expr)],
+) -> Option<Name>
+    ensures { result ≡ first_unknown_among (parts_in (K.state keeper.now)) (shapes_of entries.now) }
 {
+    keeper.keep_meaning();
     for entry in entries {
-        let unknown = register.first_unknown(&entry.1);
+        let unknown = first_unknown::<T, K>(keeper, &entry.1);
         if unknown.is_some() {
             return unknown;
         }
@@ -103,19 +159,21 @@ fn first_unknown_shape(register: &Register, entries: &[(Name, Expr)]) -> Option<
 }
 
 /// The children of some ids and expressions, all of whose names are there: the forms are made in order.
-fn children(
+fn children<T: Tests, K: Registry<T>>(
     alloc: Global,
-    register: &Register,
+    keeper: &K,
     entries: &[(Name, Expr)],
-    trail: &mut Trail<'_>,
-) -> Result<Listed<Child>, Stopped>
+    tests: &mut T,
+) -> Result<Listed<Child<T::Form>>, Stopped>
     requires { AllByRecursion IsKeptExpression (shapes_of entries.now) }
-    ensures comes { Comes formed_children result trail.new (form_children line_tester (parts_in register.now) [] (map child_of entries.now) trail.old) }
+    ensures comes { Comes (formed_children T.parts_of) result tests.new (form_children T.tester (parts_in (K.state keeper.now)) [] (map child_of entries.now) tests.old) }
     ensures each { IfOk result (λ children. length children.items ≡ length entries.now) }
+    ensures short { IfOk result (λ children. AllByRecursion (IsShort T.parts_of) children.items) }
 {
+    keeper.keep_meaning();
     let mut children = Listed::new(alloc);
     for entry in entries {
-        let form = short_form(alloc, register, &entry.1, trail)?;
+        let form = short_form(alloc, keeper, &entry.1, tests)?;
         children.push(Child { id: entry.0, form })?;
     }
     Ok(children)

@@ -6,15 +6,17 @@ ghost use Rattle.rp_geometry.specs.sections.Trace.{IsHeight};
 ghost use Rattle.rp_language.specs.Expression.{IsKeptExpression, expressions_of, heights_of, HasFewChildren};
 ghost use Rattle.rp_model.specs.commands.Row.{row};
 ghost use Rattle.rp_reports.specs.Check.{Trail, line_tester};
-ghost use Rattle.rp_register.specs.Replies.{Replies, reply_told};
+ghost use Rattle.rp_register.specs.Replies.{Replies, reply_told, reply_changed};
 
 use rp_asked::{RowEnd, comparison, emptiness, membership, piece_numbers, related, shown_parts};
-use rp_changes::{consolidate, cutting, definition, registration, retire, subdivision};
+use rp_changes::{
+    Change, consolidation, cutting, definition, registration, retirement, subdivision,
+};
 use rp_command::Command;
-use rp_follow::Trail;
+use rp_follow::{Form, Trail};
 use rp_once::Question;
 use rp_questions::{access, audit, lineage, list, neighbours, owner, owner_then, section};
-use rp_register::{Change, Register, Reply};
+use rp_register::{Register, Reply};
 use rp_report::Verdicts;
 use std::alloc::Global;
 
@@ -23,6 +25,13 @@ fn told(asked: Result<Verdicts, RowEnd>) -> Result<Reply, RowEnd>
     ensures { result ≡ reply_told asked }
 {
     Ok(Reply::Told(asked?))
+}
+
+/// The reply to a command that changes something.
+fn changed(change: Result<Change<Form>, RowEnd>) -> Result<Reply, RowEnd>
+    ensures { result ≡ reply_changed change }
+{
+    Ok(Reply::Changed(change?))
 }
 
 /// Follows the row of a command on the next lines: its reply, or why there is none. Nothing is changed yet.
@@ -38,7 +47,7 @@ pub(crate) fn carry_out(
     ensures { Replies result trail.new (row line_tester register.now (command_of command.now) trail.old) }
 {
     match command {
-        Command::Let(name, region) => definition(alloc, register, *name, region, trail),
+        Command::Let(name, region) => { changed(definition(alloc, register, *name, region, trail)) }
         Command::Member(region, point) => told(membership::<Trail<'_>, Register>(
             alloc, register, region, point,
         )),
@@ -50,19 +59,23 @@ pub(crate) fn carry_out(
         Command::Overlap(a, b) => told(comparison(alloc, register, Question::Overlap, a, b, trail)),
         Command::Contact(a, b) => told(comparison(alloc, register, Question::Contact, a, b, trail)),
         Command::Rcc(a, b) => told(related(alloc, register, a, b, trail)),
-        Command::Register(id, region) => registration(alloc, register, *id, region, trail),
-        Command::Cut(id, by, first, second) => {
-            cutting(alloc, register, *id, by, *first, *second, trail)
+        Command::Register(id, region) => {
+            changed(registration(alloc, register, *id, region, trail))
         }
-        Command::Subdivide(id, entries) => subdivision(
+        Command::Cut(id, by, first, second) => {
+            changed(cutting(alloc, register, *id, by, *first, *second, trail))
+        }
+        Command::Subdivide(id, entries) => changed(subdivision(
             alloc,
             register,
             *id,
             entries.items(),
             trail,
-        ),
-        Command::Consolidate(new, ids) => consolidate(alloc, register, *new, ids.items()),
-        Command::Retire(id) => retire(alloc, register, *id),
+        )),
+        Command::Consolidate(new, ids) => {
+            changed(consolidation(alloc, register, *new, ids.items(), trail))
+        }
+        Command::Retire(id) => { changed(retirement::<Trail<'_>, Register>(alloc, register, *id)) }
         Command::Neighbours(id) => told(neighbours(alloc, register, *id, trail)),
         Command::History(id) => told(lineage(alloc, register, *id)),
         Command::At(point) => told(owner(alloc, register, point)),

@@ -9,4 +9,3 @@ pub mod Paired
 pub mod Numbers
 pub mod Accessed
 pub mod Judging
-pub mod Divided

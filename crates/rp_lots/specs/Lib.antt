@@ -3,4 +3,3 @@ pub mod Counted
 pub mod Behind
 pub mod Numbers
 pub mod Asked
-pub mod Changes

@@ -1,16 +1,13 @@
 #![tactic(auto)]
-//! The rows of the questions about lots and of the changes of lots, written once over whatever answers their tests and
-//! whatever keeps the lots.
+//! The rows of the questions about lots in contact, written once over whatever answers their tests and whatever keeps the
+//! lots, and what the rows of changes need of lots.
 //!
 //! [`Keeper`] has the lots that were ever registered, with their forms. The row of a question comes to pairs of lots that are
 //! to be judged, or to the refusal or the stop that its definition has for it, and counts exactly the tests of that. Whoever
-//! asks judges the pairs, in threads or line after line; what follows from the answers stands here too. Nothing is changed
-//! here: a change is answered.
+//! asks judges the pairs, in threads or line after line; what follows from the answers stands here too.
 
 mod access;
 mod behind;
-mod change;
-mod dividing;
 mod keeper;
 mod links;
 mod near;
@@ -19,9 +16,8 @@ mod touching;
 
 pub use access::{access_left, access_told, layer_left};
 pub use behind::{NearPairs, later_pairs, live_places};
-pub use change::Replaced;
-pub use dividing::cut;
 pub use keeper::Keeper;
 pub use links::AccessLeft;
+pub use near::{count_pairs, count_tests, form_at, lots_near};
 pub use pair::Pair;
 pub use touching::{TouchLeft, contacts_left, ids_met, touch_left};

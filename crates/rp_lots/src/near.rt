@@ -20,13 +20,13 @@ pub(crate) const MAX_TESTS: u64 = 65536;
 
 /// The lots that may meet a form: their places among all lots, and how many pairs of parts may meet.
 #[derive(Debug, Drop)]
-pub(crate) struct Near {
-    pub(crate) pairs: u64,
-    pub(crate) places: Listed<usize>,
+pub struct Near {
+    pub pairs: u64,
+    pub places: Listed<usize>,
 }
 
 /// How many pairs of a part of `form` and one of `other` may meet.
-fn count_pairs<T: Tests, K: Keeper<T>>(form: &T::Form, other: &T::Form, reach: Reach) -> u64
+pub fn count_pairs<T: Tests, K: Keeper<T>>(form: &T::Form, other: &T::Form, reach: Reach) -> u64
     requires first { length (T.parts_of form.now) ≤ most_parts }
     requires second { length (T.parts_of other.now) ≤ most_parts }
     ensures value { result ≡ count_pairs (may_meet reach) (T.parts_of form.now) (T.parts_of other.now) }
@@ -73,7 +73,7 @@ fn may_meet<T: Tests, K: Keeper<T>>(first: &T::Part, second: &T::Part, reach: Re
 
 /// The live lots of `layer`, from the place `from` on, that have another id than `id` and a part that may meet one of
 /// `form`'s, in the order of registration. `Limit` exactly where there are more pairs of such parts than a command may test.
-pub(crate) fn lots_near<T: Tests, K: Keeper<T>>(
+pub fn lots_near<T: Tests, K: Keeper<T>>(
     alloc: Global,
     keeper: &K,
     form: &T::Form,
@@ -139,7 +139,7 @@ fn do_boxes_meet(first: &IntBox, second: &IntBox, reach: Reach) -> bool
 }
 
 /// The form of the lot at a place, ended or not.
-pub(crate) fn form_at<T: Tests, K: Keeper<T>>(keeper: &K, place: usize) -> &T::Form
+pub fn form_at<T: Tests, K: Keeper<T>>(keeper: &K, place: usize) -> &T::Form
     requires { place < length (K.state keeper.now).lots }
     ensures { option_map (λ l. l.parts) (slice_get (K.state keeper.now).lots place) ≡ Some (T.parts_of result.now) }
 {
@@ -147,7 +147,7 @@ pub(crate) fn form_at<T: Tests, K: Keeper<T>>(keeper: &K, place: usize) -> &T::F
 }
 
 /// Counts so many tests. `Limit` exactly where these are too many.
-pub(crate) fn count_tests<T: Tests>(tests: &mut T, n: u64) -> Result<(), Stopped>
+pub fn count_tests<T: Tests>(tests: &mut T, n: u64) -> Result<(), Stopped>
     ensures { Comes (λ x. x) result tests.new (T.tester.count n tests.old) }
 {
     if !tests.count(n) {

@@ -1,20 +1,24 @@
 //! The register as what keeps lots, for the rows that are written once.
-ghost use Rattle.std.specs.Prelude.{◌≡◌, ◌<◌, ◌≤◌, ℕ, ◌+◌, IfOk, length, map, filter, drop, nat_le};
+ghost use Rattle.std.specs.Prelude.{◌≡◌, ◌<◌, ◌≤◌, ℕ, ◌+◌, ◌&&◌, IfOk, length, map, filter, drop, nat_le};
 ghost use Rattle.std.specs.List.{AllByRecursion};
 ghost use Rattle.rp_geometry.specs.parts.Parts.{most_parts};
 ghost use Rattle.rp_walks.specs.Walk.{stopped, limit_met, most_tests};
-ghost use Rattle.rp_reports.specs.Check.{Trail as ModelTrail, follow_count};
+ghost use Rattle.rp_walks.specs.Form.{common_nearby};
+ghost use Rattle.rp_tests.specs.Comes.{Comes};
+ghost use Rattle.rp_reports.specs.Check.{Trail as ModelTrail, follow_count, line_tester};
 ghost use Rattle.rp_space.specs.Boxes.{integer_box};
-ghost use Rattle.rp_model.specs.states.State.{bare_lot, parts_under_lots, most_kept_parts};
+ghost use Rattle.rp_model.specs.states.State.{bare_lot, parts_in, parts_under_names, parts_under_lots, most_names, most_kept_parts};
 ghost use Rattle.rp_model.specs.commands.Row.{lot_parts};
 ghost use Rattle.rp_nearby.specs.Near.{others_in, is_near, lots_at, AreWithin};
 
 use crate::register::Register;
-use rp_follow::{Form, Kept, Trail};
+use rp_changes::{Overlaps, Registry};
+use rp_follow::{Form, Kept, Trail, common};
 use rp_history::History;
 use rp_lots::Keeper;
 use rp_nearby::Reach;
 use rp_space::{IntBox, Listed, Name};
+use rp_tests::Stopped;
 use std::alloc::{AllocError, Global};
 
 impl<'a> Keeper<Trail<'a>> for Register {
@@ -65,5 +69,36 @@ impl<'a> Keeper<Trail<'a>> for Register {
         ensures { result ≡ nat_le (parts_under_lots self.now.lots + parts) most_kept_parts }
     {
         self.has_room_for_parts(parts)
+    }
+}
+
+impl<'a> Overlaps<Trail<'a>> for Register {
+    fn overlap(
+        _alloc: Global,
+        form: &Form,
+        other: &Form,
+        tests: &mut Trail<'a>,
+    ) -> Result<bool, Stopped>
+        ensures { Comes (λ found. found) result tests.new (common_nearby line_tester form.now.items other.now.items tests.old) }
+    {
+        common(form, other, true, tests)
+    }
+}
+
+impl<'a> Registry<Trail<'a>> for Register {
+    fn keep_meaning(&self)
+        ensures { parts_in self.now ≡ parts_in self.now }
+    {}
+
+    fn layer(&self) -> Name
+        ensures { result ≡ self.now.layer }
+    {
+        self.layer()
+    }
+
+    fn have_room_for_name(&self, form: &Form) -> bool
+        ensures { result ≡ (nat_le (length self.now.names + 1) most_names && nat_le (parts_under_names self.now.names + length form.now.items) most_kept_parts) }
+    {
+        self.has_room_for_name(form)
     }
 }

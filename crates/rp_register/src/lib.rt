@@ -6,13 +6,13 @@
 //! Names and live lots are found by their ids, and the live lots near a form, all of them and no other, by the boxes
 //! around lots, and so is the lot that has a point.
 
-mod born;
 mod count;
 mod form;
 mod keeper;
 mod near;
 mod parcel;
 mod register;
+mod replaced;
 mod reply;
 mod shown;
 mod there;
@@ -22,6 +22,6 @@ pub use count::count_tests;
 pub use near::count_pairs;
 pub use parcel::Parcel;
 pub use register::Register;
-pub use reply::{Born, Change, Reply};
+pub use reply::Reply;
 pub use there::Near;
 pub use turn::meet_in_turn;

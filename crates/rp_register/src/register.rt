@@ -6,12 +6,12 @@ ghost use Rattle.rp_model.specs.commands.Row.{lot_parts, owner_line};
 ghost use Rattle.rp_nearby.specs.Near.{others_in, is_near, lots_at, AreWithin};
 ghost use Rattle.rp_nearby.specs.Owner.{is_there, owner_verdict, BoxesHold};
 ghost use Rattle.rp_register.specs.Kept.{IsSoundOnLines, ComesFromKnown};
-ghost use Rattle.rp_register.specs.Replies.{change_of};
+ghost use Rattle.rp_register.specs.Replies.{shown_change};
 
-use crate::born::replace;
-use crate::reply::Change;
+use crate::replaced::replace;
 use crate::shown::Shown;
 use rp_boxindex::Quiet;
+use rp_changes::Change;
 use rp_follow::Form;
 use rp_history::History;
 use rp_kept::{Lots, NamedForms};
@@ -157,17 +157,15 @@ impl Register {
 
     /// Makes a change at the line with the number n, which is above every birth and every end; a sound state comes of it.
     /// Answers `AllocError` only for want of memory; the register isn't used further then.
-    pub fn apply(&mut self, alloc: Global, n: u32, change: Change) -> Result<(), AllocError>
+    pub fn apply(&mut self, alloc: Global, n: u32, change: Change<Form>) -> Result<(), AllocError>
         requires later { IsLaterThan n (state_of_parts self.old) }
-        requires known { ComesFromKnown self.old (change_of change) }
-        requires sound { IsSoundOnLines (changed n self.old (change_of change)) }
-        ensures { OnOk result (self.new ≡ changed n self.old (change_of change)) }
+        requires known { ComesFromKnown self.old (shown_change change) }
+        requires sound { IsSoundOnLines (changed n self.old (shown_change change)) }
+        ensures { OnOk result (self.new ≡ changed n self.old (shown_change change)) }
     {
         match change {
             Change::Named(name, form) => self.names.keep(name, form),
-            Change::Replaced { ends, born } => {
-                replace(&mut self.lots, alloc, n, ends.items(), born)
-            },
+            Change::Replaced(change) => replace(&mut self.lots, alloc, n, change),
             Change::Layer(layer) => {
                 self.layer = layer;
                 Ok(())

@@ -6,4 +6,4 @@ use Rattle.rp_changes.proofs.orders.first_unknown_shape.Given as goal
 
 -- the first that is missing is among the expressions still to come
 abbrev pub invariant-loop-entry : goal.invariant-loop-entry
-invariant-loop-entry l = first_unknown_among (parts_in l.register) (shapes_of (drop l.entry-index l.entries)) ≡ first_unknown_among (parts_in l.register) (shapes_of l.entries)
+invariant-loop-entry g l = first_unknown_among (parts_in (g.K.Keeper.state l.keeper)) (shapes_of (drop l.entry-index l.entries)) ≡ first_unknown_among (parts_in (g.K.Keeper.state l.keeper)) (shapes_of l.entries)

@@ -1,14 +1,16 @@
-use Rattle.std.proofs.Common.{ap, sym, ◌∙◌, subst, List, rules, w32}
+use Rattle.std.proofs.Common.{ap, sym, ◌∙◌, subst, List, map, rules, w32}
 use Rattle.std.proofs.lemmas.Int.{to_z-of_z}
 use Rattle.std.specs.Int.RustNames.{FitsSigned}
 use Rattle.std.specs.List.{AllByRecursion}
-use Rattle.rp_language.specs.Expression.{Command, IsKeptExpression, expressions_of, ask_at, ask_as_of, ask_list, ask_section, ask_equal, ask_within, ask_overlap, ask_empty, ask_pieces, ask_show, ask_contact, ask_relation, ask_neighbours, ask_history, ask_audit, ask_access}
+use Rattle.rp_language.specs.Expression.{Command, IsKeptExpression, expressions_of, define, register, cut, subdivide, consolidate, retire, ask_at, ask_as_of, ask_list, ask_section, ask_equal, ask_within, ask_overlap, ask_empty, ask_pieces, ask_show, ask_contact, ask_relation, ask_neighbours, ask_history, ask_audit, ask_access}
 use Rattle.rp_model.specs.commands.Row.{row}
 use Rattle.rp_reports.specs.Check.{line_tester}
-use Rattle.rp_command.specs.Views.{command_of, expression_of, shapes_of}
+use Rattle.rp_command.specs.declared.command.Expr.{Expr}
+use Rattle.rp_language.specs.Name.{Label}
+use Rattle.rp_command.specs.Views.{child_of, command_of, expression_of, shapes_of}
 use Rattle.rp_command.proofs.Children.{kept_shapes}
 use Rattle.rp_register.specs.Replies.{Replies}
-use Rattle.rp_checker.proofs.ToldLemmas.{question_told}
+use Rattle.rp_checker.proofs.ToldLemmas.{question_told, change_told}
 use Rattle.rp_checker.proofs.rows.carry_out.Goals as goal
 
 pub subdivision-requires-clause-kept : goal.subdivision-requires-clause-kept
@@ -72,3 +74,26 @@ returns-in-Audit c = question_told c.told-in-Audit.result c.audit.result c.args.
 
 pub returns-in-Access : goal.returns-in-Access
 returns-in-Access c = question_told c.told-in-Access.result c.access.result c.args.trail.now c.access.new.trail c.args.register.now (command_of c.args.command.now) (ask_access c.in-Access.from c.in-Access.to) (ap command_of c.in-Access.is) c.told-in-Access.ensures c.access.ensures
+
+pub returns-in-Let : goal.returns-in-Let
+returns-in-Let c = change_told c.changed.result c.definition.result c.args.trail.now c.definition.new.tests c.args.register.now (command_of c.args.command.now) (define c.in-Let.name (expression_of c.in-Let.region)) (ap command_of c.in-Let.is) c.changed.ensures c.definition.ensures
+
+pub returns-in-Register : goal.returns-in-Register
+returns-in-Register c = change_told c.changed-in-Register.result c.registration.result c.args.trail.now c.registration.new.tests c.args.register.now (command_of c.args.command.now) (register c.in-Register.id (expression_of c.in-Register.region)) (ap command_of c.in-Register.is) c.changed-in-Register.ensures c.registration.ensures
+
+pub returns-in-Cut : goal.returns-in-Cut
+returns-in-Cut c =
+    change_told c.changed-in-Cut.result c.cutting.result c.args.trail.now c.cutting.new.tests c.args.register.now (command_of c.args.command.now) (cut c.in-Cut.id (expression_of c.in-Cut.by) c.in-Cut.first c.in-Cut.second) (ap command_of c.in-Cut.is) c.changed-in-Cut.ensures c.cutting.ensures
+
+pub returns-in-Subdivide : goal.returns-in-Subdivide
+returns-in-Subdivide c =
+    change_told c.changed-in-Subdivide.result c.subdivision.result c.args.trail.now c.subdivision.new.tests c.args.register.now (command_of c.args.command.now) (subdivide c.in-Subdivide.id (map child_of c.items.result.now)) (ap command_of c.in-Subdivide.is ∙ ap (λ (es : List (Label × Expr)). subdivide c.in-Subdivide.id (map child_of es)) (sym c.items.ensures))
+    c.changed-in-Subdivide.ensures c.subdivision.ensures
+
+pub returns-in-Consolidate : goal.returns-in-Consolidate
+returns-in-Consolidate c =
+    change_told c.changed-in-Consolidate.result c.consolidation.result c.args.trail.now c.consolidation.new.tests c.args.register.now (command_of c.args.command.now) (consolidate c.in-Consolidate.new c.items-in-Consolidate.result.now) (ap command_of c.in-Consolidate.is ∙ ap (consolidate c.in-Consolidate.new) (sym c.items-in-Consolidate.ensures))
+    c.changed-in-Consolidate.ensures c.consolidation.ensures
+
+pub returns-in-Retire : goal.returns-in-Retire
+returns-in-Retire c = change_told c.changed-in-Retire.result c.retirement.result c.args.trail.now c.args.trail.now c.args.register.now (command_of c.args.command.now) (retire c.in-Retire.id) (ap command_of c.in-Retire.is) c.changed-in-Retire.ensures (c.retirement.ensures c.args.trail.now)
