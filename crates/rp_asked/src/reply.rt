@@ -7,10 +7,11 @@ use rp_history::NameFault;
 use rp_report::{Refusal, Verdict, Verdicts};
 use rp_tests::Stopped;
 use std::alloc::{AllocError, Global};
+use std::fmt;
 use thiserror::Error;
 
 /// Why a row has no reply.
-#[derive(Clone, Copy, Debug, Drop, Error)]
+#[derive(Clone, Copy, Drop, Error)]
 pub enum RowEnd {
     /// The row refuses the command.
     #[error("the command is refused")]
@@ -18,6 +19,12 @@ pub enum RowEnd {
     /// It is stopped.
     #[error("the row is stopped")]
     Stopped(Stopped),
+}
+
+impl fmt::Debug for RowEnd {
+    fn fmt<W: fmt::Write>(&self, f: &mut fmt::Formatter<W>) -> fmt::Result {
+        fmt::Display::fmt(self, f)
+    }
 }
 
 impl From<Stopped> for RowEnd {

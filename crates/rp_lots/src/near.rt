@@ -19,7 +19,7 @@ use std::alloc::Global;
 pub(crate) const MAX_TESTS: u64 = 65536;
 
 /// The lots that may meet a form: their places among all lots, and how many pairs of parts may meet.
-#[derive(Debug, Drop)]
+#[derive(Drop)]
 pub struct Near {
     pub pairs: u64,
     pub places: Listed<usize>,

@@ -8,7 +8,7 @@ use std::error::Error;
 use std::fmt;
 
 /// Why a call of the register is refused. Points that are carried are those of the last proof line of the call's work.
-#[derive(Debug, Drop)]
+#[derive(Drop)]
 pub enum ParcelFault {
     /// A new id was registered before.
     Known(Name),
@@ -63,6 +63,12 @@ impl ParcelFault {
             ParcelFault::Gap(_) => "the children leave a gap",
             ParcelFault::Memory(_) => "out of memory",
         }
+    }
+}
+
+impl fmt::Debug for ParcelFault {
+    fn fmt<W: fmt::Write>(&self, f: &mut fmt::Formatter<W>) -> fmt::Result {
+        f.write_str(self.words())
     }
 }
 

@@ -8,7 +8,7 @@ use std::alloc::{AllocError, Global};
 use std::boxed::Box;
 
 /// Why a line is refused.
-#[derive(Clone, Copy, Debug)]
+#[derive(Clone, Copy)]
 pub enum Refusal {
     /// The line is no command.
     Bad(Why),
