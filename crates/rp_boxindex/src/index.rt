@@ -57,9 +57,9 @@ impl Index {
         }
     }
 
-    /// Takes a box in under an id that has none.
+    /// Takes `bounds` in under `id`, which has no box.
     ///
-    /// Answers `Known` exactly where the id has a box, and `Memory` only for want of memory; then the index is as it was.
+    /// Answers `Known` exactly where `id` has a box, and `Memory` only for want of memory; then the index is as it was.
     pub fn insert(&mut self, alloc: Global, id: u32, bounds: IntBox) -> Result<(), IndexFault>
         ensures new { OnOk result (map.contains_key self.old id ≡ false) }
         ensures ok { OnOk result (self.new ≡ map.insert self.old id bounds) }
@@ -96,11 +96,12 @@ impl Index {
         true
     }
 
-    /// The ids of the boxes that meet a box, in rising order. Half-open boxes meet where each begins before the other ends,
-    /// on each axis; closed boxes also where one begins as the other ends.
+    /// The ids of the boxes that meet `bounds`, in rising order. Half-open boxes meet where each begins before the
+    /// other ends, on each axis; where `closed`, also where one begins as the other ends. `watch` is told of each node
+    /// that is visited.
     ///
-    /// One step is one node that is visited. Where h is the greatest number with 2^h <= (n + 1)^2 for n boxes, and k of them
-    /// meet on the x axis, there are at most (k + 1) * (2h + 2). Answers `AllocError` only for want of memory.
+    /// One of `steps` is one node that is visited. Where h is the greatest number with 2^h <= (n + 1)^2 for n boxes,
+    /// and k of them meet on the x axis, there are at most (k + 1) * (2h + 2).
     pub fn meeting<W: Watch, L: Ledger>(
         &self,
         alloc: Global,
@@ -128,8 +129,8 @@ impl Index {
         Ok(ids)
     }
 
-    /// The least id that passes a test and whose box meets a box, as `meeting` says. `None` exactly where there is none. Takes
-    /// no memory, and at most as many steps as `meeting`.
+    /// The least id that passes the test of `choice` and whose box meets `bounds`, where `closed` with boundaries, as
+    /// `meeting` says. `None` exactly where there is none. Takes no memory, and at most as many `steps` as `meeting`.
     pub fn first<C: Choice, W: Watch, L: Ledger>(
         &self,
         bounds: &IntBox,

@@ -4,7 +4,7 @@
 //! An [`Index`] is a finite map: a box is refused exactly where its id is there. The ids of the boxes that meet a box,
 //! half-open or closed, are answered: all of them and no other, in rising order; or the least of them that passes a
 //! test, without memory. With n boxes, of which k meet it on the x axis, at most (k + 1)(2h + 2) nodes are visited, h
-//! the greatest number with 2^h at most (n + 1)^2.
+//! the greatest number with 2^h at most (n + 1)^2. Calls that answer `AllocError` do so only for want of memory.
 
 mod choice;
 mod fault;

@@ -28,7 +28,7 @@ impl Lows {
         }
     }
 
-    /// Puts an id in with its corner. Answers `AllocError` only for want of memory; then nothing has changed.
+    /// Puts an id in with its corner. After `AllocError` nothing has changed.
     pub(crate) fn insert(&mut self, id: u32, low: Corner) -> Result<(), AllocError>
         ensures entries { OnOk result (self.new.map.entries ≡ insert_entry nat_cmp self.old.map.entries id low) }
         ensures ordered { OnOk result (IsStrictlySortedBy nat_cmp (keys_of self.new.map.entries)) }

@@ -94,7 +94,8 @@ fn refute_soon(cell: &[Half]) -> Option<Strict>
     try_strict(cell)
 }
 
-/// The same, by a search on a few lines. With `None` one of the points is on none of them.
+/// The strict decision of `cell`, by a search on a few lines, and over vertices where one of the points is on none of
+/// them.
 fn try_strict(cell: &[Half]) -> Option<Strict>
     requires { length cell.now ≤ 64 }
     ensures decides { IfSome result (λ found. DecidesStrict cell.now found) }
@@ -106,8 +107,7 @@ fn try_strict(cell: &[Half]) -> Option<Strict>
     }
 }
 
-/// Whether a cell has a point, as `decide_strict` answers: by the cell's vertices at once. A cell has at most 64 half-spaces. Takes no
-/// memory. It is apart so that nobody else makes room for the vertices.
+/// The strict decision of `cell`, over vertices. It is apart so that nobody else makes room for them.
 pub fn hold_strict(cell: &[Half]) -> Strict
     requires { length cell.now ≤ 64 }
     ensures decides { DecidesStrict cell.now result }
@@ -116,7 +116,7 @@ pub fn hold_strict(cell: &[Half]) -> Strict
     Held::new(cell).strict()
 }
 
-/// The same, by a search over the vertices in their order.
+/// The strict decision of `cell`, by a search over the vertices in their order.
 pub(crate) fn search_strict(cell: &[Half]) -> Strict
     requires { length cell.now ≤ 64 }
     ensures decides { DecidesStrict cell.now result }
@@ -194,7 +194,8 @@ fn refute_weak_soon(cell: &[Half]) -> Option<Weak>
     try_weak(cell)
 }
 
-/// The same, by a search on a few lines of one plane. With `None` the first point is on none of them.
+/// The weak decision of `cell`, by a search on a few lines of one plane, and over vertices where the first point is on
+/// none of them.
 fn try_weak(cell: &[Half]) -> Option<Weak>
     requires { length cell.now ≤ 64 }
     ensures decides { IfSome result (λ found. DecidesWeak cell.now found) }
@@ -206,8 +207,7 @@ fn try_weak(cell: &[Half]) -> Option<Weak>
     }
 }
 
-/// Whether the weak system of a cell has a point, as `decide_weak` answers: by the cell's vertices at once. A cell has at most 64 half-spaces. Takes no
-/// memory. It is apart so that nobody else makes room for the vertices.
+/// The weak decision of `cell`, over vertices. It is apart so that nobody else makes room for them.
 pub fn hold_weak(cell: &[Half]) -> Weak
     requires { length cell.now ≤ 64 }
     ensures decides { DecidesWeak cell.now result }
@@ -216,7 +216,7 @@ pub fn hold_weak(cell: &[Half]) -> Weak
     Held::new(cell).weak()
 }
 
-/// The same, by a search over the vertices in their order.
+/// The weak decision of `cell`, by a search over the vertices in their order.
 pub(crate) fn search_weak(cell: &[Half]) -> Weak
     requires { length cell.now ≤ 64 }
     ensures decides { DecidesWeak cell.now result }

@@ -90,7 +90,7 @@ impl Held {
         held
     }
 
-    /// The same cell.
+    /// A copy of the held cell.
     pub fn copy(&self) -> Held
         ensures { result ≡ self.now }
     {

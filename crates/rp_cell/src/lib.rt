@@ -31,7 +31,8 @@
 //! does: it stays without a search. Every other one is searched for a refutation through its complement, if the
 //! vertices show that the cell has a point, and is decided with its complement else. The box of a slim cell is that of
 //! the vertices of the cell, since cells with the same members have the same least box, and each side of it that is not
-//! given is shown by the first certificate through its complement (`bounds.rt`).
+//! given is shown by the first certificate through its complement (`bounds.rt`). Calls that answer `AllocError` do so
+//! only for want of memory.
 
 mod bounds;
 mod decide;

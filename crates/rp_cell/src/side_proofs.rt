@@ -46,7 +46,7 @@ impl SideProofs {
         self.proofs.as_slice()
     }
 
-    /// The same list.
+    /// A copy: the same proofs in the same order.
     pub fn copy(&self) -> SideProofs
         ensures { result ≡ self.now }
     {

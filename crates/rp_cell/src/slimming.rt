@@ -53,7 +53,7 @@ pub struct Slimmed {
 /// The slim cell of a cell. From the first half-space to the last, one is dropped where no member of the others that are
 /// still kept lies outside it: the first outside certificate of these others and its complement shows it. The slim cell has
 /// the members of the cell. Where these are some, and at most 32 half-spaces are kept, the slim cell and its least box are a
-/// part. A cell has at most 64 half-spaces. Answers `AllocError` only for want of memory.
+/// part. A cell has at most 64 half-spaces.
 pub fn slim(alloc: Global, cell: &[Half]) -> Result<Slimmed, AllocError>
     requires { length cell.now ≤ 64 }
     ensures kept { IfOk result (λ slim. slim.kept.items ≡ (slimmed cell.now).kept) }

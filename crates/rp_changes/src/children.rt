@@ -23,7 +23,7 @@ use rp_space::Names;
 use rp_tests::{Stopped, Tests};
 use std::alloc::{AllocError, Global};
 
-/// The ids of children, in order. Answers `AllocError` only for want of memory.
+/// The ids of children, in order.
 pub(crate) fn child_ids<T: Tests>(
     alloc: Global,
     children: &[Child<T::Form>],

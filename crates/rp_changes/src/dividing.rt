@@ -66,8 +66,7 @@ fn check_room_for_both<T: Tests, K: Keeper<T>>(
     Ok(())
 }
 
-/// The lot `origin` of `layer` ends, and two others are born in its place, with their forms. Answers `AllocError` only for
-/// want of memory.
+/// The lot `origin` of `layer` ends, and two others are born in its place, with their forms.
 fn in_two<F: Drop>(
     alloc: Global,
     layer: Name,
@@ -93,7 +92,7 @@ fn in_two<F: Drop>(
     })
 }
 
-/// The birth of a lot from another one. Answers `AllocError` only for want of memory.
+/// The birth of a lot from another one.
 pub(crate) fn born_of(
     alloc: Global,
     layer: Name,

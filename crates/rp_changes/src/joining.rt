@@ -97,7 +97,7 @@ fn form_of<'a, T: Tests, K: Keeper<T>>(keeper: &'a K, id: &Name) -> Option<&'a T
     Some(form_at::<T, K>(keeper, place))
 }
 
-/// The lots of some ids become one in their layer. Answers `AllocError` only for want of memory.
+/// The lots of some ids become one in their layer.
 fn consolidated<F: Drop>(
     alloc: Global,
     layer: Name,

@@ -100,7 +100,7 @@ fn first_overlapped<T: Tests, K: Overlaps<T>>(
     Ok(None)
 }
 
-/// A lot that has no origin is born. Answers `AllocError` only for want of memory.
+/// A lot that has no origin is born.
 fn registered<F: Drop>(
     alloc: Global,
     layer: Name,
@@ -113,7 +113,7 @@ fn registered<F: Drop>(
     one_born(alloc, Names::new(alloc), Birth { id, layer, origins }, form)
 }
 
-/// Lots end, and another is born in their place, with its form. Answers `AllocError` only for want of memory.
+/// Lots end, and another is born in their place, with its form.
 pub(crate) fn one_born<F: Drop>(
     alloc: Global,
     ends: Names,

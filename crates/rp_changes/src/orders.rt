@@ -28,7 +28,7 @@ use rp_space::{Listed, Name};
 use rp_tests::{Stopped, Tests};
 use std::alloc::Global;
 
-/// `let`: the form of the expression under a new name.
+/// `let`: the form of `region`, by `tests`, under the new name `name`.
 pub fn definition<T: Tests, K: Registry<T>>(
     alloc: Global,
     keeper: &K,
@@ -43,7 +43,7 @@ pub fn definition<T: Tests, K: Registry<T>>(
     define::<T, K>(keeper, name, form)
 }
 
-/// `register`: the form of the expression as a new lot of the present layer.
+/// `register`: the form of `region`, by `tests`, as the new lot `id` of the present layer.
 pub fn registration<T: Tests, K: Registry<T>>(
     alloc: Global,
     keeper: &K,
@@ -58,7 +58,7 @@ pub fn registration<T: Tests, K: Registry<T>>(
     replacing(make_lot(alloc, keeper, keeper.layer(), id, form, tests))
 }
 
-/// `cut`: a lot in two, by the form of the expression.
+/// `cut`: the lot `id` in two, by the form of `region`: `first` has what is in the form, `second` the rest.
 pub fn cutting<T: Tests, K: Registry<T>>(
     alloc: Global,
     keeper: &K,
@@ -75,7 +75,7 @@ pub fn cutting<T: Tests, K: Registry<T>>(
     replacing(cut(alloc, keeper, id, &form, first, second, tests))
 }
 
-/// `consolidate`: lots of one layer become one.
+/// `consolidate`: the lots `ids`, all of one layer, become the lot `new`.
 pub fn consolidation<T: Tests, K: Registry<T>>(
     alloc: Global,
     keeper: &K,
@@ -88,7 +88,7 @@ pub fn consolidation<T: Tests, K: Registry<T>>(
     replacing(consolidate(alloc, keeper, new, ids, tests))
 }
 
-/// `retire`: a lot ends.
+/// `retire`: the lot `id` ends.
 pub fn retirement<T: Tests, K: Registry<T>>(
     alloc: Global,
     keeper: &K,
@@ -99,7 +99,7 @@ pub fn retirement<T: Tests, K: Registry<T>>(
     replacing(retire::<T, K>(alloc, keeper, id))
 }
 
-/// `subdivide`: a lot into the forms of the expressions.
+/// `subdivide`: the lot `id` into a lot for each of `entries`, which have the new ids and the expressions of their forms.
 pub fn subdivision<T: Tests, K: Registry<T>>(
     alloc: Global,
     keeper: &K,

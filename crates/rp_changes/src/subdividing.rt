@@ -88,7 +88,7 @@ fn check_division<T: Tests, K: Overlaps<T>>(
     check_covered(alloc, whole, children, tests)
 }
 
-/// Children are born of a lot, in its layer, in order. Answers `AllocError` only for want of memory.
+/// Children are born of a lot, in its layer, in order.
 fn children_born<F: Drop>(
     alloc: Global,
     layer: Name,

@@ -61,7 +61,7 @@ pub fn check_report(alloc: Global, report: &[u8]) -> Result<Found, AllocError>
     found
 }
 
-/// The same with the register, in which nothing is kept yet.
+/// The finding for `report`, as `check_report` answers it, with `register`, in which nothing is kept yet.
 fn check_lines(alloc: Global, register: &mut Register, report: &[u8]) -> Result<Found, AllocError>
     requires few { length report.now ≤ most_report_bytes }
     requires empty { register.old ≡ opening }

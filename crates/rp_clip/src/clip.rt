@@ -162,7 +162,7 @@ impl<const MOST: usize> Clip<MOST> {
         common_places(masks, set) == set
     }
 
-    /// The same value.
+    /// A copy of the value.
     pub fn copy(&self) -> Clip<MOST>
         ensures { result ≡ self.now }
     {

@@ -31,8 +31,7 @@ fn joined<F: Forms>(first: &F::Part, rest: &[F::Part]) -> IntBox
     hull
 }
 
-/// The boxes of new lots with these forms, in order: each the least around the form, moved into the cube of the layer. Answers
-/// `AllocError` only for want of memory.
+/// The boxes of new lots with these forms, in order: each the least around the form, moved into the cube of the layer.
 pub(crate) fn boxes_of<F: Forms>(
     alloc: Global,
     births: &[Birth],

@@ -109,9 +109,8 @@ impl<F: Forms> Lots<F> {
         self.forms.items()
     }
 
-    /// Places among which are, in rising order, those from a place on of all live lots of a layer that have another id and a
-    /// part which may meet one of a form's. At any further place stands a lot none of whose parts may. Answers `AllocError`
-    /// only for want of memory.
+    /// Rising places, at or behind `from`: every live lot of `layer`, other than `id`, with a part that may meet one of
+    /// `form`, as `reach` says, is among them; each other one has no such part. `watch` is told of what is visited.
     pub fn near<W: Watch>(
         &self,
         alloc: Global,
@@ -132,8 +131,8 @@ impl<F: Forms> Lots<F> {
             .near(alloc, watch, &self.history, &hull, layer, id, from, reach)
     }
 
-    /// The first lot of a layer, of those that are there at a moment, that has the point; it is found without a walk over all
-    /// lots. The box of each part has to hold its members. `None` exactly where there is none. Takes no memory.
+    /// The first lot of `layer`, of those that are there at `moment`, that has `point`; it is found without a walk over
+    /// all lots. The box of each part has to hold its members. `None` exactly where there is none. Takes no memory.
     pub fn owner(&self, layer: &Name, moment: Moment, point: &Point) -> Option<Name>
         requires { BoxesHold self.now }
         ensures { owner_verdict result ≡ owner_line (lots_of_layer layer.now (filter (is_there moment) self.now)) point.now }
@@ -155,7 +154,7 @@ impl<F: Forms> Lots<F> {
 
     /// Ends the lots of the ids `ends` at the line, as far as they are live, and lets others be born in their place, each
     /// with its form, which go last. All lots were born before the line; the new ids are new and distinct, their origins are
-    /// known, and there is room for them. Answers `AllocError` only for want of memory; then all is as before.
+    /// known, and there is room for them. After `AllocError` all is as before.
     pub fn replace(
         &mut self,
         alloc: Global,
@@ -187,7 +186,7 @@ impl<F: Forms> Lots<F> {
         Ok(())
     }
 
-    /// Ends a lot at the line, where it is live. All lots were born before the line. Takes no memory.
+    /// Ends the lot `id` at `line`, where it is live. All lots were born before `line`. Takes no memory.
     pub fn end(&mut self, line: u32, id: Name)
         requires { AreBornBefore line self.old }
         ensures { self.new ≡ lots_after line self.old (lots_replaced (id ∷ []) []) }

@@ -68,8 +68,7 @@ impl<F: Forms> NamedForms<F> {
         self.forms.len() < MAX_NAMES && F::parts(form).len() <= MAX_PARTS - self.parts
     }
 
-    /// Keeps a form under a new name, for which there is room.
-    /// Answers `AllocError` only for want of memory; then all is as before.
+    /// Keeps `form` under the new `name`, for which there is room. After `AllocError` all is as before.
     pub fn keep(&mut self, name: Name, form: F::Form) -> Result<(), AllocError>
         requires { IsNewName self.old name (F.parts_of form) }
         ensures ok { OnOk result (self.new ≡ self.old ++ kept_under name (F.parts_of form) ∷ []) }

@@ -23,9 +23,9 @@ use rp_space::{Name, Names};
 use rp_tests::{Stopped, Tests};
 use std::alloc::{AllocError, Global};
 
-/// `access`, up to the tests of pairs. Refusals, in this order: `Unknown(from)` and `Unknown(to)` where one isn't live;
-/// `Layers(to)` where the layers differ; `Limit` where more pairs of parts of lots of the layer have boxes that meet, the
-/// boundary included, than may be tested.
+/// `access` from the lot `from` to the lot `to`, up to the tests of pairs, which are counted in `tests`. Refusals, in this
+/// order: `Unknown(from)` and `Unknown(to)` where one isn't live; `Layers(to)` where the layers differ. `Limit` where more
+/// pairs of parts of lots of the layer have boxes that meet, the boundary included, than may be tested.
 pub fn access_left<T: Tests, K: Keeper<T>>(
     alloc: Global,
     keeper: &K,
@@ -41,7 +41,7 @@ pub fn access_left<T: Tests, K: Keeper<T>>(
     Ok(layer_left::<T, K>(alloc, keeper, layer, from, to, tests)?)
 }
 
-/// The same behind the checks on both ids, of which `layer` has been known.
+/// `access` from `from` to `to`, as `access_left`, behind the checks on both ids: they are live lots of `layer`.
 pub fn layer_left<T: Tests, K: Keeper<T>>(
     alloc: Global,
     keeper: &K,
@@ -64,8 +64,7 @@ pub fn layer_left<T: Tests, K: Keeper<T>>(
     Ok(links_left(alloc, lots, &places, near.pairs, from, to)?)
 }
 
-/// What is left where these pairs of lots at some rising places are to be judged. Answers `AllocError` only for want of
-/// memory.
+/// What is left where these pairs of lots at some rising places are to be judged.
 fn links_left(
     alloc: Global,
     lots: &[LotLine],
@@ -99,7 +98,7 @@ fn links_left(
     })
 }
 
-/// Access, where those pairs meet for which the answer is yes. Answers `AllocError` only for want of memory.
+/// Access, as `left` has it, where those of its pairs meet for which `met` says yes.
 pub fn access_told(alloc: Global, left: &AccessLeft, met: &[bool]) -> Result<Access, AllocError>
     requires ready { IsReady left.now }
     requires each { length met.now ≡ length left.now.pairs.items }

@@ -22,8 +22,7 @@ pub struct NearPairs {
     pub pairs: Vec<Pair>,
 }
 
-/// The places of the live lots, in order: of those of a layer, where one is asked for, and else of all. Answers `AllocError`
-/// only for want of memory.
+/// The places of the live lots among `lots`, in order: of those of `layer`, where one is given, and else of all.
 pub fn live_places(
     alloc: Global,
     lots: &[LotLine],
@@ -75,9 +74,9 @@ fn later_near<T: Tests, K: Keeper<T>>(
     lots_near::<T, K>(alloc, keeper, form, &lot.layer, &lot.id, place + 1, reach)
 }
 
-/// The pairs of each of some live lots with those behind it, of its layer, that have a part that may meet one of its own, in
-/// the order of the first and then of the second. `Limit` exactly where there are more pairs of such parts than a command may
-/// test.
+/// The pairs of each lot at `places` with the live lots of its layer behind it that have a part which may meet one of its
+/// own, as `reach` says, in the order of the first and then of the second; and how many pairs of such parts there are.
+/// `Limit` exactly where these are more than a command may test.
 pub fn later_pairs<T: Tests, K: Keeper<T>>(
     alloc: Global,
     keeper: &K,
@@ -101,7 +100,7 @@ pub fn later_pairs<T: Tests, K: Keeper<T>>(
     Ok(NearPairs { tests, pairs })
 }
 
-/// Appends the pairs of a lot with each of some others, by their places. Answers `AllocError` only for want of memory.
+/// Appends the pairs of a lot with each of some others, by their places.
 fn add_pairs(pairs: &mut Vec<Pair>, first: usize, others: &[usize]) -> Result<(), AllocError>
     ensures { OnOk result (pairs.new.items ≡ pairs.old.items ++ map (pair_of first) others.now) }
 {

@@ -39,8 +39,7 @@ pub trait Keeper<T: Tests> {
         ensures { map T.parts_of result.now ≡ lot_parts (state self.now).lots };
 
     /// The places, in rising order, of live lots of `layer` from the place `from` on, that have another id than `id`: of all
-    /// those that have a part which may meet one of `form`'s, and maybe of others. Answers `AllocError` only for want of
-    /// memory.
+    /// those that have a part which may meet one of `form`'s, and maybe of others.
     fn near(
         &self,
         alloc: Global,

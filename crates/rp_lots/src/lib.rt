@@ -4,7 +4,8 @@
 //!
 //! [`Keeper`] has the lots that were ever registered, with their forms. The row of a question comes to pairs of lots that are
 //! to be judged, or to the refusal or the stop that its definition has for it, and counts exactly the tests of that. Whoever
-//! asks judges the pairs, in threads or line after line; what follows from the answers stands here too.
+//! asks judges the pairs, in threads or line after line; what follows from the answers stands here too. Calls that
+//! answer `AllocError` do so only for want of memory.
 
 mod access;
 mod behind;

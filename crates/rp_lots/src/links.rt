@@ -23,7 +23,7 @@ pub struct AccessLeft {
     pub pairs: Vec<Pair>,
 }
 
-/// Pairs of some rising places, as pairs of the numbers of these places. Answers `AllocError` only for want of memory.
+/// Pairs of some rising places, as pairs of the numbers of these places.
 pub(crate) fn numbered_pairs(
     alloc: Global,
     places: &[usize],
@@ -57,7 +57,7 @@ fn number_in(places: &[usize], place: usize) -> usize
     }
 }
 
-/// Those pairs of numbers that meet. Answers `AllocError` only for want of memory.
+/// Those pairs of numbers that meet.
 pub(crate) fn met_pairs(
     alloc: Global,
     pairs: &[Pair],
@@ -76,7 +76,7 @@ pub(crate) fn met_pairs(
     Ok(links)
 }
 
-/// The ids of the lots at some places. Answers `AllocError` only for want of memory.
+/// The ids of the lots at some places.
 pub(crate) fn ids_at(alloc: Global, lots: &[LotLine], places: &[usize]) -> Result<Names, AllocError>
     requires { AreWithin lots.now places.now }
     ensures { IfOk result (λ ids. ids.items ≡ ids_of (lots_at (map lot_of lots.now) places.now)) }

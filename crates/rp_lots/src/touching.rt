@@ -78,7 +78,7 @@ pub fn contacts_left<T: Tests, K: Keeper<T>>(
     })
 }
 
-/// The pairs of a lot with each of some others, by their places. Answers `AllocError` only for want of memory.
+/// The pairs of a lot with each of some others, by their places.
 fn pairs_with(alloc: Global, first: usize, others: &[usize]) -> Result<Vec<Pair>, AllocError>
     ensures { IfOk result (λ pairs. pairs.items ≡ map (pair_of first) others.now) }
 {
@@ -92,7 +92,7 @@ fn pairs_with(alloc: Global, first: usize, others: &[usize]) -> Result<Vec<Pair>
     Ok(pairs)
 }
 
-/// The ids of those of the lots at some places that meet. Answers `AllocError` only for want of memory.
+/// The ids of the lots, of `lots`, at those of `places` for which `met` says yes, in order.
 pub fn ids_met(
     alloc: Global,
     lots: &[LotLine],

@@ -6,7 +6,8 @@
 //! sizes keep their limits. A step's answer and the state after it are those that are computed from the lists of parts.
 //! A refused line and want of memory leave the machine as it was. After each step the next number is above every birth
 //! and every end. [`Machine::form`] makes the form of an expression test by test, or tells the first name that is not
-//! there, or meets a limit exactly where the definition says.
+//! there, or meets a limit exactly where the definition says. Calls that answer `AllocError` do so only for want of
+//! memory.
 
 mod fault;
 mod form;

@@ -46,7 +46,7 @@ impl Model for Machine {
 }
 
 impl Machine {
-    /// The machine for a script of a version, in its opening state. Answers `AllocError` only for want of memory.
+    /// The machine for a script of a version, in its opening state.
     pub fn new(alloc: Global, version: Version) -> Result<Machine, AllocError>
         ensures { IfOk result (λ m. m ≡ record { version = version_of version; state = opening }) }
     {
@@ -56,10 +56,10 @@ impl Machine {
         })
     }
 
-    /// The form of an expression: its parts, made test by test in reading order, with the parts kept for names.
+    /// The form of `region`: its parts, made test by test of `work` in reading order, with the parts kept for names.
     /// The members of the parts are those of the expression, in which each name stands for its region.
     ///
-    /// Every number of the expression keeps the bounds of half-spaces, boxes and prisms, as those of a line that was read do.
+    /// Every number of `region` keeps the bounds of half-spaces, boxes and prisms, as those of a line that was read do.
     /// `Unknown` exactly for the first name or lot, in reading order, that isn't there; it comes before any test.
     /// `Limit` exactly where the operations on regions say so.
     pub fn form(&self, alloc: Global, region: &Expr, work: &mut Work) -> Result<Region, FormFault>
@@ -81,8 +81,7 @@ impl Machine {
 
     /// The answer to the line with the number `n`, which is above every birth and every end of a lot, and what it changes.
     /// The line is read by the version. A blank line has an answer without echo and verdicts. A line that is refused changes
-    /// nothing. Answers `AllocError` only for want of memory; then the machine is as it was. The next number is above every
-    /// birth and every end again.
+    /// nothing. After `AllocError` the machine is as it was. The next number is above every birth and every end again.
     pub fn step<R: Threads + Sync>(
         &mut self,
         rt: &R,

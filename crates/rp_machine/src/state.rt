@@ -63,7 +63,7 @@ fn answered(change: Result<(), ParcelFault>) -> Result<Reply, RowEnd>
 }
 
 impl State {
-    /// The opening state. Answers `AllocError` only for want of memory.
+    /// The opening state.
     pub(crate) fn new(alloc: Global) -> Result<State, AllocError>
         ensures { IfOk result (λ m. m ≡ opening) }
     {

@@ -34,7 +34,7 @@ fn echoed(line: &[u8], why: Why) -> &[u8]
     }
 }
 
-/// The answer to a line that is no command. Answers `AllocError` only for want of memory.
+/// The answer to a line that is no command.
 pub(crate) fn bad_line(alloc: Global, n: u32, line: &[u8], why: Why) -> Result<Answer, AllocError>
     ensures { IfOk result (λ a. answer_of a ≡ bad_answer n line.now (fault_of why)) }
 {
@@ -42,7 +42,7 @@ pub(crate) fn bad_line(alloc: Global, n: u32, line: &[u8], why: Why) -> Result<A
     Answer::with_verdict(alloc, n, echoed(line, why), Proofs::new(alloc), verdict)
 }
 
-/// An empty list with room for one verdict line. Answers `AllocError` only for want of memory.
+/// An empty list with room for one verdict line.
 fn room_for_one(alloc: Global) -> Result<Verdicts, AllocError>
     ensures empty { IfOk result (λ lines. lines.items ≡ []) }
     ensures room { IfOk result (λ lines. 0 < lines.spare) }

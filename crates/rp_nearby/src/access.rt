@@ -28,8 +28,8 @@ impl Access {
     ghost use Rattle.rp_access.specs.Chain.{IsBelow};
     ghost use Rattle.rp_nearby.specs.Access.{told_access};
 
-    /// Access from one of some lots to another, where the lots of each pair of numbers are in contact; a lot's number is the
-    /// place of its id. Answers `AllocError` only for want of memory.
+    /// Access from `from` to `to`, both of `ids`, where the lots of each of `pairs` are in contact; a lot's number is
+    /// the place of its id in `ids`.
     pub fn along(
         alloc: Global,
         ids: &[Name],

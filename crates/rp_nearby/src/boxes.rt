@@ -37,7 +37,7 @@ fn want_of_memory(fault: IndexFault) -> AllocError
 }
 
 /// Puts the boxes of new lots into an index: of the lots from a place on, which have none yet.
-/// Answers `AllocError` only for want of memory; then all is as before.
+/// After `AllocError` all is as before.
 fn put_all(
     index: &mut Index,
     alloc: Global,
@@ -81,9 +81,8 @@ impl LotBoxes {
         }
     }
 
-    /// Takes in the boxes `hulls` around new lots, which are live: of the lots from the place `first` on, which have none yet.
-    /// Each stands in the cube of its layer ([`moved`](crate::moved)).
-    /// Answers `AllocError` only for want of memory; then all is as before.
+    /// Takes in `hulls`, the boxes around new lots, which are live: of the lots from the place `first` on, which have none
+    /// yet. Each stands in the cube of its layer ([`moved`](crate::moved)). After `AllocError` all is as before.
     pub fn add_all(
         &mut self,
         alloc: Global,
@@ -106,8 +105,8 @@ impl LotBoxes {
         Ok(())
     }
 
-    /// Takes out the boxes of so many lots from a place on, behind which there are none: it is as if these lots had never
-    /// been. Takes no memory.
+    /// Takes out the boxes of `count` lots from the place `first` on, behind which there are none: it is as if these
+    /// lots had never been. Takes no memory.
     pub fn remove_all(&mut self, first: usize, count: usize)
         requires small { first + count ≤ most_kept_parts }
         requires live_behind { NoneBehind self.old.live (first + count) }
@@ -119,7 +118,7 @@ impl LotBoxes {
         take_all(&mut self.ever, first, count);
     }
 
-    /// Lets those of the first lots of a history whose ids are these be live no more. Takes no memory.
+    /// Lets the lots with `ids`, of the first `count` lots of `history`, be live no more. Takes no memory.
     pub fn end_all(&mut self, history: &History, count: usize, ids: &[Name])
         requires small { count ≤ most_kept_parts }
         ensures live { AreEmptied history.now count (λ y. is_among y ids.now) self.old.live self.new.live }

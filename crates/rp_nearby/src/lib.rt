@@ -11,7 +11,7 @@
 //! line. The lemmas show that what the walks over all lots come to is what they come to over these, for every tester.
 //!
 //! Beside them stands what is told of lots in contact: [`Access::along`] answers a shortest chain from one to another, and
-//! levels, by the ids of lots.
+//! levels, by the ids of lots. Calls that answer `AllocError` do so only for want of memory.
 
 mod access;
 mod boxes;

@@ -28,10 +28,9 @@ pub enum Reach {
 }
 
 impl LotBoxes {
-    /// The places, in rising order, of the live lots of a layer, from a place on, that have another id and around which the
-    /// box meets a box, both in the cube of the layer: so of each of them that has a part which may meet a part within that
-    /// box.
-    /// Answers `AllocError` only for want of memory.
+    /// The places, in rising order and at or behind `from`, of the live lots of `layer` in `history`, other than `id`,
+    /// around which the box meets `hull`, as `reach` says, both in the cube of the layer: so of each of them that has a
+    /// part which may meet a part within `hull`. `watch` is told of what is visited.
     pub fn near<W: Watch>(
         &self,
         alloc: Global,
@@ -57,7 +56,6 @@ impl LotBoxes {
     }
 
     /// The places from one on, in rising order, of the live lots around which the box meets a box.
-    /// Answers `AllocError` only for want of memory.
     fn reached<W: Watch, L: Ledger>(
         &self,
         alloc: Global,
@@ -89,8 +87,7 @@ fn is_other(lot: &LotLine, layer: &Name, id: &Name) -> bool
     lot.ended.is_none() && lot.layer == *layer && *id != lot.id
 }
 
-/// Those of some places whose lots are live, of the layer and have another id.
-/// Answers `AllocError` only for want of memory.
+/// The places, of `places`, whose lots are live, of `layer` and other than `id`.
 fn others(
     alloc: Global,
     history: &History,

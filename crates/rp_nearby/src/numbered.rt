@@ -24,7 +24,7 @@ pub(crate) fn number_of(ids: &[Name], id: &Name) -> u32
     unreachable!()
 }
 
-/// The ids of a chain, if there is one, for its numbers. Answers `AllocError` only for want of memory.
+/// The ids of a chain, if there is one, for its numbers.
 pub(crate) fn named_chain(
     alloc: Global,
     ids: &[Name],
@@ -45,7 +45,7 @@ pub(crate) fn named_chain(
     Ok(Some(names))
 }
 
-/// The levels that are there, each with its id. Answers `AllocError` only for want of memory.
+/// The levels that are there, each with its id.
 pub(crate) fn named_levels(
     alloc: Global,
     ids: &[Name],

@@ -50,8 +50,8 @@ impl<H: Holder> Choice for Owners<'_, H> {
 }
 
 impl LotBoxes {
-    /// The id of the first lot of a layer that is there at a moment and has the point; it is found without a walk over all
-    /// lots. `None` exactly where there is none. Takes no memory.
+    /// The id of the first lot of `layer` in `history` that is there at `moment` and has `p`, as `holder` says; it is
+    /// found without a walk over all lots. `None` exactly where there is none. Takes no memory.
     pub fn owner<H: Holder>(
         &self,
         history: &History,

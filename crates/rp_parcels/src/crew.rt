@@ -76,7 +76,7 @@ pub(crate) fn meet_in_halves<R: Threads + Sync, W: Watch>(
 }
 
 /// What the tests of each pair show, in order. They are judged in halves, and a run of at most `grain` is not split; the
-/// watch is told of each pair as its tests begin. Answers `AllocError` only for want of memory.
+/// watch is told of each pair as its tests begin.
 fn judge_pairs<R: Threads + Sync, W: Watch>(
     rt: &R,
     alloc: Global,
@@ -99,7 +99,7 @@ fn judge_pairs<R: Threads + Sync, W: Watch>(
     judge_all(rt, alloc, grain, &judging)
 }
 
-/// What the tests of a pair show. Answers `AllocError` only for want of memory.
+/// What the tests of a pair show.
 fn judge_pair(
     alloc: Global,
     forms: &[Region],
@@ -139,7 +139,7 @@ fn do_meet(
     }
 }
 
-/// Of each pair whether it meets. Answers `AllocError` only for want of memory.
+/// Of each pair whether it meets.
 fn met_of(alloc: Global, all: &[Shown]) -> Result<Vec<bool>, AllocError>
     ensures { IfOk result (λ met. met.items ≡ map (λ s. s.meets) all.now) }
 {
@@ -150,7 +150,7 @@ fn met_of(alloc: Global, all: &[Shown]) -> Result<Vec<bool>, AllocError>
     Ok(met)
 }
 
-/// Appends the proof lines of all pairs in order; they are moved. Answers `AllocError` only for want of memory.
+/// Appends the proof lines of all pairs in order; they are moved.
 fn append_shown(alloc: Global, work: &mut Work, all: Vec<Shown>) -> Result<(), AllocError>
     requires few { work.old.tests ≤ most_tests }
     requires uncounted { AllByRecursion ShowsNothingCounted all.items }

@@ -7,7 +7,7 @@
 //! the lots exactly as its row says, or is refused for its first cause; then, and after want of memory, all lots are as
 //! before. The items of `neighbours`, `access` and `audit` are judged in halves; the answer, the count of tests and the
 //! proof lines are those of the row for every grain. The parcel at a point is the only one of its layer. Points that a
-//! refusal carries are those of its last proof line.
+//! refusal carries are those of its last proof line. Calls that answer `AllocError` do so only for want of memory.
 
 mod access;
 mod audit;

@@ -58,8 +58,8 @@ impl Parcels {
         self.count_at(alloc, region, places.items(), reach)
     }
 
-    /// Those of some places whose lots have a part that may meet one of the region's, in order, and how many pairs of such
-    /// parts there are. `Limit` exactly where these are more than a command may make tests.
+    /// The places, of `places`, whose lots have a part that may meet one of `region`, as `reach` says, in order, and
+    /// how many pairs of such parts there are. `Limit` exactly where these are more than a command may make tests.
     fn count_at(
         &self,
         alloc: Global,

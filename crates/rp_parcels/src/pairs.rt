@@ -66,7 +66,7 @@ impl<W: Watch> Judge for Pairs<'_, W> {
 
 impl Parcels {
     /// What the tests of each pair show, in order. They are judged in halves, and a run of at most `grain` is not split; the
-    /// watch is told of each pair as its tests begin. Answers `AllocError` only for want of memory.
+    /// watch is told of each pair as its tests begin.
     fn judge_pairs<R: Threads + Sync, W: Watch>(
         &self,
         rt: &R,
@@ -112,7 +112,7 @@ impl Parcels {
         Ok(self.judge_pairs(rt, alloc, watch, grain, &near.pairs, reach)?)
     }
 
-    /// What the tests of a pair show. Answers `AllocError` only for want of memory.
+    /// What the tests of a pair show.
     fn judge_pair(&self, alloc: Global, pair: Pair, reach: Reach) -> Result<Judged, AllocError>
         requires { IsPairWithin self.now pair }
         ensures { IfOk result (λ one. one ≡ judged reach self.now pair) }
@@ -148,7 +148,7 @@ fn do_meet(
     }
 }
 
-/// Appends the pairs of a parcel with each of some others, by their places. Answers `AllocError` only for want of memory.
+/// Appends the pairs of a parcel with each of some others, by their places.
 pub(crate) fn add_pairs(
     pairs: &mut Vec<Pair>,
     first: usize,
@@ -165,8 +165,8 @@ pub(crate) fn add_pairs(
     Ok(())
 }
 
-/// Appends the proof lines of all pairs in order; they are moved. Answers `AllocError` only for want of memory; then the
-/// lines are those before, followed by a front of these.
+/// Appends the proof lines of all pairs in order; they are moved. After `AllocError` the lines are those before,
+/// followed by a front of these.
 pub(crate) fn append_all(alloc: Global, work: &mut Work, all: Vec<Judged>) -> Result<(), AllocError>
     requires few { work.old.tests ≤ most_tests }
     requires uncounted { AllByRecursion CountsNothing all.items }

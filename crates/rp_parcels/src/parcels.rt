@@ -40,7 +40,7 @@ impl Model for Parcels {
 }
 
 impl Parcels {
-    /// No parcels. Answers `AllocError` only for want of memory.
+    /// No parcels.
     pub fn new(alloc: Global) -> Result<Parcels, AllocError>
         ensures { IfOk result (λ parcels. parcels ≡ []) }
     {
@@ -98,7 +98,7 @@ impl Parcels {
     }
 
     /// Ends the parcels of the ids `ends` at the line, and lets others be born in their place, which go last, each with its
-    /// region. Answers `AllocError` only for want of memory; then all is as before.
+    /// region. After `AllocError` all is as before.
     pub(crate) fn replace(
         &mut self,
         alloc: Global,
@@ -119,8 +119,8 @@ impl Parcels {
         Ok(())
     }
 
-    /// Ends a live parcel at the line, which is above every birth and every end. `Unknown(id)` exactly where it isn't live;
-    /// then all is as before. Takes no memory.
+    /// Ends the live parcel `id` at `line`, which is above every birth and every end. `Unknown(id)` exactly where it
+    /// isn't live; then all is as before. Takes no memory.
     pub fn retire(&mut self, line: u32, id: Name) -> Result<(), ParcelFault>
         requires { IsLater line self.old }
         ensures row { Changes result line no_work no_work self.old self.new (row_retire (lots_in [] self.old) id) }

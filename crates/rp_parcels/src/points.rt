@@ -11,7 +11,7 @@ use rp_nearby::Moment;
 use rp_space::{Name, Point};
 
 impl Parcels {
-    /// The one live parcel of the layer that has the point. `None` exactly where there is none. Takes no memory.
+    /// The one live parcel of `layer` that has `p`. `None` exactly where there is none. Takes no memory.
     pub fn at(&self, layer: Name, p: &Point) -> Option<Name>
         ensures row { owner_verdict result ≡ owner_line (lots_of_layer layer (live_lots self.now)) p.now }
         ensures only { IsOnlyOwner (lots_of_layer layer (live_lots self.now)) p.now result }
@@ -19,8 +19,8 @@ impl Parcels {
         self.owner(&layer, Moment::Now, p)
     }
 
-    /// The first parcel of the layer that is alive after the line and has the point. `None` exactly where there is none.
-    /// Takes no memory.
+    /// The first parcel of `layer` that is alive after `line` and has `p`. `None` exactly where there is none. Takes no
+    /// memory.
     pub fn at_line(&self, layer: Name, line: u32, p: &Point) -> Option<Name>
         ensures { owner_verdict result ≡ owner_line (lots_of_layer layer (alive_after line self.now)) p.now }
     {

@@ -27,10 +27,10 @@ use rp_space::{Inside, Listed, Name, Names};
 use std::alloc::Global;
 
 impl Parcels {
-    /// Registers a region as a new parcel of a layer, born at the line, which is above every birth and every end.
-    /// Refusals, in this order: `Known(id)`; `Empty`; `Limit` where all parcels together would keep more than 65,536
-    /// parts, or too many pairs of a new part and a part of a live parcel of the layer have boxes that meet; `Overlaps`
-    /// with the first live parcel of the layer that shares a point. After a refusal all is as before.
+    /// Registers `region` as the new parcel `id` of `layer`, born at `line`, which is above every birth and every end,
+    /// by tests of `work`. Refusals, in this order: `Known(id)`; `Empty`; `Limit` where all parcels together would keep
+    /// more than 65,536 parts, or too many pairs of a new part and a part of a live parcel of the layer have boxes that
+    /// meet; `Overlaps` with the first live parcel of the layer that shares a point. After a refusal all is as before.
     pub fn register<W: Watch>(
         &mut self,
         alloc: Global,

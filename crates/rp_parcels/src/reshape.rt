@@ -62,11 +62,11 @@ impl Parcels {
         )
     }
 
-    /// Makes one parcel of live parcels of one layer, at the line, which is above every birth and every end: its parts are
-    /// theirs, in the order given. Refusals, in this order: `Few` where there are fewer than two ids, `Unknown` with the
-    /// first that isn't live, `Repeated` with the first that stood before, `Layers` with the first whose layer isn't that
-    /// of the first id, `Known(new)`, `Limit` where the region would have more than 1,024 parts or all parcels together
-    /// more than 65,536. After a refusal all is as before. It makes no test.
+    /// Makes the parcel `new` of the live parcels `ids` of one layer, at `line`, which is above every birth and every
+    /// end: its parts are theirs, in the order given. Refusals, in this order: `Few` where there are fewer than two
+    /// ids, `Unknown` with the first that isn't live, `Repeated` with the first that stood before, `Layers` with the
+    /// first whose layer isn't that of the first id, `Known(new)`, `Limit` where the region would have more than 1,024
+    /// parts or all parcels together more than 65,536. After a refusal all is as before. It makes no test.
     pub fn consolidate(
         &mut self,
         alloc: Global,
@@ -133,7 +133,7 @@ impl Parcels {
     }
 }
 
-/// The births of some ids in a layer, which have one lot as their origin. Answers `AllocError` only for want of memory.
+/// The births of some ids in a layer, which have one lot as their origin.
 fn births_of(
     alloc: Global,
     layer: Name,
@@ -154,7 +154,7 @@ fn births_of(
     Ok(births)
 }
 
-/// Two regions as a list. Answers `AllocError` only for want of memory.
+/// Two regions as a list.
 fn pair(alloc: Global, first: Region, second: Region) -> Result<Listed<Region>, AllocError>
     ensures { IfOk result (λ list. list.items ≡ first ∷ second ∷ []) }
 {

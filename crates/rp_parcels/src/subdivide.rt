@@ -23,13 +23,13 @@ use rp_space::{Inside, Listed, Name, Names};
 use std::alloc::{AllocError, Global};
 
 impl Parcels {
-    /// Divides a live parcel into children at the line, which is above every birth and every end. Refusals, in this order:
-    /// `Few` where there are fewer than two children, `Unknown(id)` where it isn't live, `Known` with the first new id that
-    /// was ever registered, `Repeated` with the first that stood before, `EmptyChild`, `Limit` where all parcels together
-    /// would keep more than 65,536 parts, `Outside` with the first child that isn't within the parcel, `Limit` where too
-    /// many pairs of parts of two children have boxes that meet, `ChildrenOverlap` with the first two that share a point,
-    /// `Gap` where the parcel has a point that no child has; a limit of the operations on regions comes at its turn. After
-    /// a refusal all is as before.
+    /// Divides the live parcel `id` into `children` at `line`, which is above every birth and every end, by tests of
+    /// `work`. Refusals, in this order: `Few` where there are fewer than two children, `Unknown(id)` where it isn't
+    /// live, `Known` with the first new id that was ever registered, `Repeated` with the first that stood before,
+    /// `EmptyChild`, `Limit` where all parcels together would keep more than 65,536 parts, `Outside` with the first
+    /// child that isn't within the parcel, `Limit` where too many pairs of parts of two children have boxes that meet,
+    /// `ChildrenOverlap` with the first two that share a point, `Gap` where the parcel has a point that no child has; a
+    /// limit of the operations on regions comes at its turn. After a refusal all is as before.
     pub fn subdivide(
         &mut self,
         alloc: Global,
@@ -61,7 +61,7 @@ impl Parcels {
     }
 }
 
-/// The ids of children, in order. Answers `AllocError` only for want of memory.
+/// The ids of children, in order.
 fn child_ids(alloc: Global, children: &[Child]) -> Result<Names, AllocError>
     ensures { IfOk result (λ ids. ids.items ≡ map (λ c. c.id) children.now) }
 {
@@ -72,7 +72,7 @@ fn child_ids(alloc: Global, children: &[Child]) -> Result<Names, AllocError>
     Ok(ids)
 }
 
-/// Copies of the regions of children, in order. Answers `AllocError` only for want of memory.
+/// Copies of the regions of children, in order.
 fn child_regions(alloc: Global, children: &[Child]) -> Result<Listed<Region>, AllocError>
     ensures { IfOk result (λ regions. regions.items ≡ map (λ c. c.region) children.now) }
 {

@@ -15,8 +15,8 @@ use rp_report::{Verdict, Verdicts};
 use rp_space::{Name, Point};
 use std::alloc::Global;
 
-/// `audit`: how many live lots there are, of which no two of one layer share a point. `TakenWrong` where a line shows that
-/// two do.
+/// `audit`: how many live lots `register` has, of which no two of one layer share a point, as the next lines of `trail`
+/// show. `TakenWrong` where a line shows that two do.
 pub fn audit(alloc: Global, register: &Register, trail: &mut Trail<'_>) -> Result<Verdicts, RowEnd>
     ensures { Tells result trail.new (row_audit line_tester register.now trail.old) }
 {
@@ -26,7 +26,7 @@ pub fn audit(alloc: Global, register: &Register, trail: &mut Trail<'_>) -> Resul
     Ok(one_line(alloc, Verdict::Clear(count_live(register)))?)
 }
 
-/// `at`: the live lot of the present layer that has the point. It makes no test.
+/// `at`: the live lot of the present layer that has `point`. It makes no test.
 pub fn owner(alloc: Global, register: &Register, point: &Point) -> Result<Verdicts, RowEnd>
     ensures { (t : Trail) → Tells result t (row line_tester register.now (ask_at point.now) t) }
 {
@@ -34,7 +34,7 @@ pub fn owner(alloc: Global, register: &Register, point: &Point) -> Result<Verdic
     Ok(one_line(alloc, owner_verdict(owner))?)
 }
 
-/// `asof`: the lot of the present layer that had the point after a line. It makes no test.
+/// `asof`: the lot of the present layer that had `point` after `line`. It makes no test.
 pub fn owner_then(
     alloc: Global,
     register: &Register,
@@ -54,7 +54,7 @@ pub fn list(alloc: Global, register: &Register) -> Result<Verdicts, RowEnd>
     Ok(rp_asked::list(alloc, register.history())?)
 }
 
-/// `history`: the lot and all lots that it was made from. It makes no test.
+/// `history`: the lot `id` and all lots that it was made from. It makes no test.
 pub fn lineage(alloc: Global, register: &Register, id: Name) -> Result<Verdicts, RowEnd>
     ensures { (t : Trail) → Tells result t (row line_tester register.now (ask_history id) t) }
 {

@@ -13,7 +13,7 @@ use rp_report::Verdicts;
 use rp_space::Name;
 use std::alloc::Global;
 
-/// `neighbours`: the other live lots of the lot's layer in contact with it.
+/// `neighbours`: the other live lots in contact with the lot `id`, of its layer, as the next lines of `trail` show.
 pub fn neighbours(
     alloc: Global,
     register: &Register,
@@ -28,8 +28,8 @@ pub fn neighbours(
     Ok(neighbour_lines(alloc, ids.items())?)
 }
 
-/// `access`: a shortest chain of live lots of one layer from one to another, each in contact with the next, and the level of
-/// each lot of the layer that has one.
+/// `access`: a shortest chain of live lots of one layer from `from` to `to`, each in contact with the next, and the level of
+/// each lot of the layer that has one, as the next lines of `trail` show.
 pub fn access(
     alloc: Global,
     register: &Register,

@@ -22,8 +22,9 @@ use rp_report::{Verdict, write_verdict};
 use rp_tests::Stopped;
 use std::alloc::Global;
 
-/// `section`: the slices of the parts of the form at a height. Which these are the next lines say, behind the one that tells
-/// how many there are; none of them is taken. `Unshown` where one of them is missing, or shows no slice that passes.
+/// `section`: the slices of the parts of the form of `region` at the height `z`. Which these are the next lines of
+/// `trail` say, behind the one that tells how many there are; none of them is taken. `Unshown` where one of them is
+/// missing, or shows no slice that passes.
 pub fn section(
     alloc: Global,
     register: &Register,

@@ -6,7 +6,7 @@
 //! limit exactly where that says so, and has exactly the members; so does the region of a prism. The first pair of
 //! parts that share a point, and the first that are in contact, are found by exactly the tests of the definitions, over
 //! all pairs or over those alone whose boxes meet; there is none exactly where the regions share no point, or are not
-//! in contact.
+//! in contact. Calls that answer `AllocError` do so only for want of memory.
 
 mod answers;
 mod count;

@@ -75,7 +75,7 @@ impl Part {
         &self.bounds
     }
 
-    /// The same part. Answers `AllocError` only for want of memory.
+    /// A copy: the same half-spaces and the same box.
     pub(crate) fn copy(&self, alloc: Global) -> Result<Part, AllocError>
         ensures { IfOk result (λ part. part ≡ self.now) }
     {

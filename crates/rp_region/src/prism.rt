@@ -16,11 +16,12 @@ use rp_space::{Corner, Half};
 use std::alloc::Global;
 
 impl Region {
-    /// The region of a polygon raised from z1 to below z2. A part test makes the part of the trapezoid of each edge whose ends have
-    /// two x, and this part is exchanged with the parts so far: what is left of these outside it comes first, and then what is left
-    /// of it outside them. The part tests aren't counted, those of the differences are. There are from 1 to 256 corners, and all
-    /// numbers are within their bounds. `Limit` exactly where too many tests are counted, where a part would have more than 32
-    /// half-spaces, or where more than 1,024 parts are left behind an edge or in the course of a difference.
+    /// The region of the polygon over `corners` raised from `z1` to below `z2`. A part test of `work` makes the part of
+    /// the trapezoid of each edge whose ends have two x, and this part is exchanged with the parts so far: what is left
+    /// of these outside it comes first, and then what is left of it outside them. The part tests aren't counted, those
+    /// of the differences are. There are from 1 to 256 corners, and all numbers are within their bounds. `Limit`
+    /// exactly where too many tests are counted, where a part would have more than 32 half-spaces, or where more than
+    /// 1,024 parts are left behind an edge or in the course of a difference.
     pub fn of_prism(
         alloc: Global,
         z1: i32,

@@ -55,7 +55,7 @@ impl Region {
         }
     }
 
-    /// The whole cube: one part without half-spaces. Answers `AllocError` only for want of memory.
+    /// The whole cube: one part without half-spaces.
     pub fn all(alloc: Global) -> Result<Region, AllocError>
         ensures { IfOk result (λ region. region ≡ whole_part ∷ []) }
     {
@@ -64,7 +64,7 @@ impl Region {
         Ok(Region { parts })
     }
 
-    /// The region of one part. Answers `AllocError` only for want of memory.
+    /// The region of one part.
     pub(crate) fn of_part(alloc: Global, part: Part) -> Result<Region, AllocError>
         ensures { IfOk result (λ region. region ≡ part ∷ []) }
     {
@@ -73,9 +73,9 @@ impl Region {
         Ok(Region { parts })
     }
 
-    /// The region of a cell of at most 64 half-spaces: the part that one part test makes of it, or no part where the cell
-    /// has no point. The test isn't counted. `Limit` exactly where more than 32 half-spaces are left of the cell without
-    /// those that add nothing.
+    /// The region of `cell`, of at most 64 half-spaces: the part that one part test of `work` makes of it, or no part
+    /// where the cell has no point. The test isn't counted. `Limit` exactly where more than 32 half-spaces are left of
+    /// the cell without those that add nothing.
     pub fn of_cell(alloc: Global, cell: &[Half], work: &mut Work) -> Result<Region, OpFault>
         requires { length cell.now ≤ 64 }
         ensures makes { Makes (λ region. region) result work.old work.new (parts_of_cell first_tester cell.now) }
@@ -88,9 +88,9 @@ impl Region {
         Ok(Region { parts })
     }
 
-    /// What two regions have in common: a part test of each part of the first with each part of the second. As many tests
-    /// are counted as there are pairs. `Limit` exactly where too many tests are counted, where a part would have more than
-    /// 32 half-spaces or where more than 1,024 parts are made.
+    /// What the region and `other` have in common: a part test of `work` of each part of the region with each part of
+    /// `other`. As many tests are counted as there are pairs. `Limit` exactly where too many tests are counted, where a
+    /// part would have more than 32 half-spaces or where more than 1,024 parts are made.
     pub fn both(&self, alloc: Global, other: &Region, work: &mut Work) -> Result<Region, OpFault>
         ensures makes { Makes (λ region. region) result work.old work.new (join first_tester self.now other.now) }
         ensures members { IfOk result (λ region. SameMembers (shape_of_parts region) (Shape.intersection (shape_of_parts self.now) (shape_of_parts other.now))) }
@@ -105,8 +105,8 @@ impl Region {
         Ok(Region { parts })
     }
 
-    /// Two regions together: the parts of the first, and then those of the second. It rests on no test. `Limit` exactly
-    /// where these are more than 1,024.
+    /// The region and `other` together: its parts, and then those of `other`. It rests on no test of `work`. `Limit`
+    /// exactly where these are more than 1,024.
     pub fn either(&self, alloc: Global, other: &Region, work: &mut Work) -> Result<Region, OpFault>
         ensures makes { Makes (λ region. region) result work.old work.new (if_at_most most_parts (self.now ++ other.now)) }
         ensures members { IfOk result (λ region. SameMembers (shape_of_parts region) (Shape.union (shape_of_parts self.now) (shape_of_parts other.now))) }
@@ -115,7 +115,8 @@ impl Region {
         first.into_either(other.copy(alloc)?, work)
     }
 
-    /// As `either`, with the parts of both regions moved.
+    /// The region and `other` together, as `either` joins them, with the parts of both moved. It rests on no test of
+    /// `work`.
     pub fn into_either(self, other: Region, work: &mut Work) -> Result<Region, OpFault>
         ensures makes { Makes (λ region. region) result work.old work.new (if_at_most most_parts (self ++ other)) }
         ensures members { IfOk result (λ region. SameMembers (shape_of_parts region) (Shape.union (shape_of_parts self) (shape_of_parts other))) }
@@ -131,9 +132,9 @@ impl Region {
         Ok(Region { parts })
     }
 
-    /// What is left of a region outside another one: each part of the other is taken away in turn. `Limit` exactly where
-    /// too many tests are counted, where a part would have more than 32 half-spaces, or where more than 1,024 parts are left
-    /// behind a part of the other.
+    /// What is left of the region outside `other`: each part of `other` is taken away in turn, by tests of `work`.
+    /// `Limit` exactly where too many tests are counted, where a part would have more than 32 half-spaces, or where
+    /// more than 1,024 parts are left behind a part of `other`.
     pub fn minus(&self, alloc: Global, other: &Region, work: &mut Work) -> Result<Region, OpFault>
         ensures makes { Makes (λ region. region) result work.old work.new (subtract first_tester self.now other.now) }
         ensures members { IfOk result (λ region. SameMembers (shape_of_parts region) (Shape.difference (shape_of_parts self.now) (shape_of_parts other.now))) }
@@ -142,7 +143,8 @@ impl Region {
         first.into_minus(alloc, other, work)
     }
 
-    /// As `minus`, with those parts moved that stay as they are.
+    /// What is left of the region outside `other`, by tests of `work`, as `minus` finds it; those parts of the region
+    /// that stay as they are are moved.
     pub fn into_minus(
         self,
         alloc: Global,
@@ -156,7 +158,7 @@ impl Region {
         Ok(Region { parts })
     }
 
-    /// What is left of the cube outside a region. `Limit` as for `minus`.
+    /// What is left of the cube outside the region, by tests of `work`. `Limit` as for `minus`.
     pub fn outside(&self, alloc: Global, work: &mut Work) -> Result<Region, OpFault>
         ensures makes { Makes (λ region. region) result work.old work.new (subtract_from_whole first_tester self.now) }
         ensures members { IfOk result (λ region. SameMembers (shape_of_parts region) (Shape.opposite (shape_of_parts self.now))) }
@@ -221,7 +223,7 @@ impl Region {
         first_pair(first, second, near, work)
     }
 
-    /// The same list of parts. Answers `AllocError` only for want of memory.
+    /// A copy: the same parts in the same order.
     pub fn copy(&self, alloc: Global) -> Result<Region, AllocError>
         ensures { IfOk result (λ region. region ≡ self.now) }
     {

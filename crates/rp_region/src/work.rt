@@ -105,7 +105,7 @@ impl Work {
         true
     }
 
-    /// Appends a proof line. Answers `AllocError` only for want of memory; then all is as before.
+    /// Appends a proof line. After `AllocError` all is as before.
     pub(crate) fn tell(&mut self, proof: Proof) -> Result<(), AllocError>
         ensures ok { OnOk result (self.new ≡ with_lines self.old (line_of proof ∷ [])) }
         ensures err { OnErr result (self.new ≡ self.old) }
@@ -113,15 +113,15 @@ impl Work {
         self.proofs.push(proof)
     }
 
-    /// Makes room for so many more proof lines. Answers `AllocError` only for want of memory. In any case all is as before.
+    /// Makes room for so many more proof lines. In any case all is as before.
     pub fn reserve(&mut self, lines: usize) -> Result<(), AllocError>
         ensures { self.new ≡ self.old }
     {
         self.proofs.reserve(lines)
     }
 
-    /// Adds what another work has counted, and appends its proof lines in order; they are moved. The two numbers of tests
-    /// add up to at most 65,536. Answers `AllocError` only for want of memory; then all is as before.
+    /// Adds what `other` has counted, and appends its proof lines in order; they are moved. The two numbers of tests
+    /// add up to at most 65,536. After `AllocError` all is as before.
     pub fn append(&mut self, _alloc: Global, other: Work) -> Result<(), AllocError>
         requires { self.old.tests + other.tests ≤ most_tests }
         ensures ok { OnOk result (self.new ≡ record { tests = self.old.tests + other.tests; proofs = self.old.proofs ++ other.proofs }) }
@@ -144,8 +144,7 @@ impl Work {
         }
     }
 
-    /// Lends the room for cells with their vertices, which is made where there is none. Answers `AllocError` only for want of
-    /// memory. In any case all is as before.
+    /// Lends the room for cells with their vertices, which is made where there is none. In any case all is as before.
     pub(crate) fn take_room(&mut self) -> Result<Box<Front>, AllocError>
         ensures { self.new ≡ self.old }
     {
@@ -163,8 +162,8 @@ impl Work {
         self.room = Some(room);
     }
 
-    /// What a row has come to on a work that was begun fresh: its count takes the place of the one here, and its proof lines
-    /// are moved behind those here. For want of memory, in the row or here, all is as before.
+    /// What a row has come to (`came`) on `walked`, a work that was begun fresh: its count takes the place of the one
+    /// here, and its proof lines are moved behind those here. For want of memory, in the row or here, all is as before.
     pub fn take_over<A: Drop>(
         &mut self,
         walked: Work,
@@ -188,7 +187,6 @@ impl Work {
 
     /// A strict test of the cell of `first` followed by `second`, at most 64 half-spaces together: the first inside
     /// certificate, and `None` exactly where the cell has no point. Its line is appended; it isn't counted.
-    /// Answers `AllocError` only for want of memory.
     pub fn strict(
         &mut self,
         _alloc: Global,
@@ -226,7 +224,6 @@ impl Work {
 
     /// A weak test of the cell of `first` followed by `second`, at most 64 half-spaces together: the first weak point, and
     /// `None` exactly where the weak system of the cell has no point. Its line is appended; it isn't counted.
-    /// Answers `AllocError` only for want of memory.
     pub fn weak(
         &mut self,
         _alloc: Global,
@@ -261,8 +258,8 @@ impl Work {
         }
     }
 
-    /// Whether two parts are in contact, by a weak test of them together. No point is searched for where their boxes share
-    /// none. The line is appended; the test isn't counted. Answers `AllocError` only for want of memory.
+    /// Whether `first` and `second` are in contact, by a weak test of them together. No point is searched for where
+    /// their boxes share none. The line is appended; the test isn't counted.
     pub fn are_in_contact(&mut self, first: &Part, second: &Part) -> Result<bool, AllocError>
         ensures { Makes (λ is_so. is_so) (op_result result) self.old self.new (weak_test (first.now.cell ++ second.now.cell)) }
     {

@@ -4,7 +4,7 @@
 //!
 //! A [`Register`] is by its type a sound state of parts, as the lines of the report show them, and a change leaves one.
 //! Names and live lots are found by their ids, and the live lots near a form, all of them and no other, by the boxes
-//! around lots, and so is the lot that has a point.
+//! around lots, and so is the lot that has a point. Calls that answer `AllocError` do so only for want of memory.
 
 mod count;
 mod form;

@@ -7,7 +7,7 @@ ghost use Rattle.rp_nearby.specs.Near.{may_meet};
 use rp_follow::{Form, Kept};
 use rp_nearby::Reach;
 
-/// How many pairs of a part of a form and one of a second form may meet.
+/// How many pairs of a part of `form` and one of `other` may meet, as `reach` says.
 pub fn count_pairs(form: &Form, other: &Form, reach: Reach) -> u64
     requires first { length form.now.items ≤ most_parts }
     requires second { length other.now.items ≤ most_parts }

@@ -115,7 +115,7 @@ impl Register {
     }
 
     /// The places, in rising order, of live lots of a layer, from a place on, that have another id: of all those that have a
-    /// part which may meet one of a form's, and maybe of others. Answers `AllocError` only for want of memory.
+    /// part which may meet one of a form's, and maybe of others.
     pub(crate) fn places_near(
         &self,
         alloc: Global,
@@ -155,8 +155,8 @@ impl Register {
         self.lots.have_room_for(parts)
     }
 
-    /// Makes a change at the line with the number n, which is above every birth and every end; a sound state comes of it.
-    /// Answers `AllocError` only for want of memory; the register isn't used further then.
+    /// Makes `change` at line `n`, which is above every birth and every end; a sound state comes of it. After
+    /// `AllocError` the register isn't used further.
     pub fn apply(&mut self, alloc: Global, n: u32, change: Change<Form>) -> Result<(), AllocError>
         requires later { IsLaterThan n (state_of_parts self.old) }
         requires known { ComesFromKnown self.old (shown_change change) }

@@ -46,8 +46,9 @@ impl Register {
         Parcel { line, form }
     }
 
-    /// The live lots of a layer, from a place on, that have another id and a part that may meet one of a form's, in the order
-    /// of registration, and how many pairs of parts these are. `Limit` exactly where these are more than a command may test.
+    /// The live lots of `layer`, from the place `from` on, that have another id than `id` and a part that may meet one
+    /// of `form`, as `reach` says, in the order of registration, and how many pairs of parts these are. `Limit` exactly
+    /// where these are more than a command may test.
     pub fn near(
         &self,
         alloc: Global,
@@ -67,8 +68,8 @@ impl Register {
         self.counted(alloc, form, places.items(), reach)
     }
 
-    /// Those of the lots at some places that have a part which may meet one of a form's, and how many pairs of parts these
-    /// are. `Limit` exactly where these are more than a command may test.
+    /// The lots at `places` that have a part which may meet one of `form`, as `reach` says, and how many pairs of parts
+    /// these are. `Limit` exactly where these are more than a command may test.
     fn counted(
         &self,
         alloc: Global,
@@ -100,7 +101,7 @@ impl Register {
         Ok(near)
     }
 
-    /// The first lot of the present layer, of those that are there at a moment, that has the point; it is found without a
+    /// The first lot of the present layer, of those that are there at `moment`, that has `point`; it is found without a
     /// walk over all lots. `None` exactly where there is none.
     pub fn owner(&self, moment: Moment, point: &Point) -> Option<Name>
         ensures { owner_verdict result ≡ owner_line (lots_of_layer self.now.layer (filter (is_there moment) self.now.lots)) point.now }

@@ -11,8 +11,9 @@ use rp_nearby::Reach;
 use rp_tests::Stopped;
 use std::alloc::{AllocError, Global};
 
-/// Of each pair of lots, in order, whether the two meet, whose forms stand at their places, on the next lines of a report. Only
-/// those pairs of parts are tested whose boxes let them meet, up to the first that does; nothing is counted.
+/// Of each of `pairs`, in order, whether the two lots meet whose forms stand in `forms` at its places, as `reach` says, on the
+/// next lines of `trail`. Only those pairs of parts are tested whose boxes let them meet, up to the first that does; nothing
+/// is counted.
 pub fn meet_in_turn(
     alloc: Global,
     forms: &[Form],
@@ -33,7 +34,7 @@ pub fn meet_in_turn(
     Ok(met)
 }
 
-/// Puts an answer behind others. Answers `AllocError` only for want of memory.
+/// Puts an answer behind others.
 fn put(met: &mut Vec<bool>, meets: bool) -> Result<(), AllocError>
     ensures { OnOk result (met.new.items ≡ met.old.items ++ meets ∷ []) }
 {

@@ -28,7 +28,7 @@ pub(super) fn balance(left: Tree, node: Box<Node>, right: Tree) -> Tree
     }
 }
 
-/// The same where the left side is two levels higher than the right one.
+/// The tree of `left`, `node` and `right`, in this order, where `left` is two levels higher than `right`.
 fn rotate_right(left: Tree, node: Box<Node>, right: Tree) -> Tree
     requires between { IsBetween left.entries node.value.entry right.entries }
     requires leans { left.height ≡ right.height + 2 }
@@ -49,7 +49,7 @@ fn rotate_right(left: Tree, node: Box<Node>, right: Tree) -> Tree
     join(join(a, j, u), i, join(v, node, right))
 }
 
-/// The same where the right side is two levels higher than the left one.
+/// The tree of `left`, `node` and `right`, in this order, where `right` is two levels higher than `left`.
 fn rotate_left(left: Tree, node: Box<Node>, right: Tree) -> Tree
     requires between { IsBetween left.entries node.value.entry right.entries }
     requires leans { right.height ≡ left.height + 2 }
@@ -70,7 +70,7 @@ fn rotate_left(left: Tree, node: Box<Node>, right: Tree) -> Tree
     join(join(left, node, u), i, join(v, j, c))
 }
 
-/// The same where the sides differ by at most one.
+/// The tree of `left`, `node` and `right`, in this order, where the sides differ by at most one level.
 fn join(left: Tree, mut node: Box<Node>, right: Tree) -> Tree
     requires between { IsBetween left.entries node.value.entry right.entries }
     requires level { DifferByAtMost 1 left.height right.height }

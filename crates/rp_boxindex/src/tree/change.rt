@@ -13,8 +13,7 @@ use crate::place::{Entry, Place};
 use std::alloc::{AllocError, Global};
 
 impl Node {
-    /// A node for an entry, with nothing below it; its height, top and hull are set where it is put into a tree. Answers
-    /// `AllocError` only for want of memory.
+    /// A node for an entry, with nothing below it; its height, top and hull are set where it is put into a tree.
     pub(crate) fn alone(alloc: Global, entry: Entry) -> Result<Box<Node>, AllocError>
         ensures { IfOk result (λ node. node.value.entry ≡ entry) }
     {
