@@ -11,8 +11,8 @@ use std::collections::BTreeMap;
 
 /// The least corner of the box under each id, by which the tree finds an id.
 ///
-/// Nobody can go over the ids, or read a corner without taking it out. So what a search reads of the boxes goes by counted steps:
-/// `Tree::visit` is the one call that shows a node outside its module.
+/// Nobody can go over the ids, or read a corner without taking it out. So what a search reads of the boxes goes by
+/// counted steps: `Tree::visit` is the one call that shows a node outside its module.
 #[derive(Drop)]
 pub(crate) struct Lows {
     map: BTreeMap<u32, Corner>,

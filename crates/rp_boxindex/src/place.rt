@@ -25,8 +25,8 @@ impl Corner {
     }
 }
 
-/// Where an entry stands in the order of the tree: by the least x, where two have the same by the least y, then by the least
-/// z, and by the id where their least corners are the same.
+/// Where an entry stands in the order of the tree: by the least x, where two have the same by the least y, then by the
+/// least z, and by the id where their least corners are the same.
 #[derive(Clone, Copy)]
 pub(crate) struct Place {
     pub(crate) low: Corner,

@@ -1,6 +1,6 @@
-//! The search of a tree for the boxes that meet a box, which leaves out the subtrees in which none can: those that end before
-//! the box begins on the x axis, those around which the hull does not meet it, and what stands behind a box that begins after
-//! its end.
+//! The search of a tree for the boxes that meet a box, which leaves out the subtrees in which none can: those that end
+//! before the box begins on the x axis, those around which the hull does not meet it, and what stands behind a box that
+//! begins after its end.
 ghost use Rattle.std.specs.Prelude.{◌≡◌, ◌+◌, ◌≤◌, ◌∷◌, [], length, OnOk};
 ghost use Rattle.rp_space.specs.Boxes.{integer_box};
 ghost use Rattle.rp_boxindex.specs.Bound.{meets_on_x};
@@ -18,8 +18,8 @@ use crate::tree::Tree;
 use crate::watch::Watch;
 use std::sync::ledger::Ledger;
 
-/// Hands the ids of the boxes of a tree that are looked for to a taker, in the order of the tree, up to one that isn't taken.
-/// In any case the steps keep within the bound.
+/// Hands the ids of the boxes of a tree that are looked for to a taker, in the order of the tree, up to one that isn't
+/// taken. In any case the steps keep within the bound.
 pub(crate) fn collect<T: Take, W: Watch, L: Ledger>(
     tree: &Tree,
     query: &Query,

@@ -1,7 +1,7 @@
-//! A search tree over boxes by their least corners, balanced after Adelson-Velsky and Landis (An algorithm for the organization of
-//! information, 1962). Each node has the greatest x of the boxes there and below, as in the interval trees of Cormen,
-//! Leiserson, Rivest and Stein (Introduction to Algorithms, Augmenting Data Structures), and a box around them, the hull, as in
-//! the R-trees of Guttman (A dynamic index structure for spatial searching, 1984).
+//! A search tree over boxes by their least corners, balanced after Adelson-Velsky and Landis (An algorithm for the
+//! organization of information, 1962). Each node has the greatest x of the boxes there and below, as in the interval
+//! trees of Cormen, Leiserson, Rivest and Stein (Introduction to Algorithms, Augmenting Data Structures), and a box
+//! around them, the hull, as in the R-trees of Guttman (A dynamic index structure for spatial searching, 1984).
 ghost use Rattle.std.specs.Prelude.{◌≡◌, ◌+◌, ◌<◌, length, MatchOption, true, false};
 ghost use Rattle.rp_space.specs.Boxes.{integer_box};
 ghost use Rattle.rp_boxindex.specs.tree.Nodes.{IsTop, AreWithin, IsSlender, AreParts};
@@ -25,8 +25,8 @@ pub(crate) struct Tree {
     root: Option<Box<Node>>,
 }
 
-/// An entry with the two sides below it, the height from here down, and of the boxes here and below the greatest x and a box
-/// around them.
+/// An entry with the two sides below it, the height from here down, and of the boxes here and below the greatest x and
+/// a box around them.
 #[cycle(tree)]
 #[derive(Drop)]
 pub(crate) struct Node {

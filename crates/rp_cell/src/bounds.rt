@@ -19,8 +19,8 @@ use rp_space::{Half, IntBox, Outside, box_halves, cube, keep_bounds};
 pub struct Sides {
     /// The least whole box that holds every member of the cell.
     pub bounds: IntBox,
-    /// For each side of the box that is neither in the cell nor one of the cube's, in the order of the sides, multiples that
-    /// show that the cell has no member outside it.
+    /// For each side of the box that is neither in the cell nor one of the cube's, in the order of the sides, multiples
+    /// that show that the cell has no member outside it.
     pub proofs: SideProofs,
 }
 
@@ -38,9 +38,9 @@ pub fn box_of(cell: &[Half]) -> IntBox
     Held::new(cell).bounds()
 }
 
-/// The least whole box round a cell that has a member, with the first outside certificate of the cell and the complement
-/// of a side for each side of the box, the lower and the upper one of x, of y and of z, that is neither in the cell nor one
-/// of the cube's. A cell has at most 32 half-spaces here. Takes no memory.
+/// The least whole box round a cell that has a member, with the first outside certificate of the cell and the
+/// complement of a side for each side of the box, the lower and the upper one of x, of y and of z, that is neither in
+/// the cell nor one of the cube's. A cell has at most 32 half-spaces here. Takes no memory.
 pub fn sides_of(cell: &[Half]) -> Sides
     requires few { length cell.now ≤ 32 }
     requires member { IsNonempty (shape_of_cell cell.now) }
@@ -106,8 +106,8 @@ fn is_listed(half: &Half, halves: &[Half]) -> bool
     halves.iter().any(|other| half == other)
 }
 
-/// The multiples that show that no member of a cell lies outside a half-space. Since the cell has members, the search is
-/// through the complement of the half-space.
+/// The multiples that show that no member of a cell lies outside a half-space. Since the cell has members, the search
+/// is through the complement of the half-space.
 fn side_proof(cell: &[Half], side: &Half) -> Outside
     requires few { length cell.now ≤ 63 }
     requires member { IsNonempty (shape_of_cell cell.now) }

@@ -26,8 +26,8 @@ pub enum Strict {
     Outside(Outside),
 }
 
-/// Whether the weak system of a cell has a point: one of the closed cube at which no half-space of the cell is negative.
-/// Where the cell has a point, these are its closure.
+/// Whether the weak system of a cell has a point: one of the closed cube at which no half-space of the cell is
+/// negative. Where the cell has a point, these are its closure.
 #[derive(Drop)]
 pub enum Weak {
     /// It has this one.
@@ -36,19 +36,20 @@ pub enum Weak {
     Outside(Outside),
 }
 
-/// The fewest half-spaces of a cell for which refutations by two of them are tried first: with fewer, points are found as fast.
+/// The fewest half-spaces of a cell for which refutations by two of them are tried first: with fewer, points are found
+/// as fast.
 const FEW_FOR_PAIRS: usize = 7;
 
 /// The fewest half-spaces of a cell that is held with its vertices to be decided: with fewer the searches are as fast.
 const FEW: usize = 12;
 
-/// The fewest half-spaces of a cell whose points are sought on polygons before all else, as long as its first plane has a
-/// vertex.
+/// The fewest half-spaces of a cell whose points are sought on polygons before all else, as long as its first plane has
+/// a vertex.
 const MANY: usize = 16;
 
-/// Whether a cell has a point: the first inside certificate exactly where it has one, else the first outside certificate.
-/// There always is one of the two (Motzkin's theorem of the alternative). A cell has at most 64 half-spaces.
-/// Takes no memory.
+/// Whether a cell has a point: the first inside certificate exactly where it has one, else the first outside
+/// certificate. There always is one of the two (Motzkin's theorem of the alternative). A cell has at most 64
+/// half-spaces. Takes no memory.
 pub fn decide_strict(cell: &[Half]) -> Strict
     requires { length cell.now ≤ 64 }
     ensures decides { DecidesStrict cell.now result }
@@ -60,8 +61,8 @@ pub fn decide_strict(cell: &[Half]) -> Strict
     }
 }
 
-/// Whether a cell has a point, as `decide_strict` answers, where that is found without its vertices; with `None` it is left
-/// open. A cell has at most 64 half-spaces. Takes no memory.
+/// Whether a cell has a point, as `decide_strict` answers, where that is found without its vertices; with `None` it is
+/// left open. A cell has at most 64 half-spaces. Takes no memory.
 pub fn strict_soon(cell: &[Half]) -> Option<Strict>
     requires { length cell.now ≤ 64 }
     ensures decides { IfSome result (λ found. DecidesStrict cell.now found) }
@@ -79,7 +80,8 @@ pub fn strict_soon(cell: &[Half]) -> Option<Strict>
     }
 }
 
-/// The same, by a refutation by two half-spaces, if there is one.
+/// The strict decision of `cell`, by a refutation by two half-spaces where there is one, and by few further searches.
+/// With `None` it is left to its vertices.
 fn refute_soon(cell: &[Half]) -> Option<Strict>
     requires { length cell.now ≤ 64 }
     ensures decides { IfSome result (λ found. DecidesStrict cell.now found) }
@@ -142,8 +144,8 @@ pub fn decide_weak(cell: &[Half]) -> Weak
     }
 }
 
-/// Whether the weak system of a cell has a point, as `decide_weak` answers, where that is found without the cell's vertices;
-/// with `None` it is left open. A cell has at most 64 half-spaces. Takes no memory.
+/// Whether the weak system of a cell has a point, as `decide_weak` answers, where that is found without the cell's
+/// vertices; with `None` it is left open. A cell has at most 64 half-spaces. Takes no memory.
 pub fn weak_soon(cell: &[Half]) -> Option<Weak>
     requires { length cell.now ≤ 64 }
     ensures decides { IfSome result (λ found. DecidesWeak cell.now found) }
@@ -158,8 +160,8 @@ pub fn weak_soon(cell: &[Half]) -> Option<Weak>
     }
 }
 
-/// The first weak point of a cell, if it is where it is sought first: on a few lines, or on the polygon of the first plane
-/// of a large cell. `None` tells nothing. In small cells a point is not sought so.
+/// The first weak point of a cell, if it is where it is sought first: on a few lines, or on the polygon of the first
+/// plane of a large cell. `None` tells nothing. In small cells a point is not sought so.
 fn point_soon(cell: &[Half]) -> Option<Point>
     requires { length cell.now ≤ 64 }
     ensures first { IfSome result (λ p. first_weak_point cell.now ≡ Some p) }
@@ -174,7 +176,8 @@ fn point_soon(cell: &[Half]) -> Option<Point>
     weak_on_polygon(cell)
 }
 
-/// The same as `weak_soon`, by a refutation by two half-spaces, if there is one.
+/// The weak decision of `cell`, by a refutation by two half-spaces where there is one, and by few further searches.
+/// With `None` it is left to its vertices.
 fn refute_weak_soon(cell: &[Half]) -> Option<Weak>
     requires { length cell.now ≤ 64 }
     ensures decides { IfSome result (λ found. DecidesWeak cell.now found) }
@@ -228,8 +231,8 @@ pub(crate) fn search_weak(cell: &[Half]) -> Weak
     }
 }
 
-/// The first outside certificate of a cell where it has at most two terms: then the cell has no point. With `None` that is not
-/// known. Nothing else is searched for. A cell has at most 64 half-spaces. Takes no memory.
+/// The first outside certificate of a cell where it has at most two terms: then the cell has no point. With `None` that
+/// is not known. Nothing else is searched for. A cell has at most 64 half-spaces. Takes no memory.
 pub fn refute_by_two(cell: &[Half]) -> Option<Outside>
     requires { length cell.now ≤ 64 }
     ensures found { result ≡ first_of_two true (with_cube cell.now) }
@@ -243,9 +246,9 @@ pub fn refute_by_two(cell: &[Half]) -> Option<Outside>
     first_outside_of_two(cell, true)
 }
 
-/// The first outside certificate of two cells together, each of which has a point, where it has at most two terms: then they
-/// share no point. With `None` that is not known. Only one half-space of the first with one of the second may refute, so the
-/// cells need not be joined. They have at most 64 half-spaces together. Takes no memory.
+/// The first outside certificate of two cells together, each of which has a point, where it has at most two terms: then
+/// they share no point. With `None` that is not known. Only one half-space of the first with one of the second may
+/// refute, so the cells need not be joined. They have at most 64 half-spaces together. Takes no memory.
 pub fn refute_between(first: &[Half], second: &[Half]) -> Option<Outside>
     requires first { IsNonempty (shape_of_cell first.now) }
     requires second { IsNonempty (shape_of_cell second.now) }
@@ -257,8 +260,8 @@ pub fn refute_between(first: &[Half], second: &[Half]) -> Option<Outside>
     first_outside_between(first, second, true)
 }
 
-/// The same of the weak systems of two cells, each of which has a point: the first outside certificate that is not strict of
-/// both together, where it has at most two terms.
+/// The first outside certificate of the weak systems of two cells together, each of which has a point, where it has at
+/// most two terms: then they are not in contact. With `None` that is not known. Takes no memory.
 pub fn refute_weak_between(first: &[Half], second: &[Half]) -> Option<Outside>
     requires first { IsNonempty (shape_of_cell first.now) }
     requires second { IsNonempty (shape_of_cell second.now) }
@@ -283,8 +286,8 @@ pub fn refute_strict(cell: &[Half]) -> Outside
     first_outside(cell, true).unwrap()
 }
 
-/// The first outside certificate that is not strict of a cell whose weak system is known to have no point. Points are not
-/// searched for. A cell has at most 64 half-spaces. Takes no memory.
+/// The first outside certificate that is not strict of a cell whose weak system is known to have no point. Points are
+/// not searched for. A cell has at most 64 half-spaces. Takes no memory.
 pub fn refute_weak(cell: &[Half]) -> Outside
     requires few { length cell.now ≤ 64 }
     requires empty { (p : RationalPoint) → ¬ IsSolution false cell.now p }

@@ -23,16 +23,16 @@ use std::marker::Model;
 const ROOM: usize = 136;
 
 /// A cell of at most 64 half-spaces, held with its vertices, so that what is asked of it, and of it with further
-/// half-spaces, need not search for them. A contract sees the list of its half-spaces. Takes no memory. It is large: `hold`
-/// serves better than a new one.
+/// half-spaces, need not search for them. A contract sees the list of its half-spaces. Takes no memory. It is large:
+/// `hold` serves better than a new one.
 #[derive(Drop)]
 pub struct Held {
     cell: System,
     clip: Clip<ROOM>,
     /// Whether the clip has the whole cell: else one of the half-spaces would have made too many vertices for it.
     whole: bool,
-    /// So many half-spaces from the front have a common point, if this is not 0. Where the cell has none, the next one is
-    /// likely to be in all refutations, and is where it is the last one.
+    /// So many half-spaces from the front have a common point, if this is not 0. Where the cell has none, the next one
+    /// is likely to be in all refutations, and is where it is the last one.
     inner: usize,
     /// So many half-spaces from the front have a common point of their weak systems. Only a hint of the same kind.
     closed: usize,
@@ -244,7 +244,8 @@ impl Held {
         }
     }
 
-    /// Whether the cell with further half-spaces behind its own has a point, as `decide_strict` answers: at most 64 together.
+    /// Whether the cell with further half-spaces behind its own has a point, as `decide_strict` answers: at most 64
+    /// together.
     pub fn strict_with(&self, more: &[Half]) -> Strict
         requires { length self.now + length more.now ≤ 64 }
         ensures decides { DecidesStrict (self.now ++ more.now) result }
@@ -253,8 +254,8 @@ impl Held {
         self.with(more).strict()
     }
 
-    /// Whether the weak system of the cell with further half-spaces behind its own has a point, as `decide_weak` answers: at
-    /// most 64 together.
+    /// Whether the weak system of the cell with further half-spaces behind its own has a point, as `decide_weak`
+    /// answers: at most 64 together.
     pub fn weak_with(&self, more: &[Half]) -> Weak
         requires { length self.now + length more.now ≤ 64 }
         ensures decides { DecidesWeak (self.now ++ more.now) result }

@@ -13,12 +13,12 @@ use crate::held::Held;
 use rp_elim::first_outside_through;
 use rp_space::{Half, Outside, keep_bounds};
 
-/// The fewest half-spaces of a cell whose others are held with their vertices to see that they have a point: with fewer the
-/// search among all of them is as fast.
+/// The fewest half-spaces of a cell whose others are held with their vertices to see that they have a point: with fewer
+/// the search among all of them is as fast.
 const FEW: usize = 12;
 
-/// The first outside certificate of a cell that is known to have no point, as `refute_strict` answers. Where the others have
-/// a point without the half-space at a place, that one is in every refutation, and the search is through it.
+/// The first outside certificate of a cell that is known to have no point, as `refute_strict` answers. Where the others
+/// have a point without the half-space at a place, that one is in every refutation, and the search is through it.
 pub(crate) fn refute_strict_at(cell: &[Half], place: usize) -> Outside
     requires few { length cell.now ≤ 64 }
     requires empty { IsEmpty (shape_of_cell cell.now) }
@@ -34,7 +34,8 @@ pub(crate) fn refute_strict_at(cell: &[Half], place: usize) -> Outside
     first_outside_through(&cell[..place], &cell[place], &cell[place + 1..], true).unwrap()
 }
 
-/// The first outside certificate of a cell that is known to have no point, where all but the last of its half-spaces have one.
+/// The first outside certificate of a cell that is known to have no point, where all but the last of its half-spaces
+/// have one.
 pub(crate) fn refute_last(cell: &[Half]) -> Outside
     requires few { length cell.now ≤ 64 }
     requires some { 0 < length cell.now }
@@ -60,8 +61,8 @@ fn have_point_without(cell: &[Half], place: usize) -> bool
     cell.len() >= FEW && place < cell.len() && is_held_without(cell, place)
 }
 
-/// Whether the others of the cell are seen to have a point without the half-space at a place. It is apart so that nobody
-/// else makes room for their vertices.
+/// Whether the others of the cell are seen to have a point without the half-space at a place. It is apart so that
+/// nobody else makes room for their vertices.
 fn is_held_without(cell: &[Half], place: usize) -> bool
     requires few { length cell.now ≤ 64 }
     requires place { place < length cell.now }
@@ -72,8 +73,8 @@ fn is_held_without(cell: &[Half], place: usize) -> bool
     others.has_point()
 }
 
-/// The first outside certificate that is not strict of a cell whose weak system is known to have no point, as `refute_weak`
-/// answers; found in the same way.
+/// The first outside certificate that is not strict of a cell whose weak system is known to have no point, as
+/// `refute_weak` answers; found in the same way.
 pub(crate) fn refute_weak_at(cell: &[Half], place: usize) -> Outside
     requires few { length cell.now ≤ 64 }
     requires empty { (p : RationalPoint) → ¬ IsSolution false cell.now p }

@@ -50,10 +50,10 @@ pub struct Slimmed {
     pub dropped: Drops,
 }
 
-/// The slim cell of a cell. From the first half-space to the last, one is dropped where no member of the others that are
-/// still kept lies outside it: the first outside certificate of these others and its complement shows it. The slim cell has
-/// the members of the cell. Where these are some, and at most 32 half-spaces are kept, the slim cell and its least box are a
-/// part. A cell has at most 64 half-spaces.
+/// The slim cell of a cell. From the first half-space to the last, one is dropped where no member of the others that
+/// are still kept lies outside it: the first outside certificate of these others and its complement shows it. The slim
+/// cell has the members of the cell. Where these are some, and at most 32 half-spaces are kept, the slim cell and its
+/// least box are a part. A cell has at most 64 half-spaces.
 pub fn slim(alloc: Global, cell: &[Half]) -> Result<Slimmed, AllocError>
     requires { length cell.now ≤ 64 }
     ensures kept { IfOk result (λ slim. slim.kept.items ≡ (slimmed cell.now).kept) }
@@ -85,8 +85,8 @@ impl Held {
         Ok(Slimmed { kept, dropped })
     }
 
-    /// What shows that no member of the others lies outside the half-space at a place, and `None` exactly where one does. The
-    /// others are those that are still kept of the half-spaces before it, and all behind it.
+    /// What shows that no member of the others lies outside the half-space at a place, and `None` exactly where one
+    /// does. The others are those that are still kept of the half-spaces before it, and all behind it.
     fn drop_proof(&self, place: usize, half: &Half, kept: &[Half], rest: &[Half]) -> Option<Outside>
         requires { IsTested self.now place kept.now half.now rest.now }
         ensures proof { IsDropProof (tested kept.now half.now rest.now) result }

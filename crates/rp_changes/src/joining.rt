@@ -54,8 +54,8 @@ pub fn retire<T: Tests, K: Keeper<T>>(
     })
 }
 
-/// The live lots of `ids`, all of one layer, are to become the lot `new`, whose parts are theirs, in the order given. No test
-/// is made.
+/// The live lots of `ids`, all of one layer, are to become the lot `new`, whose parts are theirs, in the order given.
+/// No test is made.
 pub fn consolidate<T: Tests, K: Keeper<T>>(
     alloc: Global,
     keeper: &K,

@@ -1,9 +1,10 @@
 #![tactic(auto)]
-//! The rows of the commands that change something, written once over whatever answers their tests and keeps the register.
+//! The rows of the commands that change something, written once over whatever answers their tests and keeps the
+//! register.
 //!
-//! Each comes to the change, the refusal or the stop that its definition has for it, and makes exactly the tests of that.
-//! No change is made here: it is answered, and what keeps the register makes it. Calls that answer `AllocError` do so
-//! only for want of memory.
+//! Each comes to the change, the refusal or the stop that its definition has for it, and makes exactly the tests of
+//! that. No change is made here: it is answered, and what keeps the register makes it. Calls that answer `AllocError`
+//! do so only for want of memory.
 
 mod change;
 mod checks;

@@ -25,8 +25,8 @@ use rp_space::{Listed, Name, Names};
 use rp_tests::{Stopped, Tests};
 use std::alloc::{AllocError, Global};
 
-/// A form is to become the lot `id` of `layer`, the present one. As many tests are counted as there are pairs of its parts
-/// and parts of live lots of the layer whose boxes share more than boundary.
+/// A form is to become the lot `id` of `layer`, the present one. As many tests are counted as there are pairs of its
+/// parts and parts of live lots of the layer whose boxes share more than boundary.
 pub fn make_lot<T: Tests, K: Overlaps<T>>(
     alloc: Global,
     keeper: &K,
@@ -56,8 +56,8 @@ fn check_lot<T: Tests, K: Keeper<T>>(keeper: &K, id: Name, form: &T::Form) -> Re
     Ok(check_room::<T, K>(keeper, parts)?)
 }
 
-/// No live lot of `layer` shares a point with the form, which is to be the lot `id`. Their pairs of parts whose boxes share
-/// more than boundary are counted first.
+/// No live lot of `layer` shares a point with the form, which is to be the lot `id`. Their pairs of parts whose boxes
+/// share more than boundary are counted first.
 fn check_alone<T: Tests, K: Overlaps<T>>(
     alloc: Global,
     keeper: &K,
@@ -79,8 +79,8 @@ fn check_alone<T: Tests, K: Overlaps<T>>(
     Ok(())
 }
 
-/// The id of the first of the lots at some places that shares a point with a form. Only pairs of parts are tested whose boxes
-/// share more than boundary, and nothing is counted.
+/// The id of the first of the lots at some places that shares a point with a form. Only pairs of parts are tested whose
+/// boxes share more than boundary, and nothing is counted.
 fn first_overlapped<T: Tests, K: Overlaps<T>>(
     alloc: Global,
     keeper: &K,

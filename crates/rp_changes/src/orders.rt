@@ -99,7 +99,8 @@ pub fn retirement<T: Tests, K: Registry<T>>(
     replacing(retire::<T, K>(alloc, keeper, id))
 }
 
-/// `subdivide`: the lot `id` into a lot for each of `entries`, which have the new ids and the expressions of their forms.
+/// `subdivide`: the lot `id` into a lot for each of `entries`, which have the new ids and the expressions of their
+/// forms.
 pub fn subdivision<T: Tests, K: Registry<T>>(
     alloc: Global,
     keeper: &K,

@@ -11,8 +11,8 @@ use std::alloc::Global;
 
 /// What keeps lots and finds whether forms overlap.
 pub trait Overlaps<T: Tests>: Keeper<T> {
-    /// Whether `form` and `other` share a point: only those pairs of parts are tested whose boxes share more than boundary,
-    /// up to the first that does, and nothing is counted.
+    /// Whether `form` and `other` share a point: only those pairs of parts are tested whose boxes share more than
+    /// boundary, up to the first that does, and nothing is counted.
     fn overlap(
         alloc: Global,
         form: &T::Form,

@@ -27,8 +27,8 @@ use rp_space::{Listed, Name, Names};
 use rp_tests::Tests;
 use std::alloc::{AllocError, Global};
 
-/// The live lot `id` is to be divided into children, which lie in it, share no point and leave no gap. As many tests are
-/// counted as there are pairs of parts of two children whose boxes share more than boundary.
+/// The live lot `id` is to be divided into children, which lie in it, share no point and leave no gap. As many tests
+/// are counted as there are pairs of parts of two children whose boxes share more than boundary.
 pub fn subdivide<T: Tests, K: Overlaps<T>>(
     alloc: Global,
     keeper: &K,
@@ -48,8 +48,8 @@ pub fn subdivide<T: Tests, K: Overlaps<T>>(
     Ok(children_born(alloc, layer, id, children)?)
 }
 
-/// The checks of a subdivision that make no test: names, a part in each child, and room for their parts. Answers the place of
-/// the lot.
+/// The checks of a subdivision that make no test: names, a part in each child, and room for their parts. Answers the
+/// place of the lot.
 fn check_children<T: Tests, K: Keeper<T>>(
     alloc: Global,
     keeper: &K,

@@ -29,8 +29,8 @@ use rp_syntax::read_line;
 use rp_tests::Stopped;
 use std::alloc::Global;
 
-/// What becomes of an answer whose row is stopped: the report may tell of a limit where one is met, and instead of a test,
-/// where the command can meet one.
+/// What becomes of an answer whose row is stopped: the report may tell of a limit where one is met, and instead of a
+/// test, where the command can meet one.
 fn follow_stopped(allowed: bool, stopped: Stopped, trail: &mut Trail<'_>) -> Result<(), Halt>
     ensures { (n : ℕ) (s : PlainState) (o : Outcome ModelTrail ModelReply) → StopsBy stopped trail.old o → Answers (λ _. s) result trail.new (follow_walk n s allowed o) }
 {
@@ -54,7 +54,8 @@ fn follow_fault(alloc: Global, why: Why, trail: &mut Trail<'_>) -> Result<(), Ha
     follow_verdict(alloc, &Verdict::Refused(Refusal::Bad(why)), trail)
 }
 
-/// The answer to an echo, which is the next line, with a text that is no command. A text that is too long is wrong there.
+/// The answer to an echo, which is the next line, with a text that is no command. A text that is too long is wrong
+/// there.
 fn follow_bad(alloc: Global, why: Why, trail: &mut Trail<'_>) -> Result<(), Halt>
     requires { 0 < length trail.old.lines }
     ensures { (n : ℕ) (s : PlainState) → Answers (λ _. s) result trail.new (follow_text n s (bad (fault_of why)) trail.old) }
@@ -212,7 +213,8 @@ fn follow_command(
     follow_row(alloc, register, n, allowed, row, trail)
 }
 
-/// The answer to an echo, which is the next line, with a text that reads so. A text that is blank or too long is wrong there.
+/// The answer to an echo, which is the next line, with a text that reads so. A text that is blank or too long is wrong
+/// there.
 fn follow_read(
     alloc: Global,
     register: &mut Register,
@@ -235,7 +237,8 @@ fn follow_read(
     }
 }
 
-/// The answer to an echo with a text, which is the next line, and is read by the version. A text that is blank or too long is wrong there.
+/// The answer to an echo with a text, which is the next line, and is read by the version. A text that is blank or too
+/// long is wrong there.
 fn follow_text(
     alloc: Global,
     register: &mut Register,
@@ -276,8 +279,8 @@ fn follow_echo(
     }
 }
 
-/// Takes the lines of the next answer, whose number must be above `last` and whose text is read by the version, and makes
-/// its change. Answers its number.
+/// Takes the lines of the next answer, whose number must be above `last` and whose text is read by the version, and
+/// makes its change. Answers its number.
 /// `Wrong` with the number of the first line that doesn't fit.
 pub(crate) fn follow_answer(
     alloc: Global,

@@ -25,8 +25,8 @@ const MARK: &[u8] = b"> 0 rp 2";
 pub enum Found {
     /// The report is accepted.
     Accepted,
-    /// The line of this number, from 1, is the first at which no accepted report goes on; it is one more than the number of
-    /// lines where every line fits and the report breaks off.
+    /// The line of this number, from 1, is the first at which no accepted report goes on; it is one more than the
+    /// number of lines where every line fits and the report breaks off.
     Wrong(u32),
 }
 
@@ -42,11 +42,11 @@ fn take_mark(trail: &mut Trail<'_>) -> Version
     Version::One
 }
 
-/// Whether a report of at most 67,108,864 bytes is accepted, and else which of its lines is the first wrong one. Nothing
-/// is searched for: each certificate that the report shows is checked, and every verdict must be the one that follows from
-/// those that pass. Where the first line is exactly `> 0 rp 2`, it is no answer, and the echoed lines are read by version 2;
-/// else they are read by version 1. What is accepted is true of the regions that the echoed commands give, whoever wrote it;
-/// and the report of every script is accepted.
+/// Whether a report of at most 67,108,864 bytes is accepted, and else which of its lines is the first wrong one.
+/// Nothing is searched for: each certificate that the report shows is checked, and every verdict must be the one that
+/// follows from those that pass. Where the first line is exactly `> 0 rp 2`, it is no answer, and the echoed lines are
+/// read by version 2; else they are read by version 1. What is accepted is true of the regions that the echoed commands
+/// give, whoever wrote it; and the report of every script is accepted.
 ///
 /// Answers `AllocError` only for want of memory.
 pub fn check_report(alloc: Global, report: &[u8]) -> Result<Found, AllocError>

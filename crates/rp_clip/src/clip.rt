@@ -22,12 +22,12 @@ use arrayvec::ArrayVec;
 use rp_space::{Half, Inside, Meeting, Point};
 use std::marker::Model;
 
-/// A cell of at most 64 half-spaces with the vertices of its weak system, each once, in no stated order. There is room for
-/// `MOST` of them, which are at least the eight corners of the cube.
+/// A cell of at most 64 half-spaces with the vertices of its weak system, each once, in no stated order. There is room
+/// for `MOST` of them, which are at least the eight corners of the cube.
 /// A contract sees the half-spaces in order and the vertices in lowest terms. No call takes memory.
 ///
-/// There are two tables, of which one counts: `add` fills the other, which counts then, so that no table is moved. A clip
-/// is large, so `clear` and `copy_from` serve better than a new one.
+/// There are two tables, of which one counts: `add` fills the other, which counts then, so that no table is moved. A
+/// clip is large, so `clear` and `copy_from` serve better than a new one.
 #[derive(Drop)]
 pub struct Clip<const MOST: usize> {
     planes: Planes,
@@ -75,8 +75,8 @@ impl<const MOST: usize> Clip<MOST> {
         self.is_second = false;
     }
 
-    /// Adds a half-space at the end, where there are fewer than 64; the points become the vertices with it. False exactly
-    /// where there would be more than `MOST` vertices, and then all is as before.
+    /// Adds a half-space at the end, where there are fewer than 64; the points become the vertices with it. False
+    /// exactly where there would be more than `MOST` vertices, and then all is as before.
     pub fn add(&mut self, h: Half) -> bool
         requires { length self.old.halves < 64 }
         ensures added { result ≡ true → self.new.halves ≡ self.old.halves ++ h ∷ [] }
@@ -125,8 +125,9 @@ impl<const MOST: usize> Clip<MOST> {
         points_of(self.corners())
     }
 
-    /// The first inside certificate of the half-spaces: the first vertex, and then, as long as a half-space of the list is
-    /// zero at all points taken, the first vertex that is positive on one of these. `None` exactly where the cell has no point.
+    /// The first inside certificate of the half-spaces: the first vertex, and then, as long as a half-space of the list
+    /// is zero at all points taken, the first vertex that is positive on one of these. `None` exactly where the cell
+    /// has no point.
     pub fn first_inside(&self) -> Option<Inside>
         ensures first { result ≡ first_inside self.now.halves }
         ensures passes { IfSome result (λ points. IsTrue (is_inside_certificate self.now.halves points)) }
@@ -151,8 +152,8 @@ impl<const MOST: usize> Clip<MOST> {
         common_places(self.table().planes(), 0) == 0
     }
 
-    /// Whether the vertices on the plane of the half-space at a place show that a point of this plane lies strictly inside
-    /// all the others: whether no other plane passes through all of them. `false` says nothing.
+    /// Whether the vertices on the plane of the half-space at a place show that a point of this plane lies strictly
+    /// inside all the others: whether no other plane passes through all of them. `false` says nothing.
     pub fn has_side(&self, place: usize) -> bool
         requires { place < length self.now.halves }
         ensures { result ≡ true → HasSide self.now.halves place }

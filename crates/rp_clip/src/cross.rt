@@ -32,8 +32,8 @@ impl Default for Side {
     }
 }
 
-/// Fills a further table with the vertices that a cell of fewer than 64 half-spaces has with one more: those of the cell that
-/// are not below its plane, and then the points at which edges cross it. False where it has no room for them.
+/// Fills a further table with the vertices that a cell of fewer than 64 half-spaces has with one more: those of the
+/// cell that are not below its plane, and then the points at which edges cross it. False where it has no room for them.
 pub(crate) fn cross_over<const MOST: usize>(
     planes: &Planes,
     h: &Half,
@@ -79,8 +79,8 @@ fn sides_of<const MOST: usize>(h: &Half, corners: &[Meeting]) -> ArrayVec<Side, 
     sides
 }
 
-/// Fills a table with the points of another that are not below the plane, those on it with the new place, and an empty list
-/// with the places of those that are.
+/// Fills a table with the points of another that are not below the plane, those on it with the new place, and an empty
+/// list with the places of those that are.
 fn split<const MOST: usize>(
     planes: &Planes,
     h: &Half,
@@ -103,8 +103,8 @@ fn split<const MOST: usize>(
     }
 }
 
-/// Appends a point that is not below the plane to the one, with the new place if it is on it. Of a point that is below it
-/// appends the places to the other.
+/// Appends a point that is not below the plane to the one, with the new place if it is on it. Of a point that is below
+/// it appends the places to the other.
 fn split_one<const MOST: usize>(
     side: Side,
     corner: Meeting,
@@ -192,7 +192,8 @@ fn cross_from<const MOST: usize>(
     true
 }
 
-/// Puts the point at which the line of common planes crosses the plane of `h` into a further table, if they have a line.
+/// Puts the point at which the line of common planes crosses the plane of `h` into a further table, if they have a
+/// line.
 fn cross<const MOST: usize>(planes: &Planes, h: &Half, common: u128, more: &mut Table<MOST>) -> bool
     requires between { IsBetween planes.now h.now common }
     requires more { IsTable MOST (with_one planes.now h.now) more.old }

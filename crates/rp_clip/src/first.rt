@@ -35,7 +35,8 @@ pub(crate) fn first_vertex<const MOST: usize>(
     Some(found.index)
 }
 
-/// The one of two vertices whose first three places are before the other's, where the new one is not on all planes of a set.
+/// The one of two vertices whose first three places are before the other's, where the new one is not on all planes of a
+/// set.
 fn better(
     planes: &Planes,
     set: u128,

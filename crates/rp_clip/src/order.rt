@@ -5,9 +5,9 @@ ghost use Rattle.rp_clip.specs.Polygons.{Covers};
 use arrayvec::ArrayVec;
 use rp_space::Half;
 
-/// The places of a cell: first one of them, then those whose half-spaces look much to the same side as this one's, and then
-/// the others. What bounds the polygon is mostly among the former, so that little is cut after them. No answer depends on
-/// the order.
+/// The places of a cell: first one of them, then those whose half-spaces look much to the same side as this one's, and
+/// then the others. What bounds the polygon is mostly among the former, so that little is cut after them. No answer
+/// depends on the order.
 pub(crate) fn near_first(cell: &[Half], place: usize) -> ArrayVec<usize, 64>
     requires { place < length cell.now }
 {
@@ -30,8 +30,8 @@ pub(crate) fn near_first(cell: &[Half], place: usize) -> ArrayVec<usize, 64>
     order
 }
 
-/// How much the second half-space looks to the same side as the first: the product of their coefficients of x, y and z, over
-/// about the greatest of the second, in 4096ths.
+/// How much the second half-space looks to the same side as the first: the product of their coefficients of x, y and z,
+/// over about the greatest of the second, in 4096ths.
 fn nearness(face: &Half, other: &Half) -> i64 {
     let (a, b, c, _) = face.numbers();
     let (d, e, f, _) = other.numbers();

@@ -13,8 +13,8 @@ use crate::table::Table;
 use rp_space::{Half, Meeting};
 use std::marker::Model;
 
-/// The polygon of a cell on the plane of its first half-space: the vertices there, each once, in no stated order, of which
-/// there are at most 16. A contract sees the half-spaces and the table of the vertices.
+/// The polygon of a cell on the plane of its first half-space: the vertices there, each once, in no stated order, of
+/// which there are at most 16. A contract sees the half-spaces and the table of the vertices.
 ///
 /// Of two tables one counts, as in a `Clip`. The corners of the cube are there to begin with.
 #[derive(Drop)]
@@ -140,8 +140,8 @@ fn is_positive_at_all(h: &Half, corners: &[Meeting]) -> bool
     true
 }
 
-/// Fills a table with the vertices of a cell on the plane at a place, from a table of those of its half-spaces in another
-/// order, where this plane is the first one.
+/// Fills a table with the vertices of a cell on the plane at a place, from a table of those of its half-spaces in
+/// another order, where this plane is the first one.
 fn keep_on_first(
     sorted: &Planes,
     from: &Table<16>,
@@ -186,7 +186,8 @@ fn renamed(set: u128, order: &[usize]) -> u128
     places
 }
 
-/// Fills a table with the vertices of a cell on the plane of the half-space at a place. False where there is no room for them.
+/// Fills a table with the vertices of a cell on the plane of the half-space at a place. False where there is no room
+/// for them.
 pub(crate) fn fill_polygon(
     cell: &[Half],
     place: usize,

@@ -11,9 +11,9 @@ use crate::polygon::{Polygon, fill_polygon};
 use crate::table::Table;
 use rp_space::{Half, Inside, Point, keep_bounds};
 
-/// The first inside certificate of a cell, found on the polygons of its planes, one after the other as long as points are
-/// wanted: of each plane the vertices on it are found, and no others. `None` tells nothing: the first plane may have no
-/// vertex, or one of them too many. A cell has at most 64 half-spaces. Takes no memory.
+/// The first inside certificate of a cell, found on the polygons of its planes, one after the other as long as points
+/// are wanted: of each plane the vertices on it are found, and no others. `None` tells nothing: the first plane may
+/// have no vertex, or one of them too many. A cell has at most 64 half-spaces. Takes no memory.
 pub fn inside_on_polygons(cell: &[Half]) -> Option<Inside>
     requires { length cell.now ≤ 64 }
     ensures first { IfSome result (λ points. first_inside cell.now ≡ Some points) }
@@ -41,8 +41,8 @@ pub fn inside_on_polygons(cell: &[Half]) -> Option<Inside>
     None
 }
 
-/// The first weak point of a cell, if it is on the first plane, and this has not too many vertices. `None` tells nothing.
-/// A cell has at most 64 half-spaces. Takes no memory.
+/// The first weak point of a cell, if it is on the first plane, and this has not too many vertices. `None` tells
+/// nothing. A cell has at most 64 half-spaces. Takes no memory.
 pub fn weak_on_polygon(cell: &[Half]) -> Option<Point>
     requires { length cell.now ≤ 64 }
     ensures first { IfSome result (λ p. first_weak_point cell.now ≡ Some p) }

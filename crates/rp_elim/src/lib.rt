@@ -4,8 +4,8 @@
 //! That a list of half-spaces has a solution or multiples that add up to a contradiction, and never both, is Farkas'
 //! lemma (1902) for weak sides and Motzkin's theorem of the alternative (1936) for strict ones. That four multiples are
 //! enough is Carathéodory's theorem (1911), which says here what Helly's (1923) says: where each four of the
-//! half-spaces have a common point, all have one. The laws are those of `rp_convex`, where they are proved by
-//! adding one half-space after the other, and not by eliminating one unknown after the other.
+//! half-spaces have a common point, all have one. The laws are those of `rp_convex`, where they are proved by adding
+//! one half-space after the other, and not by eliminating one unknown after the other.
 //!
 //! So the sets of one, two, three and four half-spaces of a cell and the cube are tried, in the order of their places
 //! (`search.rt`). What is found is the first certificate, passes its check, and there is none exactly where the cell,
@@ -19,8 +19,8 @@
 //! Where all but one half-space have a solution, that one is in every certificate, and only the sets that contain it
 //! are tried ([`first_outside_through`]). Of the sets of one size that share a half-space the first is the one whose
 //! others come first, so what is found is the first of all. A certificate of at most two terms is found by itself
-//! ([`first_outside_of_two`]), where it is the first: two boxes apart always have one. Of two cells that have solutions it
-//! has one term of each ([`first_outside_between`]).
+//! ([`first_outside_of_two`]), where it is the first: two boxes apart always have one. Of two cells that have solutions
+//! it has one term of each ([`first_outside_between`]).
 
 mod couple;
 mod cross;

@@ -13,8 +13,8 @@ pub struct Placed {
     pub before: bool,
 }
 
-/// Appends to `others` the half-spaces of `before`, which stand before one, then those of `after`, which stand behind it,
-/// and the cube's six; there is room for them.
+/// Appends to `others` the half-spaces of `before`, which stand before one, then those of `after`, which stand behind
+/// it, and the cube's six; there is room for them.
 pub fn place<const MOST: usize>(
     others: &mut ArrayVec<Placed, MOST>,
     before: &[Half],

@@ -44,9 +44,9 @@ pub fn first_outside_of_two(cell: &[Half], strict: bool) -> Option<Outside>
     first_of_two(strict, system.as_slice())
 }
 
-/// The first outside certificate of `first` and `second` together, for strict or weak sides, if it has at most two terms,
-/// as `first_outside_of_two` finds it. Each of the two cells has a solution, so that only one half-space of `first` with one
-/// of `second` may refute, and no other two are tried.
+/// The first outside certificate of `first` and `second` together, for strict or weak sides, if it has at most two
+/// terms, as `first_outside_of_two` finds it. Each of the two cells has a solution, so that only one half-space of
+/// `first` with one of `second` may refute, and no other two are tried.
 pub fn first_outside_between(first: &[Half], second: &[Half], strict: bool) -> Option<Outside>
     requires first { (p : RationalPoint) × IsSolution strict first.now p }
     requires second { (p : RationalPoint) × IsSolution strict second.now p }

@@ -20,7 +20,7 @@ use crate::triple::Triple;
 use arrayvec::ArrayVec;
 use rp_space::{Half, Outside, keep_bounds};
 
-/// So many others are few.
+/// Up to so many others stand in a short list.
 const FEW: usize = 14;
 
 /// The places of a list of few others and the cube's six half-spaces.
@@ -53,7 +53,8 @@ pub fn first_outside_through(
     first_beside(strict, before, half, after)
 }
 
-/// The first refutation by a half-space and others, of which most cells have so few that a short list has room for them.
+/// The first refutation by a half-space and others, of which most cells have so few that a short list has room for
+/// them.
 fn first_beside(strict: bool, before: &[Half], half: &Half, after: &[Half]) -> Option<Outside>
     requires { length before.now + length after.now < 64 }
     ensures { result ≡ first_through strict half.now (placed_list before.now (with_cube after.now)) }
@@ -64,7 +65,8 @@ fn first_beside(strict: bool, before: &[Half], half: &Half, after: &[Half]) -> O
     first_beside_many(strict, before, half, after)
 }
 
-/// The same, with the others in a short list. It is apart so that nobody else makes room for it.
+/// The first refutation by `half` and the others, which stand in a short list. It is apart so that nobody else makes
+/// room for it.
 fn first_beside_few(strict: bool, before: &[Half], half: &Half, after: &[Half]) -> Option<Outside>
     requires { length before.now + length after.now ≤ 14 }
     ensures { result ≡ first_through strict half.now (placed_list before.now (with_cube after.now)) }
@@ -74,7 +76,7 @@ fn first_beside_few(strict: bool, before: &[Half], half: &Half, after: &[Half]) 
     first_through(strict, half, others.as_slice())
 }
 
-/// The same, with the others in a long list.
+/// The first refutation by `half` and the others, which stand in a long list.
 fn first_beside_many(strict: bool, before: &[Half], half: &Half, after: &[Half]) -> Option<Outside>
     requires { length before.now + length after.now < 64 }
     ensures { result ≡ first_through strict half.now (placed_list before.now (with_cube after.now)) }
@@ -115,7 +117,8 @@ fn first_two(strict: bool, k: &Half, ps: &[Placed]) -> Option<Outside>
     None
 }
 
-/// Whether the signs of the coefficients tell that a half-space and another one do not refute, in the order of their places.
+/// Whether the signs of the coefficients tell that a half-space and another one do not refute, in the order of their
+/// places.
 fn is_passed_over(k: &Half, p: &Placed) -> bool
     ensures { result ≡ true → (strict : Bool) → two_in_order (refutation_of_two strict) k.now p.now ≡ None }
 {

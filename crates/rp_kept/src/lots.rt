@@ -22,8 +22,8 @@ use std::marker::Model;
 /// The most parts under all lots together.
 const MAX_PARTS: usize = 65536;
 
-/// All lots that were ever registered, in the order of registration, with their forms: at most 65,536 lots, with at most
-/// 65,536 parts together. Their ids are distinct, and around each there is a box in an index.
+/// All lots that were ever registered, in the order of registration, with their forms: at most 65,536 lots, with at
+/// most 65,536 parts together. Their ids are distinct, and around each there is a box in an index.
 #[derive(Drop)]
 pub struct Lots<F: Forms> {
     history: History,
@@ -152,9 +152,9 @@ impl<F: Forms> Lots<F> {
         parts <= MAX_PARTS - self.parts
     }
 
-    /// Ends the lots of the ids `ends` at the line, as far as they are live, and lets others be born in their place, each
-    /// with its form, which go last. All lots were born before the line; the new ids are new and distinct, their origins are
-    /// known, and there is room for them. After `AllocError` all is as before.
+    /// Ends the lots of the ids `ends` at the line, as far as they are live, and lets others be born in their place,
+    /// each with its form, which go last. All lots were born before the line; the new ids are new and distinct, their
+    /// origins are known, and there is room for them. After `AllocError` all is as before.
     pub fn replace(
         &mut self,
         alloc: Global,

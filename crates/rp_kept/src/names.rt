@@ -16,8 +16,8 @@ const MAX_NAMES: usize = 65536;
 /// The most parts under all names together.
 const MAX_PARTS: usize = 65536;
 
-/// The forms that names stand for, in the order of their definition: at most 65,536 names, with at most 65,536 parts under
-/// all of them together.
+/// The forms that names stand for, in the order of their definition: at most 65,536 names, with at most 65,536 parts
+/// under all of them together.
 #[derive(Drop)]
 pub struct NamedForms<F: Forms> {
     forms: IndexMap<Name, F::Form>,

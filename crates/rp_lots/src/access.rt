@@ -1,4 +1,5 @@
-//! Access from one lot to another, from each to one in contact with it: before the pairs of lots are judged, and behind.
+//! Access from one lot to another, from each to one in contact with it: before the pairs of lots are judged, and
+//! behind.
 ghost use Rattle.std.specs.Prelude.{◌≡◌, ◌<◌, ◌≤◌, None, length, map, IfOk};
 ghost use Rattle.std.specs.List.{AllByRecursion};
 ghost use Rattle.rp_model.specs.states.State.{ids_of, place_among, layer_with_id, most_kept_parts};
@@ -23,9 +24,9 @@ use rp_space::{Name, Names};
 use rp_tests::{Stopped, Tests};
 use std::alloc::{AllocError, Global};
 
-/// `access` from the lot `from` to the lot `to`, up to the tests of pairs, which are counted in `tests`. Refusals, in this
-/// order: `Unknown(from)` and `Unknown(to)` where one isn't live; `Layers(to)` where the layers differ. `Limit` where more
-/// pairs of parts of lots of the layer have boxes that meet, the boundary included, than may be tested.
+/// `access` from the lot `from` to the lot `to`, up to the tests of pairs, which are counted in `tests`. Refusals, in
+/// this order: `Unknown(from)` and `Unknown(to)` where one isn't live; `Layers(to)` where the layers differ. `Limit`
+/// where more pairs of parts of lots of the layer have boxes that meet, the boundary included, than may be tested.
 pub fn access_left<T: Tests, K: Keeper<T>>(
     alloc: Global,
     keeper: &K,

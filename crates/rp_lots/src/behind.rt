@@ -57,8 +57,8 @@ fn is_asked(layer: &Name, asked: &Option<Name>) -> bool
     }
 }
 
-/// The live lots behind a live one, of its layer, that have a part that may meet one of its own. `Limit` exactly where there
-/// are more pairs of such parts than a command may test.
+/// The live lots behind a live one, of its layer, that have a part that may meet one of its own. `Limit` exactly where
+/// there are more pairs of such parts than a command may test.
 fn later_near<T: Tests, K: Keeper<T>>(
     alloc: Global,
     keeper: &K,
@@ -74,9 +74,9 @@ fn later_near<T: Tests, K: Keeper<T>>(
     lots_near::<T, K>(alloc, keeper, form, &lot.layer, &lot.id, place + 1, reach)
 }
 
-/// The pairs of each lot at `places` with the live lots of its layer behind it that have a part which may meet one of its
-/// own, as `reach` says, in the order of the first and then of the second; and how many pairs of such parts there are.
-/// `Limit` exactly where these are more than a command may test.
+/// The pairs of each lot at `places` with the live lots of its layer behind it that have a part which may meet one of
+/// its own, as `reach` says, in the order of the first and then of the second; and how many pairs of such parts there
+/// are. `Limit` exactly where these are more than a command may test.
 pub fn later_pairs<T: Tests, K: Keeper<T>>(
     alloc: Global,
     keeper: &K,

@@ -38,8 +38,8 @@ pub trait Keeper<T: Tests> {
     fn forms(&self) -> &[T::Form]
         ensures { map T.parts_of result.now ≡ lot_parts (state self.now).lots };
 
-    /// The places, in rising order, of live lots of `layer` from the place `from` on, that have another id than `id`: of all
-    /// those that have a part which may meet one of `form`'s, and maybe of others.
+    /// The places, in rising order, of live lots of `layer` from the place `from` on, that have another id than `id`:
+    /// of all those that have a part which may meet one of `form`'s, and maybe of others.
     fn near(
         &self,
         alloc: Global,

@@ -1,11 +1,11 @@
 #![tactic(auto)]
-//! The rows of the questions about lots in contact, written once over whatever answers their tests and whatever keeps the
-//! lots, and what the rows of changes need of lots.
+//! The rows of the questions about lots in contact, written once over whatever answers their tests and whatever keeps
+//! the lots, and what the rows of changes need of lots.
 //!
-//! [`Keeper`] has the lots that were ever registered, with their forms. The row of a question comes to pairs of lots that are
-//! to be judged, or to the refusal or the stop that its definition has for it, and counts exactly the tests of that. Whoever
-//! asks judges the pairs, in threads or line after line; what follows from the answers stands here too. Calls that
-//! answer `AllocError` do so only for want of memory.
+//! [`Keeper`] has the lots that were ever registered, with their forms. The row of a question comes to pairs of lots
+//! that are to be judged, or to the refusal or the stop that its definition has for it, and counts exactly the tests of
+//! that. Whoever asks judges the pairs, in threads or line after line; what follows from the answers stands here too.
+//! Calls that answer `AllocError` do so only for want of memory.
 
 mod access;
 mod behind;

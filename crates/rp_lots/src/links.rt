@@ -11,9 +11,9 @@ use rp_history::LotLine;
 use rp_space::{Name, Names};
 use std::alloc::{AllocError, Global};
 
-/// What is left of `access` once its tests are counted: the ids of the live lots of the layer, and those pairs of them, in
-/// order, that have parts which may touch, by their numbers among the ids and by their places among all lots. The latter are
-/// to be judged, and [`access_told`](crate::access_told) tells the rest by the answers.
+/// What is left of `access` once its tests are counted: the ids of the live lots of the layer, and those pairs of them,
+/// in order, that have parts which may touch, by their numbers among the ids and by their places among all lots. The
+/// latter are to be judged, and [`access_told`](crate::access_told) tells the rest by the answers.
 #[derive(Drop)]
 pub struct AccessLeft {
     pub from: Name,
@@ -57,7 +57,7 @@ fn number_in(places: &[usize], place: usize) -> usize
     }
 }
 
-/// Those pairs of numbers that meet.
+/// The pairs of numbers for which `met` says yes.
 pub(crate) fn met_pairs(
     alloc: Global,
     pairs: &[Pair],

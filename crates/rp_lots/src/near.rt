@@ -72,7 +72,8 @@ fn may_meet<T: Tests, K: Keeper<T>>(first: &T::Part, second: &T::Part, reach: Re
 }
 
 /// The live lots of `layer`, from the place `from` on, that have another id than `id` and a part that may meet one of
-/// `form`'s, in the order of registration. `Limit` exactly where there are more pairs of such parts than a command may test.
+/// `form`'s, in the order of registration. `Limit` exactly where there are more pairs of such parts than a command may
+/// test.
 pub fn lots_near<T: Tests, K: Keeper<T>>(
     alloc: Global,
     keeper: &K,
@@ -93,8 +94,8 @@ pub fn lots_near<T: Tests, K: Keeper<T>>(
     count_at::<T, K>(alloc, keeper, form, places.items(), reach)
 }
 
-/// Those of some places whose lots have a part that may meet one of `form`'s, in order, and how many pairs of such parts
-/// there are. `Limit` exactly where these are more than a command may test.
+/// Those of some places whose lots have a part that may meet one of `form`'s, in order, and how many pairs of such
+/// parts there are. `Limit` exactly where these are more than a command may test.
 fn count_at<T: Tests, K: Keeper<T>>(
     alloc: Global,
     keeper: &K,

@@ -18,17 +18,17 @@ use rp_space::{Listed, Name, Names};
 use rp_tests::{Stopped, Tests};
 use std::alloc::{AllocError, Global};
 
-/// What is left of `neighbours` once its tests are counted: the places of the lots that may touch the one that is asked for,
-/// and its pairs with them, in order, which are to be judged. [`ids_met`] tells the neighbours by the answers.
+/// What is left of `neighbours` once its tests are counted: the places of the lots that may touch the one that is asked
+/// for, and its pairs with them, in order, which are to be judged. [`ids_met`] tells the neighbours by the answers.
 #[derive(Drop)]
 pub struct TouchLeft {
     pub places: Listed<usize>,
     pub pairs: Vec<Pair>,
 }
 
-/// `neighbours`, up to the tests of pairs: the other live lots of the layer of the lot `id` that have a part which may touch
-/// one of its own. `Unknown(id)` where it isn't live; `Limit` where more pairs of their parts have boxes that meet, the
-/// boundary included, than may be tested.
+/// `neighbours`, up to the tests of pairs: the other live lots of the layer of the lot `id` that have a part which may
+/// touch one of its own. `Unknown(id)` where it isn't live; `Limit` where more pairs of their parts have boxes that
+/// meet, the boundary included, than may be tested.
 pub fn touch_left<T: Tests, K: Keeper<T>>(
     alloc: Global,
     keeper: &K,
@@ -47,8 +47,8 @@ pub fn touch_left<T: Tests, K: Keeper<T>>(
     Ok(contacts_left::<T, K>(alloc, keeper, place, &layer, &id, tests)?)
 }
 
-/// The same of the lot at `place`, behind the check on its id: the live lots of `layer` with another id than `id` that have a
-/// part which may touch one of its own.
+/// `neighbours` of the lot at `place`, as `touch_left`, behind the check on its id: the live lots of `layer` with
+/// another id than `id` that have a part which may touch one of its own.
 pub fn contacts_left<T: Tests, K: Keeper<T>>(
     alloc: Global,
     keeper: &K,

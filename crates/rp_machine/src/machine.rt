@@ -28,8 +28,8 @@ use std::alloc::{AllocError, Global};
 use std::marker::Model;
 use std::thread::Threads;
 
-/// The machine that answers the lines of a script. A contract sees the version of the script, which no line changes, and
-/// what is kept between the lines: a sound state.
+/// The machine that answers the lines of a script. A contract sees the version of the script, which no line changes,
+/// and what is kept between the lines: a sound state.
 #[derive(Drop)]
 pub struct Machine {
     version: Version,
@@ -79,9 +79,10 @@ impl Machine {
         self.state.count_live()
     }
 
-    /// The answer to the line with the number `n`, which is above every birth and every end of a lot, and what it changes.
-    /// The line is read by the version. A blank line has an answer without echo and verdicts. A line that is refused changes
-    /// nothing. After `AllocError` the machine is as it was. The next number is above every birth and every end again.
+    /// The answer to the line with the number `n`, which is above every birth and every end of a lot, and what it
+    /// changes. The line is read by the version. A blank line has an answer without echo and verdicts. A line that is
+    /// refused changes nothing. After `AllocError` the machine is as it was. The next number is above every birth and
+    /// every end again.
     pub fn step<R: Threads + Sync>(
         &mut self,
         rt: &R,

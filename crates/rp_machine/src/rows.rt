@@ -33,8 +33,8 @@ fn told(asked: Result<Verdicts, RowEnd>) -> Result<Reply, RowEnd>
 }
 
 impl State {
-    /// Carries out the command of the line with the number `n`: its reply, or why there is none. Where there is none the
-    /// state is as it was.
+    /// Carries out the command of the line with the number `n`: its reply, or why there is none. Where there is none
+    /// the state is as it was.
     pub(crate) fn carry_out<R: Threads + Sync>(
         &mut self,
         rt: &R,

@@ -23,9 +23,9 @@ use rp_tests::Stopped;
 use std::alloc::{AllocError, Global};
 use std::marker::Model;
 
-/// What a machine keeps between the lines of a script: the present layer, what names stand for, and all lots that were ever
-/// registered. That is a sound state: names and ids are distinct, each stands for a region, live lots of one layer share no
-/// point, and the limits of numbers and of parts are kept.
+/// What a machine keeps between the lines of a script: the present layer, what names stand for, and all lots that were
+/// ever registered. That is a sound state: names and ids are distinct, each stands for a region, live lots of one layer
+/// share no point, and the limits of numbers and of parts are kept.
 #[derive(Drop)]
 pub(crate) struct State {
     layer: Name,

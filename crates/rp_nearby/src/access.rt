@@ -11,8 +11,8 @@ use std::alloc::{AllocError, Global};
 /// Levels, each with the id of its lot.
 pub type Levels = Listed<(u32, Name)>;
 
-/// A shortest chain of lots in contact, if there is one, and for each lot that has a chain how many steps a shortest one has.
-/// A chain has at most 65,536 lots.
+/// A shortest chain of lots in contact, if there is one, and for each lot that has a chain how many steps a shortest
+/// one has. A chain has at most 65,536 lots.
 #[derive(Drop)]
 pub struct Access {
     pub chain: Option<Names>,

@@ -12,8 +12,8 @@ use rp_space::{IntBox, Name};
 use std::alloc::{AllocError, Global};
 use std::fmt;
 
-/// A box around each lot, moved into the cube of its layer, under the place of the lot: of the live ones in one index, and of
-/// all that ever were in another.
+/// A box around each lot, moved into the cube of its layer, under the place of the lot: of the live ones in one index,
+/// and of all that ever were in another.
 #[derive(Drop)]
 pub struct LotBoxes {
     pub(crate) live: Index,
@@ -81,8 +81,8 @@ impl LotBoxes {
         }
     }
 
-    /// Takes in `hulls`, the boxes around new lots, which are live: of the lots from the place `first` on, which have none
-    /// yet. Each stands in the cube of its layer ([`moved`](crate::moved)). After `AllocError` all is as before.
+    /// Takes in `hulls`, the boxes around new lots, which are live: of the lots from the place `first` on, which have
+    /// none yet. Each stands in the cube of its layer ([`moved`](crate::moved)). After `AllocError` all is as before.
     pub fn add_all(
         &mut self,
         alloc: Global,

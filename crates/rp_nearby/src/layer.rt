@@ -1,5 +1,6 @@
-//! Where the boxes of each layer stand in the indexes: a layer has a cube of its own, in a grid of 64 by 64 by 64 cubes, as far
-//! as its name tells. So what is asked of one layer does not meet the lots of the others that share its place.
+//! Where the boxes of each layer stand in the indexes: a layer has a cube of its own, in a grid of 64 by 64 by 64
+//! cubes, as far as its name tells. So what is asked of one layer does not meet the lots of the others that share its
+//! place.
 ghost use Rattle.std.specs.Prelude.{◌≡◌, ◌<◌, ◌+◌, ◌%◌, ◌/◌, ◌+ℤ◌};
 ghost use Rattle.rp_algebra.specs.Within.{IsWithin};
 ghost use Rattle.rp_space.specs.Boxes.{integer_box};
@@ -13,8 +14,8 @@ const EDGE: i32 = 67_108_864;
 /// How far the coordinates are from 0 that are moved: half the edge of the domain, and one more.
 const FAR: i32 = 16_777_217;
 
-/// The box, moved into the cube of a layer. A side that lies outside of the domain goes as far as a number does, so that what
-/// meets before the move meets after it.
+/// The box, moved into the cube of a layer. A side that lies outside of the domain goes as far as a number does, so
+/// that what meets before the move meets after it.
 pub fn moved(layer: &Name, bounds: &IntBox) -> IntBox
     ensures { integer_box result ≡ moved layer.now (integer_box bounds.now) }
 {

@@ -104,8 +104,8 @@ fn first<C: Choice, L: Ledger>(
     index.first(bounds, false, choice, &Quiet, &mut steps)
 }
 
-/// The box from the whole numbers at or below the coordinates of a point of the cube to the next ones. Every box that holds
-/// the point meets it.
+/// The box from the whole numbers at or below the coordinates of a point of the cube to the next ones. Every box that
+/// holds the point meets it.
 fn unit_box(p: &Point) -> IntBox
     requires { is_cube_point p.now ≡ true }
     ensures { (b : IntegerBox) → IsInBox b p.now → do_meet false (integer_box result) b ≡ true }

@@ -22,13 +22,13 @@ use std::alloc::Global;
 use std::thread::Threads;
 
 impl Parcels {
-    /// A shortest chain of live parcels of one layer from one to another, each in contact with the next, and the level of
-    /// each parcel of the layer that has one: how many steps the shortest chain from it has. Refusals, in this order:
-    /// `Unknown(from)` and `Unknown(to)` where one isn't live; `Layers(to)` where the layers differ; `Limit` where too many
-    /// pairs of parts of parcels of the layer have boxes that meet, the boundary included.
+    /// A shortest chain of live parcels of one layer from one to another, each in contact with the next, and the level
+    /// of each parcel of the layer that has one: how many steps the shortest chain from it has. Refusals, in this
+    /// order: `Unknown(from)` and `Unknown(to)` where one isn't live; `Layers(to)` where the layers differ; `Limit`
+    /// where too many pairs of parts of parcels of the layer have boxes that meet, the boundary included.
     ///
-    /// The items are the pairs of live parcels of the layer that have such a pair of parts. They are judged in halves, and a
-    /// run of at most `grain` is not split; the answer and the proof lines are the same for every grain.
+    /// The items are the pairs of live parcels of the layer that have such a pair of parts. They are judged in halves,
+    /// and a run of at most `grain` is not split; the answer and the proof lines are the same for every grain.
     pub fn access<R: Threads + Sync, W: Watch>(
         &self,
         rt: &R,

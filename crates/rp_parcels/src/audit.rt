@@ -18,11 +18,11 @@ use std::alloc::Global;
 use std::thread::Threads;
 
 impl Parcels {
-    /// The number of live parcels of all layers, with a proof line in `work` for each pair of parts whose boxes meet, of two
-    /// live parcels of one layer: they share no point. `Limit` exactly where there are too many of these pairs.
+    /// The number of live parcels of all layers, with a proof line in `work` for each pair of parts whose boxes meet,
+    /// of two live parcels of one layer: they share no point. `Limit` exactly where there are too many of these pairs.
     ///
-    /// The items are the pairs of parcels that have such a pair of parts. They are judged in halves, and a run of at most
-    /// `grain` is not split; the answer and the proof lines are the same for every grain.
+    /// The items are the pairs of parcels that have such a pair of parts. They are judged in halves, and a run of at
+    /// most `grain` is not split; the answer and the proof lines are the same for every grain.
     pub fn audit<R: Threads + Sync, W: Watch>(
         &self,
         rt: &R,

@@ -33,9 +33,9 @@ impl Parcels {
         self.near(alloc, watch, region, &lot.layer, &lot.id, place + 1, reach)
     }
 
-    /// The pairs of each of some live parcels with those behind it, of its layer, that have a part that may meet one of its
-    /// own, in the order of the first and then of the second. `Limit` exactly where there are more pairs of such parts than
-    /// a command may make tests.
+    /// The pairs of each of some live parcels with those behind it, of its layer, that have a part that may meet one of
+    /// its own, in the order of the first and then of the second. `Limit` exactly where there are more pairs of such
+    /// parts than a command may make tests.
     pub(crate) fn later_pairs<W: Watch>(
         &self,
         alloc: Global,

@@ -75,8 +75,8 @@ pub(crate) fn meet_in_halves<R: Threads + Sync, W: Watch>(
     Ok(met)
 }
 
-/// What the tests of each pair show, in order. They are judged in halves, and a run of at most `grain` is not split; the
-/// watch is told of each pair as its tests begin.
+/// What the tests of each pair show, in order. They are judged in halves, and a run of at most `grain` is not split;
+/// the watch is told of each pair as its tests begin.
 fn judge_pairs<R: Threads + Sync, W: Watch>(
     rt: &R,
     alloc: Global,

@@ -24,8 +24,8 @@ pub enum ParcelFault {
     Few,
     /// The region has no part.
     Empty,
-    /// More tests than a command may count, more parts than a region or all parcels, or more half-spaces than a part may
-    /// have.
+    /// More tests than a command may count, more parts than a region or all parcels, or more half-spaces than a part
+    /// may have.
     Limit,
     /// The first live parcel of the layer that shares a point with the region, and what shows it.
     Overlaps(Name, Inside),

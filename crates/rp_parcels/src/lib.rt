@@ -1,6 +1,6 @@
 #![tactic(auto)]
-//! The register of parcels: live lots of one layer never share a point. Each call makes the checks, counts and tests of the
-//! row of its command.
+//! The register of parcels: live lots of one layer never share a point. Each call makes the checks, counts and tests of
+//! the row of its command.
 //!
 //! A register is by its type a sound one: ids are distinct, live parcels of one layer share no point, every parcel has
 //! one, ends are above births, origins stand before and are of the same layer, and the limits are kept. A call changes

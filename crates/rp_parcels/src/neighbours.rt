@@ -28,8 +28,8 @@ impl Parcels {
     /// order: `Unknown(id)` where it isn't live; `Limit` where too many pairs of their parts have boxes that meet, the
     /// boundary included.
     ///
-    /// The items are the other live parcels of the layer that have such a pair with it. They are judged in halves, and a
-    /// run of at most `grain` is not split; the answer and the proof lines are the same for every grain.
+    /// The items are the other live parcels of the layer that have such a pair with it. They are judged in halves, and
+    /// a run of at most `grain` is not split; the answer and the proof lines are the same for every grain.
     pub fn neighbours<R: Threads + Sync, W: Watch>(
         &self,
         rt: &R,
@@ -47,8 +47,8 @@ impl Parcels {
         Ok(self.touched(rt, alloc, watch, grain, &layer, &id, place, work)?)
     }
 
-    /// The live parcels of the layer with another id that are in contact with the one at a place. As many tests are counted
-    /// as there are pairs of parts whose boxes meet, the boundary included, before any of them is made.
+    /// The live parcels of the layer with another id that are in contact with the one at a place. As many tests are
+    /// counted as there are pairs of parts whose boxes meet, the boundary included, before any of them is made.
     fn touched<R: Threads + Sync, W: Watch>(
         &self,
         rt: &R,
@@ -69,7 +69,7 @@ impl Parcels {
         work.take_over(walked, came)
     }
 
-    /// The same walk on a work of its own.
+    /// The walk of `touched`, on a work of its own.
     fn walk_touched<R: Threads + Sync, W: Watch>(
         &self,
         rt: &R,

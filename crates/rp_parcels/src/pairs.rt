@@ -65,8 +65,8 @@ impl<W: Watch> Judge for Pairs<'_, W> {
 }
 
 impl Parcels {
-    /// What the tests of each pair show, in order. They are judged in halves, and a run of at most `grain` is not split; the
-    /// watch is told of each pair as its tests begin.
+    /// What the tests of each pair show, in order. They are judged in halves, and a run of at most `grain` is not
+    /// split; the watch is told of each pair as its tests begin.
     fn judge_pairs<R: Threads + Sync, W: Watch>(
         &self,
         rt: &R,
@@ -89,8 +89,8 @@ impl Parcels {
         judge_all(rt, alloc, grain, &pairs)
     }
 
-    /// What the tests of each pair show, in order, once as many tests are counted as there are pairs of their parts. `Limit`
-    /// exactly where these are too many.
+    /// What the tests of each pair show, in order, once as many tests are counted as there are pairs of their parts.
+    /// `Limit` exactly where these are too many.
     pub(crate) fn judge_counted<R: Threads + Sync, W: Watch>(
         &self,
         rt: &R,

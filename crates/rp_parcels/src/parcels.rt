@@ -20,8 +20,8 @@ use std::alloc::{AllocError, Global};
 use std::marker::Model;
 
 /// All parcels that were ever registered, in the order of registration, with their regions. A contract sees them as the
-/// lots of a sound state: ids are distinct, live parcels of one layer share no point, every parcel has a point, the limits
-/// of parts are kept, every end is above its birth, and origins stand before and are of the same layer.
+/// lots of a sound state: ids are distinct, live parcels of one layer share no point, every parcel has a point, the
+/// limits of parts are kept, every end is above its birth, and origins stand before and are of the same layer.
 #[derive(Drop)]
 pub struct Parcels {
     lots: Lots<Regions>,
@@ -97,8 +97,8 @@ impl Parcels {
         self.lots.have_room_for(parts)
     }
 
-    /// Ends the parcels of the ids `ends` at the line, and lets others be born in their place, which go last, each with its
-    /// region. After `AllocError` all is as before.
+    /// Ends the parcels of the ids `ends` at the line, and lets others be born in their place, which go last, each with
+    /// its region. After `AllocError` all is as before.
     pub(crate) fn replace(
         &mut self,
         alloc: Global,

@@ -74,8 +74,8 @@ impl Parcels {
         Ok(())
     }
 
-    /// The first live parcel of the layer that shares a point with the region, and what shows it. As many tests are counted
-    /// as there are pairs of parts whose boxes meet. The id is that of no parcel.
+    /// The first live parcel of the layer that shares a point with the region, and what shows it. As many tests are
+    /// counted as there are pairs of parts whose boxes meet. The id is that of no parcel.
     fn overlapped<W: Watch>(
         &self,
         alloc: Global,

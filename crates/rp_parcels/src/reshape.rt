@@ -24,8 +24,8 @@ use std::alloc::{AllocError, Global};
 impl Parcels {
     /// Cuts a live parcel in two at the line, which is above every birth and every end: `first` gets its points in the
     /// region `by`, `second` the others. Refusals, in this order: `Unknown(id)` where it isn't live, `Known(first)`,
-    /// `Known(second)`, `Same` where both are one name, `EmptySide(1)`, `EmptySide(2)`, `Limit`; a limit of the operations
-    /// on regions comes at its turn. After a refusal all is as before.
+    /// `Known(second)`, `Same` where both are one name, `EmptySide(1)`, `EmptySide(2)`, `Limit`; a limit of the
+    /// operations on regions comes at its turn. After a refusal all is as before.
     pub fn cut(
         &mut self,
         alloc: Global,
@@ -95,7 +95,8 @@ impl Parcels {
         Ok(())
     }
 
-    /// The parts of some live parcels, in the order given. `Limit` exactly where these are more than 1,024. It makes no test.
+    /// The parts of some live parcels, in the order given. `Limit` exactly where these are more than 1,024. It makes no
+    /// test.
     fn joined(&self, alloc: Global, ids: &[Name], work: &mut Work) -> Result<Region, OpFault>
         ensures { Makes (λ region. region) result work.old work.new (if_at_most most_parts (joined_parts (map (λ x. parts_with_id (lots_in [] self.now) x) ids.now))) }
     {
@@ -108,8 +109,8 @@ impl Parcels {
         Ok(region)
     }
 
-    /// Ends a live parcel at the line, and lets others be born in its place, which have it as their origin: as many ids as
-    /// regions.
+    /// Ends a live parcel at the line, and lets others be born in its place, which have it as their origin: as many ids
+    /// as regions.
     pub(crate) fn divide(
         &mut self,
         alloc: Global,

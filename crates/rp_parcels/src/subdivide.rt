@@ -198,8 +198,8 @@ fn check_apart_from(
     Ok(())
 }
 
-/// What shows that a region has a point that no child has, and `None` exactly where there is none. The children's parts may
-/// be more than a region has.
+/// What shows that a region has a point that no child has, and `None` exactly where there is none. The children's parts
+/// may be more than a region has.
 fn gap(
     alloc: Global,
     whole: &Region,
@@ -243,8 +243,8 @@ fn outside(
     point_of(alloc, &left, work)
 }
 
-/// What shows that a region has a point, by a test of its first part, which isn't counted; `None` exactly where it has no
-/// part.
+/// What shows that a region has a point, by a test of its first part, which isn't counted; `None` exactly where it has
+/// no part.
 fn point_of(alloc: Global, region: &Region, work: &mut Work) -> Result<Option<Inside>, OpFault>
     ensures walk { Makes is_none result work.old work.new (show_then_no first_tester region.now) }
     ensures told { IfOk result (λ o. IfSome o (λ points. IsLast (in_line points) work.new.proofs)) }

@@ -16,8 +16,8 @@ use rp_register::{Parcel, Register};
 use rp_tests::Stopped;
 use std::alloc::Global;
 
-/// Each two live lots of one layer are shown to share no point; no more than a command may test of their pairs of parts may
-/// meet. `TakenWrong` at the first line that shows a common point.
+/// Each two live lots of one layer are shown to share no point; no more than a command may test of their pairs of parts
+/// may meet. `TakenWrong` at the first line that shows a common point.
 pub(crate) fn show_apart(
     alloc: Global,
     register: &Register,

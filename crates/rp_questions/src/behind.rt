@@ -17,8 +17,8 @@ use std::alloc::Global;
 /// The most tests that are counted in a command.
 const MAX_TESTS: u64 = 65536;
 
-/// The live lots behind the lot at a place, of its layer, that have a part that may meet one of its own, and how many pairs of
-/// parts these are. `Limit` exactly where these are more than a command may test.
+/// The live lots behind the lot at a place, of its layer, that have a part that may meet one of its own, and how many
+/// pairs of parts these are. `Limit` exactly where these are more than a command may test.
 pub(crate) fn near_behind<'a>(
     alloc: Global,
     register: &'a Register,
@@ -36,8 +36,8 @@ pub(crate) fn near_behind<'a>(
     register.near(alloc, lot.form, &line.layer, &line.id, place + 1, reach)
 }
 
-/// How many pairs of parts of two live lots of one layer may meet. `Limit` exactly where these are more than a command may
-/// test.
+/// How many pairs of parts of two live lots of one layer may meet. `Limit` exactly where these are more than a command
+/// may test.
 pub(crate) fn pairs_in_layers(alloc: Global, register: &Register) -> Result<u64, Stopped>
     ensures { CountsUpTo (λ n. n) result (count_in_layers near_pair (live_lots register.now.lots)) }
 {

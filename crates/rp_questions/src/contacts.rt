@@ -28,8 +28,8 @@ pub fn neighbours(
     Ok(neighbour_lines(alloc, ids.items())?)
 }
 
-/// `access`: a shortest chain of live lots of one layer from `from` to `to`, each in contact with the next, and the level of
-/// each lot of the layer that has one, as the next lines of `trail` show.
+/// `access`: a shortest chain of live lots of one layer from `from` to `to`, each in contact with the next, and the
+/// level of each lot of the layer that has one, as the next lines of `trail` show.
 pub fn access(
     alloc: Global,
     register: &Register,

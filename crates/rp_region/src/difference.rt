@@ -29,7 +29,8 @@ pub(crate) fn subtract(
     Ok(left)
 }
 
-/// The same. Each part that is carved is held in turn, whatever was held before.
+/// `parts` without `others`, one after the other. Each part that is carved is held in `front` in turn, whatever was
+/// held before.
 fn subtract_each(
     alloc: Global,
     parts: Listed<Part>,

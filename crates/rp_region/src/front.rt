@@ -16,8 +16,9 @@ use rp_space::Half;
 use std::alloc::{AllocError, Global};
 use std::marker::Model;
 
-/// A cell that is held with its vertices, to be tested with further half-spaces behind its own: what it shares with these
-/// cells is held once. A contract sees its half-spaces. Takes no memory. It is large, so a work keeps one and lends it.
+/// A cell that is held with its vertices, to be tested with further half-spaces behind its own: what it shares with
+/// these cells is held once. A contract sees its half-spaces. Takes no memory. It is large, so a work keeps one and
+/// lends it.
 #[derive(Drop)]
 pub(crate) struct Front {
     cell: Held,
@@ -96,8 +97,8 @@ impl Front {
         self.cell.push(half);
     }
 
-    /// A strict test of two parts together. Whether they share a point, and then the cell of the first is held. Its line is
-    /// appended; it isn't counted.
+    /// A strict test of two parts together. Whether they share a point, and then the cell of the first is held. Its
+    /// line is appended; it isn't counted.
     pub(crate) fn meets(
         &mut self,
         part: &Part,
@@ -118,9 +119,9 @@ impl Front {
         work.held_test(&self.longer)
     }
 
-    /// A part test of the cell with further half-spaces behind its own: at most 64 together. The part of its slim cell, and
-    /// `None` exactly where it has no point. Its lines are appended; it isn't counted. `Limit` exactly where the slim cell has
-    /// more than 32 half-spaces.
+    /// A part test of the cell with further half-spaces behind its own: at most 64 together. The part of its slim cell,
+    /// and `None` exactly where it has no point. Its lines are appended; it isn't counted. `Limit` exactly where the
+    /// slim cell has more than 32 half-spaces.
     pub(crate) fn part_with(
         &mut self,
         alloc: Global,

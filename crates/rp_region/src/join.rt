@@ -30,7 +30,8 @@ pub(crate) fn join_each(
     Ok(())
 }
 
-/// The same. Each part of the first is held in turn, whatever was held before.
+/// Each of `parts` with each of `others`, behind the parts `made`. Each of `parts` is held in `front` in turn, whatever
+/// was held before.
 fn join_in_turn(
     alloc: Global,
     made: &mut Listed<Part>,

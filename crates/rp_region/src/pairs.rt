@@ -9,8 +9,8 @@ use crate::part::Part;
 use crate::witness::Witness;
 use crate::work::Work;
 
-/// Each part of a list with each part of a second list, up to the first pair that meets. Where `near`, only the pairs are
-/// tested whose boxes let them meet.
+/// Each part of a list with each part of a second list, up to the first pair that meets. Where `near`, only the pairs
+/// are tested whose boxes let them meet.
 pub(crate) fn first_pair<W: Witness>(
     parts: &[Part],
     others: &[Part],

@@ -85,15 +85,16 @@ impl Part {
         })
     }
 
-    /// The first outside certificate of two parts together, where it has at most two terms, one of each: then they share no
-    /// point. With `None` that is not known.
+    /// The first outside certificate of two parts together, where it has at most two terms, one of each: then they
+    /// share no point. With `None` that is not known.
     pub(crate) fn refute_with(&self, other: &Part) -> Option<Outside>
         ensures { IfSome result (λ terms. out_line terms ≡ strict_line (self.now.cell ++ other.now.cell)) }
     {
         refute_between(self.halves.items(), other.halves.items())
     }
 
-    /// The same of their weak systems: then the parts are not in contact.
+    /// The first outside certificate of the weak systems of two parts together, where it has at most two terms, one of
+    /// each: then the parts are not in contact. With `None` that is not known.
     pub(crate) fn refute_contact_with(&self, other: &Part) -> Option<Outside>
         ensures { IfSome result (λ terms. apart_line terms ≡ weak_line (self.now.cell ++ other.now.cell)) }
     {

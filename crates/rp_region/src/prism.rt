@@ -60,8 +60,8 @@ impl Region {
         self.exchange(alloc, made, work)
     }
 
-    /// What is in one of two regions and not in the other: what is left of the first outside the second, and then what is left of
-    /// the second outside the first.
+    /// What is in one of two regions and not in the other: what is left of the first outside the second, and then what
+    /// is left of the second outside the first.
     fn exchange(self, alloc: Global, made: Region, work: &mut Work) -> Result<Region, OpFault>
         ensures { Makes (λ region. region) result work.old work.new (exchange_lists first_tester self made) }
     {

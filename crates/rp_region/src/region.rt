@@ -167,10 +167,11 @@ impl Region {
         whole.into_minus(alloc, self, work)
     }
 
-    /// What shows that two regions share a point: an inside certificate of the first two parts that do, and `None` exactly
-    /// where the regions share none. Each part of the first is tested with each part of the other, up to the first pair that
-    /// is found. With `near` only the pairs are tested whose boxes share more than boundary, and nothing is counted; else as
-    /// many tests are counted as there are pairs, and `Limit` comes exactly where these are too many.
+    /// What shows that two regions share a point: an inside certificate of the first two parts that do, and `None`
+    /// exactly where the regions share none. Each part of the first is tested with each part of the other, up to the
+    /// first pair that is found. With `near` only the pairs are tested whose boxes share more than boundary, and
+    /// nothing is counted; else as many tests are counted as there are pairs, and `Limit` comes exactly where these are
+    /// too many.
     pub fn first_common(
         &self,
         _alloc: Global,
@@ -185,10 +186,11 @@ impl Region {
         self.first_pair(other, near, work)
     }
 
-    /// What shows that two regions are in contact: a weak point of the first two parts that are, and `None` exactly where the
-    /// regions are not. Each part of the first is tested with each part of the other, up to the first pair that is found.
-    /// With `near` only the pairs are tested whose boxes share a point, the boundary included, and nothing is counted; else
-    /// as many tests are counted as there are pairs, and `Limit` comes exactly where these are too many.
+    /// What shows that two regions are in contact: a weak point of the first two parts that are, and `None` exactly
+    /// where the regions are not. Each part of the first is tested with each part of the other, up to the first pair
+    /// that is found. With `near` only the pairs are tested whose boxes share a point, the boundary included, and
+    /// nothing is counted; else as many tests are counted as there are pairs, and `Limit` comes exactly where these are
+    /// too many.
     pub fn first_touch(
         &self,
         _alloc: Global,

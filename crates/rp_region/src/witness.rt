@@ -16,8 +16,8 @@ use crate::work::Work;
 use rp_space::{Inside, Point};
 use std::alloc::AllocError;
 
-/// What shows that two parts meet: an inside certificate of both together shows a common member, a weak point shows that
-/// they touch.
+/// What shows that two parts meet: an inside certificate of both together shows a common member, a weak point shows
+/// that they touch.
 pub(crate) trait Witness: Sized {
     ghost may_meet: { Part → Part → Bool };
 
@@ -37,7 +37,8 @@ pub(crate) trait Witness: Sized {
         ensures makes { Makes is_some (op_result result) work.old work.new (test (first.now.cell ++ second.now.cell)) }
         ensures told { IfOk result (λ o. IfSome o (λ x. IsLast (line x) work.new.proofs)) };
 
-    /// The same test of two parts that are known to have no witness, which is not looked for.
+    /// The test of `first` and `second` together, as `find` makes it, where they are known to have no witness: none is
+    /// looked for.
     fn refute(work: &mut Work, first: &Part, second: &Part) -> Result<(), AllocError>
         requires { has_none (first.now.cell ++ second.now.cell) }
         ensures { Makes (λ _. false) (op_result result) work.old work.new (test (first.now.cell ++ second.now.cell)) };

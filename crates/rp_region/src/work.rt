@@ -222,8 +222,8 @@ impl Work {
         }
     }
 
-    /// A weak test of the cell of `first` followed by `second`, at most 64 half-spaces together: the first weak point, and
-    /// `None` exactly where the weak system of the cell has no point. Its line is appended; it isn't counted.
+    /// A weak test of the cell of `first` followed by `second`, at most 64 half-spaces together: the first weak point,
+    /// and `None` exactly where the weak system of the cell has no point. Its line is appended; it isn't counted.
     pub fn weak(
         &mut self,
         _alloc: Global,
@@ -362,7 +362,8 @@ impl Work {
         found
     }
 
-    /// Whether the weak system of a cell has a point, as `decide_weak` answers, over the room where there is one. All stays as it is.
+    /// Whether the weak system of a cell has a point, as `decide_weak` answers, over the room where there is one. All
+    /// stays as it is.
     fn decide_weak(&mut self, cell: &[Half]) -> Weak
         requires { length cell.now ≤ 64 }
         ensures same { self.new ≡ self.old }
@@ -414,7 +415,7 @@ impl Work {
         Ok(part)
     }
 
-    /// The same over room of its own. It is apart so that nobody else makes room for the vertices.
+    /// The part test of `cell` over room of its own. It is apart so that nobody else makes room for the vertices.
     fn part_alone(&mut self, alloc: Global, cell: &[Half]) -> Result<Option<Part>, OpFault>
         requires { length cell.now ≤ 64 }
         ensures makes { Makes (λ o. o) result self.old self.new (part_test cell.now) }
@@ -423,8 +424,8 @@ impl Work {
         self.held_part(alloc, &Held::new(cell))
     }
 
-    /// A part test of a cell that is held: the part of its slim cell, and `None` exactly where the cell has no point. Its lines
-    /// are appended; it isn't counted. `Limit` exactly where the slim cell has more than 32 half-spaces.
+    /// A part test of a cell that is held: the part of its slim cell, and `None` exactly where the cell has no point.
+    /// Its lines are appended; it isn't counted. `Limit` exactly where the slim cell has more than 32 half-spaces.
     pub(crate) fn held_part(&mut self, alloc: Global, cell: &Held) -> Result<Option<Part>, OpFault>
         ensures makes { Makes (λ o. o) result self.old self.new (part_test cell.now) }
         ensures made { IfOk result (λ o. IsMadeOf IsPart cell.now o) }
@@ -441,8 +442,8 @@ impl Work {
         }
     }
 
-    /// The part of the slim cell of a cell in which a strict test has found these points. The lines of the test and of the
-    /// part are appended.
+    /// The part of the slim cell of a cell in which a strict test has found these points. The lines of the test and of
+    /// the part are appended.
     fn slim_part(&mut self, alloc: Global, cell: &Held, points: Inside) -> Result<Part, OpFault>
         requires found { first_inside cell.now ≡ Some points }
         requires line { in_line points ≡ strict_line cell.now }

@@ -20,8 +20,9 @@ use rp_space::{Listed, Name, Point};
 use std::alloc::{AllocError, Global};
 use std::marker::Model;
 
-/// What the check keeps between two answers. A contract sees it as a sound state of parts, as the lines of the report show
-/// them: names and ids are distinct, live lots of one layer share no point, and the limits of numbers and parts are kept.
+/// What the check keeps between two answers. A contract sees it as a sound state of parts, as the lines of the report
+/// show them: names and ids are distinct, live lots of one layer share no point, and the limits of numbers and parts
+/// are kept.
 #[derive(Drop)]
 pub struct Register {
     layer: Name,
@@ -114,8 +115,8 @@ impl Register {
         self.lots.forms()
     }
 
-    /// The places, in rising order, of live lots of a layer, from a place on, that have another id: of all those that have a
-    /// part which may meet one of a form's, and maybe of others.
+    /// The places, in rising order, of live lots of a layer, from a place on, that have another id: of all those that
+    /// have a part which may meet one of a form's, and maybe of others.
     pub(crate) fn places_near(
         &self,
         alloc: Global,

@@ -11,9 +11,9 @@ use rp_follow::Form;
 use rp_kept::Lots;
 use std::alloc::{AllocError, Global};
 
-/// Makes the change at the line: lots end, as far as they are live, and others are born in their place, which go last. All
-/// lots were born before the line; the new ids are new and distinct, their origins are known, and there is room for them.
-/// After `AllocError` all is as before.
+/// Makes the change at the line: lots end, as far as they are live, and others are born in their place, which go last.
+/// All lots were born before the line; the new ids are new and distinct, their origins are known, and there is room for
+/// them. After `AllocError` all is as before.
 pub(crate) fn replace(
     lots: &mut Lots<Shown>,
     alloc: Global,

@@ -9,8 +9,8 @@ use rp_report::Verdicts;
 pub enum Reply {
     /// It has asked something: the verdict lines.
     Told(Verdicts),
-    /// It has asked something, and its verdict lines don't stand next: the line of this number is the first that is another
-    /// one, or no line is left there. None of them is taken.
+    /// It has asked something, and its verdict lines don't stand next: the line of this number is the first that is
+    /// another one, or no line is left there. None of them is taken.
     Unshown(u32),
     /// It is to change something, once its verdict line was seen.
     Changed(Change<Form>),

@@ -11,9 +11,9 @@ use rp_nearby::Reach;
 use rp_tests::Stopped;
 use std::alloc::{AllocError, Global};
 
-/// Of each of `pairs`, in order, whether the two lots meet whose forms stand in `forms` at its places, as `reach` says, on the
-/// next lines of `trail`. Only those pairs of parts are tested whose boxes let them meet, up to the first that does; nothing
-/// is counted.
+/// Of each of `pairs`, in order, whether the two lots meet whose forms stand in `forms` at its places, as `reach` says,
+/// on the next lines of `trail`. Only those pairs of parts are tested whose boxes let them meet, up to the first that
+/// does; nothing is counted.
 pub fn meet_in_turn(
     alloc: Global,
     forms: &[Form],
@@ -42,7 +42,8 @@ fn put(met: &mut Vec<bool>, meets: bool) -> Result<(), AllocError>
     Ok(())
 }
 
-/// Whether two forms meet, on the next lines. Only those pairs of parts are tested whose boxes let them; nothing is counted.
+/// Whether two forms meet, on the next lines. Only those pairs of parts are tested whose boxes let them; nothing is
+/// counted.
 fn do_meet(
     first: &Form,
     second: &Form,
