@@ -1,0 +1,2 @@
+pub mod DiskLemmas
+pub mod UniqueLemmas

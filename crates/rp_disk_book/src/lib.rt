@@ -1,0 +1,10 @@
+#![tactic(auto)]
+//! A book in an SQLite database.
+//!
+//! The lines of all entries, in the order of their numbers, are the script. [`DiskBook`] is such a database, opened.
+
+mod book;
+mod open;
+
+pub use book::DiskBook;
+pub use open::OpenFault;

@@ -1,0 +1,125 @@
+-- A machine on its way through the lines of a text, and what was put behind a script.
+use Rattle.std.proofs.Common.{◌≡◌, ℕ, ◌+◌, Bool, true, false, ◌||◌, List, [], ◌∷◌, ◌++◌, Option, refl, sym, ap, ◌∙◌, subst, append_assoc, add-one}
+use Rattle.std.specs.List.{list_any}
+use Rattle.std.proofs.lemmas.List.{append-nil}
+use Rattle.std.proofs.lemmas.List.Concat.{flat_map-append}
+use Rattle.rp_io.specs.Bytes.{Appends}
+use Rattle.rp_language.specs.Grammar.{Version}
+use Rattle.rp_model.specs.states.State.{PlainState, opening}
+use Rattle.rp_reports.specs.Text.{answer_lines, text_of_lines, line_end}
+use Rattle.rp_reports.specs.Report.{script_lines, script_version, script_body}
+use Rattle.rp_reports.specs.Machine.{Running, after_line, step_answer, step_state, lines_from, report}
+use Rattle.rp_reports.specs.Output.{is_refused_line, run_script}
+use Rattle.rp_scripts.specs.Output.{PutsOutput}
+use Rattle.rp_scripts.proofs.RefusalLemmas.{list_any-append}
+use Rattle.rp_scripts.proofs.RunLemmas.{IsTrue-both}
+use Rattle.rp_scripts.proofs.SinkLemmas.{Appends-append, Appends-nothing}
+use Rattle.rp_registrar.specs.Added.{HasEnd, HasRefusal, PutsBehind}
+use Rattle.rp_registrar.specs.Answered.{Answers, AnswersBehind, lines_by}
+use Rattle.rp_registrar.proofs.ScriptLemmas.{IsReport-computed, IsReport-nothing, report-behind, report-refused}
+
+-- what a machine told of the lines before the rest, whose first line has the number and meets the machine as it is now
+pub record HasAnswered (brief : Bool) (machine now : Running) (number next : ℕ) (lines rest : List (List ℕ)) (old said : Option (List ℕ)) (mark : Bool) : Type 0 where
+  pub told : Bool → List (List ℕ)
+  pub goes_on : (b : Bool) (more : List (List ℕ)) → told b ++ lines_by now b next (rest ++ more) ≡ lines_by machine b number (lines ++ more)
+  pub put : Appends old said (text_of_lines (told brief))
+  pub marks : mark ≡ list_any is_refused_line (told false)
+
+-- at the start nothing was told
+pub HasAnswered-start : (brief : Bool) (machine : Running) (number : ℕ) (lines : List (List ℕ)) (said : Option (List ℕ)) → HasAnswered brief machine machine number number lines lines said said false
+HasAnswered-start brief machine number lines said = record { told = λ b. []; goes_on = λ b more. refl; put = Appends-nothing said; marks = refl }
+
+-- the report lines of one line and then of others
+lines_by-cons : (b : Bool) (now after : Running) (next : ℕ) (line : List ℕ) (lines : List (List ℕ)) → after ≡ after_line now next line
+    → answer_lines b (step_answer now.version now.state next line) ++ lines_by after b (next + 1) lines ≡ lines_by now b next (line ∷ lines)
+lines_by-cons b now after next line lines e =
+    let told = answer_lines b (step_answer now.version now.state next line) in
+    ap (λ (m : Running). told ++ lines_by m b (next + 1) lines) e
+    ∙ ap (λ (n : ℕ). told ++ lines_from now.version b (step_state now.version now.state next line) n lines) (add-one next)
+
+-- one more line
+pub HasAnswered-more : (brief : Bool) (machine now after : Running) (number next : ℕ) (lines rest : List (List ℕ)) (line : List ℕ) (behind : List (List ℕ)) (old said new : Option (List ℕ)) (mark also : Bool)
+    → HasAnswered brief machine now number next lines rest old said mark → rest ≡ line ∷ behind
+    → Appends said new (text_of_lines (answer_lines brief (step_answer now.version now.state next line)))
+    → also ≡ list_any is_refused_line (answer_lines false (step_answer now.version now.state next line)) → after ≡ after_line now next line
+    → HasAnswered brief machine after number (next + 1) lines behind old new (mark || also)
+HasAnswered-more brief machine now after number next lines rest line behind old said new mark also h split put marks e =
+    let told = λ (b : Bool). answer_lines b (step_answer now.version now.state next line) in
+    record {
+      told = λ b. h.told b ++ told b;
+      goes_on = λ b more.
+          append_assoc (h.told b) (told b) (lines_by after b (next + 1) (behind ++ more))
+          ∙ ap (λ (tail : List (List ℕ)). h.told b ++ tail) (lines_by-cons b now after next line (behind ++ more) e)
+          ∙ ap (λ (ls : List (List ℕ)). h.told b ++ lines_by now b next (ls ++ more)) (sym split) ∙ h.goes_on b more;
+      put =
+          subst (Appends old new) (sym (flat_map-append (λ l. l ++ line_end ∷ []) (h.told brief) (told brief)))
+          (Appends-append old said new (text_of_lines (h.told brief)) (text_of_lines (told brief)) h.put put);
+      marks = ap (λ b. b || also) h.marks ∙ ap (λ b. list_any is_refused_line (h.told false) || b) marks ∙ sym (list_any-append is_refused_line (h.told false) (told false));
+    }
+
+-- at the end all was told
+pub Answers-end : (brief : Bool) (machine now : Running) (number next : ℕ) (text rest : List ℕ) (old said : Option (List ℕ)) (mark : Bool)
+    → HasAnswered brief machine now number next (script_lines text) (script_lines rest) old said mark → script_lines rest ≡ [] → Answers brief machine number text now next old said mark
+Answers-end brief machine now number next text rest old said mark h e =
+    let lines = script_lines text in
+    let goes_on : (b : Bool) (more : List (List ℕ)) → h.told b ++ lines_by now b next more ≡ lines_by machine b number (lines ++ more) =
+    λ b more. ap (λ (ls : List (List ℕ)). h.told b ++ lines_by now b next (ls ++ more)) (sym e) ∙ h.goes_on b more in
+    let all : (b : Bool) → h.told b ≡ lines_by machine b number lines =
+    λ b. sym (append-nil (h.told b)) ∙ goes_on b [] ∙ ap (lines_by machine b number) (append-nil lines) in
+    record {
+      put = subst (λ (ls : List (List ℕ)). Appends old said (text_of_lines ls)) (all brief) h.put;
+      marks = h.marks ∙ ap (list_any is_refused_line) (all false);
+      goes_on = λ more. ap (λ (ls : List (List ℕ)). ls ++ lines_by now false next more) (sym (all false)) ∙ goes_on false more;
+    }
+
+-- a body is answered, and then lines behind it
+pub AnswersBehind-both : (machine middle after : Running) (number next : ℕ) (body lines : List ℕ) (before hidden old new : Option (List ℕ)) (known also : Bool) → machine.state ≡ opening
+    → Answers true machine 1 body middle number before hidden known → Answers false middle number lines after next old new also → AnswersBehind machine.version body lines old new (known || also)
+AnswersBehind-both machine middle after number next body lines before hidden old new known also opened first second =
+    let told = lines_by middle false number (script_lines lines) in
+    record {
+      told = told;
+      whole =
+          subst (λ (s : PlainState). lines_from machine.version false s 1 (script_lines body) ++ told ≡ lines_from machine.version false s 1 (script_lines body ++ script_lines lines)) opened
+          (first.goes_on (script_lines lines));
+      put = second.put;
+      marks =
+          ap (λ b. b || also) first.marks ∙ ap (λ b. list_any is_refused_line (lines_by machine false 1 (script_lines body)) || b) second.marks
+          ∙ sym (list_any-append is_refused_line (lines_by machine false 1 (script_lines body)) told)
+          ∙ ap (λ (s : PlainState). list_any is_refused_line (lines_from machine.version false s 1 (script_lines body) ++ told)) opened;
+    }
+
+-- what was put behind the body of a script was put behind the script
+pub PutsBehind-answered : (script body lines : List ℕ) (v : Version) (old new : Option (List ℕ)) (mark : Bool) → HasEnd script → v ≡ script_version script → script_lines body ≡ script_body script
+    → AnswersBehind v body lines old new mark → PutsBehind script lines old new mark
+PutsBehind-answered script body lines v old new mark ends version body_is h =
+    let whole : lines_from (script_version script) false opening 1 (script_body script) ++ h.told ≡ lines_from (script_version script) false opening 1 (script_body script ++ script_lines lines) =
+    subst (λ (u : Version). lines_from u false opening 1 (script_body script) ++ h.told ≡ lines_from u false opening 1 (script_body script ++ script_lines lines)) version
+    (subst (λ (ls : List (List ℕ)). lines_from v false opening 1 ls ++ h.told ≡ lines_from v false opening 1 (ls ++ script_lines lines)) body_is h.whole) in
+    let marks : mark ≡ list_any is_refused_line (lines_from (script_version script) false opening 1 (script_body script) ++ h.told) =
+    h.marks ∙ ap (λ (ls : List (List ℕ)). list_any is_refused_line (lines_from v false opening 1 ls ++ h.told)) body_is
+    ∙ ap (λ (u : Version). list_any is_refused_line (lines_from u false opening 1 (script_body script) ++ h.told)) version in
+    record {
+      before = report false script;
+      told = h.told;
+      report_before = IsReport-computed script (report false script) refl;
+      report = IsReport-computed (script ++ lines) (report false script ++ h.told) (report-behind script lines h.told ends whole);
+      text = h.put;
+      marks = IsTrue-both mark (list_any is_refused_line (report false script ++ h.told)) (marks ∙ sym (report-refused script h.told));
+    }
+
+-- behind an empty script stands the whole report
+pub PutsBehind-nothing : (lines : List ℕ) (old new : Option (List ℕ)) (mark : Bool) → PutsOutput run_script lines old new mark → PutsBehind [] lines old new mark
+PutsBehind-nothing lines old new mark h =
+    record {
+      before = [];
+      told = h.lines;
+      report_before = IsReport-nothing;
+      report = h.output;
+      text = h.text;
+      marks = h.mark;
+    }
+
+-- so a line of the report of all is a refusal where the mark says so
+pub HasRefusal-behind : (script lines : List ℕ) (old new : Option (List ℕ)) (mark : Bool) → PutsBehind script lines old new mark → HasRefusal (script ++ lines) mark
+HasRefusal-behind script lines old new mark h = record { told = h.before ++ h.told; report = h.report; marks = h.marks }

@@ -1,0 +1,140 @@
+//! The answers to lines behind those of a script.
+ghost use Rattle.std.specs.Prelude.{◌≡◌, ◌+◌, ◌≤◌, [], false, length, IfOk, IsTrue, OnOk};
+ghost use Rattle.std.specs.List.{list_any};
+ghost use Rattle.rp_io.specs.Bytes.{Appends};
+ghost use Rattle.rp_model.specs.states.State.{opening, state_of_parts};
+ghost use Rattle.rp_model.specs.states.Sound.{IsLaterThan};
+ghost use Rattle.rp_command.specs.Versions.{version_of};
+ghost use Rattle.rp_reports.specs.Machine.{after_line, step_answer};
+ghost use Rattle.rp_reports.specs.Output.{is_refused_line, most_script_bytes};
+ghost use Rattle.rp_reports.specs.Text.{answer_lines, text_of_lines};
+ghost use Rattle.rp_registrar.specs.Added.{HasEnd, PutsBehind};
+ghost use Rattle.rp_registrar.specs.Answered.{Answers, AnswersBehind};
+
+use crate::stop::Stop;
+use rp_book::BookFault;
+use rp_io::{QuietSink, Sink};
+use rp_machine::Machine;
+use rp_runner::run::run;
+use rp_scripts::{OutputFault, next_line, put_answer, split_mark};
+use std::alloc::Global;
+use std::thread::Threads;
+
+/// Has the machine answer a line, and puts the report lines of the answer, full or brief, by way of a buffer for their text.
+/// Answers whether one is a refusal.
+fn answer_line<R: Threads + Sync, K: Sink>(
+    rt: &R,
+    alloc: Global,
+    machine: &mut Machine,
+    number: u32,
+    line: &[u8],
+    brief: bool,
+    text: &mut Vec<u8>,
+    sink: &mut K,
+) -> Result<bool, OutputFault>
+    requires { IsLaterThan number (state_of_parts machine.old.state) }
+    ensures put { OnOk result (Appends (K.said sink.old) (K.said sink.new)
+        (text_of_lines (answer_lines brief (step_answer machine.old.version machine.old.state number line.now)))) }
+    ensures mark { IfOk result (λ refused. refused ≡ list_any is_refused_line (answer_lines false (step_answer machine.old.version machine.old.state number line.now))) }
+    ensures state { OnOk result (machine.new ≡ after_line machine.old number line.now) }
+    ensures later { OnOk result (IsLaterThan (number + 1) (state_of_parts machine.new.state)) }
+{
+    let answer = machine.step(rt, alloc, number, line)?;
+    put_answer(&answer, brief, text, sink)
+}
+
+/// Has the machine answer the lines of a text, and puts their report lines, full or brief. Answers the number of the line
+/// behind them, and whether a report line is a refusal.
+fn answer_lines<R: Threads + Sync, K: Sink>(
+    rt: &R,
+    alloc: Global,
+    machine: &mut Machine,
+    number: u32,
+    lines: &[u8],
+    brief: bool,
+    sink: &mut K,
+) -> Result<(u32, bool), OutputFault>
+    requires few { number + length lines.now ≤ most_script_bytes + 1 }
+    requires later { IsLaterThan number (state_of_parts machine.old.state) }
+    ensures few { IfOk result (λ done. done.0 ≤ number + length lines.now) }
+    ensures later { IfOk result (λ done. IsLaterThan done.0 (state_of_parts machine.new.state)) }
+    ensures answers { IfOk result (λ done.
+        Answers brief machine.old number lines.now machine.new done.0 (K.said sink.old) (K.said sink.new) done.1) }
+{
+    let mut text = Vec::new(alloc);
+    let mut rest = lines;
+    let mut next = number;
+    let mut refused = false;
+    while let Some((line, behind)) = next_line(rest) {
+        refused |= answer_line(rt, alloc, machine, next, line, brief, &mut text, sink)?;
+        rest = behind;
+        next += 1;
+    }
+    Ok((next, refused))
+}
+
+/// Has a machine that answered no line yet answer a body, of which nothing is told, and the lines behind it, whose report
+/// lines are put. Answers whether a report line is a refusal.
+fn answer_both<R: Threads + Sync, K: Sink>(
+    rt: &R,
+    alloc: Global,
+    machine: &mut Machine,
+    body: &[u8],
+    lines: &[u8],
+    sink: &mut K,
+) -> Result<bool, OutputFault>
+    requires few { length body.now + length lines.now ≤ most_script_bytes }
+    requires opened { machine.old.state ≡ opening }
+    ensures { IfOk result (λ refused.
+        AnswersBehind machine.old.version body.now lines.now (K.said sink.old) (K.said sink.new) refused) }
+{
+    let mut nowhere = QuietSink::new(alloc, 0)?;
+    let (number, before) = answer_lines(rt, alloc, machine, 1, body, true, &mut nowhere)?;
+    let (_, refused) = answer_lines(rt, alloc, machine, number, lines, false, sink)?;
+    Ok(before | refused)
+}
+
+/// Whether a text has a line end at its end.
+pub fn has_end(text: &[u8]) -> bool
+    ensures { IsTrue result → HasEnd text.now }
+{
+    matches!(text, [.., b'\n'])
+}
+
+/// Puts into `sink` what the report of `script` with `lines` behind it has behind the report of `script`. Answers whether a
+/// line of that report is a refusal. A script whose last line has no end stands in no book: it is a fault of the disk.
+pub fn put_behind<R: Threads + Sync, K: Sink>(
+    rt: &R,
+    alloc: Global,
+    script: &[u8],
+    lines: &[u8],
+    sink: &mut K,
+) -> Result<bool, Stop>
+    requires { length script.now + length lines.now ≤ most_script_bytes }
+    ensures { IfOk result (λ refused. PutsBehind script.now lines.now (K.said sink.old) (K.said sink.new) refused) }
+{
+    if script.is_empty() {
+        return put_first(rt, alloc, lines, sink);
+    }
+    if !has_end(script) {
+        return Err(Stop::Book(BookFault::Disk));
+    }
+    let (version, body) = split_mark(script);
+    let mut machine = Machine::new(alloc, version)?;
+    let refused = answer_both(rt, alloc, &mut machine, body, lines, sink)?;
+    Ok(refused)
+}
+
+/// Puts the report of lines behind an empty script.
+fn put_first<R: Threads + Sync, K: Sink>(
+    rt: &R,
+    alloc: Global,
+    lines: &[u8],
+    sink: &mut K,
+) -> Result<bool, Stop>
+    requires { length lines.now ≤ most_script_bytes }
+    ensures { IfOk result (λ refused. PutsBehind [] lines.now (K.said sink.old) (K.said sink.new) refused) }
+{
+    let refused = run(rt, alloc, lines, false, sink)?;
+    Ok(refused)
+}
