@@ -44,7 +44,7 @@ same_numbered first (x ∷ xs) [] h k long within = absurd (omega (arith, long))
 same_numbered first (x ∷ xs) (y ∷ ys) h k long within =
     let head : y ≡ x = elim (contains-cases y ys x (within x (contains-first x xs))) [ inl same ↦ same | inr later ↦ absurd (not-later first ys x h.0 k.1 later) ] in
     let others : (z : Row) → Contains xs z → Contains ys z =
-        λ z c. elim (contains-cases y ys z (within z (contains-later x xs z c))) [ inl same ↦ absurd (not-later first xs z (ap rowid (sym same) ∙ k.0) h.1 c) | inr later ↦ later ] in
+    λ z c. elim (contains-cases y ys z (within z (contains-later x xs z c))) [ inl same ↦ absurd (not-later first xs z (ap rowid (sym same) ∙ k.0) h.1 c) | inr later ↦ later ] in
     ap (λ row. row ∷ xs) (sym head) ∙ ap (λ rows. y ∷ rows) (same_numbered (first + 1) xs ys h.1 k.1 (omega (arith, long)) others)
 
 -- a database holds one script alone
@@ -52,7 +52,7 @@ pub one_script : (rows : List Row) (m n : ℕ) (one other : List ℕ) → HoldsS
 one_script rows m n one other h k =
     let moved = IsPermutation-trans h.ordered rows k.ordered (IsPermutation-sym rows h.ordered h.same) k.same in
     let same : h.ordered ≡ k.ordered =
-        same_numbered 1 h.ordered k.ordered h.numbered k.numbered (sym (length_permutation h.ordered k.ordered moved)) (λ x. Contains-permutation h.ordered k.ordered x moved) in
+    same_numbered 1 h.ordered k.ordered h.numbered k.numbered (sym (length_permutation h.ordered k.ordered moved)) (λ x. Contains-permutation h.ordered k.ordered x moved) in
     h.is ∙ ap (flat_map lines_in) same ∙ sym k.is
 
 -- a book that is opened has a script that a book before promised an open to find

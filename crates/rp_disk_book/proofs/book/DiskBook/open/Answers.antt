@@ -18,9 +18,9 @@ returns-clause-found g c = λ clean before was may test finds.
     let schema = sym c.schema.ensures.value ∙ c.is_book.ensures c.if-not-is_book.false in
     let same = c.in_ok-rows.ensures.same clean schema in
     let book =
-        is_read (state g.S.Store c.args.conn) (state g.S.Store c.select.new.conn) c.in_ok-rows.rows.items c.in_ok-script.entries c.in_ok-script.script.items schema
-        (autocommit_is _ _ c.is_autocommit.ensures.value c.if-not-is_autocommit.false) (c.is_autocommit.ensures.settled c.if-not-is_autocommit.false)
-        same (c.in_ok-rows.ensures.lists clean schema)
-        (subst (λ rows. HasRead rows [] c.in_ok-script.entries c.in_ok-script.script.items) c.deref.ensures.value c.in_ok-script.ensures) in
+    is_read (state g.S.Store c.args.conn) (state g.S.Store c.select.new.conn) c.in_ok-rows.rows.items c.in_ok-script.entries c.in_ok-script.script.items schema
+    (autocommit_is _ _ c.is_autocommit.ensures.value c.if-not-is_autocommit.false) (c.is_autocommit.ensures.settled c.if-not-is_autocommit.false)
+    same (c.in_ok-rows.ensures.lists clean schema)
+    (subst (λ rows. HasRead rows [] c.in_ok-script.entries c.in_ok-script.script.items) c.deref.ensures.value c.in_ok-script.ensures) in
     is_found (state g.S.Store before) (state g.S.Store c.select.new.conn) c.in_ok-script.entries c.in_ok-script.script.items (state g.S.Store c.args.conn).committed.trees book
     (ap (λ d. d.trees) same.0.committed_is) was may test finds
