@@ -91,7 +91,7 @@ fn write_line(rt: &HostRuntime, path: &str, date: &str) -> Result<bool, Fault> {
     }
 }
 
-/// Does what the words ask for. Answers whether a line is refused.
+/// Does what `words` ask for; lots are judged by `threads`. Answers whether a line is refused.
 pub fn work<T: Threads + Sync>(
     rt: &HostRuntime,
     threads: &T,
