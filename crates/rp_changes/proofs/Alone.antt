@@ -9,12 +9,12 @@ use Rattle.rp_model.specs.states.State.{Lot, PlainState, live_lots, lots_of_laye
 use Rattle.rp_model.specs.commands.Verdict.{known, overlaps}
 use Rattle.rp_model.specs.commands.Checks.{refuse_if, check_new}
 use Rattle.rp_model.specs.commands.Row.{Reply, check, lot_parts, count_with_each, first_overlapped}
-use Rattle.rp_nearby.specs.declared.near.Reach.TheVariants.{Overlap}
-use Rattle.rp_nearby.specs.Near.{others_in, is_near, pairs_with}
-use Rattle.rp_nearby.proofs.Skipped.{search_near, others_all}
-use Rattle.rp_tests.specs.declared.stopped.Stopped.{Stopped}
-use Rattle.rp_tests.specs.Comes.{StopsBy}
-use Rattle.rp_tests.proofs.Left.{stops_on}
+use Rattle.rp_lotindex.specs.declared.near.Reach.TheVariants.{Overlap}
+use Rattle.rp_lotindex.specs.Near.{others_in, is_near, pairs_with}
+use Rattle.rp_lotindex.proofs.Skipped.{search_near, others_all}
+use Rattle.rp_tester.specs.declared.stopped.Stopped.{Stopped}
+use Rattle.rp_tester.specs.Comes.{StopsBy}
+use Rattle.rp_tester.proofs.Left.{stops_on}
 use Rattle.rp_changes.specs.Steps.{lots_tested}
 
 -- an id that may be given is that of no lot

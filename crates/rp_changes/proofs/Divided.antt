@@ -8,7 +8,7 @@ use Rattle.rp_model.specs.states.State.{NewLot, PlainState, layer_with_id, parts
 use Rattle.rp_model.specs.commands.Verdict.{empty_side}
 use Rattle.rp_model.specs.commands.Checks.{refuse_if, check_cut}
 use Rattle.rp_model.specs.commands.Row.{Reply, accepted, check, check_size, new_lot, parts_with_id, row_cut}
-use Rattle.rp_tests.proofs.Left.{IsLeft, all_left, left_as, next_left}
+use Rattle.rp_tester.proofs.Left.{IsLeft, all_left, left_as, next_left}
 
 -- what a cut changes
 abbrev pub cut_lots : PlainState → Label → Label → Label → List Part → List Part → List (NewLot (Unit {0}))

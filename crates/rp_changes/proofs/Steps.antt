@@ -5,9 +5,9 @@ use Rattle.rp_model.specs.states.State.{most_kept_parts}
 use Rattle.rp_model.specs.commands.Verdict.{Refusal}
 use Rattle.rp_model.specs.commands.Checks.{and_then}
 use Rattle.rp_model.specs.commands.Row.{Reply, refusal, check, check_size}
-use Rattle.rp_tests.specs.declared.stopped.Stopped.{Stopped}
-use Rattle.rp_tests.specs.Comes.{StopsBy}
-use Rattle.rp_tests.proofs.Left.{stops_on}
+use Rattle.rp_tester.specs.declared.stopped.Stopped.{Stopped}
+use Rattle.rp_tester.specs.Comes.{StopsBy}
+use Rattle.rp_tester.proofs.Left.{stops_on}
 
 module _ {W : Type 0} (rest : Walk W Reply) (w : W) where
   -- two checks are passed, and the size is looked at

@@ -6,7 +6,7 @@ use Rattle.rp_geometry.specs.parts.Parts.{most_parts}
 use Rattle.rp_walks.specs.Walk.{Outcome, done, stopped, Walk, Tester, after_first, ◌>>=◌}
 use Rattle.rp_walks.specs.Form.{subtract, subtract_part, if_at_most}
 use Rattle.rp_model.specs.commands.Row.{child_parts, joined_parts}
-use Rattle.rp_tests.proofs.Left.{IsLeft}
+use Rattle.rp_tester.proofs.Left.{IsLeft}
 use Rattle.rp_changes.specs.declared.child.Child.{Child}
 use Rattle.rp_changes.specs.Children.{formed_child}
 

@@ -10,9 +10,9 @@ use Rattle.rp_walks.specs.Form.{if_at_most, parts_or_none}
 use Rattle.rp_model.specs.states.State.{PlainState, parts_of_lot, live_lot, parts_under_lots, layer_of_first, lots_replaced, most_kept_parts}
 use Rattle.rp_model.specs.commands.Checks.{check_consolidate}
 use Rattle.rp_model.specs.commands.Row.{Reply, accepted, check, check_size, new_lot, parts_with_id, joined_parts, row_consolidate}
-use Rattle.rp_tests.specs.declared.stopped.Stopped.{Stopped}
-use Rattle.rp_tests.specs.Comes.{stop_of, StopsBy}
-use Rattle.rp_tests.proofs.Left.{IsLeft, all_left, left_as, next_left, stops_on, stop_left}
+use Rattle.rp_tester.specs.declared.stopped.Stopped.{Stopped}
+use Rattle.rp_tester.specs.Comes.{stop_of, StopsBy}
+use Rattle.rp_tester.proofs.Left.{IsLeft, all_left, left_as, next_left, stops_on, stop_left}
 
 -- ---- a list that is not too long
 

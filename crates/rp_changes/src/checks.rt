@@ -2,10 +2,10 @@
 ghost use Rattle.std.specs.Prelude.{◌≡◌, ◌+◌, length};
 ghost use Rattle.rp_model.specs.states.State.{parts_under_lots, most_kept_parts};
 ghost use Rattle.rp_model.specs.commands.Row.{check_size};
-ghost use Rattle.rp_tests.specs.Comes.{Comes};
+ghost use Rattle.rp_tester.specs.Comes.{Comes};
 
 use rp_lots::Keeper;
-use rp_tests::{Stopped, Tests};
+use rp_tester::{Stopped, Tests};
 
 /// How many parts a form has.
 pub(crate) fn count_parts<T: Tests>(form: &T::Form) -> usize

@@ -3,17 +3,17 @@ ghost use Rattle.std.specs.Prelude.{◌≡◌, ◌+◌, ◌∷◌, [], List, IfO
 ghost use Rattle.rp_geometry.specs.sets.Shape.{Part};
 ghost use Rattle.rp_model.specs.states.State.{lots_replaced, parts_under_lots, most_kept_parts};
 ghost use Rattle.rp_model.specs.commands.Row.{check_size, new_lot, row_cut};
-ghost use Rattle.rp_tests.specs.Comes.{Comes};
+ghost use Rattle.rp_tester.specs.Comes.{Comes};
 ghost use Rattle.rp_changes.specs.Changes.{Changes, replaced_of};
 
 use crate::change::Replaced;
 use crate::checks::count_parts;
-use rp_asked::RowEnd;
 use rp_history::Birth;
 use rp_lots::{Keeper, form_at};
-use rp_report::Refusal;
+use rp_rows::RowEnd;
 use rp_space::{Listed, Name, Names};
-use rp_tests::{Stopped, Tests};
+use rp_tester::{Stopped, Tests};
+use rp_text::Refusal;
 use std::alloc::{AllocError, Global};
 
 /// The most parts under all lots together.

@@ -5,19 +5,19 @@ ghost use Rattle.rp_geometry.specs.parts.Parts.{most_parts};
 ghost use Rattle.rp_walks.specs.Form.{if_at_most};
 ghost use Rattle.rp_model.specs.states.State.{live_lot, lots_replaced, parts_of_lot};
 ghost use Rattle.rp_model.specs.commands.Row.{joined_parts, new_lot, parts_with_id, row_consolidate, row_define, row_retire};
-ghost use Rattle.rp_tests.specs.Comes.{Comes};
+ghost use Rattle.rp_tester.specs.Comes.{Comes};
 ghost use Rattle.rp_changes.specs.Changes.{Changes, change_of, replaced_of};
 
 use crate::change::{Change, Replaced};
 use crate::checks::{check_room, count_parts};
 use crate::making::one_born;
 use crate::registry::Registry;
-use rp_asked::RowEnd;
 use rp_history::Birth;
 use rp_lots::{Keeper, form_at};
-use rp_report::Refusal;
+use rp_rows::RowEnd;
 use rp_space::{Listed, Name, Names};
-use rp_tests::{Stopped, Tests};
+use rp_tester::{Stopped, Tests};
+use rp_text::Refusal;
 use std::alloc::{AllocError, Global};
 
 /// A form is to be kept under `name`, which must be new, and there must be room for both.

@@ -2,11 +2,11 @@
 ghost use Rattle.std.specs.Prelude.{◌≡◌, ◌+◌, ◌&&◌, length, nat_le};
 ghost use Rattle.rp_walks.specs.Form.{common_nearby};
 ghost use Rattle.rp_model.specs.states.State.{parts_in, parts_under_names, most_names, most_kept_parts};
-ghost use Rattle.rp_tests.specs.Comes.{Comes};
+ghost use Rattle.rp_tester.specs.Comes.{Comes};
 
 use rp_lots::Keeper;
 use rp_space::Name;
-use rp_tests::{Named, Stopped, Tests};
+use rp_tester::{Named, Stopped, Tests};
 use std::alloc::Global;
 
 /// What keeps lots and finds whether forms overlap.

@@ -4,11 +4,11 @@ ghost use Rattle.rp_geometry.specs.sections.Trace.{IsHeight};
 ghost use Rattle.rp_space.specs.Boxes.{integer_box};
 ghost use Rattle.rp_reports.specs.Output.{most_report_bytes};
 
-use rp_follow::{
+use rp_space::{Corner, Half, Halves, IntBox, box_halves};
+use rp_tester::Stopped;
+use rp_trail::{
     Form, Kept, Trail, common, copy, differed, joined, made, prismed, slices, touching,
 };
-use rp_space::{Corner, Half, Halves, IntBox, box_halves};
-use rp_tests::Stopped;
 use std::alloc::Global;
 use std::process::Abort;
 

@@ -25,7 +25,7 @@ use Rattle.rp_states.proofs.PlainRows.{row_same}
 use Rattle.rp_states.proofs.Replies.{plain_new, plain_change, IsFitReply, row_fit}
 use Rattle.rp_register.specs.declared.reply.Reply.{Reply as CodeReply}
 use Rattle.rp_register.specs.declared.reply.Reply.TheVariants.{Told, Unshown, Changed}
-use Rattle.rp_asked.specs.declared.reply.RowEnd.{RowEnd}
+use Rattle.rp_rows.specs.declared.reply.RowEnd.{RowEnd}
 use Rattle.rp_register.specs.Kept.{IsSoundOnLines, ComesFromKnown}
 use Rattle.rp_register.specs.Replies.{change_in, Replies}
 

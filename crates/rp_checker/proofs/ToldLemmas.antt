@@ -6,10 +6,10 @@ use Rattle.rp_walks.specs.Walk.{Outcome}
 use Rattle.rp_model.specs.states.State.{PlainState}
 use Rattle.rp_model.specs.commands.Row.{Reply as ModelReply, row}
 use Rattle.rp_reports.specs.Check.{Trail, line_tester}
-use Rattle.rp_report.specs.declared.answer.Verdict.{Verdict as CodeVerdict}
+use Rattle.rp_text.specs.declared.answer.Verdict.{Verdict as CodeVerdict}
 use Rattle.rp_space.specs.Listed.{Listed}
-use Rattle.rp_asked.specs.declared.reply.RowEnd.{RowEnd}
-use Rattle.rp_asked.specs.Replies.{Tells}
+use Rattle.rp_rows.specs.declared.reply.RowEnd.{RowEnd}
+use Rattle.rp_rows.specs.Replies.{Tells}
 use Rattle.rp_changes.specs.declared.change.Change.{Change}
 use Rattle.rp_changes.specs.Changes.{Changes}
 use Rattle.rp_register.specs.declared.reply.Reply.{Reply}

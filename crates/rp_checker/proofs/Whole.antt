@@ -18,7 +18,7 @@ use Rattle.rp_accepted.proofs.ReportTaken.{body_few}
 use Rattle.rp_run_laws.proofs.Accepted.{accepted_is_true_spec}
 use Rattle.rp_run_laws.proofs.Answered.{Agrees, TellsNext, answer_told}
 use Rattle.rp_run_laws.proofs.Followed.{Comes}
-use Rattle.rp_follow.specs.Lines.{next_line}
+use Rattle.rp_trail.specs.Lines.{next_line}
 use Rattle.rp_checker.specs.Answers.{IsWrongAt}
 use Rattle.rp_checker.specs.Found.{found_of, TellsRight}
 use Rattle.rp_checker.specs.Marks.{behind_mark}

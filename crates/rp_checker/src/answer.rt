@@ -11,7 +11,7 @@ ghost use Rattle.rp_model.specs.states.State.{PlainState, changed, parts_in, sta
 ghost use Rattle.rp_model.specs.states.Sound.{IsLaterThan};
 ghost use Rattle.rp_reports.specs.Check.{Trail as ModelTrail, limit_allowed, follow_walk, follow_command, follow_fault, follow_text, follow_echo, next_echo, follow_answer};
 ghost use Rattle.rp_walks.specs.Walk.{Outcome};
-ghost use Rattle.rp_tests.specs.Comes.{StopsBy};
+ghost use Rattle.rp_tester.specs.Comes.{StopsBy};
 ghost use Rattle.rp_checker.specs.Answers.{Answers, IsRead, echo_with};
 ghost use Rattle.rp_register.specs.Kept.{IsSoundOnLines, ComesFromKnown};
 ghost use Rattle.rp_register.specs.Replies.{change_in, Replies};
@@ -19,14 +19,14 @@ ghost use Rattle.rp_register.specs.Replies.{change_in, Replies};
 use crate::halt::Halt;
 use crate::lines::{follow_limit, follow_verdict, follow_verdicts};
 use crate::rows::carry_out;
-use rp_asked::{RowEnd, one_line};
 use rp_command::{Command, Expr, Line, Version, Why};
-use rp_follow::Trail;
 use rp_register::{Register, Reply};
-use rp_report::{Refusal, Verdict, read_echo};
+use rp_rows::{RowEnd, one_line};
 use rp_space::Name;
 use rp_syntax::read_line;
-use rp_tests::Stopped;
+use rp_tester::Stopped;
+use rp_text::{Refusal, Verdict, read_echo};
+use rp_trail::Trail;
 use std::alloc::Global;
 
 /// What becomes of an answer whose row is stopped: the report may tell of a limit where one is met, and instead of a

@@ -12,9 +12,9 @@ ghost use Rattle.rp_checker.specs.Marks.{behind_mark};
 use crate::answer::follow_answer;
 use crate::halt::Halt;
 use rp_command::Version;
-use rp_follow::Trail;
 use rp_register::Register;
 use rp_run_laws::every_report_is_accepted;
+use rp_trail::Trail;
 use std::alloc::{AllocError, Global};
 
 /// The line that begins a report of the second version. It is no answer.

@@ -8,16 +8,16 @@ ghost use Rattle.rp_model.specs.commands.Row.{row};
 ghost use Rattle.rp_reports.specs.Check.{Trail, line_tester};
 ghost use Rattle.rp_register.specs.Replies.{Replies, reply_told, reply_changed};
 
-use rp_asked::{RowEnd, comparison, emptiness, membership, piece_numbers, related, shown_parts};
 use rp_changes::{
     Change, consolidation, cutting, definition, registration, retirement, subdivision,
 };
 use rp_command::Command;
-use rp_follow::{Form, Trail};
-use rp_once::Question;
+use rp_queries::Question;
 use rp_questions::{access, audit, lineage, list, neighbours, owner, owner_then, section};
 use rp_register::{Register, Reply};
-use rp_report::Verdicts;
+use rp_rows::{RowEnd, comparison, emptiness, membership, piece_numbers, related, shown_parts};
+use rp_text::Verdicts;
+use rp_trail::{Form, Trail};
 use std::alloc::Global;
 
 /// The reply to a question.

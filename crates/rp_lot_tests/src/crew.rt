@@ -1,4 +1,4 @@
-use rp_crew::{Judge, judge_all};
+use rp_parallel::{Judge, judge_all};
 use std::alloc::{AllocError, Global};
 use std::sync::atomic::{AtomicBool, AtomicUsize, Ordering};
 

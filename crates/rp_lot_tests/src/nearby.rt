@@ -1,11 +1,11 @@
 ghost use Rattle.std.specs.Prelude.{◌≡◌, length, true};
-ghost use Rattle.rp_nearby.specs.Indexed.{NoneBehind};
+ghost use Rattle.rp_lotindex.specs.Indexed.{NoneBehind};
 
 use crate::history::with_plot;
 use crate::names::name;
 use rp_boxindex::Quiet;
 use rp_history::History;
-use rp_nearby::{Access, Holder, LotBoxes, Moment, Reach, moved};
+use rp_lotindex::{Access, Holder, LotBoxes, Moment, Reach, moved};
 use rp_space::{IntBox, Point};
 use std::alloc::Global;
 use std::process::Abort;

@@ -11,12 +11,12 @@ use Rattle.rp_model.specs.states.Sound.{are_distinct}
 use Rattle.rp_model.specs.commands.Verdict.{Refusal}
 use Rattle.rp_model.specs.commands.Checks.{check_access}
 use Rattle.rp_model.specs.commands.Row.{Reply, reply_lines, check, lot_parts, numbered_lists, links_among_lists, count_among, access_by_links, row_access}
-use Rattle.rp_nearby.specs.declared.near.Reach.TheVariants.{Touch}
-use Rattle.rp_nearby.specs.Near.{lots_at}
+use Rattle.rp_lotindex.specs.declared.near.Reach.TheVariants.{Touch}
+use Rattle.rp_lotindex.specs.Near.{lots_at}
 use Rattle.rp_verdicts.proofs.Access.{places_below}
-use Rattle.rp_tests.specs.declared.stopped.Stopped.{Stopped}
-use Rattle.rp_tests.specs.Comes.{StopsBy}
-use Rattle.rp_tests.proofs.Left.{IsLeft, next_left, stop_left}
+use Rattle.rp_tester.specs.declared.stopped.Stopped.{Stopped}
+use Rattle.rp_tester.specs.Comes.{StopsBy}
+use Rattle.rp_tester.proofs.Left.{IsLeft, next_left, stop_left}
 use Rattle.rp_lots.specs.declared.pair.Pair.{Pair}
 use Rattle.rp_lots.specs.Meets.{meet_each}
 use Rattle.rp_lots.specs.Numbers.{lists_at, places_among, AreBelow, placed, links_met}

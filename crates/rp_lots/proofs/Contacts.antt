@@ -9,12 +9,12 @@ use Rattle.rp_model.specs.states.State.{Lot, PlainState, layer_with_id, bare_lot
 use Rattle.rp_model.specs.commands.Verdict.{Refusal, neighbour_lines}
 use Rattle.rp_model.specs.commands.Checks.{check_live}
 use Rattle.rp_model.specs.commands.Row.{Reply, reply_lines, check, lot_parts, parts_with_id, touched_lots, row_neighbours}
-use Rattle.rp_nearby.specs.declared.near.Reach.TheVariants.{Touch}
-use Rattle.rp_nearby.specs.Near.{others_in, is_near, pairs_with, lots_at, AreWithin}
-use Rattle.rp_nearby.proofs.Skipped.{touch_near}
-use Rattle.rp_tests.specs.declared.stopped.Stopped.{Stopped}
-use Rattle.rp_tests.specs.Comes.{StopsBy}
-use Rattle.rp_tests.proofs.Left.{IsLeft, all_left, left_as, next_left, stop_left}
+use Rattle.rp_lotindex.specs.declared.near.Reach.TheVariants.{Touch}
+use Rattle.rp_lotindex.specs.Near.{others_in, is_near, pairs_with, lots_at, AreWithin}
+use Rattle.rp_lotindex.proofs.Skipped.{touch_near}
+use Rattle.rp_tester.specs.declared.stopped.Stopped.{Stopped}
+use Rattle.rp_tester.specs.Comes.{StopsBy}
+use Rattle.rp_tester.proofs.Left.{IsLeft, all_left, left_as, next_left, stop_left}
 use Rattle.rp_lots.specs.Asked.{touch_counted}
 use Rattle.rp_lots.specs.Meets.{pair_of, meet_each, id_at, ids_met}
 use Rattle.rp_lots.proofs.Meeting.{from_none, touched_met}

@@ -1,9 +1,9 @@
 -- Where pairs were not counted up to their end.
 use Rattle.std.proofs.Common.{◌≡◌, ℕ, ◌<◌, ◌≤◌, Err, arith}
 use Rattle.rp_walks.specs.Walk.{stopped, limit_met, Walk, most_tests}
-use Rattle.rp_tests.specs.declared.stopped.Stopped.{Stopped}
-use Rattle.rp_tests.specs.declared.stopped.Stopped.TheVariants.{Wrong, TakenWrong, Told, Limit, Memory}
-use Rattle.rp_tests.specs.Comes.{StopsBy}
+use Rattle.rp_tester.specs.declared.stopped.Stopped.{Stopped}
+use Rattle.rp_tester.specs.declared.stopped.Stopped.TheVariants.{Wrong, TakenWrong, Told, Limit, Memory}
+use Rattle.rp_tester.specs.Comes.{StopsBy}
 use Rattle.rp_lots.specs.Counted.{CountsUpTo}
 
 -- where pairs were not counted, so many tests are not

@@ -15,9 +15,9 @@ use Rattle.rp_walks.specs.Walk.{Outcome, done, stopped, Walk, Tester, pass, afte
 use Rattle.rp_walks.specs.Form.{touch_nearby, touching_pair}
 use Rattle.rp_model.specs.states.State.{Lot, ids_of}
 use Rattle.rp_model.specs.commands.Row.{count_pairs, lot_parts, numbered_lists, links_with_list, links_among_lists}
-use Rattle.rp_nearby.specs.declared.near.Reach.TheVariants.{Touch}
-use Rattle.rp_nearby.specs.Near.{lots_at, AreWithin}
-use Rattle.rp_nearby.proofs.Skipped.{none_of_pairs}
+use Rattle.rp_lotindex.specs.declared.near.Reach.TheVariants.{Touch}
+use Rattle.rp_lotindex.specs.Near.{lots_at, AreWithin}
+use Rattle.rp_lotindex.proofs.Skipped.{none_of_pairs}
 use Rattle.rp_lots.specs.declared.pair.Pair.{Pair}
 use Rattle.rp_lots.specs.Meets.{pair_of, meet_each, parts_at, id_at, IsPairWithin}
 use Rattle.rp_lots.specs.Numbers.{lists_at, is_touching, places_with, places_among, AreRising, IsOneOf, IsPairOf, AreBelow, placed, links_met}

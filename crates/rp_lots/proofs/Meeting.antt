@@ -13,10 +13,10 @@ use Rattle.rp_model.specs.states.State.{Lot}
 use Rattle.rp_model.specs.commands.Row.{lot_parts, touched_lots}
 use Rattle.rp_history.specs.declared.lot.LotLine.{LotLine}
 use Rattle.rp_history.specs.Lots.{lot_of}
-use Rattle.rp_nearby.specs.declared.near.Reach.{Reach}
-use Rattle.rp_nearby.specs.declared.near.Reach.TheVariants.{Touch}
-use Rattle.rp_nearby.specs.Near.{lots_at, AreWithin}
-use Rattle.rp_nearby.proofs.Skipped.{touched_by}
+use Rattle.rp_lotindex.specs.declared.near.Reach.{Reach}
+use Rattle.rp_lotindex.specs.declared.near.Reach.TheVariants.{Touch}
+use Rattle.rp_lotindex.specs.Near.{lots_at, AreWithin}
+use Rattle.rp_lotindex.proofs.Skipped.{touched_by}
 use Rattle.rp_lots.specs.declared.pair.Pair.{Pair}
 use Rattle.rp_lots.proofs.Items.{parts_there, id_there, first_there}
 use Rattle.rp_lots.specs.Meets.{pair_of, pair_test, meet_each, id_at, ids_met, IsPairWithin}

@@ -16,11 +16,11 @@ use Rattle.rp_history.specs.declared.lot.LotLine.{LotLine}
 use Rattle.rp_history.specs.Lots.{lot_of}
 use Rattle.rp_history.proofs.Bare.{line_at, history_ids}
 use Rattle.rp_history.proofs.Found.{first_alone, rest_distinct, there}
-use Rattle.rp_tests.specs.declared.stopped.Stopped.{Stopped}
-use Rattle.rp_nearby.specs.declared.near.Reach.{Reach}
-use Rattle.rp_nearby.specs.declared.near.Reach.TheVariants.{Touch}
-use Rattle.rp_nearby.specs.Near.{others_in, pairs_with, is_near, lots_at, AreWithin}
-use Rattle.rp_nearby.proofs.Behind.{others_behind}
+use Rattle.rp_tester.specs.declared.stopped.Stopped.{Stopped}
+use Rattle.rp_lotindex.specs.declared.near.Reach.{Reach}
+use Rattle.rp_lotindex.specs.declared.near.Reach.TheVariants.{Touch}
+use Rattle.rp_lotindex.specs.Near.{others_in, pairs_with, is_near, lots_at, AreWithin}
+use Rattle.rp_lotindex.proofs.Behind.{others_behind}
 use Rattle.rp_lots.specs.declared.near.Near.{Near}
 use Rattle.rp_lots.specs.declared.pair.Pair.{Pair}
 use Rattle.rp_lots.specs.Meets.{pair_of, parts_at}

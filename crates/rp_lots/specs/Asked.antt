@@ -7,12 +7,12 @@ use Rattle.rp_walks.specs.Walk.{Outcome, done, Walk, Tester, pass, after_first, 
 use Rattle.rp_model.specs.states.State.{Lot, place_among, most_kept_parts}
 use Rattle.rp_model.specs.commands.Verdict.{neighbour_lines}
 use Rattle.rp_model.specs.commands.Row.{Reply, reply_lines, lot_parts, touched_lots, access_by_links}
-use Rattle.rp_nearby.specs.declared.near.Reach.TheVariants.{Touch}
-use Rattle.rp_nearby.specs.Near.{pairs_with}
-use Rattle.rp_asked.specs.declared.reply.RowEnd.{RowEnd}
-use Rattle.rp_asked.specs.Replies.{EndsBy}
-use Rattle.rp_tests.specs.declared.stopped.Stopped.{Stopped}
-use Rattle.rp_tests.specs.Comes.{StopsBy}
+use Rattle.rp_lotindex.specs.declared.near.Reach.TheVariants.{Touch}
+use Rattle.rp_lotindex.specs.Near.{pairs_with}
+use Rattle.rp_rows.specs.declared.reply.RowEnd.{RowEnd}
+use Rattle.rp_rows.specs.Replies.{EndsBy}
+use Rattle.rp_tester.specs.declared.stopped.Stopped.{Stopped}
+use Rattle.rp_tester.specs.Comes.{StopsBy}
 use Rattle.rp_lots.specs.declared.links.AccessLeft.{AccessLeft}
 use Rattle.rp_lots.specs.declared.touching.TouchLeft.{TouchLeft}
 use Rattle.rp_lots.specs.Meets.{meet_each, ids_met}

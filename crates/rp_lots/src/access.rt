@@ -6,8 +6,8 @@ ghost use Rattle.rp_model.specs.states.State.{ids_of, place_among, layer_with_id
 ghost use Rattle.rp_model.specs.commands.Checks.{check_access};
 ghost use Rattle.rp_model.specs.commands.Row.{access_by_links, row_access};
 ghost use Rattle.rp_history.specs.Lots.{lot_of};
-ghost use Rattle.rp_nearby.specs.Access.{told_access};
-ghost use Rattle.rp_nearby.specs.Near.{lots_at, AreWithin};
+ghost use Rattle.rp_lotindex.specs.Access.{told_access};
+ghost use Rattle.rp_lotindex.specs.Near.{lots_at, AreWithin};
 ghost use Rattle.rp_lots.specs.Meets.{IsPairWithin};
 ghost use Rattle.rp_lots.specs.Numbers.{AreRising, IsPairOf, AreBelow, placed, links_met};
 ghost use Rattle.rp_lots.specs.Asked.{IsReady, LeavesAccess, LeavesLinks};
@@ -17,11 +17,11 @@ use crate::keeper::Keeper;
 use crate::links::{AccessLeft, ids_at, met_pairs, numbered_pairs};
 use crate::near::count_tests;
 use crate::pair::Pair;
-use rp_asked::RowEnd;
 use rp_history::LotLine;
-use rp_nearby::{Access, Reach};
+use rp_lotindex::{Access, Reach};
+use rp_rows::RowEnd;
 use rp_space::{Name, Names};
-use rp_tests::{Stopped, Tests};
+use rp_tester::{Stopped, Tests};
 use std::alloc::{AllocError, Global};
 
 /// `access` from the lot `from` to the lot `to`, up to the tests of pairs, which are counted in `tests`. Refusals, in

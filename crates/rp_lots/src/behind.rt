@@ -1,7 +1,7 @@
 //! Live lots by their places, and the pairs of each with those behind it, in its layer, that may meet it.
 ghost use Rattle.std.specs.Prelude.{◌≡◌, ◌&&◌, ◌<◌, ◌≤◌, ◌++◌, length, map, IfOk, OnOk};
 ghost use Rattle.rp_history.specs.Lots.{lot_of};
-ghost use Rattle.rp_nearby.specs.Near.{pairs_with, AreWithin};
+ghost use Rattle.rp_lotindex.specs.Near.{pairs_with, AreWithin};
 ghost use Rattle.rp_lots.specs.Meets.{pair_of, parts_at};
 ghost use Rattle.rp_lots.specs.Counted.{CountsUpTo};
 ghost use Rattle.rp_lots.specs.Behind.{is_asked, is_live_in, live_places, lots_behind, tests_behind, AreNearBehind, ArePairsBehind};
@@ -10,9 +10,9 @@ use crate::keeper::Keeper;
 use crate::near::{MAX_TESTS, Near, form_at, lots_near};
 use crate::pair::Pair;
 use rp_history::LotLine;
-use rp_nearby::Reach;
+use rp_lotindex::Reach;
 use rp_space::Name;
-use rp_tests::{Stopped, Tests};
+use rp_tester::{Stopped, Tests};
 use std::alloc::{AllocError, Global};
 
 /// Pairs of lots, by their places, and how many pairs of their parts may meet.

@@ -6,12 +6,12 @@ ghost use Rattle.rp_space.specs.Boxes.{integer_box};
 ghost use Rattle.rp_walks.specs.Walk.{stopped, limit_met, most_tests};
 ghost use Rattle.rp_model.specs.states.State.{PlainState, bare_lot, parts_under_lots, most_kept_parts};
 ghost use Rattle.rp_model.specs.commands.Row.{lot_parts};
-ghost use Rattle.rp_nearby.specs.Near.{others_in, is_near, lots_at, AreWithin};
+ghost use Rattle.rp_lotindex.specs.Near.{others_in, is_near, lots_at, AreWithin};
 
 use rp_history::History;
-use rp_nearby::Reach;
+use rp_lotindex::Reach;
 use rp_space::{IntBox, Listed, Name};
-use rp_tests::Tests;
+use rp_tester::Tests;
 use std::alloc::{AllocError, Global};
 
 /// What keeps all lots that were ever registered, in the order of registration, with their forms.

@@ -3,16 +3,16 @@
 ghost use Rattle.std.specs.Prelude.{◌≡◌, ◌<◌, ◌≤◌, ◌*◌, IfOk, Some, count_by, length, map, drop, filter, slice_get, option_map};
 ghost use Rattle.rp_geometry.specs.parts.Parts.{most_parts};
 ghost use Rattle.rp_model.specs.commands.Row.{count_pairs};
-ghost use Rattle.rp_nearby.specs.Near.{may_meet, others_in, pairs_with, is_near, lots_at, AreWithin};
+ghost use Rattle.rp_lotindex.specs.Near.{may_meet, others_in, pairs_with, is_near, lots_at, AreWithin};
 ghost use Rattle.rp_space.specs.Boxes.{integer_box};
-ghost use Rattle.rp_tests.specs.Comes.{Comes};
+ghost use Rattle.rp_tester.specs.Comes.{Comes};
 ghost use Rattle.rp_lots.specs.Counted.{CountsUpTo};
 ghost use Rattle.rp_lots.specs.Meets.{boxes_let};
 
 use crate::keeper::Keeper;
-use rp_nearby::Reach;
+use rp_lotindex::Reach;
 use rp_space::{IntBox, Listed, Name};
-use rp_tests::{Stopped, Tests};
+use rp_tester::{Stopped, Tests};
 use std::alloc::Global;
 
 /// The most tests that are counted in a command.

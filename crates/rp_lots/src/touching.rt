@@ -4,18 +4,18 @@ ghost use Rattle.std.specs.List.{AllByRecursion};
 ghost use Rattle.rp_model.specs.states.State.{most_kept_parts};
 ghost use Rattle.rp_model.specs.commands.Row.{row_neighbours};
 ghost use Rattle.rp_history.specs.Lots.{lot_of};
-ghost use Rattle.rp_nearby.specs.Near.{others_in, AreWithin};
+ghost use Rattle.rp_lotindex.specs.Near.{others_in, AreWithin};
 ghost use Rattle.rp_lots.specs.Asked.{LeavesContacts, touch_counted, LeavesPairs};
 ghost use Rattle.rp_lots.specs.Meets.{pair_of, parts_at, ids_met, IsPairWithin};
 
 use crate::keeper::Keeper;
 use crate::near::{count_tests, form_at, lots_near};
 use crate::pair::Pair;
-use rp_asked::RowEnd;
 use rp_history::LotLine;
-use rp_nearby::Reach;
+use rp_lotindex::Reach;
+use rp_rows::RowEnd;
 use rp_space::{Listed, Name, Names};
-use rp_tests::{Stopped, Tests};
+use rp_tester::{Stopped, Tests};
 use std::alloc::{AllocError, Global};
 
 /// What is left of `neighbours` once its tests are counted: the places of the lots that may touch the one that is asked

@@ -20,9 +20,9 @@ use Rattle.rp_history.specs.Lots.{lots_in}
 use Rattle.rp_parcels.specs.declared.fault.ParcelFault.{ParcelFault}
 use Rattle.rp_parcels.specs.Rows.{Cause, refuses, limited, wanting, cause_of, EndsBy, Changes}
 use Rattle.rp_machine.specs.declared.reply.Reply.{Reply as CodeReply}
-use Rattle.rp_asked.specs.declared.reply.RowEnd.{RowEnd}
-use Rattle.rp_asked.specs.Replies.{EndsBy as Ends}
-use Rattle.rp_kept.specs.Kept.{state_with}
+use Rattle.rp_rows.specs.declared.reply.RowEnd.{RowEnd}
+use Rattle.rp_rows.specs.Replies.{EndsBy as Ends}
+use Rattle.rp_store.specs.Kept.{state_with}
 use Rattle.rp_machine.specs.Replies.{IsAnswered, Runs}
 
 -- ---- from the lots to the state

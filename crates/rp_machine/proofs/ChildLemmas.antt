@@ -7,14 +7,14 @@ use Rattle.rp_walks.specs.Walk.{done, Walk, Work, after_first, first_tester, ◌
 use Rattle.rp_model.specs.states.State.{PlainState, parts_in}
 use Rattle.rp_model.specs.commands.Verdict.{unknown}
 use Rattle.rp_model.specs.commands.Row.{Reply, refusal, check, FormedChild, form_children, row_subdivide, row}
-use Rattle.rp_tests.specs.declared.stopped.Stopped.{Stopped}
-use Rattle.rp_tests.specs.Comes.{StopsBy}
-use Rattle.rp_tests.proofs.Left.{stops_on}
+use Rattle.rp_tester.specs.declared.stopped.Stopped.{Stopped}
+use Rattle.rp_tester.specs.Comes.{StopsBy}
+use Rattle.rp_tester.proofs.Left.{stops_on}
 use Rattle.rp_command.specs.declared.command.Expr.{Expr}
 use Rattle.rp_command.specs.Views.{child_of, shapes_of}
 use Rattle.rp_command.proofs.Children.{same_shapes}
-use Rattle.rp_asked.specs.declared.reply.RowEnd.{RowEnd}
-use Rattle.rp_asked.specs.declared.reply.RowEnd.TheVariants.{Stopped as StoppedEnd}
+use Rattle.rp_rows.specs.declared.reply.RowEnd.{RowEnd}
+use Rattle.rp_rows.specs.declared.reply.RowEnd.TheVariants.{Stopped as StoppedEnd}
 use Rattle.rp_machine.specs.declared.reply.Reply.{Reply as CodeReply}
 use Rattle.rp_machine.specs.Replies.{Runs}
 

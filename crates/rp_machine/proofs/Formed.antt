@@ -11,15 +11,15 @@ use Rattle.rp_forms.proofs.First.{first_tester_is_right_spec}
 use Rattle.rp_forms.proofs.Forms.{form_is_right_spec}
 use Rattle.rp_accepted.proofs.Likeness.{PartsHave}
 use Rattle.rp_accepted.proofs.Commands.{Any}
-use Rattle.rp_tests.specs.declared.stopped.Stopped.{Stopped}
-use Rattle.rp_tests.specs.Comes.{Comes}
-use Rattle.rp_tests.specs.Short.{StandShort}
+use Rattle.rp_tester.specs.declared.stopped.Stopped.{Stopped}
+use Rattle.rp_tester.specs.Comes.{Comes}
+use Rattle.rp_tester.specs.Short.{StandShort}
 use Rattle.rp_region.specs.declared.fault.OpFault.{OpFault}
 use Rattle.rp_region.specs.declared.fault.OpFault.TheVariants.{Limit, Memory}
 use Rattle.rp_region.specs.Makes.{Makes}
 use Rattle.rp_region.specs.Stops.{fresh, TakesOver}
 use Rattle.rp_region.proofs.Behind.{ComesBehind, makes_behind}
-use Rattle.rp_once.proofs.Appended.{form_appended, ends_behind, stops_behind}
+use Rattle.rp_queries.proofs.Appended.{form_appended, ends_behind, stops_behind}
 use Rattle.rp_machine.specs.Forms.{fault_of_form, MakesForm}
 
 -- a form that was made has the members of the expression

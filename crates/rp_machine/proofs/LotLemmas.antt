@@ -16,10 +16,10 @@ use Rattle.rp_model.specs.commands.Row.{Reply, reply_lines, row, row_neighbours,
 use Rattle.rp_states.proofs.Walks.{if_checked}
 use Rattle.rp_history.specs.Lots.{lots_in}
 use Rattle.rp_space.specs.Listed.{Listed}
-use Rattle.rp_report.specs.declared.answer.Verdict.{Verdict as CodeVerdict}
+use Rattle.rp_text.specs.declared.answer.Verdict.{Verdict as CodeVerdict}
 use Rattle.rp_machine.specs.declared.reply.Reply.{Reply as CodeReply}
-use Rattle.rp_asked.specs.declared.reply.RowEnd.{RowEnd}
-use Rattle.rp_asked.specs.Replies.{Tells}
+use Rattle.rp_rows.specs.declared.reply.RowEnd.{RowEnd}
+use Rattle.rp_rows.specs.Replies.{Tells}
 use Rattle.rp_machine.specs.Replies.{Runs, reply_told}
 
 -- ---- questions

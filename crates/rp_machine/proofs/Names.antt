@@ -16,7 +16,7 @@ use Rattle.rp_model.specs.commands.Row.{shapes_of_parts}
 use Rattle.rp_states.proofs.Labels.{distinct_together}
 use Rattle.rp_states.proofs.Listing.{all_unmapped}
 use Rattle.rp_states.proofs.Plain.{image_sums}
-use Rattle.rp_kept.specs.Kept.{kept_under, state_with, IsNewName}
+use Rattle.rp_store.specs.Kept.{kept_under, state_with, IsNewName}
 
 -- a region that is kept under a new name, for which there is room, leaves a sound state
 pub named_is_sound : (y : Label) (ks : List (Kept (Unit {0}))) (lots : List (Lot (Unit {0}))) (x : Label) (ps : List Part) → IsSound (state_of_parts (state_with y ks lots)) → IsNewName ks x ps → IsRegion ps → IsSound (state_of_parts (state_with y (ks ++ kept_under x ps ∷ []) lots))

@@ -9,10 +9,10 @@ use Rattle.rp_model.specs.commands.Row.{Reply, row}
 use Rattle.rp_model.specs.commands.Rule.{walked, proofs_walked}
 use Rattle.rp_reports.specs.Text.{Answer}
 use Rattle.rp_reports.specs.Machine.{verdicts_walked, change_walked, answer_read, state_read, step_answer, step_state, Running, after_line}
-use Rattle.rp_tests.specs.declared.stopped.Stopped.{Stopped}
-use Rattle.rp_tests.specs.Comes.{stop_of, StopsBy}
-use Rattle.rp_asked.specs.declared.reply.RowEnd.{RowEnd}
-use Rattle.rp_asked.specs.declared.reply.RowEnd.TheVariants.{Refused, Stopped as StoppedEnd}
+use Rattle.rp_tester.specs.declared.stopped.Stopped.{Stopped}
+use Rattle.rp_tester.specs.Comes.{stop_of, StopsBy}
+use Rattle.rp_rows.specs.declared.reply.RowEnd.{RowEnd}
+use Rattle.rp_rows.specs.declared.reply.RowEnd.TheVariants.{Refused, Stopped as StoppedEnd}
 use Rattle.rp_machine.specs.declared.reply.Reply.{Reply as CodeReply}
 use Rattle.rp_machine.specs.Replies.{Runs, IsWant, verdicts_of_row, proofs_of_row}
 

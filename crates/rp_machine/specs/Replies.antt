@@ -8,12 +8,12 @@ use Rattle.rp_model.specs.commands.Row.{Reply}
 use Rattle.rp_space.specs.Listed.{Listed}
 use Rattle.rp_parcels.specs.declared.fault.ParcelFault.{ParcelFault}
 use Rattle.rp_parcels.specs.Rows.{EndsWith}
-use Rattle.rp_report.specs.declared.answer.Verdict.{Verdict as CodeVerdict}
-use Rattle.rp_report.specs.Views.{refusal_of, verdict_of}
-use Rattle.rp_tests.specs.Comes.{stop_of}
-use Rattle.rp_asked.specs.declared.reply.RowEnd.{RowEnd}
-use Rattle.rp_asked.specs.declared.reply.RowEnd.TheVariants.{Refused, Stopped as StoppedEnd}
-use Rattle.rp_asked.specs.Replies.{EndsBy}
+use Rattle.rp_text.specs.declared.answer.Verdict.{Verdict as CodeVerdict}
+use Rattle.rp_text.specs.Views.{refusal_of, verdict_of}
+use Rattle.rp_tester.specs.Comes.{stop_of}
+use Rattle.rp_rows.specs.declared.reply.RowEnd.{RowEnd}
+use Rattle.rp_rows.specs.declared.reply.RowEnd.TheVariants.{Refused, Stopped as StoppedEnd}
+use Rattle.rp_rows.specs.Replies.{EndsBy}
 use Rattle.rp_machine.specs.declared.reply.Reply.{Reply as CodeReply}
 use Rattle.rp_machine.specs.declared.reply.Reply.TheVariants.{Told, Done}
 

@@ -1,12 +1,12 @@
 //! Why an expression has no form, and how the row of a command ends where the register has a fault.
 ghost use Rattle.rp_machine.specs.Replies.{IsEndOf};
 
-use rp_asked::RowEnd;
 use rp_parcels::ParcelFault;
 use rp_region::OpFault;
-use rp_report::Refusal;
+use rp_rows::RowEnd;
 use rp_space::Name;
-use rp_tests::Stopped;
+use rp_tester::Stopped;
+use rp_text::Refusal;
 use std::alloc::AllocError;
 use thiserror::Error;
 

@@ -14,10 +14,10 @@ ghost use Rattle.rp_machine.specs.Forms.{MakesForm};
 use crate::fault::FormFault;
 use crate::state::State;
 use rp_command::Expr;
-use rp_once::{first_unknown, formed};
+use rp_queries::{first_unknown, formed};
 use rp_region::{Region, Work};
 use rp_space::Name;
-use rp_tests::Named;
+use rp_tester::Named;
 use std::alloc::Global;
 
 impl Named<Work> for State {

@@ -4,15 +4,15 @@ ghost use Rattle.rp_language.specs.Expression.{ask_neighbours, ask_history, ask_
 ghost use Rattle.rp_walks.specs.Walk.{Work, first_tester};
 ghost use Rattle.rp_model.specs.states.State.{live_lots};
 ghost use Rattle.rp_model.specs.commands.Row.{row};
-ghost use Rattle.rp_asked.specs.Replies.{Tells};
+ghost use Rattle.rp_rows.specs.Replies.{Tells};
 
 use crate::fault::row_end;
 use crate::state::State;
-use rp_asked::{RowEnd, access_lines, lineage, list, neighbour_lines, one_line, owner_verdict};
 use rp_boxindex::Quiet;
 use rp_region::Work;
-use rp_report::{Verdict, Verdicts};
+use rp_rows::{RowEnd, access_lines, lineage, list, neighbour_lines, one_line, owner_verdict};
 use rp_space::{Name, Point};
+use rp_text::{Verdict, Verdicts};
 use std::alloc::Global;
 use std::thread::Threads;
 

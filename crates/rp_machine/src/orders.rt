@@ -8,19 +8,19 @@ ghost use Rattle.rp_model.specs.states.State.{parts_in, state_of_parts};
 ghost use Rattle.rp_model.specs.states.Sound.{IsLaterThan};
 ghost use Rattle.rp_model.specs.commands.Row.{row, form_children};
 ghost use Rattle.rp_machine.specs.Children.{formed_children};
-ghost use Rattle.rp_tests.specs.Comes.{Comes};
+ghost use Rattle.rp_tester.specs.Comes.{Comes};
 ghost use Rattle.rp_machine.specs.Replies.{Runs};
 
 use crate::reply::Reply;
 use crate::state::State;
-use rp_asked::{RowEnd, row_form};
 use rp_command::Expr;
-use rp_once::formed;
 use rp_parcels::Child;
+use rp_queries::formed;
 use rp_region::Work;
-use rp_report::Refusal;
+use rp_rows::{RowEnd, row_form};
 use rp_space::{Listed, Name};
-use rp_tests::Stopped;
+use rp_tester::Stopped;
+use rp_text::Refusal;
 use std::alloc::Global;
 
 impl State {

@@ -1,6 +1,6 @@
 //! What is told of a command.
 
-use rp_report::Verdicts;
+use rp_text::Verdicts;
 
 /// What a command comes to.
 #[derive(Drop)]

@@ -8,20 +8,20 @@ ghost use Rattle.rp_walks.specs.Walk.{Work, first_tester};
 ghost use Rattle.rp_model.specs.states.State.{state_of_parts};
 ghost use Rattle.rp_model.specs.states.Sound.{IsLaterThan};
 ghost use Rattle.rp_model.specs.commands.Row.{row};
-ghost use Rattle.rp_asked.specs.Replies.{Tells};
+ghost use Rattle.rp_rows.specs.Replies.{Tells};
 ghost use Rattle.rp_machine.specs.Replies.{Runs, reply_told};
 
 use crate::reply::Reply;
 use crate::state::State;
-use rp_asked::{
+use rp_command::{Command, Expr};
+use rp_queries::Question;
+use rp_region::Work;
+use rp_rows::{
     RowEnd, comparison, emptiness, membership, piece_numbers, related, row_form, shown_parts,
     slice_lines,
 };
-use rp_command::{Command, Expr};
-use rp_once::Question;
-use rp_region::Work;
-use rp_report::Verdicts;
 use rp_section::section;
+use rp_text::Verdicts;
 use std::alloc::Global;
 use std::thread::Threads;
 

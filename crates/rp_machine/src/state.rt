@@ -12,14 +12,14 @@ ghost use Rattle.rp_machine.specs.Replies.{Runs, IsAnswered};
 
 use crate::fault::row_end;
 use crate::reply::Reply;
-use rp_asked::RowEnd;
 use rp_boxindex::Quiet;
-use rp_kept::NamedForms;
 use rp_parcels::{Child, ParcelFault, Parcels, Regions};
 use rp_region::{Region, Work};
-use rp_report::Refusal;
+use rp_rows::RowEnd;
 use rp_space::Name;
-use rp_tests::Stopped;
+use rp_store::NamedForms;
+use rp_tester::Stopped;
+use rp_text::Refusal;
 use std::alloc::{AllocError, Global};
 use std::marker::Model;
 
@@ -36,7 +36,7 @@ pub(crate) struct State {
 impl Model for State {
     ghost use Rattle.rp_model.specs.states.State.{PlainState, state_of_parts};
     ghost use Rattle.rp_model.specs.states.Sound.{IsSound};
-    ghost use Rattle.rp_kept.specs.Kept.{state_with};
+    ghost use Rattle.rp_store.specs.Kept.{state_with};
 
     ghost Value = { PlainState };
 

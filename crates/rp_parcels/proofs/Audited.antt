@@ -14,11 +14,11 @@ use Rattle.rp_model.specs.commands.Row.{lot_parts, all_apart_from}
 use Rattle.rp_states.proofs.Labels.{label_is}
 use Rattle.rp_states.proofs.Listing.{all_passed}
 use Rattle.rp_algebra.proofs.Listed.{all_map}
-use Rattle.rp_nearby.proofs.Behind.{live_first}
+use Rattle.rp_lotindex.proofs.Behind.{live_first}
 use Rattle.rp_parcels.specs.Kept.{AreSound}
-use Rattle.rp_nearby.specs.declared.near.Reach.TheVariants.{Overlap}
-use Rattle.rp_nearby.specs.Near.{is_near}
-use Rattle.rp_nearby.proofs.Skipped.{apart_near}
+use Rattle.rp_lotindex.specs.declared.near.Reach.TheVariants.{Overlap}
+use Rattle.rp_lotindex.specs.Near.{is_near}
+use Rattle.rp_lotindex.proofs.Skipped.{apart_near}
 use Rattle.rp_parcels.proofs.Alone.{ApartLots, live_apart}
 
 -- ---- apart

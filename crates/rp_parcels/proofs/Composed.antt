@@ -19,7 +19,7 @@ use Rattle.rp_history.specs.Lots.{lots_in, lots_after}
 use Rattle.rp_parcels.specs.declared.fault.ParcelFault.{ParcelFault}
 use Rattle.rp_parcels.specs.Faults.{fault_of_parcels}
 use Rattle.rp_parcels.specs.Rows.{Cause, wanting, cause_of, EndsBy, FailsBy, Changes}
-use Rattle.rp_nearby.specs.Near.{others_in}
+use Rattle.rp_lotindex.specs.Near.{others_in}
 use Rattle.rp_parcels.specs.Judged.{parts_at}
 use Rattle.rp_parcels.specs.Walks.{overlap_counted, touch_counted}
 use Rattle.rp_parcels.proofs.Tells.{size_tells, check_tells, overlapped_tells, touched_tells, apart_tells}

@@ -4,7 +4,7 @@ use Rattle.std.specs.List.{AllByRecursion}
 use Rattle.rp_geometry.specs.sets.Shape.{Part}
 use Rattle.rp_walks.specs.Walk.{Outcome, done, Work, no_work, with_lines, pass, after_first, first_tester}
 use Rattle.rp_region.specs.Makes.{work_after}
-use Rattle.rp_nearby.specs.declared.near.Reach.{Reach}
+use Rattle.rp_lotindex.specs.declared.near.Reach.{Reach}
 use Rattle.rp_lots.specs.declared.pair.Pair.{Pair}
 use Rattle.rp_lots.specs.Meets.{meet_each}
 use Rattle.rp_parcels.specs.declared.crew.Shown.{Shown}

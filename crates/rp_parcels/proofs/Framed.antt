@@ -15,8 +15,8 @@ use Rattle.rp_region.specs.declared.fault.OpFault.TheVariants.{Limit}
 use Rattle.rp_region.specs.Makes.{work_after, IsFaultOf}
 use Rattle.rp_region.specs.Stops.{behind}
 use Rattle.rp_region.proofs.Behind.{ComesBehind}
-use Rattle.rp_nearby.specs.declared.near.Reach.{Reach}
-use Rattle.rp_nearby.specs.declared.near.Reach.TheVariants.{Overlap, Touch}
+use Rattle.rp_lotindex.specs.declared.near.Reach.{Reach}
+use Rattle.rp_lotindex.specs.declared.near.Reach.TheVariants.{Overlap, Touch}
 use Rattle.rp_parcels.specs.Judged.{pair_test, is_passed}
 
 -- a walk counts nothing and is never stopped: whatever the work, it comes to the same and appends the same lines

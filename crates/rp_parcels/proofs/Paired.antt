@@ -13,9 +13,9 @@ use Rattle.rp_walks.specs.Form.{near_pair}
 use Rattle.rp_model.specs.states.State.{Lot, is_live, live_lots, lots_of_layer}
 use Rattle.rp_model.specs.commands.Row.{count_in_layers, lot_parts, all_apart, all_apart_from}
 use Rattle.rp_region.specs.declared.fault.OpFault.{OpFault}
-use Rattle.rp_nearby.specs.declared.near.Reach.{Reach}
-use Rattle.rp_nearby.specs.declared.near.Reach.TheVariants.{Overlap}
-use Rattle.rp_nearby.specs.Near.{pairs_with, is_near, lots_at, AreWithin}
+use Rattle.rp_lotindex.specs.declared.near.Reach.{Reach}
+use Rattle.rp_lotindex.specs.declared.near.Reach.TheVariants.{Overlap}
+use Rattle.rp_lotindex.specs.Near.{pairs_with, is_near, lots_at, AreWithin}
 use Rattle.rp_lots.specs.Behind.{live_places, lots_behind}
 use Rattle.rp_lots.proofs.Paired.{left_further, left_within, behind_here}
 use Rattle.rp_parcels.specs.declared.near.Near.{Near}

@@ -8,10 +8,10 @@ use Rattle.rp_model.specs.states.State.{Lot}
 use Rattle.rp_model.specs.commands.Row.{first_overlapped}
 use Rattle.rp_region.proofs.Grows.{count_tells}
 use Rattle.rp_region.proofs.Left.{IsLeft, all_left, left_as, next_left}
-use Rattle.rp_nearby.specs.declared.near.Reach.TheVariants.{Overlap}
-use Rattle.rp_nearby.specs.Near.{pairs_with, lots_at}
-use Rattle.rp_nearby.proofs.Places.{lots_left}
-use Rattle.rp_nearby.proofs.Skipped.{search_on}
+use Rattle.rp_lotindex.specs.declared.near.Reach.TheVariants.{Overlap}
+use Rattle.rp_lotindex.specs.Near.{pairs_with, lots_at}
+use Rattle.rp_lotindex.proofs.Places.{lots_left}
+use Rattle.rp_lotindex.proofs.Skipped.{search_on}
 use Rattle.rp_parcels.specs.Walks.{overlap_counted}
 use Rattle.rp_parcels.proofs.Tells.{common_tells}
 

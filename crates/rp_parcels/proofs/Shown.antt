@@ -15,16 +15,16 @@ use Rattle.rp_forms.proofs.Common.{common_is_right_spec}
 use Rattle.rp_model.specs.states.State.{Lot}
 use Rattle.rp_model.specs.commands.Row.{lot_parts, all_apart_from}
 use Rattle.rp_region.specs.Makes.{work_after}
-use Rattle.rp_crew.specs.Meanings.{meanings_from, meanings_of}
-use Rattle.rp_nearby.specs.declared.near.Reach.{Reach}
-use Rattle.rp_nearby.specs.declared.near.Reach.TheVariants.{Overlap}
+use Rattle.rp_parallel.specs.Meanings.{meanings_from, meanings_of}
+use Rattle.rp_lotindex.specs.declared.near.Reach.{Reach}
+use Rattle.rp_lotindex.specs.declared.near.Reach.TheVariants.{Overlap}
 use Rattle.rp_parcels.specs.declared.pairs.Pair.{Pair}
 use Rattle.rp_parcels.specs.declared.pairs.Judged.{Judged}
-use Rattle.rp_nearby.specs.Near.{lots_at, AreWithin}
+use Rattle.rp_lotindex.specs.Near.{lots_at, AreWithin}
 use Rattle.rp_parcels.specs.Judged.{pair_of, parts_at, id_at, pair_test, is_passed, pair_outcome, judged, with_all_lines, IsPairWithin, CountsNothing}
 use Rattle.rp_parcels.specs.Kept.{AreSound}
 use Rattle.rp_parcels.proofs.Sizes.{region_each}
-use Rattle.rp_nearby.proofs.Skipped.{apart_on}
+use Rattle.rp_lotindex.proofs.Skipped.{apart_on}
 use Rattle.rp_parcels.proofs.Framed.{shown_behind, none_counted}
 
 -- ---- items of a list by their numbers

@@ -9,7 +9,7 @@ use Rattle.rp_states.proofs.Listing.{all_unmapped}
 use Rattle.rp_states.proofs.Plain.{image_sums}
 use Rattle.rp_history.specs.Lots.{AreBornBefore}
 use Rattle.rp_history.proofs.Sizes.{as_many_parts}
-use Rattle.rp_kept.specs.Kept.{AreFew}
+use Rattle.rp_store.specs.Kept.{AreFew}
 use Rattle.rp_parcels.specs.Kept.{AreSound}
 use Rattle.rp_parcels.specs.Register.{IsLater}
 

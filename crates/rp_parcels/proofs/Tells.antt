@@ -17,7 +17,7 @@ use Rattle.rp_region.proofs.PartMade.{telling_tells}
 use Rattle.rp_region.proofs.Searched.{pairs_tell}
 use Rattle.rp_parcels.specs.declared.pairs.Judged.{Judged}
 use Rattle.rp_parcels.specs.Judged.{telling_all}
-use Rattle.rp_nearby.proofs.Skipped.{search_on, touched_by, apart_on}
+use Rattle.rp_lotindex.proofs.Skipped.{search_on, touched_by, apart_on}
 
 -- ---- steps
 

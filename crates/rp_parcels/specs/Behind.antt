@@ -1,8 +1,8 @@
 -- Lots behind each of some, in its layer, that may meet it.
 use Rattle.std.specs.Prelude.{◌≡◌, ℕ, ◌+◌, List, [], ◌∷◌, ◌++◌, map, filter}
 use Rattle.rp_model.specs.states.State.{Lot}
-use Rattle.rp_nearby.specs.declared.near.Reach.{Reach}
-use Rattle.rp_nearby.specs.Near.{pairs_with, is_near, lots_at, AreWithin}
+use Rattle.rp_lotindex.specs.declared.near.Reach.{Reach}
+use Rattle.rp_lotindex.specs.Near.{pairs_with, is_near, lots_at, AreWithin}
 use Rattle.rp_lots.specs.Behind.{lots_behind}
 use Rattle.rp_parcels.specs.declared.pairs.Pair.{Pair}
 use Rattle.rp_parcels.specs.Judged.{pair_of, parts_at}

@@ -3,7 +3,7 @@ use Rattle.std.specs.Prelude.{◌≡◌, ℕ, ◌<◌, List, [], ◌∷◌, leng
 use Rattle.rp_geometry.specs.sets.Shape.{Part}
 use Rattle.rp_walks.specs.Walk.{Work, no_work, with_lines}
 use Rattle.rp_region.specs.Makes.{work_after}
-use Rattle.rp_nearby.specs.declared.near.Reach.{Reach}
+use Rattle.rp_lotindex.specs.declared.near.Reach.{Reach}
 use Rattle.rp_lots.specs.declared.pair.Pair.{Pair}
 use Rattle.rp_lots.specs.Meets.{pair_of, IsPairWithin}
 use Rattle.rp_parcels.specs.declared.crew.Shown.{Shown}

@@ -5,7 +5,7 @@ use Rattle.rp_language.specs.Name.{Label}
 use Rattle.rp_walks.specs.Walk.{Outcome, done, stopped, Walk, Work, no_work, with_lines, first_tester}
 use Rattle.rp_model.specs.states.State.{Lot}
 use Rattle.rp_region.specs.Makes.{work_after}
-use Rattle.rp_nearby.specs.declared.near.Reach.{Reach}
+use Rattle.rp_lotindex.specs.declared.near.Reach.{Reach}
 use Rattle.rp_lots.specs.Meets.{pair_test as tests_of_pair}
 use Rattle.rp_parcels.specs.declared.pairs.Pair.{Pair}
 use Rattle.rp_parcels.specs.declared.pairs.Judged.{Judged}

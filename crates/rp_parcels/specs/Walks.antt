@@ -5,8 +5,8 @@ use Rattle.rp_language.specs.Name.{Label}
 use Rattle.rp_walks.specs.Walk.{Walk, Work, count_tests, first_tester, ◌>>◌}
 use Rattle.rp_model.specs.states.State.{Lot}
 use Rattle.rp_model.specs.commands.Row.{first_overlapped}
-use Rattle.rp_nearby.specs.declared.near.Reach.TheVariants.{Overlap}
-use Rattle.rp_nearby.specs.Near.{pairs_with}
+use Rattle.rp_lotindex.specs.declared.near.Reach.TheVariants.{Overlap}
+use Rattle.rp_lotindex.specs.Near.{pairs_with}
 use Rattle.rp_lots.specs.Asked.{touch_counted as touch_counted_by}
 
 -- the pairs of parts whose boxes share more than boundary are counted, and then the first lot that shares a member is looked for

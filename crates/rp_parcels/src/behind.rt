@@ -1,6 +1,6 @@
 //! The pairs of each of some parcels with those behind it, in its layer, that may meet it.
 ghost use Rattle.std.specs.Prelude.{◌<◌, length, IfOk};
-ghost use Rattle.rp_nearby.specs.Near.{pairs_with, AreWithin};
+ghost use Rattle.rp_lotindex.specs.Near.{pairs_with, AreWithin};
 ghost use Rattle.rp_lots.specs.Behind.{lots_behind};
 ghost use Rattle.rp_parcels.specs.Judged.{parts_at};
 ghost use Rattle.rp_parcels.specs.Counted.{IsCounted};
@@ -10,7 +10,7 @@ use crate::near::{MAX_TESTS, Near};
 use crate::pairs::{NearPairs, add_pairs};
 use crate::parcels::Parcels;
 use rp_boxindex::Watch;
-use rp_nearby::Reach;
+use rp_lotindex::Reach;
 use rp_region::OpFault;
 use std::alloc::Global;
 

@@ -2,18 +2,18 @@
 ghost use Rattle.std.specs.Prelude.{◌≡◌, ◌≤◌, [], IfOk, OnOk, length, map};
 ghost use Rattle.std.specs.List.{AllByRecursion};
 ghost use Rattle.rp_walks.specs.Walk.{most_tests, first_tester};
-ghost use Rattle.rp_tests.specs.Comes.{Comes};
+ghost use Rattle.rp_tester.specs.Comes.{Comes};
 ghost use Rattle.rp_lots.specs.Meets.{meet_each, IsPairWithin};
 ghost use Rattle.rp_region.specs.Makes.{Makes};
 ghost use Rattle.rp_parcels.specs.Judged.{pair_test};
 ghost use Rattle.rp_parcels.specs.Crew.{shown, shown_at, with_all_shown, ShowsNothingCounted, ArePairsWithin};
 
 use rp_boxindex::Watch;
-use rp_crew::{Judge, judge_all};
+use rp_lotindex::Reach;
 use rp_lots::Pair;
-use rp_nearby::Reach;
+use rp_parallel::{Judge, judge_all};
 use rp_region::{OpFault, Region, Work};
-use rp_tests::Stopped;
+use rp_tester::Stopped;
 use std::alloc::{AllocError, Global};
 use std::thread::Threads;
 

@@ -7,13 +7,13 @@ ghost use Rattle.rp_space.specs.Boxes.{integer_box};
 ghost use Rattle.rp_model.specs.states.State.{bare_lot, parts_under_lots, most_kept_parts};
 ghost use Rattle.rp_model.specs.commands.Row.{lot_parts};
 ghost use Rattle.rp_history.specs.Lots.{lots_in};
-ghost use Rattle.rp_nearby.specs.Near.{others_in, is_near, lots_at, AreWithin};
+ghost use Rattle.rp_lotindex.specs.Near.{others_in, is_near, lots_at, AreWithin};
 
 use crate::parcels::Parcels;
 use rp_boxindex::Quiet;
 use rp_history::History;
+use rp_lotindex::Reach;
 use rp_lots::Keeper;
-use rp_nearby::Reach;
 use rp_region::{Part, Region, Work};
 use rp_space::{IntBox, Listed, Name};
 use std::alloc::{AllocError, Global};

@@ -31,4 +31,4 @@ pub use child::Child;
 pub use fault::ParcelFault;
 pub use parcels::Parcels;
 pub use regions::Regions;
-pub use rp_nearby::{Access, Levels};
+pub use rp_lotindex::{Access, Levels};

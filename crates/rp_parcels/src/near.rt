@@ -3,12 +3,12 @@ ghost use Rattle.std.specs.Prelude.{◌≡◌, ◌≤◌, drop, filter, length, 
 ghost use Rattle.rp_walks.specs.Walk.{count_tests};
 ghost use Rattle.rp_model.specs.commands.Row.{count_pairs};
 ghost use Rattle.rp_region.specs.Makes.{Makes};
-ghost use Rattle.rp_nearby.specs.Near.{may_meet, others_in, pairs_with, is_near, lots_at, AreWithin};
+ghost use Rattle.rp_lotindex.specs.Near.{may_meet, others_in, pairs_with, is_near, lots_at, AreWithin};
 ghost use Rattle.rp_parcels.specs.Counted.{IsCounted};
 
 use crate::parcels::Parcels;
 use rp_boxindex::Watch;
-use rp_nearby::Reach;
+use rp_lotindex::Reach;
 use rp_region::{OpFault, Region, Work};
 use rp_space::{Listed, Name};
 use std::alloc::Global;

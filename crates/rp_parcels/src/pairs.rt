@@ -8,8 +8,8 @@ ghost use Rattle.rp_parcels.specs.Judged.{pair_of, pair_test, judged, judged_at,
 use crate::near::count_tests;
 use crate::parcels::Parcels;
 use rp_boxindex::Watch;
-use rp_crew::{Judge, judge_all};
-use rp_nearby::Reach;
+use rp_lotindex::Reach;
+use rp_parallel::{Judge, judge_all};
 use rp_region::{OpFault, Region, Work};
 use rp_space::Name;
 use std::alloc::{AllocError, Global};

@@ -13,9 +13,9 @@ ghost use Rattle.rp_parcels.specs.Rows.{Changes};
 use crate::fault::ParcelFault;
 use crate::regions::Regions;
 use rp_history::{Birth, History};
-use rp_kept::Lots;
 use rp_region::Region;
 use rp_space::{Listed, Name};
+use rp_store::Lots;
 use std::alloc::{AllocError, Global};
 use std::marker::Model;
 

@@ -2,9 +2,9 @@
 ghost use Rattle.std.specs.Prelude.{◌≡◌};
 ghost use Rattle.rp_model.specs.commands.Row.{is_in_parts};
 
-use rp_kept::Forms;
 use rp_region::{Part, Region};
 use rp_space::{IntBox, Point};
+use rp_store::Forms;
 
 /// Regions, as they are kept under names and of lots.
 #[derive(Drop)]

@@ -13,7 +13,7 @@ ghost use Rattle.rp_history.specs.Lots.{lots_in};
 ghost use Rattle.rp_parcels.specs.Kept.{AreSound};
 ghost use Rattle.rp_parcels.specs.Register.{IsLater};
 ghost use Rattle.rp_parcels.specs.Rows.{Changes, Checks, IsTold};
-ghost use Rattle.rp_nearby.specs.Near.{lots_at, AreWithin};
+ghost use Rattle.rp_lotindex.specs.Near.{lots_at, AreWithin};
 ghost use Rattle.rp_parcels.specs.Walks.{overlap_counted};
 
 use crate::fault::ParcelFault;
@@ -21,7 +21,7 @@ use crate::near::count_tests;
 use crate::parcels::Parcels;
 use rp_boxindex::Watch;
 use rp_history::Birth;
-use rp_nearby::Reach;
+use rp_lotindex::Reach;
 use rp_region::{OpFault, Region, Work};
 use rp_space::{Inside, Listed, Name, Names};
 use std::alloc::Global;

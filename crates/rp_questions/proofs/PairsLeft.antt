@@ -3,7 +3,7 @@ use Rattle.std.proofs.Common.{◌≡◌, ℕ, ◌+◌, ◌<◌, true, false, Lis
 use Rattle.rp_walks.specs.Form.{near_pair}
 use Rattle.rp_model.specs.states.State.{Lot, is_live, live_lots}
 use Rattle.rp_model.specs.commands.Row.{count_with_each, count_in_layers, lot_parts}
-use Rattle.rp_nearby.proofs.Behind.{live_first, live_next}
+use Rattle.rp_lotindex.proofs.Behind.{live_first, live_next}
 use Rattle.rp_questions.specs.Asked.{lots_behind}
 
 -- those of the lots still to come

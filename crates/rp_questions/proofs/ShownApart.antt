@@ -4,10 +4,10 @@ use Rattle.rp_walks.specs.Walk.{Walk, done, ◌>>=◌}
 use Rattle.rp_model.specs.states.State.{Lot, is_live, live_lots}
 use Rattle.rp_model.specs.commands.Row.{lot_parts, all_apart, all_apart_from}
 use Rattle.rp_reports.specs.Check.{Trail, line_tester}
-use Rattle.rp_tests.specs.declared.stopped.Stopped.{Stopped}
-use Rattle.rp_tests.specs.Comes.{StopsBy}
-use Rattle.rp_tests.proofs.Left.{IsLeft, left_as, next_left, stop_left}
-use Rattle.rp_nearby.proofs.Behind.{live_first, live_next}
+use Rattle.rp_tester.specs.declared.stopped.Stopped.{Stopped}
+use Rattle.rp_tester.specs.Comes.{StopsBy}
+use Rattle.rp_tester.proofs.Left.{IsLeft, left_as, next_left, stop_left}
+use Rattle.rp_lotindex.proofs.Behind.{live_first, live_next}
 use Rattle.rp_questions.specs.Asked.{lots_behind}
 
 module _ (start now : Trail) (lots : List (Lot (Unit {0}))) (k : ℕ) (l : Lot (Unit {0})) (within : k < length lots) (at : slice_get lots k ≡ Some l) (left : IsLeft start (all_apart line_tester (live_lots lots)) now (all_apart line_tester (live_lots (drop k lots)))) where

@@ -11,11 +11,11 @@ use Rattle.rp_reports.specs.Check.{Trail, taken, follow_line, follow_lines, slic
 use Rattle.rp_accepted.proofs.Shown.{told_length}
 use Rattle.rp_cert.specs.Section.{slice_shown}
 use Rattle.rp_cert.specs.declared.slice.Slice.{Slice as CodeSlice}
-use Rattle.rp_tests.specs.declared.stopped.Stopped.{Stopped}
-use Rattle.rp_tests.specs.declared.stopped.Stopped.TheVariants.{Wrong}
-use Rattle.rp_tests.specs.Comes.{StopsBy, Comes}
-use Rattle.rp_follow.specs.Slices.{follow_slice_lines}
-use Rattle.rp_tests.proofs.Left.{stops_on}
+use Rattle.rp_tester.specs.declared.stopped.Stopped.{Stopped}
+use Rattle.rp_tester.specs.declared.stopped.Stopped.TheVariants.{Wrong}
+use Rattle.rp_tester.specs.Comes.{StopsBy, Comes}
+use Rattle.rp_trail.specs.Slices.{follow_slice_lines}
+use Rattle.rp_tester.proofs.Left.{stops_on}
 use Rattle.rp_register.specs.Replies.{IsUnshown}
 use Rattle.rp_questions.specs.Slices.{follow_section_lines}
 

@@ -6,14 +6,14 @@ ghost use Rattle.rp_model.specs.states.State.{live_lots};
 ghost use Rattle.rp_model.specs.commands.Row.{count_with_each, count_in_layers, lot_parts, all_apart, all_apart_from};
 ghost use Rattle.rp_reports.specs.Check.{line_tester};
 ghost use Rattle.rp_register.specs.There.{lot_here, lots_here};
-ghost use Rattle.rp_tests.specs.Comes.{Comes};
+ghost use Rattle.rp_tester.specs.Comes.{Comes};
 ghost use Rattle.rp_questions.specs.Asked.{lots_behind};
 
 use crate::behind::near_behind;
-use rp_follow::{Trail, common};
-use rp_nearby::{Moment, Reach, is_there};
+use rp_lotindex::{Moment, Reach, is_there};
 use rp_register::{Parcel, Register};
-use rp_tests::Stopped;
+use rp_tester::Stopped;
+use rp_trail::{Trail, common};
 use std::alloc::Global;
 
 /// Each two live lots of one layer are shown to share no point; no more than a command may test of their pairs of parts

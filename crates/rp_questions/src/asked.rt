@@ -2,17 +2,17 @@
 ghost use Rattle.rp_language.specs.Expression.{ask_history, ask_at, ask_as_of, ask_list};
 ghost use Rattle.rp_model.specs.commands.Row.{row, row_audit};
 ghost use Rattle.rp_reports.specs.Check.{Trail, line_tester};
-ghost use Rattle.rp_asked.specs.Replies.{Tells};
+ghost use Rattle.rp_rows.specs.Replies.{Tells};
 
 use crate::apart::show_apart;
 use crate::behind::pairs_in_layers;
 use crate::live::count_live;
-use rp_asked::{RowEnd, one_line, owner_verdict};
-use rp_follow::Trail;
-use rp_nearby::Moment;
+use rp_lotindex::Moment;
 use rp_register::{Register, count_tests};
-use rp_report::{Verdict, Verdicts};
+use rp_rows::{RowEnd, one_line, owner_verdict};
 use rp_space::{Name, Point};
+use rp_text::{Verdict, Verdicts};
+use rp_trail::Trail;
 use std::alloc::Global;
 
 /// `audit`: how many live lots `register` has, of which no two of one layer share a point, as the next lines of `trail`
@@ -51,12 +51,12 @@ pub fn owner_then(
 pub fn list(alloc: Global, register: &Register) -> Result<Verdicts, RowEnd>
     ensures { (t : Trail) → Tells result t (row line_tester register.now ask_list t) }
 {
-    Ok(rp_asked::list(alloc, register.history())?)
+    Ok(rp_rows::list(alloc, register.history())?)
 }
 
 /// `history`: the lot `id` and all lots that it was made from. It makes no test.
 pub fn lineage(alloc: Global, register: &Register, id: Name) -> Result<Verdicts, RowEnd>
     ensures { (t : Trail) → Tells result t (row line_tester register.now (ask_history id) t) }
 {
-    rp_asked::lineage(alloc, register.history(), id)
+    rp_rows::lineage(alloc, register.history(), id)
 }

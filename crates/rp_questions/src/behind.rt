@@ -4,14 +4,14 @@ ghost use Rattle.rp_walks.specs.Walk.{most_tests};
 ghost use Rattle.rp_walks.specs.Form.{near_pair};
 ghost use Rattle.rp_model.specs.states.State.{live_lots};
 ghost use Rattle.rp_model.specs.commands.Row.{count_with_each, count_in_layers, lot_parts};
-ghost use Rattle.rp_nearby.specs.Near.{is_near, may_meet};
+ghost use Rattle.rp_lotindex.specs.Near.{is_near, may_meet};
 ghost use Rattle.rp_lots.specs.Counted.{CountsUpTo};
 ghost use Rattle.rp_register.specs.There.{lot_here, lots_here};
 ghost use Rattle.rp_questions.specs.Asked.{lots_behind};
 
-use rp_nearby::{Moment, Reach, is_there};
+use rp_lotindex::{Moment, Reach, is_there};
 use rp_register::{Near, Parcel, Register};
-use rp_tests::Stopped;
+use rp_tester::Stopped;
 use std::alloc::Global;
 
 /// The most tests that are counted in a command.

@@ -2,15 +2,15 @@
 ghost use Rattle.rp_language.specs.Expression.{ask_access};
 ghost use Rattle.rp_model.specs.commands.Row.{row, row_neighbours};
 ghost use Rattle.rp_reports.specs.Check.{line_tester};
-ghost use Rattle.rp_asked.specs.Replies.{Tells};
+ghost use Rattle.rp_rows.specs.Replies.{Tells};
 
-use rp_asked::{RowEnd, access_lines, neighbour_lines};
-use rp_follow::Trail;
+use rp_lotindex::Reach;
 use rp_lots::{access_left, access_told, ids_met, touch_left};
-use rp_nearby::Reach;
 use rp_register::{Register, meet_in_turn};
-use rp_report::Verdicts;
+use rp_rows::{RowEnd, access_lines, neighbour_lines};
 use rp_space::Name;
+use rp_text::Verdicts;
+use rp_trail::Trail;
 use std::alloc::Global;
 
 /// `neighbours`: the other live lots in contact with the lot `id`, of its layer, as the next lines of `trail` show.

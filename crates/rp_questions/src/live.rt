@@ -2,8 +2,8 @@
 ghost use Rattle.std.specs.Prelude.{◌≡◌, length};
 ghost use Rattle.rp_model.specs.states.State.{live_lots};
 
-use rp_asked::live_count;
 use rp_register::Register;
+use rp_rows::live_count;
 
 /// How many lots of all layers are live.
 pub(crate) fn count_live(register: &Register) -> u32

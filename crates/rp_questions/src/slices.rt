@@ -8,18 +8,18 @@ ghost use Rattle.rp_model.specs.commands.Row.{row, row_section};
 ghost use Rattle.rp_reports.specs.Text.{verdict_text};
 ghost use Rattle.rp_reports.specs.Check.{taken, slices_told, follow_line, line_tester};
 ghost use Rattle.rp_cert.specs.Section.{slice_shown};
-ghost use Rattle.rp_tests.specs.Comes.{Comes};
-ghost use Rattle.rp_follow.specs.Stops.{IsWrongOrMemory};
-ghost use Rattle.rp_report.specs.Views.{verdict_of};
+ghost use Rattle.rp_tester.specs.Comes.{Comes};
+ghost use Rattle.rp_trail.specs.Stops.{IsWrongOrMemory};
+ghost use Rattle.rp_text.specs.Views.{verdict_of};
 ghost use Rattle.rp_questions.specs.Slices.{follow_section_lines};
 ghost use Rattle.rp_register.specs.Replies.{Replies};
 
-use rp_asked::{RowEnd, row_form, slice_lines};
 use rp_command::Expr;
-use rp_follow::{Form, Slices, Trail, slices};
 use rp_register::{Register, Reply};
-use rp_report::{Verdict, write_verdict};
-use rp_tests::Stopped;
+use rp_rows::{RowEnd, row_form, slice_lines};
+use rp_tester::Stopped;
+use rp_text::{Verdict, write_verdict};
+use rp_trail::{Form, Slices, Trail, slices};
 use std::alloc::Global;
 
 /// `section`: the slices of the parts of the form of `region` at the height `z`. Which these are the next lines of

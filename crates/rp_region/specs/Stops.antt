@@ -2,9 +2,9 @@
 use Rattle.std.specs.Prelude.{◌≡◌, List, [], ◌++◌, Result, Ok, Err, IsErrAnd, IsSome}
 use Rattle.rp_geometry.specs.searches.ProofLine.{ProofLine}
 use Rattle.rp_walks.specs.Walk.{Work}
-use Rattle.rp_tests.specs.declared.stopped.Stopped.{Stopped}
-use Rattle.rp_tests.specs.declared.stopped.Stopped.TheVariants.{Limit as StopLimit, Memory as StopMemory}
-use Rattle.rp_tests.specs.Comes.{stop_of as why_of}
+use Rattle.rp_tester.specs.declared.stopped.Stopped.{Stopped}
+use Rattle.rp_tester.specs.declared.stopped.Stopped.TheVariants.{Limit as StopLimit, Memory as StopMemory}
+use Rattle.rp_tester.specs.Comes.{stop_of as why_of}
 use Rattle.rp_region.specs.declared.fault.OpFault.{OpFault}
 use Rattle.rp_region.specs.declared.fault.OpFault.TheVariants.{Limit, Memory}
 

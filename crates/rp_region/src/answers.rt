@@ -6,7 +6,7 @@ use crate::part::Part;
 use crate::region::Region;
 use crate::work::Work;
 use rp_space::{Corner, Half, Halves, Point};
-use rp_tests::{Stopped, Tests};
+use rp_tester::{Stopped, Tests};
 use std::alloc::{AllocError, Global};
 
 impl From<OpFault> for Stopped {

@@ -25,7 +25,7 @@ use rp_cell::{
 };
 use rp_cert::{Proof, Proofs};
 use rp_space::{Half, Inside, Point, joined};
-use rp_tests::Stopped;
+use rp_tester::Stopped;
 use std::alloc::{AllocError, Global};
 use std::marker::Model;
 

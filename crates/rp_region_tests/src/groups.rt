@@ -1,4 +1,4 @@
-use rp_groups::groups_of_links;
+use rp_unionfind::groups_of_links;
 
 #[test]
 fn groups_come_in_the_order_of_their_first_numbers(rt: HostRuntime) {

@@ -18,7 +18,7 @@ use Rattle.rp_states.proofs.Plain.{image_sums}
 use Rattle.rp_states.proofs.Replaced.{ids_after}
 use Rattle.rp_history.specs.Lots.{AreBornBefore, AreNew}
 use Rattle.rp_history.proofs.Sizes.{as_many_parts}
-use Rattle.rp_kept.specs.Kept.{kept_under, IsNewName, AreFew, state_with}
+use Rattle.rp_store.specs.Kept.{kept_under, IsNewName, AreFew, state_with}
 use Rattle.rp_register.specs.Kept.{IsSoundOnLines, ComesFromKnown}
 
 -- ---- labels that are distinct

@@ -4,9 +4,9 @@ use Rattle.std.specs.Prelude.{nat_le}
 use Rattle.std.proofs.lemmas.Bool.Decides.{nat_tests}
 use Rattle.rp_walks.specs.Walk.{Outcome, done, stopped, limit_met, most_tests}
 use Rattle.rp_reports.specs.Check.{Trail, follow_count}
-use Rattle.rp_tests.specs.declared.stopped.Stopped.{Stopped}
-use Rattle.rp_tests.specs.declared.stopped.Stopped.TheVariants.{Wrong, TakenWrong, Told, Limit, Memory}
-use Rattle.rp_tests.specs.Comes.{StopsBy}
+use Rattle.rp_tester.specs.declared.stopped.Stopped.{Stopped}
+use Rattle.rp_tester.specs.declared.stopped.Stopped.TheVariants.{Wrong, TakenWrong, Told, Limit, Memory}
+use Rattle.rp_tester.specs.Comes.{StopsBy}
 use Rattle.rp_lots.specs.Counted.{CountsUpTo}
 
 -- where pairs were not counted, so many tests are not

@@ -6,7 +6,7 @@ use Rattle.rp_geometry.specs.sets.Shape.{Shape, Part}
 use Rattle.rp_geometry.specs.parts.Parts.{IsCheckedPart, AreOf, AreParts, most_parts}
 use Rattle.rp_language.specs.Name.{Label, label_eq}
 use Rattle.rp_model.specs.states.State.{Kept, Lot, PlainState, kept_of_parts, lot_of_parts, parts_in, is_live, live_lots, lot_with_id, kept_named, parts_of_kept, parts_of_lot}
-use Rattle.rp_tests.specs.Short.{StandShort}
+use Rattle.rp_tester.specs.Short.{StandShort}
 use Rattle.rp_register.specs.Kept.{IsSoundOnLines}
 
 -- what is kept under a name

@@ -8,8 +8,8 @@ use Rattle.rp_algebra.proofs.Lists.{drop_item}
 use Rattle.rp_geometry.specs.sets.Shape.{Part}
 use Rattle.rp_walks.specs.Walk.{Outcome, done, stopped, limit_met, most_tests, Walk, pass, ◌>>=◌}
 use Rattle.rp_reports.specs.Check.{Trail, follow_count, line_tester}
-use Rattle.rp_tests.proofs.Left.{IsLeft, left_as}
-use Rattle.rp_nearby.specs.declared.near.Reach.{Reach}
+use Rattle.rp_tester.proofs.Left.{IsLeft, left_as}
+use Rattle.rp_lotindex.specs.declared.near.Reach.{Reach}
 use Rattle.rp_lots.specs.declared.pair.Pair.{Pair}
 use Rattle.rp_lots.specs.Meets.{pair_test, meet_each, IsPairWithin}
 

@@ -7,10 +7,10 @@ use Rattle.rp_model.specs.commands.Row.{Reply as ModelReply, reply_lines, accept
 use Rattle.rp_reports.specs.Check.{Trail, follow_lines}
 use Rattle.rp_reports.specs.Text.{verdict_text}
 use Rattle.rp_space.specs.Listed.{Listed}
-use Rattle.rp_report.specs.declared.answer.Verdict.{Verdict as CodeVerdict}
-use Rattle.rp_report.specs.Views.{verdict_of}
-use Rattle.rp_asked.specs.declared.reply.RowEnd.{RowEnd}
-use Rattle.rp_asked.specs.Replies.{EndsBy}
+use Rattle.rp_text.specs.declared.answer.Verdict.{Verdict as CodeVerdict}
+use Rattle.rp_text.specs.Views.{verdict_of}
+use Rattle.rp_rows.specs.declared.reply.RowEnd.{RowEnd}
+use Rattle.rp_rows.specs.Replies.{EndsBy}
 use Rattle.rp_register.specs.declared.reply.Reply.{Reply}
 use Rattle.rp_register.specs.declared.reply.Reply.TheVariants.{Told, Unshown, Changed}
 use Rattle.rp_changes.specs.declared.change.Change.{Change}

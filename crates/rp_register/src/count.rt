@@ -1,9 +1,9 @@
 //! Tests are counted.
 ghost use Rattle.rp_reports.specs.Check.{follow_count};
-ghost use Rattle.rp_tests.specs.Comes.{Comes};
+ghost use Rattle.rp_tester.specs.Comes.{Comes};
 
-use rp_follow::Trail;
-use rp_tests::Stopped;
+use rp_tester::Stopped;
+use rp_trail::Trail;
 
 /// Counts so many tests. `Limit` exactly where these are too many.
 pub fn count_tests(trail: &mut Trail<'_>, tests: u64) -> Result<(), Stopped>

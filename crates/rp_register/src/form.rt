@@ -3,14 +3,14 @@ ghost use Rattle.std.specs.Prelude.{◌≡◌, option_copied, option_map};
 ghost use Rattle.rp_command.specs.Views.{expression_of};
 ghost use Rattle.rp_language.specs.Expression.{first_unknown};
 ghost use Rattle.rp_model.specs.states.State.{parts_in};
-ghost use Rattle.rp_tests.specs.Short.{StandShort};
+ghost use Rattle.rp_tester.specs.Short.{StandShort};
 
 use crate::register::Register;
 use rp_command::Expr;
-use rp_follow::{Form, Trail};
-use rp_once::first_unknown;
+use rp_queries::first_unknown;
 use rp_space::Name;
-use rp_tests::Named;
+use rp_tester::Named;
+use rp_trail::{Form, Trail};
 
 impl<'a> Named<Trail<'a>> for Register {
     ghost meaning = { parts_in };

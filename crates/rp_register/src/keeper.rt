@@ -4,21 +4,21 @@ ghost use Rattle.std.specs.List.{AllByRecursion};
 ghost use Rattle.rp_geometry.specs.parts.Parts.{most_parts};
 ghost use Rattle.rp_walks.specs.Walk.{stopped, limit_met, most_tests};
 ghost use Rattle.rp_walks.specs.Form.{common_nearby};
-ghost use Rattle.rp_tests.specs.Comes.{Comes};
+ghost use Rattle.rp_tester.specs.Comes.{Comes};
 ghost use Rattle.rp_reports.specs.Check.{Trail as ModelTrail, follow_count, line_tester};
 ghost use Rattle.rp_space.specs.Boxes.{integer_box};
 ghost use Rattle.rp_model.specs.states.State.{bare_lot, parts_in, parts_under_names, parts_under_lots, most_names, most_kept_parts};
 ghost use Rattle.rp_model.specs.commands.Row.{lot_parts};
-ghost use Rattle.rp_nearby.specs.Near.{others_in, is_near, lots_at, AreWithin};
+ghost use Rattle.rp_lotindex.specs.Near.{others_in, is_near, lots_at, AreWithin};
 
 use crate::register::Register;
 use rp_changes::{Overlaps, Registry};
-use rp_follow::{Form, Kept, Trail, common};
 use rp_history::History;
+use rp_lotindex::Reach;
 use rp_lots::Keeper;
-use rp_nearby::Reach;
 use rp_space::{IntBox, Listed, Name};
-use rp_tests::Stopped;
+use rp_tester::Stopped;
+use rp_trail::{Form, Kept, Trail, common};
 use std::alloc::{AllocError, Global};
 
 impl<'a> Keeper<Trail<'a>> for Register {

@@ -2,10 +2,10 @@
 ghost use Rattle.std.specs.Prelude.{◌≡◌, ◌≤◌, ◌*◌, length, count_by};
 ghost use Rattle.rp_geometry.specs.parts.Parts.{most_parts};
 ghost use Rattle.rp_model.specs.commands.Row.{count_pairs};
-ghost use Rattle.rp_nearby.specs.Near.{may_meet};
+ghost use Rattle.rp_lotindex.specs.Near.{may_meet};
 
-use rp_follow::{Form, Kept};
-use rp_nearby::Reach;
+use rp_lotindex::Reach;
+use rp_trail::{Form, Kept};
 
 /// How many pairs of a part of `form` and one of `other` may meet, as `reach` says.
 pub fn count_pairs(form: &Form, other: &Form, reach: Reach) -> u64

@@ -2,8 +2,8 @@
 ghost use Rattle.std.specs.Prelude.{◌≤◌, length};
 ghost use Rattle.rp_geometry.specs.parts.Parts.{most_parts};
 
-use rp_follow::Form;
 use rp_history::LotLine;
+use rp_trail::Form;
 
 /// A lot, and its form, which has at most 1,024 parts.
 #[derive(Clone, Copy)]

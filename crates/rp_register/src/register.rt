@@ -3,8 +3,8 @@ ghost use Rattle.std.specs.Prelude.{◌≡◌, ◌+◌, ◌<◌, ◌≤◌, ◌&
 ghost use Rattle.rp_model.specs.states.State.{opening, base_layer, parts_in, state_of_parts, bare_lot, lots_of_layer, changed, parts_under_names, parts_under_lots, most_names, most_kept_parts};
 ghost use Rattle.rp_model.specs.states.Sound.{IsLaterThan};
 ghost use Rattle.rp_model.specs.commands.Row.{lot_parts, owner_line};
-ghost use Rattle.rp_nearby.specs.Near.{others_in, is_near, lots_at, AreWithin};
-ghost use Rattle.rp_nearby.specs.Owner.{is_there, owner_verdict, BoxesHold};
+ghost use Rattle.rp_lotindex.specs.Near.{others_in, is_near, lots_at, AreWithin};
+ghost use Rattle.rp_lotindex.specs.Owner.{is_there, owner_verdict, BoxesHold};
 ghost use Rattle.rp_register.specs.Kept.{IsSoundOnLines, ComesFromKnown};
 ghost use Rattle.rp_register.specs.Replies.{shown_change};
 
@@ -12,11 +12,11 @@ use crate::replaced::replace;
 use crate::shown::Shown;
 use rp_boxindex::Quiet;
 use rp_changes::Change;
-use rp_follow::Form;
 use rp_history::History;
-use rp_kept::{Lots, NamedForms};
-use rp_nearby::{Moment, Reach};
+use rp_lotindex::{Moment, Reach};
 use rp_space::{Listed, Name, Point};
+use rp_store::{Lots, NamedForms};
+use rp_trail::Form;
 use std::alloc::{AllocError, Global};
 use std::marker::Model;
 
@@ -32,7 +32,7 @@ pub struct Register {
 
 impl Model for Register {
     ghost use Rattle.rp_model.specs.states.State.{PlainState};
-    ghost use Rattle.rp_kept.specs.Kept.{state_with};
+    ghost use Rattle.rp_store.specs.Kept.{state_with};
     ghost use Rattle.rp_register.specs.Kept.{IsSoundOnLines};
 
     ghost Value = { PlainState };

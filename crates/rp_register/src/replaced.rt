@@ -2,13 +2,13 @@
 ghost use Rattle.std.specs.Prelude.{◌≡◌, map, OnOk, OnErr};
 ghost use Rattle.rp_history.specs.Lots.{lots_after, AreBornBefore, AreNew};
 ghost use Rattle.rp_history.specs.Parts.{new_lots};
-ghost use Rattle.rp_kept.specs.Kept.{AreFew};
+ghost use Rattle.rp_store.specs.Kept.{AreFew};
 ghost use Rattle.rp_changes.specs.Changes.{replaced_of};
 
 use crate::shown::Shown;
 use rp_changes::Replaced;
-use rp_follow::Form;
-use rp_kept::Lots;
+use rp_store::Lots;
+use rp_trail::Form;
 use std::alloc::{AllocError, Global};
 
 /// Makes the change at the line: lots end, as far as they are live, and others are born in their place, which go last.

@@ -1,8 +1,8 @@
 //! What a row that is followed on the lines of a report comes to: verdict lines or a change.
 
 use rp_changes::Change;
-use rp_follow::Form;
-use rp_report::Verdicts;
+use rp_text::Verdicts;
+use rp_trail::Form;
 
 /// What a command comes to.
 #[derive(Drop)]

@@ -3,9 +3,9 @@ ghost use Rattle.std.specs.Prelude.{◌≡◌, map};
 ghost use Rattle.rp_model.specs.commands.Row.{is_in_parts};
 ghost use Rattle.rp_space.specs.Boxes.{integer_box};
 
-use rp_follow::{Form, Kept, holds};
-use rp_kept::Forms;
 use rp_space::{IntBox, Point};
+use rp_store::Forms;
+use rp_trail::{Form, Kept, holds};
 
 /// Forms as the lines of a report show them, as they are kept under names and of lots.
 #[derive(Drop)]

@@ -3,18 +3,18 @@ ghost use Rattle.std.specs.Prelude.{◌≡◌, ◌<◌, ◌≤◌, Some, IfOk, f
 ghost use Rattle.rp_geometry.specs.parts.Parts.{most_parts};
 ghost use Rattle.rp_model.specs.states.State.{lots_of_layer, most_kept_parts};
 ghost use Rattle.rp_model.specs.commands.Row.{owner_line};
-ghost use Rattle.rp_nearby.specs.Near.{others_in, is_near, pairs_with, lots_at, AreWithin};
-ghost use Rattle.rp_nearby.specs.Owner.{is_there, owner_verdict};
+ghost use Rattle.rp_lotindex.specs.Near.{others_in, is_near, pairs_with, lots_at, AreWithin};
+ghost use Rattle.rp_lotindex.specs.Owner.{is_there, owner_verdict};
 ghost use Rattle.rp_lots.specs.Counted.{CountsUpTo};
 ghost use Rattle.rp_register.specs.There.{lot_here, lots_here};
 
 use crate::near::count_pairs;
 use crate::parcel::Parcel;
 use crate::register::Register;
-use rp_follow::Form;
-use rp_nearby::{Moment, Reach};
+use rp_lotindex::{Moment, Reach};
 use rp_space::{Listed, Name, Point};
-use rp_tests::Stopped;
+use rp_tester::Stopped;
+use rp_trail::Form;
 use std::alloc::Global;
 
 /// The most tests that are counted in a command.

@@ -2,13 +2,13 @@
 ghost use Rattle.std.specs.Prelude.{◌≡◌, ◌++◌, ◌∷◌, [], IfOk, OnOk, length, map};
 ghost use Rattle.std.specs.List.{AllByRecursion};
 ghost use Rattle.rp_reports.specs.Check.{line_tester};
-ghost use Rattle.rp_tests.specs.Comes.{Comes};
+ghost use Rattle.rp_tester.specs.Comes.{Comes};
 ghost use Rattle.rp_lots.specs.Meets.{pair_test, meet_each, IsPairWithin};
 
-use rp_follow::{Form, Trail, common, touching};
+use rp_lotindex::Reach;
 use rp_lots::Pair;
-use rp_nearby::Reach;
-use rp_tests::Stopped;
+use rp_tester::Stopped;
+use rp_trail::{Form, Trail, common, touching};
 use std::alloc::{AllocError, Global};
 
 /// Of each of `pairs`, in order, whether the two lots meet whose forms stand in `forms` at its places, as `reach` says,

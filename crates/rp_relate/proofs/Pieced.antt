@@ -9,7 +9,7 @@ use Rattle.rp_walks.specs.Walk.{Outcome, Work, first_tester}
 use Rattle.rp_walks.specs.Pieces.{pieces_of_parts}
 use Rattle.rp_forms.proofs.First.{first_tester_is_right_spec}
 use Rattle.rp_forms.proofs.Pieces.{pieces_are_right_spec}
-use Rattle.rp_tests.specs.declared.stopped.Stopped.{Stopped}
+use Rattle.rp_tester.specs.declared.stopped.Stopped.{Stopped}
 use Rattle.rp_region.specs.declared.fault.OpFault.{OpFault}
 use Rattle.rp_region.specs.Makes.{Makes}
 use Rattle.rp_region.specs.Stops.{TakesOver}

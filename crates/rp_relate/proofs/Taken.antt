@@ -1,14 +1,14 @@
 -- Rows of comparisons, as a work takes over what they have come to.
 use Rattle.std.proofs.Common.{◌≡◌, Result, subst}
 use Rattle.rp_walks.specs.Walk.{Walk, Work}
-use Rattle.rp_tests.specs.declared.stopped.Stopped.{Stopped}
-use Rattle.rp_tests.specs.Comes.{Comes}
+use Rattle.rp_tester.specs.declared.stopped.Stopped.{Stopped}
+use Rattle.rp_tester.specs.Comes.{Comes}
 use Rattle.rp_region.specs.declared.fault.OpFault.{OpFault}
 use Rattle.rp_region.specs.Makes.{Makes}
 use Rattle.rp_region.specs.Stops.{fresh, TakesOver}
 use Rattle.rp_region.proofs.Behind.{ComesBehind, makes_behind}
 use Rattle.rp_accepted.proofs.Likeness.{Anything}
-use Rattle.rp_once.proofs.Appended.{Appended, ends_behind, stops_behind}
+use Rattle.rp_queries.proofs.Appended.{Appended, ends_behind, stops_behind}
 
 -- a walk that comes to the same behind any lines
 behind_lines : {A : Type 0} (walk : Walk Work A) → Appended Anything walk walk → ComesBehind walk

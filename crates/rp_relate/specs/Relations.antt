@@ -7,8 +7,8 @@ use Rattle.rp_walks.specs.Walk.{done, stopped, limit_met, Walk, Work, first_test
 use Rattle.rp_region.specs.declared.fault.OpFault.{OpFault}
 use Rattle.rp_region.specs.declared.fault.OpFault.TheVariants.{Limit as OpLimit, Memory as OpMemory}
 use Rattle.rp_region.specs.Makes.{IsCutShort}
-use Rattle.rp_once.specs.declared.compare.Rcc8.{Rcc8}
-use Rattle.rp_once.specs.Relations.{relation_of, cover_each_other as each_other}
+use Rattle.rp_queries.specs.declared.compare.Rcc8.{Rcc8}
+use Rattle.rp_queries.specs.Relations.{relation_of, cover_each_other as each_other}
 use Rattle.rp_relate.specs.declared.relation.RccFault.{RccFault}
 use Rattle.rp_relate.specs.declared.relation.RccFault.TheVariants.{EmptyRegion, Limit, Memory}
 

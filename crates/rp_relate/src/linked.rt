@@ -5,10 +5,10 @@ ghost use Rattle.rp_geometry.specs.parts.Parts.{most_parts};
 ghost use Rattle.rp_walks.specs.Walk.{first_tester};
 ghost use Rattle.rp_walks.specs.Pieces.{pieces_of_parts};
 ghost use Rattle.rp_region.specs.Makes.{Makes};
-ghost use Rattle.rp_groups.specs.Lists.{numbers_of};
+ghost use Rattle.rp_unionfind.specs.Lists.{numbers_of};
 
-use rp_groups::PieceList;
 use rp_region::{OpFault, Region, Work};
+use rp_unionfind::PieceList;
 use std::alloc::Global;
 
 /// The pieces of `region`, as lists of the numbers of its parts, counted from 1: each number stands in one list, each
@@ -22,6 +22,6 @@ pub fn pieces(alloc: Global, region: &Region, work: &mut Work) -> Result<PieceLi
     // Only for what `parts` ensures, that the parts are those of a region, and few.
     let _ = region.parts();
     let mut walked = work.fresh(alloc);
-    let pieces = rp_once::pieces(alloc, region, &mut walked);
+    let pieces = rp_queries::pieces(alloc, region, &mut walked);
     work.take_over(walked, pieces)
 }

@@ -1,10 +1,10 @@
 use rp_cert::{Proof, Proofs};
 use rp_command::Why;
-use rp_report::{
+use rp_space::{Half, Halves, Name};
+use rp_text::{
     Answer, Refusal, Verdict, Verdicts, read_echo, read_proof, read_slice, write_answer,
     write_verdict,
 };
-use rp_space::{Half, Halves, Name};
 use std::alloc::Global;
 use std::process::Abort;
 

@@ -5,8 +5,8 @@ use Rattle.rp_walks.specs.Walk.{done, after_first, ◌>>=◌}
 use Rattle.rp_walks.specs.Form.{near_pair}
 use Rattle.rp_model.specs.commands.Verdict.{children_overlap}
 use Rattle.rp_model.specs.commands.Row.{check, child_parts, count_among, first_overlapping_children}
-use Rattle.rp_tests.specs.Comes.{StopsBy}
-use Rattle.rp_tests.proofs.Left.{stops_on}
+use Rattle.rp_tester.specs.Comes.{StopsBy}
+use Rattle.rp_tester.proofs.Left.{stops_on}
 use Rattle.rp_changes.specs.Children.{formed_child}
 use Rattle.rp_changes.proofs.children.check_apart.Goals as goal
 

@@ -4,7 +4,7 @@ use Rattle.rp_walks.specs.Walk.{done, after_first}
 use Rattle.rp_model.specs.commands.Verdict.{gap}
 use Rattle.rp_model.specs.commands.Checks.{refuse_if}
 use Rattle.rp_model.specs.commands.Row.{check}
-use Rattle.rp_tests.proofs.Left.{stops_on}
+use Rattle.rp_tester.proofs.Left.{stops_on}
 use Rattle.rp_changes.proofs.children.check_covered.Goals as goal
 
 pub returns-in_err-has_gap : goal.returns-in_err-has_gap

@@ -4,7 +4,7 @@ use Rattle.std.proofs.lemmas.Result.{err_from_is_err_and}
 use Rattle.rp_walks.specs.Walk.{done, after_first}
 use Rattle.rp_model.specs.commands.Verdict.{outside_lot}
 use Rattle.rp_model.specs.commands.Row.{check, first_outside_child}
-use Rattle.rp_tests.proofs.Left.{stops_on}
+use Rattle.rp_tester.proofs.Left.{stops_on}
 use Rattle.rp_changes.specs.Children.{formed_child}
 use Rattle.rp_changes.proofs.children.check_inside.Goals as goal
 

@@ -1,7 +1,7 @@
 use Rattle.std.proofs.Common.{◌+◌, drop}
 use Rattle.std.proofs.lemmas.Result.{err_from_is_err_and}
 use Rattle.rp_walks.specs.Form.{subtract}
-use Rattle.rp_tests.proofs.Left.{next_left, stop_left}
+use Rattle.rp_tester.proofs.Left.{next_left, stop_left}
 use Rattle.rp_changes.proofs.TakenAway.{parts_of_all, child_left}
 use Rattle.rp_changes.proofs.children.left_of.Goals as goal
 

@@ -1,6 +1,6 @@
 use Rattle.std.proofs.Common.{drop}
 use Rattle.rp_walks.specs.Form.{subtract}
-use Rattle.rp_tests.proofs.Left.{IsLeft}
+use Rattle.rp_tester.proofs.Left.{IsLeft}
 use Rattle.rp_changes.proofs.TakenAway.{parts_of_all}
 use Rattle.rp_changes.proofs.children.left_of.Given as goal
 

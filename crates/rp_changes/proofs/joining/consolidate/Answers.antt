@@ -4,8 +4,8 @@ use Rattle.rp_language.specs.Name.{Label}
 use Rattle.rp_walks.specs.Walk.{done, pass}
 use Rattle.rp_model.specs.states.State.{Change, parts_under_lots, lots_replaced, most_kept_parts}
 use Rattle.rp_model.specs.commands.Row.{accepted, check_size, new_lot}
-use Rattle.rp_tests.specs.Comes.{StopsBy}
-use Rattle.rp_tests.proofs.Left.{next_left, stop_left, end_left}
+use Rattle.rp_tester.specs.Comes.{StopsBy}
+use Rattle.rp_tester.proofs.Left.{next_left, stop_left, end_left}
 use Rattle.rp_lots.proofs.Names.{names_end}
 use Rattle.rp_changes.proofs.United.{united_lot, parts_are_few, parts_are_many}
 use Rattle.rp_changes.proofs.joining.consolidate.Goals as goal

@@ -2,10 +2,10 @@ use Rattle.std.proofs.Common.{refl, ap, sym, ◌∙◌, subst}
 use Rattle.std.proofs.lemmas.Result.{err_from_is_err_and}
 use Rattle.rp_walks.specs.Walk.{done, after_first}
 use Rattle.rp_model.specs.commands.Row.{first_overlapped}
-use Rattle.rp_nearby.specs.declared.near.Reach.TheVariants.{Overlap}
-use Rattle.rp_nearby.specs.Near.{others_in, pairs_with, lots_at}
-use Rattle.rp_tests.specs.Comes.{StopsBy}
-use Rattle.rp_tests.proofs.Left.{stops_on}
+use Rattle.rp_lotindex.specs.declared.near.Reach.TheVariants.{Overlap}
+use Rattle.rp_lotindex.specs.Near.{others_in, pairs_with, lots_at}
+use Rattle.rp_tester.specs.Comes.{StopsBy}
+use Rattle.rp_tester.proofs.Left.{stops_on}
 use Rattle.rp_lots.specs.declared.near.Near.{Near}
 use Rattle.rp_lots.proofs.Counted.{count_lost}
 use Rattle.rp_changes.proofs.Alone.{told, alone_uncounted, alone_counted}

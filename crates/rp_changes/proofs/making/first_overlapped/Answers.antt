@@ -7,12 +7,12 @@ use Rattle.rp_walks.specs.Walk.{done}
 use Rattle.rp_walks.specs.Form.{common_nearby}
 use Rattle.rp_model.specs.states.State.{Lot}
 use Rattle.rp_model.specs.commands.Row.{first_overlapped}
-use Rattle.rp_tests.proofs.Left.{all_left, left_as, stop_left}
+use Rattle.rp_tester.proofs.Left.{all_left, left_as, stop_left}
 use Rattle.rp_history.specs.declared.lot.LotLine.{LotLine}
 use Rattle.rp_history.proofs.Bare.{line_at}
-use Rattle.rp_nearby.specs.Near.{lots_at}
-use Rattle.rp_nearby.proofs.Places.{place_within}
-use Rattle.rp_nearby.proofs.Skipped.{search_on}
+use Rattle.rp_lotindex.specs.Near.{lots_at}
+use Rattle.rp_lotindex.proofs.Places.{place_within}
+use Rattle.rp_lotindex.proofs.Skipped.{search_on}
 use Rattle.rp_lots.proofs.Sieved.{item_parts}
 use Rattle.rp_changes.proofs.Searched.{search_left, search_next}
 use Rattle.rp_changes.proofs.making.first_overlapped.Goals as goal

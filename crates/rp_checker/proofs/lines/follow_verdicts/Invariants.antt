@@ -1,8 +1,8 @@
 use Rattle.std.proofs.Common.{map, drop}
 use Rattle.rp_reports.specs.Check.{follow_lines}
 use Rattle.rp_reports.specs.Text.{verdict_text}
-use Rattle.rp_report.specs.Views.{verdict_of}
-use Rattle.rp_tests.proofs.Left.{IsLeft}
+use Rattle.rp_text.specs.Views.{verdict_of}
+use Rattle.rp_tester.proofs.Left.{IsLeft}
 use Rattle.rp_checker.proofs.lines.follow_verdicts.Given as goal
 
 -- the lines of the verdicts still to come are left

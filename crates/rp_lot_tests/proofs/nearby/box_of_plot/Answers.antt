@@ -1,8 +1,8 @@
 use Rattle.std.proofs.Common.{[], ◌∷◌, sym, subst, arith, OnOk}
 use Rattle.rp_boxindex.specs.Boxes.{Boxes}
-use Rattle.rp_nearby.specs.Indexed.{boxes_in, ArePut, NoneBehind}
-use Rattle.rp_nearby.proofs.Boxed.{none_in_empty}
-use Rattle.rp_nearby.proofs.Put.{none_behind_put}
+use Rattle.rp_lotindex.specs.Indexed.{boxes_in, ArePut, NoneBehind}
+use Rattle.rp_lotindex.proofs.Boxed.{none_in_empty}
+use Rattle.rp_lotindex.proofs.Put.{none_behind_put}
 use Rattle.rp_lot_tests.proofs.nearby.box_of_plot.Goals as goal
 
 pub add_all-requires-clause-live_free : goal.add_all-requires-clause-live_free

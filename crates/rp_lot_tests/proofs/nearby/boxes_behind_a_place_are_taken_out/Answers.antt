@@ -1,5 +1,5 @@
 use Rattle.std.proofs.Common.{[], arith}
-use Rattle.rp_nearby.proofs.Put.{none_behind_put}
+use Rattle.rp_lotindex.proofs.Put.{none_behind_put}
 use Rattle.rp_lot_tests.proofs.nearby.boxes_behind_a_place_are_taken_out.Goals as goal
 
 pub count_near-near-requires : goal.count_near-near-requires

@@ -3,8 +3,8 @@ use Rattle.std.specs.List.{AllByRecursion}
 use Rattle.std.proofs.lemmas.Result.{err_from_is_err_and}
 use Rattle.rp_language.specs.Name.{Label}
 use Rattle.rp_model.specs.states.State.{Lot, ids_of, place_among}
-use Rattle.rp_nearby.specs.declared.near.Reach.TheVariants.{Touch}
-use Rattle.rp_nearby.specs.Near.{lots_at, AreWithin}
+use Rattle.rp_lotindex.specs.declared.near.Reach.TheVariants.{Touch}
+use Rattle.rp_lotindex.specs.Near.{lots_at, AreWithin}
 use Rattle.rp_lots.specs.declared.behind.NearPairs.{NearPairs}
 use Rattle.rp_lots.specs.Meets.{IsPairWithin}
 use Rattle.rp_lots.specs.Numbers.{places_among, AreRising, IsPairOf, AreBelow, placed}

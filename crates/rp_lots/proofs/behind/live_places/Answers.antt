@@ -1,7 +1,7 @@
 use Rattle.std.proofs.Common.{◌<◌, ◌≤◌, ◌+◌, ◌∷◌, [], ◌++◌, map, drop, length, sym, ap, ◌∙◌, arith}
 use Rattle.std.proofs.lemmas.List.{length-map, length-append}
 use Rattle.rp_history.specs.Lots.{lot_of}
-use Rattle.rp_nearby.proofs.Behind.{left_at}
+use Rattle.rp_lotindex.proofs.Behind.{left_at}
 use Rattle.rp_lots.specs.Behind.{live_places}
 use Rattle.rp_lots.proofs.Paired.{line_there, place_taken, place_passed, places_ended}
 use Rattle.rp_lots.proofs.behind.live_places.Goals as goal

@@ -3,8 +3,8 @@ use Rattle.std.proofs.lemmas.Bool.Decides.{nat_tests}
 use Rattle.std.proofs.lemmas.List.{length-append}
 use Rattle.rp_algebra.proofs.Listed.{all_append}
 use Rattle.rp_algebra.proofs.Lists.{get_some}
-use Rattle.rp_nearby.specs.Near.{AreWithin}
-use Rattle.rp_nearby.proofs.Places.{place_within}
+use Rattle.rp_lotindex.specs.Near.{AreWithin}
+use Rattle.rp_lotindex.proofs.Places.{place_within}
 use Rattle.rp_lots.specs.declared.near.Near.{Near}
 use Rattle.rp_lots.proofs.Sieved.{item_parts, pairs_left, near_taken, near_passed}
 use Rattle.rp_lots.proofs.near.count_at.Goals as goal

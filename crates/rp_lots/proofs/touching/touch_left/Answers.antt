@@ -1,9 +1,9 @@
 use Rattle.std.proofs.Common.{[]}
 use Rattle.std.proofs.lemmas.Result.{err_from_is_err_and}
 use Rattle.rp_model.specs.commands.Row.{lot_parts}
-use Rattle.rp_nearby.specs.Near.{others_in}
-use Rattle.rp_nearby.specs.declared.near.Reach.TheVariants.{Touch}
-use Rattle.rp_tests.proofs.Left.{stop_left}
+use Rattle.rp_lotindex.specs.Near.{others_in}
+use Rattle.rp_lotindex.specs.declared.near.Reach.TheVariants.{Touch}
+use Rattle.rp_tester.proofs.Left.{stop_left}
 use Rattle.rp_lots.specs.Asked.{touch_counted}
 use Rattle.rp_lots.specs.Meets.{meet_each, ids_met, parts_at}
 use Rattle.rp_lots.proofs.Names.{names_end, parts_live}

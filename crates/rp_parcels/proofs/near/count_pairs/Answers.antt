@@ -1,6 +1,6 @@
 use Rattle.std.proofs.Common.{ap, sym, ◌∙◌}
 use Rattle.rp_model.specs.commands.Row.{count_pairs}
-use Rattle.rp_nearby.specs.Near.{may_meet}
+use Rattle.rp_lotindex.specs.Near.{may_meet}
 use Rattle.rp_parcels.proofs.near.count_pairs.Goals as goal
 
 pub returns-in-Overlap-clause-value : goal.returns-in-Overlap-clause-value

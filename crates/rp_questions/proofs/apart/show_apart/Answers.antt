@@ -3,7 +3,7 @@ use Rattle.std.proofs.lemmas.Result.{err_from_is_err_and}
 use Rattle.rp_model.specs.states.State.{live_lots}
 use Rattle.rp_model.specs.commands.Row.{all_apart}
 use Rattle.rp_reports.specs.Check.{Trail, line_tester}
-use Rattle.rp_tests.proofs.Left.{IsLeft}
+use Rattle.rp_tester.proofs.Left.{IsLeft}
 use Rattle.rp_register.specs.There.{lot_here}
 use Rattle.rp_questions.proofs.ShownApart.{apart_next, ended_next, test_stops}
 use Rattle.rp_questions.proofs.PairsLeft.{live_pairs, ended_pairs}

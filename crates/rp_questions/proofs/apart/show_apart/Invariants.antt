@@ -3,7 +3,7 @@ use Rattle.rp_walks.specs.Walk.{most_tests}
 use Rattle.rp_model.specs.states.State.{live_lots}
 use Rattle.rp_model.specs.commands.Row.{all_apart}
 use Rattle.rp_reports.specs.Check.{line_tester}
-use Rattle.rp_tests.proofs.Left.{IsLeft}
+use Rattle.rp_tester.proofs.Left.{IsLeft}
 use Rattle.rp_questions.proofs.PairsLeft.{pairs_from}
 use Rattle.rp_questions.proofs.apart.show_apart.Given as goal
 

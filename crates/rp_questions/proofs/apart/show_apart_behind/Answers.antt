@@ -4,11 +4,11 @@ use Rattle.rp_walks.specs.Walk.{Outcome}
 use Rattle.rp_model.specs.states.State.{Lot}
 use Rattle.rp_model.specs.commands.Row.{lot_parts, all_apart_from}
 use Rattle.rp_reports.specs.Check.{Trail, line_tester}
-use Rattle.rp_nearby.proofs.Skipped.{apart_near}
+use Rattle.rp_lotindex.proofs.Skipped.{apart_near}
 use Rattle.rp_register.specs.declared.there.Near.{Near}
 use Rattle.rp_register.specs.There.{lot_here, lots_here}
 use Rattle.rp_register.proofs.Counted.{memory_lost}
-use Rattle.rp_tests.specs.Comes.{Comes}
+use Rattle.rp_tester.specs.Comes.{Comes}
 use Rattle.rp_questions.specs.Asked.{lots_behind}
 use Rattle.rp_questions.proofs.apart.show_apart_behind.Goals as goal
 

@@ -1,7 +1,7 @@
 use Rattle.std.proofs.Common.{drop}
 use Rattle.rp_model.specs.commands.Row.{lot_parts, all_apart_from}
 use Rattle.rp_reports.specs.Check.{line_tester}
-use Rattle.rp_tests.proofs.Left.{IsLeft}
+use Rattle.rp_tester.proofs.Left.{IsLeft}
 use Rattle.rp_register.specs.There.{lot_here, lots_here}
 use Rattle.rp_questions.proofs.apart.show_apart_from.Given as goal
 

@@ -1,7 +1,7 @@
 use Rattle.std.proofs.Common.{ℕ}
 use Rattle.std.proofs.lemmas.Result.{err_from_is_err_and}
 use Rattle.rp_reports.specs.Check.{follow_count, line_tester}
-use Rattle.rp_tests.proofs.Left.{all_left, stop_left}
+use Rattle.rp_tester.proofs.Left.{all_left, stop_left}
 use Rattle.rp_walks.specs.Form.{near_pair}
 use Rattle.rp_model.specs.states.State.{live_lots}
 use Rattle.rp_model.specs.commands.Row.{count_in_layers, row_audit}

@@ -1,7 +1,7 @@
 use Rattle.std.proofs.Common.{length, ap, arith}
 use Rattle.std.proofs.lemmas.List.{length-map}
 use Rattle.rp_model.specs.states.State.{bare_lot}
-use Rattle.rp_asked.proofs.BareLots.{bare_told}
+use Rattle.rp_rows.proofs.BareLots.{bare_told}
 use Rattle.rp_questions.proofs.asked.lineage.Goals as goal
 
 pub lineage-requires : goal.lineage-requires

@@ -4,7 +4,7 @@ use Rattle.rp_walks.specs.Walk.{done}
 use Rattle.rp_model.specs.states.State.{bare_lot}
 use Rattle.rp_model.specs.commands.Verdict.{Verdict}
 use Rattle.rp_model.specs.commands.Row.{reply_lines}
-use Rattle.rp_asked.proofs.BareLots.{bare_list}
+use Rattle.rp_rows.proofs.BareLots.{bare_list}
 use Rattle.rp_questions.proofs.asked.list.Goals as goal
 
 pub list-requires : goal.list-requires

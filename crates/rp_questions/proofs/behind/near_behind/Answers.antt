@@ -1,8 +1,8 @@
 use Rattle.std.proofs.Common.{ℕ, List, filter, ap, ◌∙◌, subst, arith}
 use Rattle.std.proofs.lemmas.Result.{IfOk-weaker}
 use Rattle.rp_model.specs.states.State.{Lot}
-use Rattle.rp_nearby.specs.Near.{is_near, pairs_with}
-use Rattle.rp_nearby.proofs.Behind.{others_behind}
+use Rattle.rp_lotindex.specs.Near.{is_near, pairs_with}
+use Rattle.rp_lotindex.proofs.Behind.{others_behind}
 use Rattle.rp_register.specs.declared.there.Near.{Near}
 use Rattle.rp_lots.specs.Counted.{CountsUpTo}
 use Rattle.rp_register.specs.There.{lot_here}

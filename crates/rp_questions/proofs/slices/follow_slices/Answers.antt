@@ -7,8 +7,8 @@ use Rattle.rp_walks.specs.Walk.{done}
 use Rattle.rp_model.specs.commands.Verdict.{Verdict}
 use Rattle.rp_reports.specs.Text.{verdict_text}
 use Rattle.rp_reports.specs.Check.{follow_line}
-use Rattle.rp_tests.specs.Comes.{StopsBy, Comes}
-use Rattle.rp_follow.specs.Slices.{follow_slice_lines}
+use Rattle.rp_tester.specs.Comes.{StopsBy, Comes}
+use Rattle.rp_trail.specs.Slices.{follow_slice_lines}
 use Rattle.rp_questions.proofs.Sliced.{count_stops, count_taken}
 use Rattle.rp_questions.proofs.slices.follow_slices.Goals as goal
 

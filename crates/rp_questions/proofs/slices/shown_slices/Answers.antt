@@ -2,11 +2,11 @@ use Rattle.std.proofs.Common.{◌≡◌, map, ap, ◌∙◌, subst, arith, to_z,
 use Rattle.std.proofs.lemmas.Int.{to_z-of_z}
 use mir.Syntax.{w32}
 use Rattle.rp_reports.specs.Check.{Trail, taken, slices_told}
-use Rattle.rp_report.specs.Views.{verdict_of}
+use Rattle.rp_text.specs.Views.{verdict_of}
 use Rattle.rp_cert.specs.Section.{slice_shown}
-use Rattle.rp_tests.specs.declared.stopped.Stopped.{Stopped}
-use Rattle.rp_tests.specs.declared.stopped.Stopped.TheVariants.{Wrong}
-use Rattle.rp_tests.specs.Comes.{StopsBy}
+use Rattle.rp_tester.specs.declared.stopped.Stopped.{Stopped}
+use Rattle.rp_tester.specs.declared.stopped.Stopped.TheVariants.{Wrong}
+use Rattle.rp_tester.specs.Comes.{StopsBy}
 use Rattle.rp_questions.specs.Slices.{follow_section_lines}
 use Rattle.rp_questions.proofs.Sliced.{slices_counted, slices_told_all, line_is_wrong}
 use Rattle.rp_questions.proofs.slices.shown_slices.Goals as goal

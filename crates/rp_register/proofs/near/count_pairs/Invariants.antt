@@ -1,7 +1,7 @@
 use Rattle.std.proofs.Common.{◌≡◌, ◌≤◌, ◌*◌, take}
 use Rattle.rp_geometry.specs.parts.Parts.{most_parts}
 use Rattle.rp_model.specs.commands.Row.{count_pairs}
-use Rattle.rp_nearby.specs.Near.{may_meet}
+use Rattle.rp_lotindex.specs.Near.{may_meet}
 use Rattle.rp_register.proofs.near.count_pairs.Given as goal
 
 -- the pairs of the parts looked at so far are counted

@@ -1,5 +1,5 @@
 use Rattle.std.proofs.Common.{◌≡◌, ◌≤◌, take, count_by}
-use Rattle.rp_nearby.specs.Near.{may_meet}
+use Rattle.rp_lotindex.specs.Near.{may_meet}
 use Rattle.rp_register.proofs.near.count_with_part.Given as goal
 
 -- the parts looked at so far are counted

@@ -6,7 +6,7 @@ use Rattle.rp_space.specs.Listed.{Listed}
 use Rattle.rp_history.specs.declared.lot.Birth.{Birth}
 use Rattle.rp_history.specs.Lots.{lots_after, AreNew}
 use Rattle.rp_history.specs.Parts.{new_lots}
-use Rattle.rp_kept.specs.Kept.{AreFew}
+use Rattle.rp_store.specs.Kept.{AreFew}
 use Rattle.rp_register.proofs.replaced.replace.Goals as goal
 
 -- the parts of the forms

@@ -3,7 +3,7 @@ use Rattle.rp_walks.specs.Walk.{first_tester}
 use Rattle.rp_model.specs.states.State.{PlainState}
 use Rattle.rp_model.specs.commands.Row.{row_cut}
 use Rattle.rp_history.specs.Lots.{lots_in}
-use Rattle.rp_kept.specs.Kept.{state_with}
+use Rattle.rp_store.specs.Kept.{state_with}
 use Rattle.rp_machine.specs.Replies.{Runs}
 use Rattle.rp_machine.proofs.Changes.{change_run, same_cut}
 use Rattle.rp_machine.proofs.state.State.cut_by.Goals as goal

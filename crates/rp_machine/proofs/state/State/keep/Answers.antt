@@ -2,9 +2,9 @@ use Rattle.std.proofs.Common.{List, true, false, refl, sym, ap, ◌∙◌, subst
 use Rattle.rp_model.specs.states.State.{Kept, PlainState, changed, name_added, state_of_parts}
 use Rattle.rp_model.specs.states.Sound.{IsSound}
 use Rattle.std.proofs.lemmas.Iterator.Adapters.{option_map_id}
-use Rattle.rp_kept.specs.Kept.{kept_under, state_with, IsNewName}
-use Rattle.rp_kept.proofs.KeptNames.{there_as_found}
-use Rattle.rp_kept.proofs.Defined.{known_name, no_room, new_name, fits_new}
+use Rattle.rp_store.specs.Kept.{kept_under, state_with, IsNewName}
+use Rattle.rp_store.proofs.KeptNames.{there_as_found}
+use Rattle.rp_store.proofs.Defined.{known_name, no_room, new_name, fits_new}
 use Rattle.rp_machine.proofs.Names.{named_is_sound}
 use Rattle.rp_machine.proofs.state.State.keep.Goals as goal
 

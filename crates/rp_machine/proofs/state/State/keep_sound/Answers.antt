@@ -3,7 +3,7 @@ use Rattle.rp_geometry.specs.parts.Parts.{IsPart}
 use Rattle.rp_walks.specs.FormLaws.{MeaningsAgree}
 use Rattle.rp_model.specs.states.State.{PlainState, parts_in}
 use Rattle.rp_model.specs.commands.Row.{shapes_of_parts}
-use Rattle.rp_kept.specs.Kept.{state_with}
+use Rattle.rp_store.specs.Kept.{state_with}
 use Rattle.rp_machine.proofs.Names.{regions_agree}
 use Rattle.rp_machine.proofs.state.State.keep_sound.Goals as goal
 

@@ -2,7 +2,7 @@ use Rattle.std.proofs.Common.{[], refl, subst}
 use Rattle.rp_model.specs.states.State.{PlainState}
 use Rattle.rp_model.specs.commands.Row.{row_retire}
 use Rattle.rp_history.specs.Lots.{lots_in}
-use Rattle.rp_kept.specs.Kept.{state_with}
+use Rattle.rp_store.specs.Kept.{state_with}
 use Rattle.rp_machine.specs.Replies.{Runs}
 use Rattle.rp_machine.proofs.Changes.{change_run, retire_later}
 use Rattle.rp_machine.proofs.state.State.retire.Goals as goal

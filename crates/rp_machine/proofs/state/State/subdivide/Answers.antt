@@ -4,7 +4,7 @@ use Rattle.rp_model.specs.commands.Row.{row_subdivide}
 use Rattle.rp_walks.specs.Walk.{first_tester}
 use Rattle.rp_parcels.specs.Register.{child_of}
 use Rattle.rp_parcels.specs.declared.child.Child.{Child}
-use Rattle.rp_asked.specs.declared.reply.RowEnd.{RowEnd}
+use Rattle.rp_rows.specs.declared.reply.RowEnd.{RowEnd}
 use Rattle.rp_machine.specs.Replies.{Runs}
 use Rattle.rp_machine.proofs.ChildLemmas.{shape_missing, children_fail, children_made}
 use Rattle.rp_machine.proofs.state.State.subdivide.Goals as goal

@@ -4,7 +4,7 @@ use Rattle.rp_model.specs.states.State.{PlainState}
 use Rattle.rp_model.specs.commands.Row.{row_subdivide}
 use Rattle.rp_history.specs.Lots.{lots_in}
 use Rattle.rp_parcels.specs.Register.{child_of}
-use Rattle.rp_kept.specs.Kept.{state_with}
+use Rattle.rp_store.specs.Kept.{state_with}
 use Rattle.rp_machine.specs.Replies.{Runs}
 use Rattle.rp_machine.proofs.Changes.{change_run, same_subdivision}
 use Rattle.rp_machine.proofs.state.State.subdivide_into.Goals as goal

@@ -2,7 +2,7 @@ use Rattle.std.proofs.Common.{[], Ok, Err, subst}
 use Rattle.std.proofs.lemmas.Result.{err_from_is_err_and}
 use Rattle.rp_walks.specs.Walk.{Work, first_tester}
 use Rattle.rp_model.specs.commands.Row.{row_access}
-use Rattle.rp_tests.specs.Comes.{Comes}
+use Rattle.rp_tester.specs.Comes.{Comes}
 use Rattle.rp_region.proofs.Behind.{makes_behind}
 use Rattle.rp_history.specs.Lots.{lots_in}
 use Rattle.rp_parcels.specs.Access.{access_reply}

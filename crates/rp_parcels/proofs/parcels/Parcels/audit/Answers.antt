@@ -8,8 +8,8 @@ use Rattle.rp_region.specs.Makes.{work_after}
 use Rattle.rp_region.proofs.Grows.{pass_tells}
 use Rattle.rp_region.proofs.Left.{cut_left, not_begun}
 use Rattle.rp_history.specs.Lots.{lots_in}
-use Rattle.rp_nearby.specs.declared.near.Reach.TheVariants.{Overlap}
-use Rattle.rp_nearby.specs.Near.{AreWithin}
+use Rattle.rp_lotindex.specs.declared.near.Reach.TheVariants.{Overlap}
+use Rattle.rp_lotindex.specs.Near.{AreWithin}
 use Rattle.rp_parcels.specs.declared.pairs.Judged.{Judged}
 use Rattle.rp_parcels.specs.Judged.{with_all_lines, telling_all}
 use Rattle.rp_parcels.specs.Behind.{tests_later, ArePairsLater}

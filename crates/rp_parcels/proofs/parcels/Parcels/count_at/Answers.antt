@@ -2,8 +2,8 @@ use Rattle.std.proofs.Common.{◌≡◌, ℕ, ◌<◌, ◌==◌, [], ◌∷◌, 
 use Rattle.std.proofs.lemmas.Bool.Decides.{nat_tests}
 use Rattle.rp_algebra.proofs.Listed.{all_append}
 use Rattle.rp_algebra.proofs.Lists.{get_some}
-use Rattle.rp_nearby.specs.Near.{AreWithin}
-use Rattle.rp_nearby.proofs.Places.{place_within}
+use Rattle.rp_lotindex.specs.Near.{AreWithin}
+use Rattle.rp_lotindex.proofs.Places.{place_within}
 use Rattle.rp_lots.proofs.Sieved.{item_parts, pairs_left, near_taken, near_passed}
 use Rattle.rp_parcels.proofs.parcels.Parcels.count_at.Goals as goal
 use Rattle.rp_parcels.proofs.parcels.Parcels.count_at.Goals.{then-count-ne0+in_ok-push, else-count-ne0}

@@ -3,7 +3,7 @@ use Rattle.std.proofs.lemmas.List.{length-map}
 use Rattle.rp_model.specs.states.State.{bare_lot}
 use Rattle.rp_history.specs.Lots.{lot_of}
 use Rattle.rp_history.proofs.Bare.{line_at}
-use Rattle.rp_nearby.proofs.Behind.{live_first, live_next}
+use Rattle.rp_lotindex.proofs.Behind.{live_first, live_next}
 use Rattle.rp_parcels.proofs.Audited.{line_is_live, live_few}
 use Rattle.rp_parcels.proofs.parcels.Parcels.count_live.Goals as goal
 use Rattle.rp_parcels.proofs.parcels.Parcels.count_live.Goals.{then-is_none, else-is_none}

@@ -10,9 +10,9 @@ use Rattle.rp_model.specs.states.State.{Lot}
 use Rattle.rp_model.specs.commands.Row.{first_overlapped}
 use Rattle.rp_region.proofs.Left.{all_left, left_as, fault_left}
 use Rattle.rp_history.specs.declared.lot.LotLine.{LotLine}
-use Rattle.rp_nearby.specs.Near.{lots_at}
-use Rattle.rp_nearby.proofs.Places.{place_within}
-use Rattle.rp_nearby.proofs.Skipped.{search_on}
+use Rattle.rp_lotindex.specs.Near.{lots_at}
+use Rattle.rp_lotindex.proofs.Places.{place_within}
+use Rattle.rp_lotindex.proofs.Skipped.{search_on}
 use Rattle.rp_lots.proofs.Sieved.{item_parts}
 use Rattle.rp_history.proofs.Bare.{line_at}
 use Rattle.rp_parcels.proofs.Tells.{search_tells, overlapped_tells}

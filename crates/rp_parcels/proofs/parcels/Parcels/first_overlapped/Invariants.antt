@@ -2,7 +2,7 @@ use Rattle.std.proofs.Common.{drop}
 use Rattle.rp_walks.specs.Walk.{first_tester}
 use Rattle.rp_model.specs.commands.Row.{first_overlapped}
 use Rattle.rp_region.proofs.Left.{IsLeft}
-use Rattle.rp_nearby.specs.Near.{lots_at}
+use Rattle.rp_lotindex.specs.Near.{lots_at}
 use Rattle.rp_parcels.proofs.parcels.Parcels.first_overlapped.Given as goal
 
 -- the lots at the places still to come are left

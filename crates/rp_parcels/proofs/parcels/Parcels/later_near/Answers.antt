@@ -1,7 +1,7 @@
 use Rattle.std.proofs.Common.{◌+◌, List, drop, ap₂, sym, subst}
 use Rattle.rp_geometry.specs.sets.Shape.{Part}
 use Rattle.rp_model.specs.states.State.{Lot}
-use Rattle.rp_nearby.specs.Near.{pairs_with, others_in}
+use Rattle.rp_lotindex.specs.Near.{pairs_with, others_in}
 use Rattle.rp_parcels.specs.Counted.{IsCounted}
 use Rattle.rp_parcels.proofs.Shown.{parts_there}
 use Rattle.rp_lots.proofs.Paired.{others_are}

@@ -1,8 +1,8 @@
 use Rattle.std.proofs.Common.{◌≡◌, ℕ, List, filter, drop, ap, sym, ◌∙◌, subst}
 use Rattle.std.proofs.lemmas.Result.{IfOk-weaker}
 use Rattle.rp_model.specs.states.State.{Lot}
-use Rattle.rp_nearby.specs.Near.{others_in, is_near, lots_at, AreWithin}
-use Rattle.rp_nearby.proofs.Passed.{pairs_same}
+use Rattle.rp_lotindex.specs.Near.{others_in, is_near, lots_at, AreWithin}
+use Rattle.rp_lotindex.proofs.Passed.{pairs_same}
 use Rattle.rp_parcels.specs.Counted.{IsCounted}
 use Rattle.rp_parcels.proofs.parcels.Parcels.near.Goals as goal
 

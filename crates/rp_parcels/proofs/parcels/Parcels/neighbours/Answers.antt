@@ -4,7 +4,7 @@ use Rattle.rp_walks.specs.Walk.{after_first}
 use Rattle.rp_model.specs.commands.Verdict.{neighbour_lines}
 use Rattle.rp_model.specs.commands.Row.{reply_lines}
 use Rattle.rp_region.proofs.Grows.{pass_tells}
-use Rattle.rp_nearby.specs.Near.{others_in}
+use Rattle.rp_lotindex.specs.Near.{others_in}
 use Rattle.rp_parcels.specs.Judged.{parts_at}
 use Rattle.rp_parcels.specs.Rows.{cause_of}
 use Rattle.rp_parcels.specs.Walks.{touch_counted}

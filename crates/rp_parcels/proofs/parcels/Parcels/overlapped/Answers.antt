@@ -5,9 +5,9 @@ use Rattle.rp_walks.specs.Walk.{count_tests, first_tester}
 use Rattle.rp_model.specs.states.State.{Lot, live_lots, lots_of_layer}
 use Rattle.rp_model.specs.commands.Row.{first_overlapped}
 use Rattle.rp_region.proofs.Left.{fault_left, makes_left}
-use Rattle.rp_nearby.specs.declared.near.Reach.TheVariants.{Overlap}
-use Rattle.rp_nearby.specs.Near.{lots_at, others_in, pairs_with}
-use Rattle.rp_nearby.proofs.Skipped.{search_near, others_all}
+use Rattle.rp_lotindex.specs.declared.near.Reach.TheVariants.{Overlap}
+use Rattle.rp_lotindex.specs.Near.{lots_at, others_in, pairs_with}
+use Rattle.rp_lotindex.proofs.Skipped.{search_near, others_all}
 use Rattle.rp_parcels.proofs.Tells.{overlapped_tells}
 use Rattle.rp_parcels.proofs.Walked.{left_by}
 use Rattle.rp_parcels.proofs.Counted.{counted_fault}

@@ -4,7 +4,7 @@ use Rattle.rp_geometry.specs.sets.Shape.{Part}
 use Rattle.rp_model.specs.states.State.{Lot, lots_replaced}
 use Rattle.rp_history.specs.Lots.{lots_after, AreBornBefore, AreNew}
 use Rattle.rp_history.specs.Parts.{new_lots}
-use Rattle.rp_kept.specs.Kept.{AreFew}
+use Rattle.rp_store.specs.Kept.{AreFew}
 use Rattle.rp_parcels.specs.Kept.{AreSound}
 use Rattle.rp_parcels.specs.Register.{IsLater}
 use Rattle.rp_parcels.proofs.Sizes.{sound_are_few, born_before}

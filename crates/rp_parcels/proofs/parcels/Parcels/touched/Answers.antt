@@ -1,10 +1,10 @@
 use Rattle.std.proofs.Common.{List, [], subst}
 use Rattle.rp_geometry.specs.sets.Shape.{Part}
 use Rattle.rp_walks.specs.Walk.{Work}
-use Rattle.rp_tests.specs.Comes.{Comes}
+use Rattle.rp_tester.specs.Comes.{Comes}
 use Rattle.rp_region.proofs.Behind.{makes_behind}
-use Rattle.rp_nearby.specs.declared.near.Reach.TheVariants.{Touch}
-use Rattle.rp_nearby.specs.Near.{others_in, pairs_with}
+use Rattle.rp_lotindex.specs.declared.near.Reach.TheVariants.{Touch}
+use Rattle.rp_lotindex.specs.Near.{others_in, pairs_with}
 use Rattle.rp_model.specs.commands.Row.{touched_lots}
 use Rattle.rp_walks.specs.Walk.{first_tester}
 use Rattle.rp_parcels.specs.Judged.{parts_at}

@@ -6,7 +6,7 @@ use Rattle.rp_model.specs.states.Sound.{IsLaterThan}
 use Rattle.rp_history.specs.Parts.{new_lots}
 use Rattle.rp_changes.specs.declared.change.Change.{Change}
 use Rattle.rp_changes.specs.declared.change.Replaced.{Replaced}
-use Rattle.rp_kept.specs.Kept.{state_with}
+use Rattle.rp_store.specs.Kept.{state_with}
 use Rattle.rp_register.specs.Kept.{IsSoundOnLines, ComesFromKnown}
 use Rattle.rp_register.specs.Replies.{shown_change}
 use Rattle.rp_register.proofs.Applied.{name_is_new, sound_are_few, later_births, lots_are_new}

@@ -1,6 +1,6 @@
 use Rattle.std.proofs.Common.{◌≡◌, ◌+◌, ◌≤◌, ◌++◌, filter, length, drop}
 use Rattle.rp_walks.specs.Walk.{most_tests}
-use Rattle.rp_nearby.specs.Near.{is_near, pairs_with, lots_at}
+use Rattle.rp_lotindex.specs.Near.{is_near, pairs_with, lots_at}
 use Rattle.rp_register.specs.There.{lots_here}
 use Rattle.rp_register.proofs.register.Register.counted.Given as goal
 

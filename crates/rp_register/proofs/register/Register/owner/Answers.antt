@@ -1,4 +1,4 @@
-use Rattle.rp_nearby.proofs.Owned.{checked_boxes_hold}
+use Rattle.rp_lotindex.proofs.Owned.{checked_boxes_hold}
 use Rattle.rp_register.proofs.register.Register.owner.Goals as goal
 
 pub owner_at-requires : goal.owner_at-requires

@@ -1,8 +1,0 @@
-use Rattle.std.proofs.Common.{◌≡◌, ◌++◌, map, drop}
-use Rattle.rp_nearby.specs.Access.{told_access, told_levels}
-use Rattle.rp_report.specs.Views.{verdict_of}
-use Rattle.rp_asked.proofs.access.access_lines.Given as goal
-
--- the lines so far and those of the levels still to come are all lines
-abbrev pub invariant-loop-steps : goal.invariant-loop-steps
-invariant-loop-steps l = map verdict_of l.lines.items ++ told_levels (drop l.steps-index l.steps-items) ≡ told_access l.access

@@ -1,8 +1,0 @@
-use Rattle.std.proofs.Common.{subst}
-use Rattle.rp_follow.proofs.Followed.{AreChecked, common_right}
-use Rattle.rp_follow.proofs.form.common.Goals as goal
-
-pub returns-clause-right : goal.returns-clause-right
-returns-clause-right c =
-    common_right c.args.near c.meet.result c.args.a.now.items c.args.b.now.items c.args.trail.now c.meet.new.trail
-    (subst (λ ps. AreChecked ps) c.items.ensures c.keep_parts.ensures) (subst (λ ps. AreChecked ps) c.items-2.ensures c.keep_parts-2.ensures) c.meet.ensures.comes

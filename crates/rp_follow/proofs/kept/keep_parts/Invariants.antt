@@ -1,6 +1,0 @@
-use Rattle.std.proofs.Common.{take}
-use Rattle.rp_follow.proofs.Followed.{AreChecked}
-use Rattle.rp_follow.proofs.kept.keep_parts.Given as goal
-
-abbrev pub invariant-loop-part : goal.invariant-loop-part
-invariant-loop-part l = AreChecked (take l.part-index l.parts)

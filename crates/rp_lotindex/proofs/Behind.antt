@@ -1,0 +1,36 @@
+-- Lots behind a place.
+use Rattle.std.proofs.Common.{◌≡◌, ℕ, zero, suc, ◌+◌, ◌<◌, Bool, true, false, cond, List, [], ◌∷◌, length, drop, Some, slice_get, sym, ap, ◌∙◌, subst}
+use Rattle.std.specs.Prelude.{IsTrue}
+use Rattle.std.proofs.lemmas.Option.{get_or_from_slice_get}
+use Rattle.rp_algebra.proofs.Lists.{drop_item}
+use Rattle.rp_model.specs.states.State.{Lot, is_live, live_lots, lots_of_layer, ids_of}
+use Rattle.rp_model.specs.states.Sound.{are_distinct}
+use Rattle.rp_history.proofs.Found.{first_alone, rest_distinct}
+use Rattle.rp_lotindex.specs.Near.{others_in}
+use Rattle.rp_lotindex.proofs.Skipped.{others_all}
+
+-- what is left of a list begins with the lot at the place
+pub left_at : (lots : List (Lot (Unit {0}))) (k : ℕ) (l : Lot (Unit {0})) → k < length lots → slice_get lots k ≡ Some l → drop k lots ≡ l ∷ drop (k + 1) lots
+left_at lots k l within at = drop_item lots k l within (sym (get_or_from_slice_get lots k l l at))
+
+-- ids stay distinct
+distinct_left : (k : ℕ) (lots : List (Lot (Unit {0}))) → IsTrue (are_distinct (ids_of lots)) → IsTrue (are_distinct (ids_of (drop k lots)))
+distinct_left zero lots d = d
+distinct_left (suc k) [] d = d
+distinct_left (suc k) (l ∷ lots) d = distinct_left k lots (rest_distinct l lots d)
+
+-- the others behind a lot are all lots of its layer there
+pub others_behind : (lots : List (Lot (Unit {0}))) → IsTrue (are_distinct (ids_of lots)) → (k : ℕ) (l : Lot (Unit {0})) → k < length lots → slice_get lots k ≡ Some l → others_in l.layer l.id (drop (k + 1) lots) ≡ lots_of_layer l.layer (live_lots (drop (k + 1) lots))
+others_behind lots distinct k l within at =
+    others_all l.layer l.id (drop (k + 1) lots)
+    (first_alone l (drop (k + 1) lots) (subst (λ (ls : List (Lot (Unit {0}))). IsTrue (are_distinct (ids_of ls))) (left_at lots k l within at) (distinct_left k lots distinct)))
+
+-- live lots that are left begin with a live lot
+pub live_first : (lots : List (Lot (Unit {0}))) (k : ℕ) (l : Lot (Unit {0})) → k < length lots → slice_get lots k ≡ Some l → is_live l ≡ true → live_lots (drop k lots) ≡ l ∷ live_lots (drop (k + 1) lots)
+live_first lots k l within at live =
+    ap (λ (ls : List (Lot (Unit {0}))). live_lots ls) (left_at lots k l within at) ∙ ap (λ (b : Bool). cond b (l ∷ live_lots (drop (k + 1) lots)) (live_lots (drop (k + 1) lots))) live
+
+-- and not with an ended one
+pub live_next : (lots : List (Lot (Unit {0}))) (k : ℕ) (l : Lot (Unit {0})) → k < length lots → slice_get lots k ≡ Some l → is_live l ≡ false → live_lots (drop k lots) ≡ live_lots (drop (k + 1) lots)
+live_next lots k l within at ended =
+    ap (λ (ls : List (Lot (Unit {0}))). live_lots ls) (left_at lots k l within at) ∙ ap (λ (b : Bool). cond b (l ∷ live_lots (drop (k + 1) lots)) (live_lots (drop (k + 1) lots))) ended

@@ -1,0 +1,64 @@
+-- The lots that may meet a list of parts, found by the boxes around lots.
+use Rattle.std.specs.Prelude.{◌≡◌, ℕ, ◌<◌, ◌==◌, Bool, true, false, ◌&&◌, not, nat_le, List, [], ◌∷◌, ◌++◌, filter, length, drop, Some, None, slice_get}
+use Rattle.std.specs.List.{AllByRecursion}
+use Rattle.std.specs.Option.{option_to_list}
+use Rattle.rp_geometry.specs.Geometry.{IntegerBox}
+use Rattle.rp_geometry.specs.sets.Shape.{Part}
+use Rattle.rp_language.specs.Name.{Label, label_eq}
+use Rattle.rp_walks.specs.Form.{near_pair, touching_pair}
+use Rattle.rp_model.specs.states.State.{Lot, is_live, live_lots, lots_of_layer, other_lots}
+use Rattle.rp_model.specs.commands.Row.{count_pairs, count_with_each, lot_parts}
+use Rattle.rp_boxindex.specs.Boxes.{Boxes}
+use Rattle.rp_boxindex.specs.Meeting.{meeting_ids}
+use Rattle.rp_lotindex.specs.declared.near.Reach.{Reach}
+use Rattle.rp_lotindex.specs.declared.near.Reach.TheVariants.{Overlap, Touch}
+use Rattle.rp_lotindex.specs.Indexed.{hull_of_parts, AreKeptIn}
+use Rattle.rp_lotindex.specs.Layers.{moved}
+
+-- the boxes of two parts let them meet
+abbrev pub may_meet : Reach → Part → Part → Bool
+may_meet Overlap = near_pair
+may_meet Touch = touching_pair
+
+-- the live lots of a layer that have another id, in order
+abbrev pub others_in : {S : Type 0} → Label → Label → List (Lot S) → List (Lot S)
+others_in y x lots = other_lots x (lots_of_layer y (live_lots lots))
+
+-- how many pairs of a part of a list and one of a lot may meet
+abbrev pub pairs_with : {S : Type 0} → Reach → List Part → List (Lot S) → ℕ
+pairs_with r ps lots = count_with_each (may_meet r) ps (lot_parts lots)
+
+-- some part of the lot may meet one of the list
+abbrev pub is_near : {S : Type 0} → Reach → List Part → Lot S → Bool
+is_near r ps l = not (count_pairs (may_meet r) ps l.parts == 0)
+
+-- the lots at some places, in order
+abbrev pub lots_at : {S : Type 0} → List (Lot S) → List ℕ → List (Lot S)
+lots_at lots [] = []
+lots_at lots (k ∷ ks) = option_to_list (slice_get lots k) ++ lots_at lots ks
+
+-- all places are within the list
+abbrev pub AreWithin : {A : Type 0} → List A → List ℕ → Type 0
+AreWithin xs ks = AllByRecursion (λ k. k < length xs) ks
+
+-- the lot is live, of the layer and has another id
+abbrev pub is_other_in : {S : Type 0} → Label → Label → Lot S → Bool
+is_other_in y x l = is_live l && (label_eq l.layer y && not (label_eq x l.id))
+
+-- so is the lot at a place
+abbrev pub is_other_at : {S : Type 0} → Label → Label → List (Lot S) → ℕ → Bool
+is_other_at y x lots k = elim (slice_get lots k) [ None ↦ false | Some l ↦ is_other_in y x l ]
+
+-- boxes are asked for that share no more than boundary too
+abbrev pub is_closed : Reach → Bool
+is_closed Overlap = false
+is_closed Touch = true
+
+-- the places from one on of the live lots of the layer that have another id, whose boxes this one meets, moved into the cube of the layer
+abbrev pub other_places : {S : Type 0} → Reach → IntegerBox → Label → Label → ℕ → List (Lot S) → Boxes → List ℕ
+other_places r hull y x from history live = filter (is_other_at y x history) (filter (λ k. nat_le from k) (meeting_ids (is_closed r) (moved y hull) live))
+
+-- of all lots that are kept in the history and the index, those at the places have among them, in order, exactly the live lots of the layer, from a place on, that have another id and a part that may meet one of the parts within this hull
+abbrev pub AreNear : Reach → IntegerBox → Label → Label → ℕ → List (Lot (Unit {0})) → Boxes → List ℕ → Type 0
+AreNear r hull y x from history live places =
+    (lots : List (Lot (Unit {0}))) (ps : List Part) → AreKeptIn history live lots → hull ≡ hull_of_parts ps → filter (is_near r ps) (lots_at lots places) ≡ filter (is_near r ps) (others_in y x (drop from lots))

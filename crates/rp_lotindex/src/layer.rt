@@ -1,0 +1,83 @@
+//! Where the boxes of each layer stand in the indexes: a layer has a cube of its own, in a grid of 64 by 64 by 64
+//! cubes, as far as its name tells. So what is asked of one layer does not meet the lots of the others that share its
+//! place.
+ghost use Rattle.std.specs.Prelude.{◌≡◌, ◌<◌, ◌+◌, ◌%◌, ◌/◌, ◌+ℤ◌};
+ghost use Rattle.rp_algebra.specs.Within.{IsWithin};
+ghost use Rattle.rp_space.specs.Boxes.{integer_box};
+ghost use Rattle.rp_lotindex.specs.Layers.{cube_number, step_of, is_near_domain, moved_low, moved_high, moved};
+
+use rp_space::{IntBox, Name};
+
+/// The edge of a cube of the grid, four times half the edge of the domain.
+const EDGE: i32 = 67_108_864;
+
+/// How far the coordinates are from 0 that are moved: half the edge of the domain, and one more.
+const FAR: i32 = 16_777_217;
+
+/// The box, moved into the cube of a layer. A side that lies outside of the domain goes as far as a number does, so
+/// that what meets before the move meets after it.
+pub fn moved(layer: &Name, bounds: &IntBox) -> IntBox
+    ensures { integer_box result ≡ moved layer.now (integer_box bounds.now) }
+{
+    let number = cube_number(layer);
+    let x = step_of(number % 64);
+    let y = step_of(number / 64 % 64);
+    let z = step_of(number / 4096 % 64);
+    let [x1, y1, z1] = bounds.lo;
+    let [x2, y2, z2] = bounds.hi;
+    IntBox {
+        lo: [moved_low(x, x1), moved_low(y, y1), moved_low(z, z1)],
+        hi: [moved_high(x, x2), moved_high(y, y2), moved_high(z, z2)],
+    }
+}
+
+/// A number below 64 times 64 times 64 for a layer, made of the bytes of its name.
+fn cube_number(layer: &Name) -> u32
+    ensures { result ≡ cube_number layer.now }
+{
+    let mut number = 0;
+    for byte in layer.bytes() {
+        number = (number * 131 + *byte as u32) % 262_144;
+    }
+    number
+}
+
+/// How far the cube of a number is moved along an axis.
+fn step_of(number: u32) -> i32
+    requires { number < 64 }
+    ensures value { result ≡ step_of number }
+    ensures within { IsWithin 2113929216 result }
+{
+    (number as i32 - 32) * EDGE + EDGE / 2
+}
+
+/// Whether a coordinate is one of the domain, or next to it.
+fn is_near_domain(coordinate: i32) -> bool
+    ensures { result ≡ is_near_domain coordinate }
+{
+    -FAR <= coordinate && coordinate <= FAR
+}
+
+/// A lower side, moved.
+fn moved_low(step: i32, side: i32) -> i32
+    requires { IsWithin 2113929216 step }
+    ensures { result ≡ moved_low step side }
+{
+    if is_near_domain(side) {
+        step + side
+    } else {
+        i32::MIN
+    }
+}
+
+/// An upper side, moved.
+fn moved_high(step: i32, side: i32) -> i32
+    requires { IsWithin 2113929216 step }
+    ensures { result ≡ moved_high step side }
+{
+    if is_near_domain(side) {
+        step + side
+    } else {
+        i32::MAX
+    }
+}

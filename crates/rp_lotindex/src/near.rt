@@ -1,0 +1,109 @@
+//! The lots that may meet a shape, found by the boxes around them.
+ghost use Rattle.std.specs.Prelude.{◌≡◌, ◌<◌, ◌≤◌, filter, length, nat_le, IfOk};
+ghost use Rattle.std.specs.List.Sorted.{IsStrictlySortedBy};
+ghost use Rattle.std.specs.Ordering.{nat_cmp};
+ghost use Rattle.rp_space.specs.Boxes.{integer_box};
+ghost use Rattle.rp_history.specs.Lots.{lot_of};
+ghost use Rattle.rp_boxindex.specs.Meeting.{meeting_ids};
+ghost use Rattle.rp_lotindex.specs.Indexed.{NoneBehind};
+ghost use Rattle.rp_lotindex.specs.Layers.{moved};
+ghost use Rattle.rp_lotindex.specs.Near.{is_closed, is_other_in, is_other_at, other_places, AreWithin, AreNear};
+
+use crate::boxes::LotBoxes;
+use crate::layer::moved;
+use rp_boxindex::{Steps, Watch};
+use rp_history::{History, LotLine};
+use rp_space::{IntBox, Listed, Name};
+use std::alloc::{AllocError, Global};
+use std::marker::Brand;
+use std::sync::ledger::{Blank, Ledger};
+
+/// Which boxes let two parts meet.
+#[derive(Clone, Copy)]
+pub enum Reach {
+    /// Those that share more than boundary.
+    Overlap,
+    /// Those that share a point, the boundary included.
+    Touch,
+}
+
+impl LotBoxes {
+    /// The places, in rising order and at or behind `from`, of the live lots of `layer` in `history`, other than `id`,
+    /// around which the box meets `hull`, as `reach` says, both in the cube of the layer: so of each of them that has a
+    /// part which may meet a part within `hull`. `watch` is told of what is visited.
+    pub fn near<W: Watch>(
+        &self,
+        alloc: Global,
+        watch: &W,
+        history: &History,
+        hull: &IntBox,
+        layer: &Name,
+        id: &Name,
+        from: usize,
+        reach: Reach,
+    ) -> Result<Listed<usize>, AllocError>
+        requires from { from ≤ length history.now }
+        requires behind { NoneBehind self.now.live (length history.now) }
+        ensures exact { IfOk result (λ places. places.items ≡ other_places reach (integer_box hull.now) layer.now id.now from history.now self.now.live) }
+        ensures near { IfOk result (λ places. AreNear reach (integer_box hull.now) layer.now id.now from history.now self.now.live places.items) }
+        ensures within { IfOk result (λ places. AreWithin history.now places.items) }
+        ensures rising { IfOk result (λ places. IsStrictlySortedBy nat_cmp places.items) }
+        ensures few { IfOk result (λ places. length places.items ≤ length history.now) }
+    {
+        let hull = moved(layer, hull);
+        let places = self.reached::<W, Brand>(alloc, watch, &hull, from, reach, Blank::new(1))?;
+        others(alloc, history, &places, layer, id)
+    }
+
+    /// The places from one on, in rising order, of the live lots around which the box meets a box.
+    fn reached<W: Watch, L: Ledger>(
+        &self,
+        alloc: Global,
+        watch: &W,
+        hull: &IntBox,
+        from: usize,
+        reach: Reach,
+        blank: Blank,
+    ) -> Result<Vec<usize>, AllocError>
+        requires name { blank.name ≡ L.name }
+        requires parts { blank.parts ≡ L.parts }
+        requires some { 0 < L.parts }
+        ensures { IfOk result (λ places. places.items ≡ filter (λ k. nat_le from k) (meeting_ids (is_closed reach) (integer_box hull.now) self.now.live)) }
+    {
+        let closed = matches!(reach, Reach::Touch);
+        let mut steps = Steps::<L>::new(blank);
+        let ids = self.live.meeting(alloc, hull, closed, watch, &mut steps)?;
+        ids.iter()
+            .map(|id| *id as usize)
+            .filter(|place| from <= *place)
+            .collect(alloc)
+    }
+}
+
+/// Whether a lot is live, of the layer and has another id.
+fn is_other(lot: &LotLine, layer: &Name, id: &Name) -> bool
+    ensures { result ≡ is_other_in layer.now id.now (lot_of lot.now) }
+{
+    lot.ended.is_none() && lot.layer == *layer && *id != lot.id
+}
+
+/// The places, of `places`, whose lots are live, of `layer` and other than `id`.
+fn others(
+    alloc: Global,
+    history: &History,
+    places: &[usize],
+    layer: &Name,
+    id: &Name,
+) -> Result<Listed<usize>, AllocError>
+    requires { AreWithin history.now places.now }
+    ensures { IfOk result (λ list. list.items ≡ filter (is_other_at layer.now id.now history.now) places.now) }
+{
+    let mut list = Listed::new(alloc);
+    let lots = history.lots();
+    for place in places {
+        if is_other(&lots[*place], layer, id) {
+            list.push(*place)?;
+        }
+    }
+    Ok(list)
+}

@@ -1,6 +1,0 @@
-use Rattle.std.proofs.Common.{◌∙◌}
-use Rattle.rp_report.proofs.ProofLaws.{proof_is_read}
-use Rattle.rp_report.proofs.proof_line.read_proof.Goals as goal
-
-pub returns : goal.returns
-returns c = c.proof.ensures ∙ proof_is_read c.args.line.now

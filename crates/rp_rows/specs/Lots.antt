@@ -1,0 +1,25 @@
+-- Lots that are found by their ids, the lines of those that are live, and what a history tells of a lot.
+use Rattle.std.specs.Prelude.{List, [], ◌∷◌, ◌++◌, length, Result}
+use Rattle.std.specs.Option.{option_to_list}
+use Rattle.rp_language.specs.Name.{Label}
+use Rattle.rp_model.specs.states.State.{Lot, lot_with_id, live_lots}
+use Rattle.rp_model.specs.commands.Verdict.{Verdict, lot_lines}
+use Rattle.rp_model.specs.commands.Row.{row_history}
+use Rattle.rp_history.specs.Lots.{lots_in}
+use Rattle.rp_space.specs.Listed.{Listed}
+use Rattle.rp_text.specs.declared.answer.Verdict.{Verdict as CodeVerdict}
+use Rattle.rp_rows.specs.declared.reply.RowEnd.{RowEnd}
+use Rattle.rp_rows.specs.Replies.{Tells}
+
+-- the lots with some ids, in the order of the ids
+abbrev pub lots_under : {S : Type 0} → List Label → List (Lot S) → List (Lot S)
+lots_under [] lots = []
+lots_under (x ∷ ids) lots = option_to_list (lot_with_id x lots) ++ lots_under ids lots
+
+-- the lines of the live lots, with their number before them
+abbrev pub list_lines : {S : Type 0} → List (Lot S) → List Verdict
+list_lines lots = Verdict.parcels (length (live_lots lots)) ∷ lot_lines (live_lots lots)
+
+-- the row of a history was answered from some lots, beside no work
+abbrev pub TellsHistory : Result (Listed CodeVerdict) RowEnd → Label → List (Lot (Unit {0})) → Type 0
+TellsHistory r x lots = Tells r (tt {0}) (row_history (lots_in [] lots) x (tt {0}))

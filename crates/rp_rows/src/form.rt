@@ -1,0 +1,54 @@
+//! The form of the one expression of a command.
+ghost use Rattle.std.specs.Prelude.{◌≡◌, ◌≤◌, List, IfOk, length};
+ghost use Rattle.rp_command.specs.Views.{expression_of};
+ghost use Rattle.rp_geometry.specs.sets.Shape.{Part};
+ghost use Rattle.rp_geometry.specs.parts.Parts.{most_parts};
+ghost use Rattle.rp_language.specs.Expression.{IsKeptExpression};
+ghost use Rattle.rp_walks.specs.Walk.{Walk};
+ghost use Rattle.rp_walks.specs.Form.{form};
+ghost use Rattle.rp_model.specs.commands.Row.{Reply};
+ghost use Rattle.rp_tester.specs.Comes.{Comes};
+ghost use Rattle.rp_rows.specs.Replies.{GoesOn, row_of_form};
+
+use crate::reply::RowEnd;
+use rp_command::Expr;
+use rp_queries::{first_unknown, formed};
+use rp_tester::{Named, Stopped, Tests};
+use rp_text::Refusal;
+use std::alloc::Global;
+
+/// The form of `region`, with what `named` knows of names and lots: its parts, at most 1,024, made by `tests` in
+/// reading order, with the parts kept for names. A name or lot that is not there stands for no part. `Limit` exactly
+/// where the operations on forms say so.
+pub fn short_form<T: Tests, N: Named<T>>(
+    alloc: Global,
+    named: &N,
+    region: &Expr,
+    tests: &mut T,
+) -> Result<T::Form, Stopped>
+    requires { IsKeptExpression (expression_of region.now) }
+    ensures comes { Comes T.parts_of result tests.new (form T.tester (N.meaning named.now) (expression_of region.now) tests.old) }
+    ensures few { IfOk result (λ form. length (T.parts_of form) ≤ most_parts) }
+{
+    named.keep_short();
+    formed(alloc, named, region, tests)
+}
+
+/// The form of `region`, the one expression of a command, behind which its row goes on; `tests` make it. `Refused`
+/// exactly for the first name or lot of `region`, in reading order, that `named` does not know; it comes before any
+/// test.
+pub fn row_form<T: Tests, N: Named<T>>(
+    alloc: Global,
+    named: &N,
+    region: &Expr,
+    tests: &mut T,
+) -> Result<T::Form, RowEnd>
+    requires { IsKeptExpression (expression_of region.now) }
+    ensures goes_on { (next : List Part → Walk T Reply) → GoesOn T.parts_of result tests.new next (row_of_form T.tester (N.meaning named.now) (expression_of region.now) next tests.old) }
+    ensures few { IfOk result (λ form. length (T.parts_of form) ≤ most_parts) }
+{
+    if let Some(name) = first_unknown::<T, N>(named, region) {
+        return Err(RowEnd::Refused(Refusal::Unknown(name)));
+    }
+    Ok(short_form(alloc, named, region, tests)?)
+}

@@ -1,0 +1,85 @@
+//! The verdict lines of lots.
+ghost use Rattle.std.specs.Prelude.{◌≡◌, ◌≤◌, ◌∷◌, ◌++◌, [], IfOk, OnOk, length, map, option_map, option_copied};
+ghost use Rattle.rp_model.specs.states.State.{lot_with_id, most_kept_parts};
+ghost use Rattle.rp_model.specs.commands.Verdict.{Verdict as ModelVerdict, neighbour_lines, lot_lines};
+ghost use Rattle.rp_history.specs.Lots.{lot_of};
+ghost use Rattle.rp_lotindex.specs.Owner.{owner_verdict};
+ghost use Rattle.rp_text.specs.Views.{verdict_of};
+ghost use Rattle.rp_rows.specs.Lots.{lots_under};
+
+use crate::reply::one_line;
+use rp_history::{History, LotLine};
+use rp_space::{Name, Names};
+use rp_text::{Verdict, Verdicts};
+use std::alloc::{AllocError, Global};
+
+/// The verdict that tells an owner.
+pub fn owner_verdict(owner: Option<Name>) -> Verdict
+    ensures { verdict_of result ≡ owner_verdict owner }
+{
+    match owner {
+        Some(id) => Verdict::Parcel(id),
+        None => Verdict::Nobody,
+    }
+}
+
+/// The verdict lines that tell `ids` as neighbours.
+pub fn neighbour_lines(alloc: Global, ids: &[Name]) -> Result<Verdicts, AllocError>
+    requires { length ids.now ≤ most_kept_parts }
+    ensures { IfOk result (λ lines. map verdict_of lines.items ≡ neighbour_lines ids.now) }
+{
+    parcel_lines(alloc, Verdict::Neighbours(ids.len() as u32), ids)
+}
+
+/// A verdict line, and one for each of some ids.
+pub(crate) fn parcel_lines(
+    alloc: Global,
+    first: Verdict,
+    ids: &[Name],
+) -> Result<Verdicts, AllocError>
+    ensures { IfOk result (λ lines. map verdict_of lines.items ≡ verdict_of first ∷ map ModelVerdict.parcel ids.now) }
+{
+    let mut lines = one_line(alloc, first)?;
+    for id in ids {
+        lines.push(Verdict::Parcel(*id))?;
+    }
+    Ok(lines)
+}
+
+/// The verdict line of a lot.
+pub(crate) fn lot_line(alloc: Global, lot: &LotLine) -> Result<Verdict, AllocError>
+    ensures { IfOk result (λ line. verdict_of line ∷ [] ≡ lot_lines (lot_of lot.now ∷ [])) }
+{
+    Ok(Verdict::Lot(LotLine {
+        id: lot.id,
+        layer: lot.layer,
+        born: lot.born,
+        ended: lot.ended,
+        origins: Names::copy_of(alloc, lot.origins.items())?,
+    }))
+}
+
+/// The lot of an id.
+fn lot_under<'a>(history: &'a History, id: &Name) -> Option<&'a LotLine>
+    ensures { option_map lot_of (option_copied result) ≡ lot_with_id id.now history.now }
+{
+    let place = history.place_of(id)?;
+    Some(&history.lots()[place])
+}
+
+/// Appends the lines of the lots of some ids, in the order of the ids.
+pub(crate) fn add_each(
+    alloc: Global,
+    history: &History,
+    ids: &[Name],
+    lines: &mut Verdicts,
+) -> Result<(), AllocError>
+    ensures { OnOk result (map verdict_of lines.new.items ≡ map verdict_of lines.old.items ++ lot_lines (lots_under ids.now history.now)) }
+{
+    for id in ids {
+        if let Some(lot) = lot_under(history, id) {
+            lines.push(lot_line(alloc, lot)?)?;
+        }
+    }
+    Ok(())
+}

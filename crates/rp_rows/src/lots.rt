@@ -1,0 +1,38 @@
+//! The rows of the questions that a history of lots answers. They make no test.
+ghost use Rattle.std.specs.Prelude.{◌≡◌, ◌≤◌, IfOk, length, map};
+ghost use Rattle.rp_model.specs.states.State.{most_kept_parts};
+ghost use Rattle.rp_text.specs.Views.{verdict_of};
+ghost use Rattle.rp_rows.specs.Lots.{list_lines, TellsHistory};
+
+use crate::live::{add_live, live_count};
+use crate::lot_lines::add_each;
+use crate::reply::{RowEnd, one_line};
+use rp_history::History;
+use rp_space::Name;
+use rp_text::{Refusal, Verdict, Verdicts};
+use std::alloc::{AllocError, Global};
+
+/// `history`: the lot and all lots that it was made from.
+pub fn lineage(alloc: Global, history: &History, id: Name) -> Result<Verdicts, RowEnd>
+    requires { length history.now ≤ most_kept_parts }
+    ensures { TellsHistory result id history.now }
+{
+    if history.place_of(&id).is_none() {
+        return Err(RowEnd::Refused(Refusal::Unknown(id)));
+    }
+    let ids = history.lineage(alloc, id)?;
+    let mut lines = one_line(alloc, Verdict::Lots(ids.items().len() as u32))?;
+    add_each(alloc, history, ids.items(), &mut lines)?;
+    Ok(lines)
+}
+
+/// `list`: the live lots of `history`.
+pub fn list(alloc: Global, history: &History) -> Result<Verdicts, AllocError>
+    requires { length history.now ≤ most_kept_parts }
+    ensures { IfOk result (λ lines. map verdict_of lines.items ≡ list_lines history.now) }
+{
+    let lots = history.lots();
+    let mut lines = one_line(alloc, Verdict::Parcels(live_count(lots) as u32))?;
+    add_live(alloc, lots, &mut lines)?;
+    Ok(lines)
+}

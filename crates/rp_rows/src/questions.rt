@@ -1,0 +1,134 @@
+//! The rows of questions about points and forms.
+ghost use Rattle.rp_command.specs.Views.{expression_of};
+ghost use Rattle.rp_language.specs.Expression.{IsKeptExpression};
+ghost use Rattle.rp_model.specs.commands.Row.{row_empty, row_pieces, row_relation};
+ghost use Rattle.rp_rows.specs.Asked.{row_asking, row_of_member, row_show};
+ghost use Rattle.rp_rows.specs.Replies.{Tells, row_of_form, row_of_forms};
+
+use crate::form::row_form;
+use crate::lines::{part_lines, piece_lines};
+use crate::operand::row_operands;
+use crate::relation::relation;
+use crate::reply::{RowEnd, yes_or_no};
+use rp_command::Expr;
+use rp_queries::{Question, first_unknown, is_empty, is_member, pieces};
+use rp_space::Point;
+use rp_tester::{Named, Tests};
+use rp_text::{Refusal, Verdicts};
+use std::alloc::Global;
+
+/// `member`: whether `point` is a member of `region`, by signs. It rests on no test and has no limit. `Refused` exactly
+/// for the first name or lot of `region`, in reading order, that `named` does not know.
+pub fn membership<T: Tests, N: Named<T>>(
+    alloc: Global,
+    named: &N,
+    region: &Expr,
+    point: &Point,
+) -> Result<Verdicts, RowEnd>
+    requires { IsKeptExpression (expression_of region.now) }
+    ensures { (w : T) → Tells result w (row_of_member (N.meaning named.now) (expression_of region.now) point.now w) }
+{
+    if let Some(name) = first_unknown::<T, N>(named, region) {
+        return Err(RowEnd::Refused(Refusal::Unknown(name)));
+    }
+    Ok(yes_or_no(alloc, is_member::<T, N>(named, region, point))?)
+}
+
+/// `empty`: whether the form of `region`, which `tests` make, has no part. `Refused` exactly for the first name or lot
+/// of `region`, in reading order, that `named` does not know; it comes before any test.
+pub fn emptiness<T: Tests, N: Named<T>>(
+    alloc: Global,
+    named: &N,
+    region: &Expr,
+    tests: &mut T,
+) -> Result<Verdicts, RowEnd>
+    requires { IsKeptExpression (expression_of region.now) }
+    ensures { Tells result tests.new (row_of_form T.tester (N.meaning named.now) (expression_of region.now) (row_empty T.tester) tests.old) }
+{
+    let form = row_form(alloc, named, region, tests)?;
+    let is_so = is_empty(alloc, &form, tests)?;
+    Ok(yes_or_no(alloc, is_so)?)
+}
+
+/// `pieces`: what of `region` hangs together, by the numbers of the parts of its form; `tests` make the form and tell
+/// which parts are in contact. `Refused` exactly for the first name or lot of `region`, in reading order, that `named`
+/// does not know; it comes before any test.
+pub fn piece_numbers<T: Tests, N: Named<T>>(
+    alloc: Global,
+    named: &N,
+    region: &Expr,
+    tests: &mut T,
+) -> Result<Verdicts, RowEnd>
+    requires { IsKeptExpression (expression_of region.now) }
+    ensures { Tells result tests.new (row_of_form T.tester (N.meaning named.now) (expression_of region.now) (row_pieces T.tester) tests.old) }
+{
+    let form = row_form(alloc, named, region, tests)?;
+    let pieces = pieces(alloc, &form, tests)?;
+    Ok(piece_lines(alloc, pieces)?)
+}
+
+/// `show`: the parts of the form of `region`, which `tests` make. `Refused` exactly for the first name or lot of
+/// `region`, in reading order, that `named` does not know; it comes before any test.
+pub fn shown_parts<T: Tests, N: Named<T>>(
+    alloc: Global,
+    named: &N,
+    region: &Expr,
+    tests: &mut T,
+) -> Result<Verdicts, RowEnd>
+    requires { IsKeptExpression (expression_of region.now) }
+    ensures { Tells result tests.new (row_of_form T.tester (N.meaning named.now) (expression_of region.now) row_show tests.old) }
+{
+    let form = row_form(alloc, named, region, tests)?;
+    Ok(part_lines::<T>(alloc, form)?)
+}
+
+/// `equal`, `within`, `overlap` and `contact`: the answer to `question` about the forms of `first` and `second`, by
+/// `tests`. `Refused` exactly for the first name or lot of the two, in reading order, that `named` does not know; it
+/// comes before any test.
+pub fn comparison<T: Tests, N: Named<T>>(
+    alloc: Global,
+    named: &N,
+    question: Question,
+    first: &Expr,
+    second: &Expr,
+    tests: &mut T,
+) -> Result<Verdicts, RowEnd>
+    requires first { IsKeptExpression (expression_of first.now) }
+    requires second { IsKeptExpression (expression_of second.now) }
+    ensures { Tells result tests.new (row_of_forms T.tester (N.meaning named.now) (expression_of first.now) (expression_of second.now) (row_asking T.tester question) tests.old) }
+{
+    let (first, second) = row_operands(alloc, named, first, second, tests)?;
+    compared(alloc, question, first.form(), second.form(), tests)
+}
+
+/// The answer to a question of two forms.
+fn compared<T: Tests>(
+    alloc: Global,
+    question: Question,
+    a: &T::Form,
+    b: &T::Form,
+    tests: &mut T,
+) -> Result<Verdicts, RowEnd>
+    ensures { Tells result tests.new (row_asking T.tester question (T.parts_of a.now) (T.parts_of b.now) tests.old) }
+{
+    let is_so = question.answer(alloc, a, b, tests)?;
+    Ok(yes_or_no(alloc, is_so)?)
+}
+
+/// `rcc`: in which of the eight relations `first` stands to `second`, by `tests`. `Refused` exactly for the first name
+/// or lot of the two, in reading order, that `named` does not know, before any test; or else, once both forms are made,
+/// for `first` or else `second`, where it has no point.
+pub fn related<T: Tests, N: Named<T>>(
+    alloc: Global,
+    named: &N,
+    first: &Expr,
+    second: &Expr,
+    tests: &mut T,
+) -> Result<Verdicts, RowEnd>
+    requires first { IsKeptExpression (expression_of first.now) }
+    requires second { IsKeptExpression (expression_of second.now) }
+    ensures { Tells result tests.new (row_of_forms T.tester (N.meaning named.now) (expression_of first.now) (expression_of second.now) (row_relation T.tester) tests.old) }
+{
+    let (first, second) = row_operands(alloc, named, first, second, tests)?;
+    relation(alloc, first.form(), second.form(), tests)
+}

@@ -1,0 +1,48 @@
+//! The relation of two forms.
+ghost use Rattle.std.specs.Prelude.{◌≡◌};
+ghost use Rattle.rp_model.specs.commands.Verdict.{Verdict as ModelVerdict};
+ghost use Rattle.rp_model.specs.commands.Row.{row_relation};
+ghost use Rattle.rp_queries.specs.Relations.{relation_of};
+ghost use Rattle.rp_text.specs.Views.{verdict_of};
+ghost use Rattle.rp_rows.specs.Replies.{Tells};
+
+use crate::reply::{RowEnd, one_line};
+use rp_queries::{Rcc8, found_relation};
+use rp_tester::Tests;
+use rp_text::{Refusal, Verdict, Verdicts};
+use std::alloc::Global;
+
+/// The verdict line of the relation of two forms, of which each must have a part.
+pub(crate) fn relation<T: Tests>(
+    alloc: Global,
+    a: &T::Form,
+    b: &T::Form,
+    tests: &mut T,
+) -> Result<Verdicts, RowEnd>
+    ensures { Tells result tests.new (row_relation T.tester (T.parts_of a.now) (T.parts_of b.now) tests.old) }
+{
+    if T::parts(a).is_empty() {
+        return Err(RowEnd::Refused(Refusal::EmptyRegion(1)));
+    }
+    if T::parts(b).is_empty() {
+        return Err(RowEnd::Refused(Refusal::EmptyRegion(2)));
+    }
+    let relation = found_relation(alloc, a, b, tests)?;
+    Ok(one_line(alloc, relation_verdict(relation))?)
+}
+
+/// The verdict of a relation.
+fn relation_verdict(relation: Rcc8) -> Verdict
+    ensures { verdict_of result ≡ ModelVerdict.relation (relation_of relation) }
+{
+    match relation {
+        Rcc8::DC => Verdict::DC,
+        Rcc8::EC => Verdict::EC,
+        Rcc8::PO => Verdict::PO,
+        Rcc8::EQ => Verdict::EQ,
+        Rcc8::TPP => Verdict::TPP,
+        Rcc8::NTPP => Verdict::NTPP,
+        Rcc8::TPPi => Verdict::TPPi,
+        Rcc8::NTPPi => Verdict::NTPPi,
+    }
+}

@@ -1,0 +1,228 @@
+//! All lots that were ever registered, with their forms.
+ghost use Rattle.std.specs.Prelude.{◌≡◌, ◌+◌, ◌<◌, ◌≤◌, [], ◌∷◌, length, map, filter, drop, nat_le, slice_get, sum_by, option_copied, option_map, Some, IsTrue, IfOk, OnOk, OnErr};
+ghost use Rattle.rp_model.specs.states.State.{live_lot, lots_of_layer, parts_of_lot, bare_lot, ids_of, lots_replaced, parts_under_lots, most_kept_parts};
+ghost use Rattle.rp_model.specs.states.Sound.{are_distinct};
+ghost use Rattle.rp_model.specs.commands.Row.{lot_parts, owner_line};
+ghost use Rattle.rp_history.specs.Lots.{lots_after, AreBornBefore, AreNew};
+ghost use Rattle.rp_history.specs.Parts.{new_lots};
+ghost use Rattle.rp_lotindex.specs.Near.{others_in, is_near, lots_at, AreWithin};
+ghost use Rattle.rp_lotindex.specs.Owner.{is_there, owner_verdict, BoxesHold};
+ghost use Rattle.rp_store.specs.Kept.{AreFew, has_point};
+
+use crate::forms::Forms;
+use crate::hulls::{boxes_of, hull_of};
+use rp_boxindex::Watch;
+use rp_history::{Birth, History};
+use rp_lotindex::{Holder, LotBoxes, Moment, Reach};
+use rp_space::{Listed, Name, Point};
+use std::alloc::{AllocError, Global};
+use std::fmt;
+use std::marker::Model;
+
+/// The most parts under all lots together.
+const MAX_PARTS: usize = 65536;
+
+/// All lots that were ever registered, in the order of registration, with their forms: at most 65,536 lots, with at
+/// most 65,536 parts together. Their ids are distinct, and around each there is a box in an index.
+#[derive(Drop)]
+pub struct Lots<F: Forms> {
+    history: History,
+    // The forms of the lots in the same order, ended ones included.
+    forms: Listed<F::Form>,
+    // How many parts the forms have together.
+    parts: usize,
+    // A box around each lot.
+    boxes: LotBoxes,
+}
+
+impl<F: Forms> fmt::Debug for Lots<F> {
+    fn fmt<W: fmt::Write>(&self, f: &mut fmt::Formatter<W>) -> fmt::Result {
+        f.debug_struct("Lots").finish_non_exhaustive()
+    }
+}
+
+impl<F: Forms> Model for Lots<F> {
+    ghost use Rattle.std.specs.Prelude.{List, map};
+    ghost use Rattle.rp_model.specs.states.State.{Lot};
+    ghost use Rattle.rp_history.specs.Parts.{lots_with_parts};
+    ghost use Rattle.rp_store.specs.Kept.{AreLots};
+
+    ghost Value = { List (Lot (Unit {0})) };
+
+    ghost view = { λ a. lots_with_parts a.history (map F.parts_of a.forms.items) };
+
+    ghost invariant = { λ a. AreLots a.history (map F.parts_of a.forms.items) a.parts a.boxes.live a.boxes.ever };
+}
+
+impl<F: Forms> Lots<F> {
+    /// No lots. Takes no memory.
+    pub fn new(alloc: Global) -> Lots<F>
+        ensures { result ≡ [] }
+    {
+        Lots {
+            history: History::new(alloc),
+            forms: Listed::new(alloc),
+            parts: 0,
+            boxes: LotBoxes::new(alloc),
+        }
+    }
+
+    /// The births and ends of all lots, ended ones included.
+    pub fn history(&self) -> &History
+        ensures value { result.now ≡ map bare_lot self.now }
+        ensures few { length self.now ≤ most_kept_parts }
+        ensures distinct { IsTrue (are_distinct (ids_of self.now)) }
+    {
+        // Only so that what holds of all that is kept is known of the lots.
+        let _ = &self.forms;
+        &self.history
+    }
+
+    /// How many lots there are, ended ones included.
+    pub fn count(&self) -> usize
+        ensures value { result ≡ length self.now }
+        ensures few { result ≤ most_kept_parts }
+    {
+        self.forms.items().len()
+    }
+
+    /// The form of a live lot, found without a walk over all lots. `None` exactly where the id isn't live.
+    pub fn find(&self, id: &Name) -> Option<&F::Form>
+        ensures { option_map F.parts_of (option_copied result) ≡ parts_of_lot (live_lot id.now self.now) }
+    {
+        let place = self.history().live_place(id)?;
+        Some(self.form_at(place))
+    }
+
+    /// The form of the lot at a place, ended or not.
+    pub fn form_at(&self, place: usize) -> &F::Form
+        requires { place < length self.now }
+        ensures { option_map (λ l. l.parts) (slice_get self.now place) ≡ Some (F.parts_of result.now) }
+    {
+        &self.forms.items()[place]
+    }
+
+    /// The forms of all lots, by their places.
+    pub fn forms(&self) -> &[F::Form]
+        ensures { map F.parts_of result.now ≡ lot_parts self.now }
+    {
+        self.forms.items()
+    }
+
+    /// Rising places, at or behind `from`: every live lot of `layer`, other than `id`, with a part that may meet one of
+    /// `form`, as `reach` says, is among them; each other one has no such part. `watch` is told of what is visited.
+    pub fn near<W: Watch>(
+        &self,
+        alloc: Global,
+        watch: &W,
+        form: &F::Form,
+        layer: &Name,
+        id: &Name,
+        from: usize,
+        reach: Reach,
+    ) -> Result<Listed<usize>, AllocError>
+        requires { from ≤ length self.now }
+        ensures near { IfOk result (λ places. filter (is_near reach (F.parts_of form.now)) (lots_at self.now places.items) ≡ filter (is_near reach (F.parts_of form.now)) (others_in layer.now id.now (drop from self.now))) }
+        ensures within { IfOk result (λ places. AreWithin self.now places.items) }
+        ensures few { IfOk result (λ places. length places.items ≤ most_kept_parts) }
+    {
+        let hull = hull_of::<F>(form);
+        self.boxes
+            .near(alloc, watch, &self.history, &hull, layer, id, from, reach)
+    }
+
+    /// The first lot of `layer`, of those that are there at `moment`, that has `point`; it is found without a walk over
+    /// all lots. The box of each part has to hold its members. `None` exactly where there is none. Takes no memory.
+    pub fn owner(&self, layer: &Name, moment: Moment, point: &Point) -> Option<Name>
+        requires { BoxesHold self.now }
+        ensures { owner_verdict result ≡ owner_line (lots_of_layer layer.now (filter (is_there moment) self.now)) point.now }
+    {
+        let holder = HasPoint::<F> {
+            forms: self.forms.items(),
+            point,
+        };
+        self.boxes
+            .owner(&self.history, layer, moment, point, &holder)
+    }
+
+    /// Whether all lots together may keep so many more parts.
+    pub fn have_room_for(&self, parts: usize) -> bool
+        ensures { result ≡ nat_le (parts_under_lots self.now + parts) most_kept_parts }
+    {
+        parts <= MAX_PARTS - self.parts
+    }
+
+    /// Ends the lots of the ids `ends` at the line, as far as they are live, and lets others be born in their place,
+    /// each with its form, which go last. All lots were born before the line; the new ids are new and distinct, their
+    /// origins are known, and there is room for them. After `AllocError` all is as before.
+    pub fn replace(
+        &mut self,
+        alloc: Global,
+        line: u32,
+        ends: &[Name],
+        births: &[Birth],
+        forms: Listed<F::Form>,
+    ) -> Result<(), AllocError>
+        requires each { length births.now ≡ length forms.items }
+        requires later { AreBornBefore line self.old }
+        requires new { AreNew self.old (new_lots births.now (map F.parts_of forms.items)) }
+        requires few { AreFew (lots_after line self.old (lots_replaced ends.now (new_lots births.now (map F.parts_of forms.items)))) }
+        ensures ok { OnOk result (self.new ≡ lots_after line self.old (lots_replaced ends.now (new_lots births.now (map F.parts_of forms.items)))) }
+        ensures err { OnErr result (self.new ≡ self.old) }
+    {
+        let added = forms.items();
+        let parts = count_parts::<F>(added);
+        let first = self.forms.items().len();
+        let boxes = boxes_of::<F>(alloc, births, added)?;
+        self.forms.reserve(added.len())?;
+        self.boxes.add_all(alloc, first, boxes.items())?;
+        if let Err(error) = self.history.note(alloc, line, births, ends) {
+            self.boxes.remove_all(first, added.len());
+            return Err(error);
+        }
+        self.boxes.end_all(&self.history, first, ends);
+        self.forms.append(forms).unwrap();
+        self.parts += parts;
+        Ok(())
+    }
+
+    /// Ends the lot `id` at `line`, where it is live. All lots were born before `line`. Takes no memory.
+    pub fn end(&mut self, line: u32, id: Name)
+        requires { AreBornBefore line self.old }
+        ensures { self.new ≡ lots_after line self.old (lots_replaced (id ∷ []) []) }
+    {
+        self.history.end(line, id);
+        let count = self.forms.items().len();
+        self.boxes.end_all(&self.history, count, &[id]);
+    }
+}
+
+/// The forms of lots, by their places, and a point.
+#[derive(Drop)]
+struct HasPoint<'a, F: Forms> {
+    forms: &'a [F::Form],
+    point: &'a Point,
+}
+
+impl<F: Forms> Holder for HasPoint<'_, F> {
+    ghost has = { λ s k. has_point (map F.parts_of s.forms.now) s.point.now k };
+
+    fn has(&self, place: usize) -> bool {
+        match self.forms.get(place) {
+            None => false,
+            Some(form) => F::holds(form, self.point),
+        }
+    }
+}
+
+/// How many parts the forms have together.
+fn count_parts<F: Forms>(forms: &[F::Form]) -> usize
+    requires { sum_by (λ f. length (F.parts_of f)) forms.now ≤ most_kept_parts }
+    ensures { result ≡ sum_by (λ f. length (F.parts_of f)) forms.now }
+{
+    let mut count = 0;
+    for form in forms {
+        count += F::parts(form).len();
+    }
+    count
+}

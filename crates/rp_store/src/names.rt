@@ -1,0 +1,82 @@
+//! What names stand for.
+ghost use Rattle.std.specs.Prelude.{◌≡◌, ◌+◌, ◌&&◌, [], ◌∷◌, ◌++◌, length, nat_le, option_copied, option_map, OnOk, OnErr};
+ghost use Rattle.rp_model.specs.states.State.{kept_named, parts_of_kept, parts_under_names, most_names, most_kept_parts};
+ghost use Rattle.rp_store.specs.Kept.{kept_under, IsNewName};
+
+use crate::forms::Forms;
+use indexmap::IndexMap;
+use rp_space::Name;
+use std::alloc::{AllocError, Global};
+use std::fmt;
+use std::marker::Model;
+
+/// The most names.
+const MAX_NAMES: usize = 65536;
+
+/// The most parts under all names together.
+const MAX_PARTS: usize = 65536;
+
+/// The forms that names stand for, in the order of their definition: at most 65,536 names, with at most 65,536 parts
+/// under all of them together.
+#[derive(Drop)]
+pub struct NamedForms<F: Forms> {
+    forms: IndexMap<Name, F::Form>,
+    // How many parts the forms have together.
+    parts: usize,
+}
+
+impl<F: Forms> fmt::Debug for NamedForms<F> {
+    fn fmt<W: fmt::Write>(&self, f: &mut fmt::Formatter<W>) -> fmt::Result {
+        f.debug_struct("NamedForms").finish_non_exhaustive()
+    }
+}
+
+impl<F: Forms> Model for NamedForms<F> {
+    ghost use Rattle.std.specs.Prelude.{List, map};
+    ghost use Rattle.rp_model.specs.states.State.{Kept};
+    ghost use Rattle.rp_store.specs.Kept.{kept_under, AreNamed};
+
+    ghost Value = { List (Kept (Unit {0})) };
+
+    ghost view = { λ a. map (λ e. kept_under e.0 (F.parts_of e.1)) a.forms.entries };
+
+    ghost invariant = { λ a. AreNamed a.parts (map (λ e. kept_under e.0 (F.parts_of e.1)) a.forms.entries) };
+}
+
+impl<F: Forms> NamedForms<F> {
+    /// No name stands for anything. Takes no memory.
+    pub fn new(alloc: Global) -> NamedForms<F>
+        ensures { result ≡ [] }
+    {
+        NamedForms {
+            forms: IndexMap::new(alloc),
+            parts: 0,
+        }
+    }
+
+    /// The form that a name stands for, found without a walk over all names.
+    pub fn find(&self, name: &Name) -> Option<&F::Form>
+        ensures { option_map F.parts_of (option_copied result) ≡ parts_of_kept (kept_named name.now self.now) }
+    {
+        self.forms.get(name)
+    }
+
+    /// Whether one more name may stand for the form.
+    pub fn have_room_for(&self, form: &F::Form) -> bool
+        ensures { result ≡ (nat_le (length self.now + 1) most_names && nat_le (parts_under_names self.now + length (F.parts_of form.now)) most_kept_parts) }
+    {
+        self.forms.len() < MAX_NAMES && F::parts(form).len() <= MAX_PARTS - self.parts
+    }
+
+    /// Keeps `form` under the new `name`, for which there is room. After `AllocError` all is as before.
+    pub fn keep(&mut self, name: Name, form: F::Form) -> Result<(), AllocError>
+        requires { IsNewName self.old name (F.parts_of form) }
+        ensures ok { OnOk result (self.new ≡ self.old ++ kept_under name (F.parts_of form) ∷ []) }
+        ensures err { OnErr result (self.new ≡ self.old) }
+    {
+        let parts = self.parts + F::parts(&form).len();
+        self.forms.insert(name, form)?;
+        self.parts = parts;
+        Ok(())
+    }
+}

@@ -1,0 +1,45 @@
+//! Echo lines, read.
+ghost use Rattle.std.specs.Prelude.{◌≡◌, ◌≤◌, IfSome, length, option_map};
+ghost use Rattle.rp_reports.specs.ProofText.{echo_read, line_number};
+ghost use Rattle.rp_text.specs.Readers.{echo_of};
+
+use crate::readers::{behind, place_of};
+use rp_command::spelled;
+
+/// The greatest number of a line.
+const MAX_LINE: i128 = 16777216;
+
+/// The number of a line that a word spells.
+fn line_number(word: &[u8]) -> Option<u32>
+    ensures { result ≡ line_number word.now }
+{
+    let n = spelled(word)?;
+    if 1 <= n && n <= MAX_LINE {
+        Some(n as u32)
+    } else {
+        None
+    }
+}
+
+/// The number of a line that a word spells, beside a place.
+fn numbered(word: &[u8], place: Option<usize>) -> Option<(u32, Option<usize>)>
+    ensures { result ≡ option_map (λ n. (n, place)) (line_number word.now) }
+{
+    Some((line_number(word)?, place))
+}
+
+/// The number of an echo line, and the place in it at which the echoed text begins: no place where the number stands
+/// alone. The place is at most the length of the line, where the text is empty.
+///
+/// `None` exactly where the line isn't `> `, a number from 1 to 16777216 without a sign or leading zeros, and then
+/// nothing, or one space and any text. Takes no memory.
+pub fn read_echo(line: &[u8]) -> Option<(u32, Option<usize>)>
+    ensures read { option_map (echo_of line.now) result ≡ echo_read line.now }
+    ensures within { IfSome result (λ r. IfSome r.1 (λ place. place ≤ length line.now)) }
+{
+    let rest = behind(b"> ", line)?;
+    match place_of(b' ', rest) {
+        None => numbered(rest, None),
+        Some(end) => numbered(&rest[..end], Some(end + 3)),
+    }
+}

@@ -1,0 +1,65 @@
+//! Things that have a text, one behind the other.
+ghost use Rattle.std.specs.Prelude.{◌∷◌, ◌++◌, ℕ, List};
+ghost use Rattle.rp_language.specs.Grammar.{space};
+ghost use Rattle.rp_reports.specs.Text.{items_text};
+ghost use Rattle.rp_text.specs.Fronts.{Writes};
+ghost use Rattle.rp_text.specs.LineTexts.{lines_text};
+
+use crate::pieces::append;
+use std::alloc::AllocError;
+
+/// What has a text of its own in a report.
+pub(crate) trait WriteText {
+    ghost text: { Self → List ℕ };
+
+    /// Appends the text.
+    fn write_text(&self, out: &mut Vec<u8>) -> Result<(), AllocError>
+        ensures { Writes result out.old.items out.new.items (text self.now) };
+}
+
+/// Appends things, each behind a space.
+pub(crate) fn write_items<T: WriteText>(items: &[T], out: &mut Vec<u8>) -> Result<(), AllocError>
+    ensures { Writes result out.old.items out.new.items (items_text T.text items.now) }
+{
+    for item in items {
+        append(b" ", out)?;
+        item.write_text(out)?;
+    }
+    Ok(())
+}
+
+/// Appends things, each on a line of its own.
+pub(crate) fn write_lines<T: WriteText>(items: &[T], out: &mut Vec<u8>) -> Result<(), AllocError>
+    ensures { Writes result out.old.items out.new.items (lines_text T.text items.now) }
+{
+    for item in items {
+        item.write_text(out)?;
+        append(b"\n", out)?;
+    }
+    Ok(())
+}
+
+/// Appends a word, and behind a space its operand.
+pub(crate) fn write_operand<T: WriteText>(
+    word: &[u8],
+    operand: &T,
+    out: &mut Vec<u8>,
+) -> Result<(), AllocError>
+    ensures { Writes result out.old.items out.new.items (word.now ++ space ∷ T.text operand.now) }
+{
+    append(word, out)?;
+    append(b" ", out)?;
+    operand.write_text(out)
+}
+
+/// Appends a word, and its operands, each behind a space.
+pub(crate) fn write_operands<T: WriteText>(
+    word: &[u8],
+    operands: &[T],
+    out: &mut Vec<u8>,
+) -> Result<(), AllocError>
+    ensures { Writes result out.old.items out.new.items (word.now ++ items_text T.text operands.now) }
+{
+    append(word, out)?;
+    write_items(operands, out)
+}

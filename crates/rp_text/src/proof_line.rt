@@ -1,0 +1,107 @@
+//! Proof lines, read.
+ghost use Rattle.std.specs.Prelude.{◌≡◌, option_map};
+ghost use Rattle.rp_geometry.specs.searches.ProofLine.{in_line, out_line, at_line, apart_line, box_line};
+ghost use Rattle.rp_reports.specs.ProofText.{proof_read};
+ghost use Rattle.rp_cert.specs.Lines.{line_of};
+ghost use Rattle.rp_text.specs.Readers.{few_items, ended, point, term, dropped, box_spelled, proof};
+
+use crate::readers::{behind, block, half_space, point, points, terms};
+use rp_cert::Proof;
+use rp_space::Point;
+
+/// What stands behind the word of points that show a member.
+fn inside(line: &[u8]) -> Option<Proof>
+    ensures { option_map line_of result ≡ option_map in_line (few_items point line.now) }
+{
+    Some(Proof::In(points(line)?))
+}
+
+/// What stands behind the word of multiples that show that there is no member.
+fn outside(line: &[u8]) -> Option<Proof>
+    ensures { option_map line_of result ≡ option_map out_line (few_items term line.now) }
+{
+    Some(Proof::Out(terms(line)?))
+}
+
+/// What stands behind the word of a point of a weak system.
+fn at(line: &[u8]) -> Option<Proof>
+    ensures { option_map line_of result ≡ option_map at_line (ended (point line.now)) }
+{
+    let Some((point, rest)) = point(line) else {
+        return None;
+    };
+    at_alone(point, rest)
+}
+
+/// A point of a weak system, if nothing stands behind it.
+fn at_alone(point: Point, rest: &[u8]) -> Option<Proof>
+    ensures { option_map line_of result ≡ option_map at_line (ended (Some (point, rest.now))) }
+{
+    if rest.is_empty() {
+        Some(Proof::At(point))
+    } else {
+        None
+    }
+}
+
+/// What stands behind the word of multiples that show that a weak system has no point.
+fn apart(line: &[u8]) -> Option<Proof>
+    ensures { option_map line_of result ≡ option_map apart_line (few_items term line.now) }
+{
+    Some(Proof::Apart(terms(line)?))
+}
+
+/// What stands behind the word of a half-space that is dropped.
+#[tactic(auto, unfolding(crate::specs::Readers::dropped))]
+fn dropped(line: &[u8]) -> Option<Proof>
+    ensures { option_map line_of result ≡ dropped line.now }
+{
+    let Some((half, line)) = half_space(line) else {
+        return None;
+    };
+    Some(Proof::Dropped(half, terms(line)?))
+}
+
+/// What stands behind the word of a least box.
+fn bounds(line: &[u8]) -> Option<Proof>
+    ensures { option_map line_of result ≡ option_map box_line (box_spelled line.now) }
+{
+    Some(Proof::Bounds(block(line)?))
+}
+
+/// The proof line that a line spells, by its word.
+fn proof(line: &[u8]) -> Option<Proof>
+    ensures { option_map line_of result ≡ proof line.now }
+{
+    if let Some(rest) = behind(b"  in", line) {
+        return inside(rest);
+    }
+    if let Some(rest) = behind(b"  out", line) {
+        return outside(rest);
+    }
+    if let Some(rest) = behind(b"  at ", line) {
+        return at(rest);
+    }
+    if let Some(rest) = behind(b"  apart", line) {
+        return apart(rest);
+    }
+    if let Some(rest) = behind(b"  drop ", line) {
+        return dropped(rest);
+    }
+    if let Some(rest) = behind(b"  box ", line) {
+        return bounds(rest);
+    }
+    None
+}
+
+/// The proof line that a line of a report spells, without its line end.
+///
+/// `None` exactly where the line is not the one spelling of a proof line that keeps its bounds: 1 to 4 points or
+/// multiples, half-spaces and points in lowest terms and within the bounds of their kinds, multipliers from 1 to 2^75 -
+/// 1, and boxes with numbers from -16777216 to 16777216. Takes no memory, and reads each byte a few times at most,
+/// whatever the line.
+pub fn read_proof(line: &[u8]) -> Option<Proof>
+    ensures { option_map line_of result ≡ proof_read line.now }
+{
+    proof(line)
+}

@@ -1,0 +1,13 @@
+use Rattle.std.proofs.Common.{drop}
+use Rattle.rp_geometry.specs.sets.Prism.{edges_of}
+use Rattle.rp_walks.specs.Form.{exchange_edges, prism_form}
+use Rattle.rp_reports.specs.Check.{line_tester}
+use Rattle.rp_space.specs.Corners.{polygon_corners, prism_of}
+use Rattle.rp_tester.proofs.Left.{IsLeft}
+use Rattle.rp_trail.proofs.prism.prismed.Given as goal
+
+-- the edges still to come are left
+abbrev pub invariant-loop-k : goal.invariant-loop-k
+invariant-loop-k l =
+    IsLeft l.initial.trail (prism_form line_tester (prism_of l.z1 l.z2 l.corners))
+    l.trail (exchange_edges line_tester (prism_of l.z1 l.z2 l.corners) l.current.items (drop l.k (edges_of (polygon_corners l.corners))))

@@ -1,0 +1,124 @@
+//! What is left of a list of parts outside a second one, test by test.
+ghost use Rattle.std.specs.Prelude.{◌+◌, ◌≤◌, ◌<◌, [], length};
+ghost use Rattle.rp_geometry.specs.parts.Parts.{most_half_spaces};
+ghost use Rattle.rp_reports.specs.Check.{follow_count, line_tester};
+ghost use Rattle.rp_walks.specs.Form.{carve_one, carve, subtract_pair, subtract_part, subtract};
+ghost use Rattle.rp_tester.specs.Comes.{Comes};
+
+use crate::form::{Form, MAX_PARTS, put};
+use crate::kept::Kept;
+use crate::meeting::Meeting;
+use crate::part::made;
+use crate::trail::Trail;
+use rp_space::{Half, joined};
+use rp_tester::Stopped;
+use std::alloc::Global;
+
+/// The parts of a list without those of a second list, one after the other.
+pub(crate) fn subtract(
+    alloc: Global,
+    parts: Form,
+    others: &[Kept],
+    trail: &mut Trail<'_>,
+) -> Result<Form, Stopped>
+    ensures { Comes (λ form. form.items) result trail.new (subtract line_tester parts.items others.now trail.old) }
+{
+    let mut current = parts;
+    for other in others {
+        current = subtract_part(alloc, current, other, trail)?;
+        if current.items().len() > MAX_PARTS {
+            return Err(Stopped::Limit);
+        }
+    }
+    Ok(current)
+}
+
+/// The parts of a list without one part.
+fn subtract_part(
+    alloc: Global,
+    parts: Form,
+    other: &Kept,
+    trail: &mut Trail<'_>,
+) -> Result<Form, Stopped>
+    ensures { Comes (λ form. form.items) result trail.new (subtract_part line_tester [] parts.items other.now trail.old) }
+{
+    let mut left = Form::new(alloc);
+    for part in parts.into_items() {
+        subtract_pair(alloc, &mut left, part, other, trail)?;
+    }
+    Ok(left)
+}
+
+/// What is left of one part outside another, behind what is left already: the part itself, without a test, where the
+/// boxes do not meet.
+fn subtract_pair(
+    alloc: Global,
+    left: &mut Form,
+    part: Kept,
+    other: &Kept,
+    trail: &mut Trail<'_>,
+) -> Result<(), Stopped>
+    ensures { Comes (λ _. left.new.items) result trail.new (subtract_pair line_tester left.old.items part other.now trail.old) }
+{
+    if !Meeting::Common.may_be(&part, other) {
+        left.push(part)?;
+        return Ok(());
+    }
+    count_test(trail)?;
+    let cell = part.cell();
+    let halves = other.cell();
+    let meets = trail.strict(cell, halves)?;
+    if meets {
+        return carve(alloc, left, cell, halves, trail);
+    }
+    left.push(part)?;
+    Ok(())
+}
+
+/// What is left of a cell outside some half-spaces, piece by piece: outside each of them, inside those before.
+fn carve(
+    alloc: Global,
+    left: &mut Form,
+    cell: &[Half],
+    halves: &[Half],
+    trail: &mut Trail<'_>,
+) -> Result<(), Stopped>
+    requires cell { length cell.now ≤ most_half_spaces }
+    requires halves { length halves.now ≤ most_half_spaces }
+    ensures { Comes (λ _. left.new.items) result trail.new (carve line_tester left.old.items cell.now [] halves.now trail.old) }
+{
+    for (i, half) in halves.iter().enumerate() {
+        carve_one(alloc, left, cell, &halves[..i], half, trail)?;
+    }
+    Ok(())
+}
+
+/// What is left of a cell outside one half-space, inside those before.
+fn carve_one(
+    alloc: Global,
+    left: &mut Form,
+    cell: &[Half],
+    before: &[Half],
+    half: &Half,
+    trail: &mut Trail<'_>,
+) -> Result<(), Stopped>
+    requires { length cell.now + length before.now < 64 }
+    ensures { Comes (λ _. left.new.items) result trail.new (carve_one line_tester left.old.items cell.now before.now half.now trail.old) }
+{
+    count_test(trail)?;
+    let mut piece = joined(cell, before);
+    piece.push(half.not());
+    let part = made(alloc, piece.as_slice(), trail)?;
+    put(left, part)?;
+    Ok(())
+}
+
+/// Counts one test.
+fn count_test(trail: &mut Trail<'_>) -> Result<(), Stopped>
+    ensures { Comes (λ x. x) result trail.new (follow_count 1 trail.old) }
+{
+    if !trail.count(1) {
+        return Err(Stopped::Limit);
+    }
+    Ok(())
+}

@@ -1,0 +1,140 @@
+//! Lists of parts as a report shows them, and their algebra, followed line by line.
+ghost use Rattle.std.specs.Prelude.{◌++◌, ◌≤◌, ◌↔◌, ◌≡◌, ◌*◌, length, IsTrue, IfOk, IfErr};
+ghost use Rattle.rp_geometry.specs.sets.Shape.{Shape, shape_of_parts};
+ghost use Rattle.rp_geometry.specs.sets.Sets.{Overlaps};
+ghost use Rattle.rp_geometry.specs.sets.Contact.{IsInContact};
+ghost use Rattle.rp_geometry.specs.parts.Parts.{AreOf, IsCheckedPart, most_parts};
+ghost use Rattle.rp_reports.specs.Check.{follow_count, line_tester};
+ghost use Rattle.rp_walks.specs.Form.{join, made_part, subtract};
+ghost use Rattle.rp_tester.specs.Comes.{Comes};
+ghost use Rattle.rp_trail.specs.Stops.{IsNotMemory};
+ghost use Rattle.rp_trail.specs.Pairs.{common_by, touch_by, meet_by};
+
+use crate::difference::subtract;
+use crate::join::join_each;
+use crate::kept::{Kept, keep_parts};
+use crate::meeting::Meeting;
+use crate::pairs::first_pair;
+use crate::trail::Trail;
+use rp_space::Listed;
+use rp_tester::Stopped;
+use std::alloc::{AllocError, Global};
+
+/// The most parts of a form that is made.
+pub(crate) const MAX_PARTS: usize = 1024;
+
+/// A list of parts. Its members are those of any part.
+pub type Form = Listed<Kept>;
+
+/// The join of `a` and `b`, on the next lines of `trail`: a part test of each part of `a` with each part of `b`. As
+/// many tests are counted as there are pairs. `Limit` exactly where too many tests are counted, where a part would have
+/// more than 32 half-spaces or where more than 1,024 parts are made. `Told` and `Wrong` come where a line that is due
+/// doesn't stand there.
+pub fn joined(alloc: Global, a: &Form, b: &Form, trail: &mut Trail<'_>) -> Result<Form, Stopped>
+    ensures comes { Comes (λ form. form.items) result trail.new (join line_tester a.now.items b.now.items trail.old) }
+    ensures members { length a.now.items ≤ most_parts → length b.now.items ≤ most_parts →
+        IfOk result (λ form. AreOf IsCheckedPart (Shape.intersection (shape_of_parts a.now.items) (shape_of_parts b.now.items)) form.items) }
+{
+    keep_parts(a.items());
+    keep_parts(b.items());
+    count_pairs(a, b, trail)?;
+    let mut form = Form::new(alloc);
+    join_each(alloc, &mut form, a.items(), b.items(), trail)?;
+    Ok(form)
+}
+
+/// The difference of `a` and `b`, on the next lines of `trail`: each part of `b` is taken away from `a` in turn.
+/// `Limit` exactly where too many tests are counted, where a part would have more than 32 half-spaces, or where more
+/// than 1,024 parts are left behind a part of `b`. `Told` and `Wrong` come where a line that is due doesn't stand
+/// there.
+pub fn differed(alloc: Global, a: &Form, b: &Form, trail: &mut Trail<'_>) -> Result<Form, Stopped>
+    ensures comes { Comes (λ form. form.items) result trail.new (subtract line_tester a.now.items b.now.items trail.old) }
+    ensures members { length a.now.items ≤ most_parts → length b.now.items ≤ most_parts →
+        IfOk result (λ form. AreOf IsCheckedPart (Shape.difference (shape_of_parts a.now.items) (shape_of_parts b.now.items)) form.items) }
+{
+    keep_parts(a.items());
+    keep_parts(b.items());
+    let first = copy(alloc, a)?;
+    subtract(alloc, first, b.items(), trail)
+}
+
+/// Whether two lists of parts share a member, on the next lines: a strict test of each part of the first with each part
+/// of the second, up to the first pair that is found. With `near` only the pairs are tested whose boxes share more than
+/// boundary, and nothing is counted; else as many tests are counted as there are pairs, and `Limit` comes exactly where
+/// these are too many. `Told` and `Wrong` come where a line that is due doesn't stand there; `Memory` never comes.
+pub fn common(a: &Form, b: &Form, near: bool, trail: &mut Trail<'_>) -> Result<bool, Stopped>
+    ensures comes { Comes (λ found. found) result trail.new (common_by near a.now.items b.now.items trail.old) }
+    ensures right { length a.now.items ≤ most_parts → length b.now.items ≤ most_parts →
+        IfOk result (λ found. IsTrue found ↔ Overlaps (shape_of_parts a.now.items) (shape_of_parts b.now.items)) }
+    ensures memory { IfErr result IsNotMemory }
+{
+    keep_parts(a.items());
+    keep_parts(b.items());
+    meet(Meeting::Common, a, b, near, trail)
+}
+
+/// Whether two lists of parts are in contact, on the next lines: a weak test of each part of the first with each part
+/// of the second, up to the first pair that is found. With `near` only the pairs are tested whose boxes share a point,
+/// the boundary included, and nothing is counted; else as many tests are counted as there are pairs, and `Limit` comes
+/// exactly where these are too many. `Told` and `Wrong` come where a line that is due doesn't stand there; `Memory`
+/// never comes.
+pub fn touching(a: &Form, b: &Form, near: bool, trail: &mut Trail<'_>) -> Result<bool, Stopped>
+    ensures comes { Comes (λ found. found) result trail.new (touch_by near a.now.items b.now.items trail.old) }
+    ensures right { length a.now.items ≤ most_parts → length b.now.items ≤ most_parts →
+        IfOk result (λ found. IsTrue found ↔ IsInContact (shape_of_parts a.now.items) (shape_of_parts b.now.items)) }
+    ensures memory { IfErr result IsNotMemory }
+{
+    keep_parts(a.items());
+    keep_parts(b.items());
+    meet(Meeting::Touch, a, b, near, trail)
+}
+
+/// Whether parts of two lists meet.
+fn meet(
+    meeting: Meeting,
+    a: &Form,
+    b: &Form,
+    near: bool,
+    trail: &mut Trail<'_>,
+) -> Result<bool, Stopped>
+    ensures comes { Comes (λ found. found) result trail.new (meet_by meeting near a.now.items b.now.items trail.old) }
+    ensures memory { IfErr result IsNotMemory }
+{
+    if !near {
+        count_pairs(a, b, trail)?;
+    }
+    first_pair(meeting, a.items(), b.items(), near, trail)
+}
+
+/// Counts as many tests as there are pairs of parts.
+fn count_pairs(a: &Form, b: &Form, trail: &mut Trail<'_>) -> Result<(), Stopped>
+    ensures comes { Comes (λ x. x) result trail.new (follow_count (length a.now.items * length b.now.items) trail.old) }
+    ensures memory { IfErr result IsNotMemory }
+{
+    let pairs = (a.items().len() as u64).saturating_mul(b.items().len() as u64);
+    if !trail.count(pairs) {
+        return Err(Stopped::Limit);
+    }
+    Ok(())
+}
+
+/// Puts a part behind a list, if there is one.
+pub(crate) fn put(form: &mut Form, part: Option<Kept>) -> Result<(), AllocError>
+    ensures { IfOk result (λ _. form.new.items ≡ form.old.items ++ made_part part) }
+{
+    match part {
+        Some(part) => form.push(part),
+        None => Ok(()),
+    }
+}
+
+/// A copy of `form`: the same parts in the same order.
+pub fn copy(alloc: Global, form: &Form) -> Result<Form, AllocError>
+    ensures { IfOk result (λ copied. copied.items ≡ form.now.items) }
+{
+    let mut copied = Form::new(alloc);
+    for part in form.items() {
+        copied.push(part.copy(alloc)?)?;
+    }
+    Ok(copied)
+}

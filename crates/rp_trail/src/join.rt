@@ -1,0 +1,63 @@
+//! What two lists of parts have in common, test by test.
+ghost use Rattle.rp_reports.specs.Check.{line_tester};
+ghost use Rattle.rp_walks.specs.Form.{join_pair, join_with_part, join_each};
+ghost use Rattle.rp_tester.specs.Comes.{Comes};
+
+use crate::form::{Form, MAX_PARTS, put};
+use crate::kept::Kept;
+use crate::part::made;
+use crate::trail::Trail;
+use rp_space::joined;
+use rp_tester::Stopped;
+use std::alloc::Global;
+
+/// Each part of a list with each part of a second list: what they have in common comes behind the parts made already.
+pub(crate) fn join_each(
+    alloc: Global,
+    form: &mut Form,
+    parts: &[Kept],
+    others: &[Kept],
+    trail: &mut Trail<'_>,
+) -> Result<(), Stopped>
+    ensures { Comes (λ _. form.new.items) result trail.new (join_each line_tester form.old.items parts.now others.now trail.old) }
+{
+    for part in parts {
+        join_with_part(alloc, form, part, others, trail)?;
+    }
+    Ok(())
+}
+
+/// One part with each part of a list.
+fn join_with_part(
+    alloc: Global,
+    form: &mut Form,
+    part: &Kept,
+    others: &[Kept],
+    trail: &mut Trail<'_>,
+) -> Result<(), Stopped>
+    ensures { Comes (λ _. form.new.items) result trail.new (join_with_part line_tester form.old.items part.now others.now trail.old) }
+{
+    for other in others {
+        join_pair(alloc, form, part, other, trail)?;
+    }
+    Ok(())
+}
+
+/// One part test of two parts together.
+fn join_pair(
+    alloc: Global,
+    form: &mut Form,
+    part: &Kept,
+    other: &Kept,
+    trail: &mut Trail<'_>,
+) -> Result<(), Stopped>
+    ensures { Comes (λ _. form.new.items) result trail.new (join_pair line_tester form.old.items part.now other.now trail.old) }
+{
+    let cell = joined(part.cell(), other.cell());
+    let common = made(alloc, cell.as_slice(), trail)?;
+    put(form, common)?;
+    if form.items().len() > MAX_PARTS {
+        return Err(Stopped::Limit);
+    }
+    Ok(())
+}

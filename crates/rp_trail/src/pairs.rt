@@ -1,0 +1,67 @@
+//! The first pair of parts of two lists that meet, test by test.
+ghost use Rattle.std.specs.Prelude.{IfErr};
+ghost use Rattle.rp_walks.specs.Form.{test_pair_if, first_with_part, first_pair};
+ghost use Rattle.rp_tester.specs.Comes.{Comes};
+ghost use Rattle.rp_trail.specs.Stops.{IsOfLine};
+ghost use Rattle.rp_trail.specs.Pairs.{may_meet_by, test_by, chosen_pair};
+
+use crate::kept::Kept;
+use crate::meeting::Meeting;
+use crate::trail::Trail;
+use rp_tester::Stopped;
+
+/// Each part of a list with each part of a second list, up to the first pair that meets. Where `near`, only the pairs
+/// are tested whose boxes let them meet.
+pub(crate) fn first_pair(
+    meeting: Meeting,
+    parts: &[Kept],
+    others: &[Kept],
+    near: bool,
+    trail: &mut Trail<'_>,
+) -> Result<bool, Stopped>
+    ensures comes { Comes (λ found. found) result trail.new (first_pair (chosen_pair near (may_meet_by meeting)) (test_by meeting) parts.now others.now trail.old) }
+    ensures line { IfErr result IsOfLine }
+{
+    for part in parts {
+        if first_with_part(meeting, part, others, near, trail)? {
+            return Ok(true);
+        }
+    }
+    Ok(false)
+}
+
+/// One part with each part of a list, up to the first that it meets.
+fn first_with_part(
+    meeting: Meeting,
+    part: &Kept,
+    others: &[Kept],
+    near: bool,
+    trail: &mut Trail<'_>,
+) -> Result<bool, Stopped>
+    ensures comes { Comes (λ found. found) result trail.new (first_with_part (chosen_pair near (may_meet_by meeting)) (test_by meeting) part.now others.now trail.old) }
+    ensures line { IfErr result IsOfLine }
+{
+    for other in others {
+        if test_pair(meeting, part, other, near, trail)? {
+            return Ok(true);
+        }
+    }
+    Ok(false)
+}
+
+/// One test of two parts, if the pair is to be tested at all.
+fn test_pair(
+    meeting: Meeting,
+    part: &Kept,
+    other: &Kept,
+    near: bool,
+    trail: &mut Trail<'_>,
+) -> Result<bool, Stopped>
+    ensures comes { Comes (λ found. found) result trail.new (test_pair_if (chosen_pair near (may_meet_by meeting) part.now other.now) (test_by meeting) part.now other.now trail.old) }
+    ensures line { IfErr result IsOfLine }
+{
+    if near && !meeting.may_be(part, other) {
+        return Ok(false);
+    }
+    meeting.test(part, other, trail)
+}

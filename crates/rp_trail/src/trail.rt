@@ -1,0 +1,248 @@
+//! A place in a report: the lines still to come, and how many tests were counted.
+ghost use Rattle.std.specs.Prelude.{◌≡◌, ◌+◌, ◌≤◌, ◌<◌, ◌++◌, ◌↔◌, true, false, length, IsTrue, IfOk, IfErr};
+ghost use Rattle.std.specs.Option.{option_map};
+ghost use Rattle.rp_geometry.specs.Geometry.{RationalPoint};
+ghost use Rattle.rp_geometry.specs.sets.Shape.{shape_of_cell};
+ghost use Rattle.rp_geometry.specs.sets.Sets.{IsNonempty};
+ghost use Rattle.rp_geometry.specs.laws.CellLaws.{IsSolution};
+ghost use Rattle.rp_walks.specs.Walk.{most_tests};
+ghost use Rattle.rp_reports.specs.Output.{most_report_bytes, report_lines};
+ghost use Rattle.rp_reports.specs.Check.{tells_limit, next_proof, next_slice, taken, taken_if, with_no_tests, follow_count, follow_strict, follow_weak};
+ghost use Rattle.rp_cert.specs.Lines.{line_of};
+ghost use Rattle.rp_cert.specs.Section.{slice_shown};
+ghost use Rattle.rp_tester.specs.Comes.{counted, Comes};
+ghost use Rattle.rp_trail.specs.Stops.{IsOfLine, IsNotDue};
+ghost use Rattle.rp_trail.specs.Lines.{next_line};
+
+use crate::few::{Few, MOST_FEW, put};
+use crate::kept::keep_halves;
+use crate::lines::split_line;
+use rp_cert::{Proof, Slice, check_inside, check_outside, check_weak};
+use rp_space::{Half, joined};
+use rp_tester::Stopped;
+use rp_text::{read_proof, read_slice};
+use std::marker::Model;
+
+/// The most tests that a command may count.
+const MAX_TESTS: u32 = 65536;
+
+/// The line that a report has in place of what is due where a limit was met.
+const LIMIT_LINE: &[u8] = b"= refused limit";
+
+/// A place in a report: the lines still to come, the number of the next one, and the number of tests that a command has
+/// counted, at most 65,536. The bytes of the report are neither copied nor read again.
+#[derive(Drop)]
+pub struct Trail<'a> {
+    /// The next line, without its line end.
+    line: Option<&'a [u8]>,
+    /// What stands behind it.
+    rest: &'a [u8],
+    /// Its number; where no line is left, the number of lines plus 1.
+    number: u32,
+    tests: u32,
+}
+
+impl<'a> Model for Trail<'a> {
+    ghost use Rattle.std.specs.Prelude.{◌+◌, ◌≤◌, length};
+    ghost use Rattle.rp_walks.specs.Walk.{most_tests};
+    ghost use Rattle.rp_reports.specs.Check.{Trail};
+    ghost use Rattle.rp_reports.specs.Output.{most_report_bytes};
+    ghost use Rattle.rp_trail.specs.Lines.{lines_left, count_next};
+
+    ghost Value = { Trail };
+
+    ghost view = { λ a. record { lines = lines_left a.line a.rest.now; number = a.number; tests = a.tests } };
+
+    ghost invariant = { λ a. (a.tests ≤ most_tests) × (a.number + count_next a.line + length a.rest.now ≤ most_report_bytes + 1) };
+}
+
+impl<'a> Trail<'a> {
+    /// The lines of a report of at most 67,108,864 bytes, from the first, with no tests. They are cut at each line
+    /// feed, and no carriage return is taken away; the last line may lack its line feed.
+    pub fn new(report: &'a [u8]) -> Trail<'a>
+        requires { length report.now ≤ most_report_bytes }
+        ensures { result ≡ record { lines = report_lines report.now; number = 1; tests = 0 } }
+    {
+        let (line, rest) = split_line(report);
+        Trail {
+            line,
+            rest,
+            number: 1,
+            tests: 0,
+        }
+    }
+
+    /// A second trail from this place on, to look at the lines behind the next one.
+    pub fn ahead(&self) -> Trail<'a>
+        ensures { result ≡ self.now }
+    {
+        Trail {
+            line: self.line,
+            rest: self.rest,
+            number: self.number,
+            tests: self.tests,
+        }
+    }
+
+    /// The next line, without its line feed. `None` exactly where none is left.
+    pub fn peek(&self) -> Option<&'a [u8]>
+        ensures { option_map (λ line. line.now) result ≡ next_line self.now.lines }
+    {
+        self.line
+    }
+
+    /// Takes the next line, of which there is one.
+    pub fn take(&mut self)
+        requires { 0 < length self.old.lines }
+        ensures { self.new ≡ taken self.old }
+    {
+        let (line, rest) = split_line(self.rest);
+        self.line = line;
+        self.rest = rest;
+        self.number += 1;
+    }
+
+    /// The number of the next line, from 1. Where none is left it is the number of lines plus 1.
+    pub fn number(&self) -> u32
+        ensures { result ≡ self.now.number }
+    {
+        self.number
+    }
+
+    /// Begins a command: the number of tests becomes 0.
+    pub fn begin(&mut self)
+        ensures { self.new ≡ with_no_tests self.old }
+    {
+        self.tests = 0;
+    }
+
+    /// Counts `n` more tests. `false` exactly where their number would be above 65,536; then all is as before.
+    pub fn count(&mut self, n: u64) -> bool
+        ensures { follow_count n self.old ≡ counted result self.new }
+    {
+        let left = MAX_TESTS - self.tests;
+        if n > left as u64 {
+            return false;
+        }
+        self.tests += n as u32;
+        true
+    }
+
+    /// A strict test of the cell of `first` followed by `second`, at most 64 half-spaces together: whether the cell has
+    /// a point. The next line must show it: it has points that pass as an inside certificate of the cell, or multiples
+    /// that pass as a strict outside one. `Told` where it tells of a limit, `Wrong` where it is any other line; never
+    /// `Limit` or `Memory`. Then no line is taken. The test isn't counted.
+    pub fn strict(&mut self, first: &[Half], second: &[Half]) -> Result<bool, Stopped>
+        requires { length first.now + length second.now ≤ 64 }
+        ensures comes { Comes (λ found. found) result self.new (follow_strict (first.now ++ second.now) self.old) }
+        ensures right { IfOk result (λ found. IsTrue found ↔ IsNonempty (shape_of_cell (first.now ++ second.now))) }
+        ensures line { IfErr result IsOfLine }
+    {
+        if first.len() + second.len() > MOST_FEW {
+            return self.strict_test(joined(first, second).as_slice());
+        }
+        let mut cell = Few::new();
+        put(&mut cell, first);
+        put(&mut cell, second);
+        self.strict_test(cell.as_slice())
+    }
+
+    /// A weak test of the cell of `first` followed by `second`, at most 64 half-spaces together: whether its weak
+    /// system has a point. The next line must show it: it has a point of the weak system, or multiples that pass as a
+    /// weak outside certificate. `Told` where it tells of a limit, `Wrong` where it is any other line; never `Limit` or
+    /// `Memory`. Then no line is taken. The test isn't counted.
+    pub fn weak(&mut self, first: &[Half], second: &[Half]) -> Result<bool, Stopped>
+        requires { length first.now + length second.now ≤ 64 }
+        ensures comes { Comes (λ found. found) result self.new (follow_weak (first.now ++ second.now) self.old) }
+        ensures right { IfOk result (λ found. IsTrue found ↔ ((p : RationalPoint) × IsSolution false (first.now ++ second.now) p)) }
+        ensures line { IfErr result IsOfLine }
+    {
+        if first.len() + second.len() > MOST_FEW {
+            return self.weak_test(joined(first, second).as_slice());
+        }
+        let mut cell = Few::new();
+        put(&mut cell, first);
+        put(&mut cell, second);
+        self.weak_test(cell.as_slice())
+    }
+
+    /// A strict test of a cell.
+    pub(crate) fn strict_test(&mut self, cell: &[Half]) -> Result<bool, Stopped>
+        ensures comes { Comes (λ found. found) result self.new (follow_strict cell.now self.old) }
+        ensures right { IfOk result (λ found. IsTrue found ↔ IsNonempty (shape_of_cell cell.now)) }
+        ensures line { IfErr result IsOfLine }
+    {
+        keep_halves(cell);
+        let Some(proof) = self.next_proof() else {
+            return Err(self.nothing_due());
+        };
+        match proof {
+            Proof::In(points) => self.take_if(check_inside(cell, points.items()), true),
+            Proof::Out(terms) => self.take_if(check_outside(cell, terms.items(), true), false),
+            _ => Err(self.nothing_due()),
+        }
+    }
+
+    /// A weak test of a cell.
+    pub(crate) fn weak_test(&mut self, cell: &[Half]) -> Result<bool, Stopped>
+        ensures comes { Comes (λ found. found) result self.new (follow_weak cell.now self.old) }
+        ensures right { IfOk result (λ found. IsTrue found ↔ ((p : RationalPoint) × IsSolution false cell.now p)) }
+        ensures line { IfErr result IsOfLine }
+    {
+        keep_halves(cell);
+        let Some(proof) = self.next_proof() else {
+            return Err(self.nothing_due());
+        };
+        match proof {
+            Proof::At(point) => self.take_if(check_weak(cell, &point), true),
+            Proof::Apart(terms) => self.take_if(check_outside(cell, terms.items(), false), false),
+            _ => Err(self.nothing_due()),
+        }
+    }
+
+    /// The next line as a proof line. `None` where it is none, or where no line is left.
+    pub(crate) fn next_proof(&self) -> Option<Proof>
+        ensures { option_map line_of result ≡ next_proof self.now.lines }
+    {
+        read_proof(self.peek()?)
+    }
+
+    /// The slice that the next line shows. `None` where it shows none, or where no line is left.
+    pub(crate) fn next_slice(&self) -> Option<Slice>
+        ensures { option_map slice_shown result ≡ next_slice self.now.lines }
+    {
+        read_slice(self.peek()?)
+    }
+
+    /// Takes the next line, of which there is one, if its certificate passes; else it is wrong.
+    pub(crate) fn take_if<T: Drop>(&mut self, passes: bool, shown: T) -> Result<T, Stopped>
+        requires { 0 < length self.old.lines }
+        ensures comes { Comes (λ x. x) result self.new (taken_if passes shown self.old) }
+        ensures line { IfErr result IsOfLine }
+    {
+        if !passes {
+            return Err(Stopped::Wrong);
+        }
+        self.take();
+        Ok(shown)
+    }
+
+    /// Why a test can't be answered, where the next line doesn't fit: it tells of a limit, or it is wrong.
+    pub(crate) fn nothing_due(&self) -> Stopped
+        ensures due { IsNotDue result self.now }
+        ensures line { IsOfLine result }
+    {
+        if self.tells_limit() {
+            Stopped::Told
+        } else {
+            Stopped::Wrong
+        }
+    }
+
+    /// Whether the next line tells of a limit: it is `= refused limit`.
+    pub fn tells_limit(&self) -> bool
+        ensures { result ≡ tells_limit self.now.lines }
+    {
+        self.line.is_some_and(|line| line == LIMIT_LINE)
+    }
+}

@@ -1,0 +1,25 @@
+pub mod Opened
+mod Relations
+mod WholeCube
+mod Registering
+mod CutAndJoined
+mod RefusedChildren
+mod OtherCertificates
+mod Building
+mod RefusedLines
+mod NamesAndLots
+mod NonemptyBox
+mod FlatBox
+mod SharedFace
+mod Touching
+mod Apart
+mod Pieces
+mod Searches
+mod Layers
+mod Accepted
+mod Strange
+mod Meaning
+mod Versions
+mod Prisms
+mod Sections
+mod Access
