@@ -7,7 +7,7 @@ use Rattle.rp_model.specs.commands.Verdict.{Verdict}
 use Rattle.rp_model.specs.commands.Row.{reply_lines, lot_parts}
 use Rattle.rp_lots.specs.Asked.{access_reply}
 use Rattle.rp_lots.proofs.Judging.{within_forms, judged_stops, judged_ends}
-use Rattle.rp_parcels.proofs.Crewed.{own_map}
+use Rattle.rp_regionlots.proofs.Shown.{own_map}
 use Rattle.rp_parcels.proofs.parcels.Parcels.walk_access.Goals as goal
 
 pub meet_in_halves-requires-clause-within : goal.meet_in_halves-requires-clause-within

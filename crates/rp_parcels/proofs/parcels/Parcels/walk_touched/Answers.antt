@@ -8,7 +8,7 @@ use Rattle.rp_model.specs.commands.Row.{lot_parts}
 use Rattle.rp_lots.specs.Meets.{ids_met}
 use Rattle.rp_lots.proofs.Contacts.{bare_met}
 use Rattle.rp_lots.proofs.Judging.{within_lines, within_forms, judged_stops, judged_ends}
-use Rattle.rp_parcels.proofs.Crewed.{own_map}
+use Rattle.rp_regionlots.proofs.Shown.{own_map}
 use Rattle.rp_parcels.proofs.parcels.Parcels.walk_touched.Goals as goal
 
 pub meet_in_halves-requires-clause-within : goal.meet_in_halves-requires-clause-within

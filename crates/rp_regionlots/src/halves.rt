@@ -5,8 +5,7 @@ ghost use Rattle.rp_walks.specs.Walk.{most_tests, first_tester};
 ghost use Rattle.rp_tester.specs.Comes.{Comes};
 ghost use Rattle.rp_lots.specs.Meets.{meet_each, IsPairWithin};
 ghost use Rattle.rp_region.specs.Makes.{Makes};
-ghost use Rattle.rp_parcels.specs.Judged.{pair_test};
-ghost use Rattle.rp_parcels.specs.Crew.{shown, shown_at, with_all_shown, ShowsNothingCounted, ArePairsWithin};
+ghost use Rattle.rp_regionlots.specs.Shown.{pair_test, shown, shown_at, with_all_shown, ShowsNothingCounted, ArePairsWithin};
 
 use rp_boxindex::Watch;
 use rp_lotindex::Reach;

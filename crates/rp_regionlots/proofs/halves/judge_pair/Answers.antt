@@ -1,8 +1,8 @@
 use Rattle.std.proofs.Common.{subst}
 use Rattle.rp_region.specs.Makes.{IsFaultOf}
-use Rattle.rp_parcels.specs.Judged.{pair_test}
-use Rattle.rp_parcels.proofs.Framed.{never_limited}
-use Rattle.rp_parcels.proofs.crew.judge_pair.Goals as goal
+use Rattle.rp_regionlots.specs.Shown.{pair_test}
+use Rattle.rp_regionlots.proofs.Framed.{never_limited}
+use Rattle.rp_regionlots.proofs.halves.judge_pair.Goals as goal
 
 pub unreachable-requires : goal.unreachable-requires
 unreachable-requires c =

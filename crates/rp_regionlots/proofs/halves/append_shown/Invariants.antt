@@ -2,8 +2,8 @@ use Rattle.std.proofs.Common.{◌≡◌, ◌≤◌}
 use Rattle.std.specs.Vec.Iter.{into_iter_items}
 use Rattle.std.specs.List.{AllByRecursion}
 use Rattle.rp_walks.specs.Walk.{most_tests}
-use Rattle.rp_parcels.specs.Crew.{with_all_shown, ShowsNothingCounted}
-use Rattle.rp_parcels.proofs.crew.append_shown.Given as goal
+use Rattle.rp_regionlots.specs.Shown.{with_all_shown, ShowsNothingCounted}
+use Rattle.rp_regionlots.proofs.halves.append_shown.Given as goal
 
 -- the lines of the pairs still to come are left
 abbrev pub invariant-loop-one : goal.invariant-loop-one

@@ -1,13 +1,21 @@
 -- Pairs of lots, and what the tests of each show by themselves.
-use Rattle.std.specs.Prelude.{◌≡◌, ℕ, ◌<◌, List, [], ◌∷◌, length, get_or}
+use Rattle.std.specs.Prelude.{◌≡◌, ℕ, ◌<◌, Bool, false, List, [], ◌∷◌, length, get_or}
 use Rattle.rp_geometry.specs.sets.Shape.{Part}
-use Rattle.rp_walks.specs.Walk.{Work, no_work, with_lines}
+use Rattle.rp_walks.specs.Walk.{Outcome, done, stopped, Walk, Work, no_work, with_lines, first_tester}
 use Rattle.rp_region.specs.Makes.{work_after}
 use Rattle.rp_lotindex.specs.declared.near.Reach.{Reach}
 use Rattle.rp_lots.specs.declared.pair.Pair.{Pair}
-use Rattle.rp_lots.specs.Meets.{pair_of, IsPairWithin}
-use Rattle.rp_parcels.specs.declared.crew.Shown.{Shown}
-use Rattle.rp_parcels.specs.Judged.{pair_test, is_passed}
+use Rattle.rp_lots.specs.Meets.{pair_of, IsPairWithin, pair_test as tests_of_pair}
+use Rattle.rp_regionlots.specs.declared.halves.Shown.{Shown}
+
+-- the tests of two lists of parts: of the pairs whose boxes let them meet alone, up to the first that does
+abbrev pub pair_test : Reach → List Part → List Part → Walk Work Bool
+pair_test r ps qs = tests_of_pair first_tester r ps qs
+
+-- a test was passed
+abbrev pub is_passed : Outcome Work Bool → Bool
+is_passed (done b w) = b
+is_passed (stopped s w) = false
 
 -- what the tests of two lists of parts show
 abbrev pub shown_of : Reach → List Part → List Part → Shown

@@ -1,5 +1,5 @@
 use Rattle.std.proofs.Common.{◌≡◌, ◌++◌, map, drop}
-use Rattle.rp_parcels.proofs.crew.met_of.Given as goal
+use Rattle.rp_regionlots.proofs.halves.met_of.Given as goal
 
 -- the answers of the pairs still to come are left
 abbrev pub invariant-loop-one : goal.invariant-loop-one

@@ -1,9 +1,9 @@
 use Rattle.std.proofs.Common.{map, length, sym, ap, ◌∙◌, subst}
 use Rattle.std.specs.List.{AllByRecursion}
 use Rattle.std.proofs.lemmas.List.{length-map}
-use Rattle.rp_parcels.specs.Crew.{shown, ShowsNothingCounted}
-use Rattle.rp_parcels.proofs.Crewed.{answers, shows_nothing, all_shown_at_once}
-use Rattle.rp_parcels.proofs.crew.meet_in_halves.Goals as goal
+use Rattle.rp_regionlots.specs.Shown.{shown, ShowsNothingCounted}
+use Rattle.rp_regionlots.proofs.Shown.{answers, shows_nothing, all_shown_at_once}
+use Rattle.rp_regionlots.proofs.halves.meet_in_halves.Goals as goal
 
 pub append_shown-requires-clause-uncounted : goal.append_shown-requires-clause-uncounted
 append_shown-requires-clause-uncounted g c = subst (AllByRecursion ShowsNothingCounted) (sym c.in_ok-all.ensures) (shows_nothing c.args.reach c.args.forms.now c.args.pairs.now)

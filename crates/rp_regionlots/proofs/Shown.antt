@@ -7,10 +7,9 @@ use Rattle.rp_region.specs.Makes.{work_after}
 use Rattle.rp_lotindex.specs.declared.near.Reach.{Reach}
 use Rattle.rp_lots.specs.declared.pair.Pair.{Pair}
 use Rattle.rp_lots.specs.Meets.{meet_each}
-use Rattle.rp_parcels.specs.declared.crew.Shown.{Shown}
-use Rattle.rp_parcels.specs.Judged.{pair_test, is_passed}
-use Rattle.rp_parcels.specs.Crew.{shown_of, shown, with_all_shown, ShowsNothingCounted}
-use Rattle.rp_parcels.proofs.Framed.{shown_behind, none_counted}
+use Rattle.rp_regionlots.specs.declared.halves.Shown.{Shown}
+use Rattle.rp_regionlots.specs.Shown.{pair_test, is_passed, shown_of, shown, with_all_shown, ShowsNothingCounted}
+use Rattle.rp_regionlots.proofs.Framed.{shown_behind, none_counted}
 
 -- the answers of pairs that are judged
 abbrev pub answers : List Shown → List Bool

@@ -2,8 +2,8 @@ use Rattle.std.proofs.Common.{◌≡◌, ℕ, ◌+◌, ◌≤◌, ◌++◌, ap, 
 use Rattle.std.specs.Vec.Iter.{into_iter_items}
 use Rattle.std.specs.List.{AllByRecursion}
 use Rattle.rp_walks.specs.Walk.{Work, most_tests}
-use Rattle.rp_parcels.specs.Crew.{with_all_shown, ShowsNothingCounted}
-use Rattle.rp_parcels.proofs.crew.append_shown.Goals as goal
+use Rattle.rp_regionlots.specs.Shown.{with_all_shown, ShowsNothingCounted}
+use Rattle.rp_regionlots.proofs.halves.append_shown.Goals as goal
 
 pub loop-one-preserved : goal.loop-one-preserved
 loop-one-preserved c =

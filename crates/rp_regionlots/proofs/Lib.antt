@@ -1,0 +1,3 @@
+pub mod Framed
+pub mod Items
+pub mod Shown
