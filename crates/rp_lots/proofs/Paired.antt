@@ -201,11 +201,11 @@ near_behind r lots k ps ls (Err e) own others within there = tt
 
 module _ (lots : List (Lot (Unit {0}))) (k : ℕ) (l : Lot (Unit {0})) (ls : List (Lot (Unit {0}))) (left : drop k lots ≡ l ∷ ls) where
   -- the lots behind the first of those that are left
-  behind_first : lots_behind lots k ≡ lots_of_layer l.layer (live_lots ls)
+  pub behind_first : lots_behind lots k ≡ lots_of_layer l.layer (live_lots ls)
   behind_first = let next = left_further lots k l ls left in behind_here lots k l next.0 ∙ ap (λ (ms : List (Lot (Unit {0}))). lots_of_layer l.layer (live_lots ms)) next.1
 
   -- its parts
-  own_parts : parts_at lots k ≡ l.parts
+  pub own_parts : parts_at lots k ≡ l.parts
   own_parts = parts_there lots k l (left_further lots k l ls left).0
 
 -- ---- the live lots of a layer
