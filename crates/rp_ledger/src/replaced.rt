@@ -5,25 +5,23 @@ ghost use Rattle.rp_history.specs.Parts.{new_lots};
 ghost use Rattle.rp_store.specs.Kept.{AreFew};
 ghost use Rattle.rp_changes.specs.Changes.{replaced_of};
 
-use crate::shown::Shown;
 use rp_changes::Replaced;
-use rp_store::Lots;
-use rp_trail::Form;
+use rp_store::{Forms, Lots};
 use std::alloc::{AllocError, Global};
 
 /// Makes the change at the line: lots end, as far as they are live, and others are born in their place, which go last.
 /// All lots were born before the line; the new ids are new and distinct, their origins are known, and there is room for
 /// them. After `AllocError` all is as before.
-pub(crate) fn replace(
-    lots: &mut Lots<Shown>,
+pub(crate) fn replace<F: Forms>(
+    lots: &mut Lots<F>,
     alloc: Global,
     line: u32,
-    change: Replaced<Form>,
+    change: Replaced<F::Form>,
 ) -> Result<(), AllocError>
     requires later { AreBornBefore line lots.old }
-    requires new { AreNew lots.old (new_lots change.births.items (map (λ f. f.items) change.forms.items)) }
-    requires few { AreFew (lots_after line lots.old (replaced_of (λ f. f.items) change)) }
-    ensures ok { OnOk result (lots.new ≡ lots_after line lots.old (replaced_of (λ f. f.items) change)) }
+    requires new { AreNew lots.old (new_lots change.births.items (map F.parts_of change.forms.items)) }
+    requires few { AreFew (lots_after line lots.old (replaced_of F.parts_of change)) }
+    ensures ok { OnOk result (lots.new ≡ lots_after line lots.old (replaced_of F.parts_of change)) }
     ensures err { OnErr result (lots.new ≡ lots.old) }
 {
     let Replaced {

@@ -19,7 +19,7 @@ use Rattle.rp_states.proofs.Replaced.{ids_after}
 use Rattle.rp_history.specs.Lots.{AreBornBefore, AreNew}
 use Rattle.rp_history.proofs.Sizes.{as_many_parts}
 use Rattle.rp_store.specs.Kept.{kept_under, IsNewName, AreFew, state_with}
-use Rattle.rp_register.specs.Kept.{IsSoundOnLines, ComesFromKnown}
+use Rattle.rp_ledger.specs.Kept.{IsSoundByParts, ComesFromKnown}
 
 -- ---- labels that are distinct
 
@@ -49,7 +49,7 @@ distinct_apart (x ∷ xs) ys h =
 -- ---- a new name
 
 -- a name that a sound state has last is new, and there is room for it
-pub name_is_new : (y : Label) (ks : List (Kept (Unit {0}))) (lots : List (Lot (Unit {0}))) (x : Label) (ps : List Part) → IsSoundOnLines (state_with y (ks ++ kept_under x ps ∷ []) lots) → IsNewName ks x ps
+pub name_is_new : (y : Label) (ks : List (Kept (Unit {0}))) (lots : List (Lot (Unit {0}))) (x : Label) (ps : List Part) → IsSoundByParts (state_with y (ks ++ kept_under x ps ∷ []) lots) → IsNewName ks x ps
 name_is_new y ks lots x ps h =
     let all = ks ++ kept_under x ps ∷ [] in
     let names : names_of (map kept_of_parts all) ≡ names_of ks ++ x ∷ [] = images_twice kept_of_parts (λ (k : Kept Shape). k.name) all ∙ map-append (λ (k : Kept (Unit {0})). k.name) ks (kept_under x ps ∷ []) in
@@ -62,14 +62,14 @@ name_is_new y ks lots x ps h =
 -- ---- lots
 
 -- the lots of a sound state are few, and so are their parts
-pub sound_are_few : (s : PlainState) → IsSoundOnLines s → AreFew s.lots
+pub sound_are_few : (s : PlainState) → IsSoundByParts s → AreFew s.lots
 sound_are_few s h =
     let few : parts_under_lots s.lots ≤ most_kept_parts = subst (λ (n : ℕ). n ≤ most_kept_parts) (image_sums lot_of_parts (λ (l : Lot Shape). length l.parts) s.lots) h.few_parts_under_lots in
     let many = as_many_parts s.lots (all_unmapped (λ (l : Lot Shape). IsNonempty l.set) lot_of_parts s.lots h.lots_nonempty) in
     record { few_lots = omega (arith, few, many); few_parts = few }
 
 -- their ids are distinct
-pub sound_ids : (s : PlainState) → IsSoundOnLines s → IsTrue (are_distinct (ids_of s.lots))
+pub sound_ids : (s : PlainState) → IsSoundByParts s → IsTrue (are_distinct (ids_of s.lots))
 sound_ids s h = subst (λ (xs : List Label). IsTrue (are_distinct xs)) (images_twice lot_of_parts (λ (l : Lot Shape). l.id) s.lots) h.ids_distinct
 
 -- the lots of a state were born before a later line
@@ -77,7 +77,7 @@ pub later_births : (n : ℕ) (s : PlainState) → IsLaterThan n (state_of_parts 
 later_births n s h = all_unmapped (λ (l : Lot Shape). l.born < n) lot_of_parts s.lots h.births
 
 -- lots that a sound state has last are new to those before
-pub lots_are_new : (n : ℕ) (s : PlainState) (ids : List Label) (new : List (NewLot (Unit {0}))) → ComesFromKnown s (lots_replaced ids new) → IsSoundOnLines (changed n s (lots_replaced ids new)) → AreNew s.lots new
+pub lots_are_new : (n : ℕ) (s : PlainState) (ids : List Label) (new : List (NewLot (Unit {0}))) → ComesFromKnown s (lots_replaced ids new) → IsSoundByParts (changed n s (lots_replaced ids new)) → AreNew s.lots new
 lots_are_new n s ids new known h =
     let all = subst (λ (xs : List Label). IsTrue (are_distinct xs)) (ids_after s n ids new) (sound_ids (changed n s (lots_replaced ids new)) h) in
     let apart = distinct_apart (ids_of s.lots) (map (λ a. a.id) new) all in

@@ -7,7 +7,7 @@ use Rattle.rp_geometry.specs.parts.Parts.{IsCheckedPart, AreOf, AreParts, most_p
 use Rattle.rp_language.specs.Name.{Label, label_eq}
 use Rattle.rp_model.specs.states.State.{Kept, Lot, PlainState, kept_of_parts, lot_of_parts, parts_in, is_live, live_lots, lot_with_id, kept_named, parts_of_kept, parts_of_lot}
 use Rattle.rp_tester.specs.Short.{StandShort}
-use Rattle.rp_register.specs.Kept.{IsSoundOnLines}
+use Rattle.rp_ledger.specs.Kept.{IsSoundByParts}
 
 -- what is kept under a name
 name_found : (x : Label) (ks : List (Kept (Unit {0}))) → AllByRecursion (λ (k : Kept Shape). AreOf IsCheckedPart k.set k.parts) (map kept_of_parts ks) → IfSome (parts_of_kept (kept_named x ks)) (AreParts IsCheckedPart)
@@ -37,8 +37,13 @@ short_if None h = tt
 short_if (Some ps) h = h.few
 
 -- names and live lots stand for short lists of parts
-pub stand_short : (s : PlainState) → IsSoundOnLines s → StandShort (parts_in s)
+pub stand_short : (s : PlainState) → IsSoundByParts s → StandShort (parts_in s)
 stand_short s sound = record {
   names = λ x. short_if ((parts_in s).of_name x) (name_found x s.names sound.names_keep_parts);
   lots = λ x. short_if ((parts_in s).of_lot x) (lot_found x s.lots sound.lots_keep_parts);
 }
+
+-- each lot has few parts
+pub all_short : (lots : List (Lot (Unit {0}))) → AllByRecursion (λ l. AreOf IsCheckedPart l.set l.parts) (map lot_of_parts lots) → AllByRecursion (λ l. length l.parts ≤ most_parts) lots
+all_short [] h = tt
+all_short (l ∷ ls) h = (h.0.all.few, all_short ls h.1)
