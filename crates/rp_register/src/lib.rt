@@ -24,4 +24,4 @@ pub use parcel::Parcel;
 pub use register::Register;
 pub use reply::Reply;
 pub use there::Near;
-pub use turn::meet_in_turn;
+pub use turn::{meet_in_turn, show_apart_in_turn};

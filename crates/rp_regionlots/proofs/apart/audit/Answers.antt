@@ -1,8 +1,12 @@
 use Rattle.std.proofs.Common.{List, ◌∙◌}
 use Rattle.std.proofs.lemmas.Result.{err_from_is_err_and}
 use Rattle.rp_geometry.specs.sets.Shape.{Part}
-use Rattle.rp_lots.proofs.Judging.{within_forms}
-use Rattle.rp_regionlots.proofs.Audited.{audit_stops, audit_ends}
+use Rattle.rp_walks.specs.Walk.{first_tester}
+use Rattle.rp_model.specs.commands.Verdict.{clear}
+use Rattle.rp_model.specs.commands.Row.{reply}
+use Rattle.rp_lotindex.specs.declared.near.Reach.TheVariants.{Overlap}
+use Rattle.rp_lots.proofs.Judging.{within_forms, meet_pairs, judged_stops, judged_ends}
+use Rattle.rp_regionlots.proofs.Audited.{audit_met}
 use Rattle.rp_regionlots.proofs.Shown.{own_map}
 use Rattle.rp_regionlots.proofs.apart.audit.Goals as goal
 
@@ -18,11 +22,19 @@ meet_in_halves-requires-clause-within g c =
 pub returns-in_err-meet_in_halves : goal.returns-in_err-meet_in_halves
 returns-in_err-meet_in_halves g c =
     let p = err_from_is_err_and c.from_residual-in_err-meet_in_halves.result c.from_residual-in_err-meet_in_halves.ensures.1 in
+    let s = g.K.Keeper.state c.args.keeper.now in
+    let left = c.in_ok-left.left in
+    let u = c.audit_left.new.tests in
     let same = own_map c.forms.result.now ∙ c.forms.ensures in
     rw (p.1, p.2)
-    (audit_stops (g.K.Keeper.state c.args.keeper.now) c.requires.sound c.in_ok-left.left.live c.forms.result.now c.in_ok-left.left.pairs.items c.deref.result.now c.args.work.now c.audit_left.new.tests same c.deref.ensures.value c.in_ok-left.ensures.left c.in_err-meet_in_halves.field-0.0 c.meet_in_halves.new.work c.in_err-meet_in_halves.ensures.comes)
+    (judged_stops (meet_pairs first_tester Overlap) s.lots c.forms.result.now left.pairs.items c.deref.result.now (λ _. reply (clear left.live)) u c.meet_in_halves.new.work _ same c.deref.ensures.value (audit_met s c.requires.sound left.live left.pairs.items c.args.work.now u c.in_ok-left.ensures.left)
+    c.in_err-meet_in_halves.field-0.0 c.in_err-meet_in_halves.ensures.comes)
 
 pub returns : goal.returns
 returns g c =
+    let s = g.K.Keeper.state c.args.keeper.now in
+    let left = c.in_ok-left.left in
+    let u = c.audit_left.new.tests in
     let same = own_map c.forms.result.now ∙ c.forms.ensures in
-    audit_ends (g.K.Keeper.state c.args.keeper.now) c.requires.sound c.in_ok-left.left.live c.forms.result.now c.in_ok-left.left.pairs.items c.deref.result.now c.args.work.now c.audit_left.new.tests same c.deref.ensures.value c.in_ok-left.ensures.left c.in_ok-meet_in_halves.field-0.items c.meet_in_halves.new.work c.in_ok-meet_in_halves.ensures.comes
+    judged_ends (meet_pairs first_tester Overlap) s.lots c.forms.result.now left.pairs.items c.deref.result.now (λ _. reply (clear left.live)) u c.meet_in_halves.new.work _ same c.deref.ensures.value (audit_met s c.requires.sound left.live left.pairs.items c.args.work.now u c.in_ok-left.ensures.left)
+    c.in_ok-meet_in_halves.field-0.items c.in_ok-meet_in_halves.ensures.comes

@@ -6,10 +6,11 @@ use Rattle.rp_walks.specs.Walk.{done, first_tester}
 use Rattle.rp_model.specs.states.State.{Lot}
 use Rattle.rp_model.specs.commands.Verdict.{neighbour_lines}
 use Rattle.rp_model.specs.commands.Row.{reply_lines}
+use Rattle.rp_lotindex.specs.declared.near.Reach.TheVariants.{Touch}
 use Rattle.rp_lots.specs.Asked.{contacts_reply}
 use Rattle.rp_lots.specs.Meets.{ids_met}
 use Rattle.rp_lots.proofs.Contacts.{bare_met}
-use Rattle.rp_lots.proofs.Judging.{within_lines, within_forms, judged_stops, judged_ends}
+use Rattle.rp_lots.proofs.Judging.{within_lines, within_forms, meet_pairs, judged_stops, judged_ends}
 use Rattle.rp_regionlots.proofs.Shown.{own_map}
 use Rattle.rp_regionlots.proofs.contacts.neighbours.Goals as goal
 
@@ -27,7 +28,7 @@ returns-in_err-met-clause-row g c =
     let p = err_from_is_err_and c.from_residual-in_err-met.result c.from_residual-in_err-met.ensures.1 in
     let lots = (g.K.Keeper.state c.args.keeper.now).lots in
     let same = own_map c.forms.result.now ∙ c.forms.ensures in
-    rw (p.1, p.2) (judged_stops first_tester lots c.forms.result.now c.in_ok-left.left.pairs.items c.deref.result.now (contacts_reply lots c.in_ok-left.left) c.touch_left.new.tests c.meet_in_halves.new.work _ same c.deref.ensures.value c.in_ok-left.ensures.left c.in_err-met.field-0.0 c.in_err-met.ensures.comes)
+    rw (p.1, p.2) (judged_stops (meet_pairs first_tester Touch) lots c.forms.result.now c.in_ok-left.left.pairs.items c.deref.result.now (contacts_reply lots c.in_ok-left.left) c.touch_left.new.tests c.meet_in_halves.new.work _ same c.deref.ensures.value c.in_ok-left.ensures.left c.in_err-met.field-0.0 c.in_err-met.ensures.comes)
 
 pub ids_met-requires-clause-within : goal.ids_met-requires-clause-within
 ids_met-requires-clause-within g c = within_lines (g.K.Keeper.state c.args.keeper.now).lots c.history.result.now c.lots-lots.result.now c.in_ok-left.left.places.items c.items.result.now c.history.ensures.value c.lots-lots.ensures.value c.items.ensures c.in_ok-left.ensures.places
@@ -46,7 +47,7 @@ returns-clause-row g c =
     ∙ (λ i. ids_met (c.lots-lots.ensures.value i) (c.items.ensures i) (c.deref-2.ensures.value i))
     ∙ ap (λ (ls : List (Lot (Unit {0}))). ids_met ls left.places.items met) c.history.ensures.value
     ∙ bare_met lots left.places.items met in
-    judged_ends first_tester lots c.forms.result.now left.pairs.items c.deref.result.now (contacts_reply lots left) c.touch_left.new.tests v _ same c.deref.ensures.value c.in_ok-left.ensures.left met c.in_ok-met.ensures.comes
+    judged_ends (meet_pairs first_tester Touch) lots c.forms.result.now left.pairs.items c.deref.result.now (contacts_reply lots left) c.touch_left.new.tests v _ same c.deref.ensures.value c.in_ok-left.ensures.left met c.in_ok-met.ensures.comes
     ∙ ap (λ (xs : List Label). done (reply_lines (neighbour_lines xs)) v) (sym ids)
 
 pub returns-clause-few : goal.returns-clause-few
