@@ -111,3 +111,7 @@ module _ {W : Type 0} (P : Part → Type 0) (t : Tester W) (right : RowIsRight P
   reply_is_taken view u (Ok (Told lines)) h = subst (λ (o : Outcome W ModelReply). IfDone o (λ r. IsTaken P n p r.change)) h row_taken
   reply_is_taken view u (Ok (Changed d)) h = subst (λ (o : Outcome W ModelReply). IfDone o (λ r. IsTaken P n p r.change)) h row_taken
   reply_is_taken view u (Err e) h = tt
+
+-- a change that is taken with parts of which each is checked is taken
+pub taken_where_checked : (P : Part → Type 0) → ((q : Part) → P q → IsCheckedPart q) → (n : ℕ) (p : PlainState) (d : Change (Unit {0})) → IsTaken P n p d → IsTaken IsCheckedPart n p d
+taken_where_checked P checked n p d h = record { sound = sound_where_checked P checked (state_of_parts (changed n p d)) h.sound; known = h.known }

@@ -54,3 +54,11 @@ changed_ready {F} view r q is = subst (λ (x : Result (CodeRow F) RowEnd). IfOk 
     by : (q : Result (Change F) RowEnd) → IfOk (row_changed q) (IsReadyRow view)
     by (Ok d) = tt
     by (Err e) = tt
+
+-- a question that is left was answered
+pub question_replied : {W F : Type 0} (view : F → List Part) (r : Result (Reply F) RowEnd) (q : Result (Listed CodeVerdict) RowEnd) (w : W) (o left : Outcome W ModelReply) → o ≡ left → r ≡ reply_told q → Tells q w left → Replies view r w o
+question_replied {W} {F} view r q w o left same is h = subst (λ (x : Result (Reply F) RowEnd). Replies view x w o) (sym is) (subst (λ (p : Outcome W ModelReply). Replies view (reply_told {F = F} q) w p) (sym same) (by q h))
+  where
+    by : (q : Result (Listed CodeVerdict) RowEnd) → Tells q w left → Replies view (reply_told {F = F} q) w left
+    by (Ok lines) h = h
+    by (Err e) h = h
