@@ -1,7 +1,5 @@
 -- The row of an audit: what is counted and shown of all live lots is what is counted and shown of the pairs behind each.
-use Rattle.std.proofs.Common.{◌≡◌, ℕ, suc, ◌+◌, Bool, true, false, ◌&&◌, cond, List, [], ◌∷◌, ◌++◌, map, filter, length, drop, get_or, None, refl, sym, ap, ap₂, ◌∙◌, subst}
-use Rattle.std.specs.List.{AllByRecursion}
-use Rattle.rp_algebra.proofs.Listed.{all_append}
+use Rattle.std.proofs.Common.{◌≡◌, ℕ, suc, ◌+◌, Bool, true, false, ◌&&◌, cond, List, [], ◌∷◌, ◌++◌, map, filter, length, drop, get_or, None, refl, sym, ap, ap₂, ◌∙◌}
 use Rattle.rp_algebra.proofs.Lists.{get_some}
 use Rattle.rp_geometry.specs.sets.Shape.{Part}
 use Rattle.rp_walks.specs.Walk.{taken_wrong, Outcome, done, stopped, Walk, Tester, pass, stop, after_first, ◌>>=◌, ◌>>◌}
@@ -12,16 +10,14 @@ use Rattle.rp_model.specs.commands.Row.{Reply, reply, lot_parts, count_in_layers
 use Rattle.rp_tester.specs.declared.stopped.Stopped.{Stopped}
 use Rattle.rp_tester.specs.Comes.{StopsBy}
 use Rattle.rp_tester.proofs.Left.{IsLeft, next_left, stop_left}
-use Rattle.rp_lotindex.specs.declared.near.Reach.{Reach}
 use Rattle.rp_lotindex.specs.declared.near.Reach.TheVariants.{Overlap}
 use Rattle.rp_lotindex.specs.Near.{pairs_with, is_near, lots_at, AreWithin}
 use Rattle.rp_lotindex.proofs.Skipped.{apart_on, apart_near}
 use Rattle.rp_lots.specs.declared.pair.Pair.{Pair}
-use Rattle.rp_lots.specs.Meets.{pair_of, parts_at, meet_each, IsPairWithin}
+use Rattle.rp_lots.specs.Meets.{pair_of, parts_at, meet_each}
 use Rattle.rp_lots.specs.Behind.{live_places, lots_behind, tests_behind, ArePairsBehind}
 use Rattle.rp_lots.specs.Apart.{apart_each}
 use Rattle.rp_lots.proofs.Items.{parts_there, first_there}
-use Rattle.rp_lots.proofs.Meeting.{pairs_within}
 use Rattle.rp_lots.proofs.Paired.{left_further, behind_first, own_parts}
 
 -- ---- counts
@@ -49,13 +45,6 @@ live_counted k (l ∷ ls) = by (is_live l) (live_counted (k + 1) ls)
     by : (b : Bool) → length places ≡ length (live_lots ls) → length (cond (b && true) (k ∷ places) places) ≡ length (cond b (l ∷ live_lots ls) (live_lots ls))
     by true later = ap suc later
     by false later = later
-
--- the pairs behind some places are within the lots
-pub behind_within : (r : Reach) (lots : List (Lot (Unit {0}))) (ks : List ℕ) → AreWithin lots ks → (pairs : List Pair) → ArePairsBehind r lots ks pairs → AllByRecursion (IsPairWithin lots) pairs
-behind_within r lots [] w pairs h = subst (AllByRecursion (IsPairWithin lots)) (sym h) tt
-behind_within r lots (k ∷ ks) w pairs h =
-    subst (AllByRecursion (IsPairWithin lots)) (sym h.2)
-    (all_append (IsPairWithin lots) (map (pair_of k) h.0) h.1 (pairs_within lots lots k h.0 (map (pair_of k) h.0) refl w.0 h.3.within refl) (behind_within r lots ks w.1 h.1 h.4))
 
 -- ---- walks
 

@@ -4,10 +4,10 @@ use Rattle.rp_lotindex.specs.declared.near.Reach.TheVariants.{Overlap}
 use Rattle.rp_lotindex.specs.Near.{AreWithin}
 use Rattle.rp_lots.specs.declared.behind.NearPairs.{NearPairs}
 use Rattle.rp_lots.specs.Behind.{live_places, tests_behind, ArePairsBehind}
-use Rattle.rp_lots.proofs.Apart.{behind_within, audit_stops, audit_leaves}
+use Rattle.rp_lots.proofs.Apart.{audit_stops, audit_leaves}
 use Rattle.rp_lots.proofs.Counted.{count_lost}
 use Rattle.rp_lots.proofs.Judging.{as_many}
-use Rattle.rp_lots.proofs.Paired.{bare_places, places_within}
+use Rattle.rp_lots.proofs.Paired.{bare_places, places_within, behind_within}
 use Rattle.rp_lots.proofs.apart.audit_left.Goals as goal
 
 pub later_pairs-requires : goal.later_pairs-requires
