@@ -3,18 +3,19 @@ use Rattle.std.specs.Prelude.{◌≡◌, ℕ, map, Result, Ok, Err}
 use Rattle.rp_geometry.specs.sets.Shape.{Part}
 use Rattle.rp_walks.specs.Walk.{Outcome, done, stopped, line_wrong}
 use Rattle.rp_model.specs.states.State.{Change as ModelChange, nothing_changes}
-use Rattle.rp_model.specs.commands.Row.{Reply as ModelReply, reply_lines, accepted}
+use Rattle.rp_model.specs.commands.Row.{Reply as ModelReply}
 use Rattle.rp_reports.specs.Check.{Trail, follow_lines}
 use Rattle.rp_reports.specs.Text.{verdict_text}
 use Rattle.rp_space.specs.Listed.{Listed}
 use Rattle.rp_text.specs.declared.answer.Verdict.{Verdict as CodeVerdict}
-use Rattle.rp_text.specs.Views.{verdict_of}
 use Rattle.rp_rows.specs.declared.reply.RowEnd.{RowEnd}
 use Rattle.rp_rows.specs.Replies.{EndsBy}
-use Rattle.rp_register.specs.declared.reply.Reply.{Reply}
-use Rattle.rp_register.specs.declared.reply.Reply.TheVariants.{Told, Unshown, Changed}
 use Rattle.rp_changes.specs.declared.change.Change.{Change}
 use Rattle.rp_changes.specs.Changes.{change_of}
+use Rattle.rp_ledger.specs.declared.reply.Reply.TheVariants.{Told}
+use Rattle.rp_ledger.specs.Rows.{reply_of, change_in}
+use Rattle.rp_register.specs.declared.followed.Followed.{Followed}
+use Rattle.rp_register.specs.declared.followed.Followed.TheVariants.{Replied, Unshown}
 
 -- ---- changes of the code as those of the model
 
@@ -22,11 +23,10 @@ use Rattle.rp_changes.specs.Changes.{change_of}
 abbrev pub shown_change : Change (Listed Part) → ModelChange (Unit {0})
 shown_change c = change_of (λ f. f.items) c
 
--- what a reply changes
-abbrev pub change_in : Reply → ModelChange (Unit {0})
-change_in (Told lines) = nothing_changes
-change_in (Unshown n) = nothing_changes
-change_in (Changed c) = shown_change c
+-- what a row that was followed changes
+abbrev pub change_followed : Followed → ModelChange (Unit {0})
+change_followed (Replied r) = change_in (λ f. f.items) r
+change_followed (Unshown n) = nothing_changes
 
 -- ---- what the row of a command comes to
 
@@ -39,18 +39,12 @@ pub record IsUnshown (n : ℕ) (t : Trail) (o : Outcome Trail ModelReply) : Type
   pub number : n ≡ at.number
 
 -- the row was followed, and the trail is this: it comes to the reply, or ends so
-abbrev pub Replies : Result Reply RowEnd → Trail → Outcome Trail ModelReply → Type 0
-Replies (Ok (Told lines)) t o = o ≡ done (reply_lines (map verdict_of lines.items)) t
-Replies (Ok (Unshown n)) t o = IsUnshown n t o
-Replies (Ok (Changed c)) t o = o ≡ done (accepted (shown_change c)) t
-Replies (Err e) t o = EndsBy e t o
+abbrev pub IsFollowed : Result Followed RowEnd → Trail → Outcome Trail ModelReply → Type 0
+IsFollowed (Ok (Replied r)) t o = o ≡ done (reply_of (λ f. f.items) r) t
+IsFollowed (Ok (Unshown n)) t o = IsUnshown n t o
+IsFollowed (Err e) t o = EndsBy e t o
 
--- the reply to a question
-abbrev pub reply_told : Result (Listed CodeVerdict) RowEnd → Result Reply RowEnd
-reply_told (Ok lines) = Ok (Told lines)
-reply_told (Err e) = Err e
-
--- the reply to a command that changes something
-abbrev pub reply_changed : Result (Change (Listed Part)) RowEnd → Result Reply RowEnd
-reply_changed (Ok c) = Ok (Changed c)
-reply_changed (Err e) = Err e
+-- a question that was answered
+abbrev pub followed_told : Result (Listed CodeVerdict) RowEnd → Result Followed RowEnd
+followed_told (Ok lines) = Ok (Replied (Told lines))
+followed_told (Err e) = Err e
