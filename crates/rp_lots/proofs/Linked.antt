@@ -19,7 +19,7 @@ use Rattle.rp_lotindex.specs.declared.near.Reach.TheVariants.{Touch}
 use Rattle.rp_lotindex.specs.Near.{lots_at, AreWithin}
 use Rattle.rp_lotindex.proofs.Skipped.{none_of_pairs}
 use Rattle.rp_lots.specs.declared.pair.Pair.{Pair}
-use Rattle.rp_lots.specs.Meets.{pair_of, meet_each, parts_at, id_at, IsPairWithin}
+use Rattle.rp_lots.specs.Meets.{pair_of, meet_each, parts_at, id_at}
 use Rattle.rp_lots.specs.Numbers.{lists_at, is_touching, places_with, places_among, AreRising, IsOneOf, IsPairOf, AreBelow, placed, links_met}
 use Rattle.rp_lots.proofs.Items.{parts_there, id_there, first_there}
 use Rattle.rp_lots.proofs.Meeting.{test_of, answers, from_none}

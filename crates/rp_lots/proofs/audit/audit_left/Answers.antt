@@ -8,7 +8,7 @@ use Rattle.rp_lots.proofs.Apart.{audit_stops, audit_leaves}
 use Rattle.rp_lots.proofs.Counted.{count_lost}
 use Rattle.rp_lots.proofs.Judging.{as_many}
 use Rattle.rp_lots.proofs.Paired.{bare_places, places_within, behind_within}
-use Rattle.rp_lots.proofs.apart.audit_left.Goals as goal
+use Rattle.rp_lots.proofs.audit.audit_left.Goals as goal
 
 pub later_pairs-requires : goal.later_pairs-requires
 later_pairs-requires g c =
