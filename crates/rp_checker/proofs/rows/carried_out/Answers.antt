@@ -1,5 +1,6 @@
-use Rattle.std.proofs.Common.{◌≡◌, List, Result, Ok, Err, rules, w32, FitsSigned, to_z, of_z, ap, sym, ◌∙◌, subst}
+use Rattle.std.proofs.Common.{◌≡◌, List, Result, Ok, Err, rules, w32, FitsSigned, ap, sym, ◌∙◌, subst}
 use Rattle.std.proofs.lemmas.Int.{to_z-of_z}
+use Rattle.rp_geometry.specs.sections.Trace.{IsHeight}
 use Rattle.std.proofs.lemmas.Result.{err_from_is_err_and}
 use Rattle.rp_geometry.specs.sections.Trace.{IsHeight}
 use Rattle.rp_geometry.specs.sets.Shape.{Part}
@@ -67,7 +68,7 @@ returns-in-Section c =
     let s = c.args.register.now in
     let t = c.carry_out.new.tests in
     let z = c.in-Section.z in
-    let form = c.in-Section.form in
+    let ps = c.in-Section.form.items in
     let fits : FitsSigned w32 z = search rules in
     subst (λ (o : Outcome Trail ModelReply). IsFollowed c.section.result t o)
-    (sym (c.in_ok-reply.ensures.goes_on ∙ ap (λ (r : CodeRow (Listed Part)). rest_of line_tester (λ f. f.items) s r t) c.in-Section.is ∙ ap (λ y. row_section line_tester y form.items t) (sym (to_z-of_z w32 z fits)))) c.section.ensures
+    (sym (c.in_ok-reply.ensures.goes_on ∙ ap (λ (r : CodeRow (Listed Part)). rest_of line_tester (λ f. f.items) s r t) c.in-Section.is ∙ ap (λ y. row_section line_tester y ps t) (sym (to_z-of_z w32 z fits)))) c.section.ensures
