@@ -1,7 +1,7 @@
 //! The register of parcels: what it keeps, and how it changes.
-ghost use Rattle.std.specs.Prelude.{◌≡◌, ◌+◌, ◌<◌, ◌≤◌, [], length, map, nat_le, slice_get, option_copied, option_map, Some, IfOk, IfErr, OnOk, OnErr};
+ghost use Rattle.std.specs.Prelude.{◌≡◌, ◌+◌, ◌≤◌, [], length, map, option_copied, IfOk, IfErr, OnOk, OnErr};
 ghost use Rattle.rp_walks.specs.Walk.{no_work};
-ghost use Rattle.rp_model.specs.states.State.{Lot, live_lot, parts_of_lot, bare_lot, lots_replaced, parts_under_lots, most_kept_parts};
+ghost use Rattle.rp_model.specs.states.State.{live_lot, parts_of_lot, bare_lot, lots_replaced, most_kept_parts};
 ghost use Rattle.rp_model.specs.commands.Row.{row_retire};
 ghost use Rattle.rp_history.specs.Lots.{lots_in, lots_after};
 ghost use Rattle.rp_parcels.specs.Kept.{AreSound};
@@ -11,6 +11,8 @@ ghost use Rattle.rp_parcels.specs.declared.fault.ParcelFault.TheVariants.{Unknow
 ghost use Rattle.rp_parcels.specs.Rows.{Changes};
 
 use crate::fault::ParcelFault;
+use crate::keeper::Watched;
+use rp_boxindex::Quiet;
 use rp_history::{Birth, History};
 use rp_region::Region;
 use rp_regionlots::Regions;
@@ -65,14 +67,6 @@ impl Parcels {
         self.lots.find(&id)
     }
 
-    /// The region of the parcel at a place, ended or not.
-    pub(crate) fn region_at(&self, place: usize) -> &Region
-        requires { place < length self.now }
-        ensures { option_map (λ l. l.parts) (slice_get self.now place) ≡ Some result.now }
-    {
-        self.lots.form_at(place)
-    }
-
     /// The parcels as they are kept.
     pub(crate) fn lots(&self) -> &Lots<Regions>
         ensures value { result.now ≡ self.now }
@@ -81,20 +75,14 @@ impl Parcels {
         &self.lots
     }
 
-    /// How many parcels there are, ended ones included: each has a part at least.
-    pub(crate) fn count(&self) -> usize
-        ensures value { result ≡ length self.now }
-        ensures few { result ≤ most_kept_parts }
+    /// The parcels as what keeps lots, without an onlooker.
+    pub(crate) fn quiet(&self) -> Watched<'_, Quiet>
+        ensures { result.parcels.now ≡ self.now }
     {
-        self.lots.count()
-    }
-
-    /// Whether all parcels together may keep so many more parts.
-    pub(crate) fn have_room_for(&self, parts: usize) -> bool
-        ensures sound { AreSound self.now }
-        ensures value { result ≡ nat_le (parts_under_lots self.now + parts) most_kept_parts }
-    {
-        self.lots.have_room_for(parts)
+        Watched {
+            parcels: self,
+            watch: &Quiet,
+        }
     }
 
     /// Ends the parcels of the ids `ends` at the line, and lets others be born in their place, which go last, each with
@@ -128,7 +116,9 @@ impl Parcels {
         ensures sound { OnOk result (AreSound self.new) }
         ensures later { OnOk result (IsLater (line + 1) self.new) }
     {
-        self.live_place(id)?;
+        if let Err(_) = self.history().check_live(id) {
+            return Err(ParcelFault::Unknown(id));
+        }
         self.lots.end(line, id);
         Ok(())
     }
