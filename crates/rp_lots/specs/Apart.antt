@@ -9,7 +9,7 @@ use Rattle.rp_model.specs.commands.Row.{Reply, reply, lot_parts}
 use Rattle.rp_tester.specs.declared.stopped.Stopped.{Stopped}
 use Rattle.rp_tester.specs.Comes.{StopsBy}
 use Rattle.rp_lots.specs.declared.pair.Pair.{Pair}
-use Rattle.rp_lots.specs.declared.apart.AuditLeft.{AuditLeft}
+use Rattle.rp_lots.specs.declared.audit.AuditLeft.{AuditLeft}
 
 -- the two lots of each pair share no member; there is no other end
 abbrev pub apart_each : {W : Type 0} → Tester W → List (List Part) → List Pair → Walk W (Unit {0})

@@ -12,7 +12,6 @@ use rp_boxindex::Watch;
 use rp_lotindex::Reach;
 use rp_lots::{Keeper, audit_left};
 use rp_region::Work;
-use rp_tester::Stopped;
 use rp_rows::RowEnd;
 use std::alloc::Global;
 use std::thread::Threads;

@@ -36,8 +36,9 @@ pub fn audit_left<T: Tests, K: Keeper<T>>(
     let places = live_places(alloc, lots, None)?;
     let near = later_pairs::<T, K>(alloc, keeper, &places, Reach::Overlap)?;
     count_tests(tests, near.tests)?;
+    let live = places.len() as u32;
     Ok(AuditLeft {
-        live: places.len() as u32,
+        live,
         pairs: near.pairs,
     })
 }
