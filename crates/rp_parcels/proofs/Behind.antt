@@ -1,5 +1,5 @@
 -- The rows of changes and questions come to the same behind any earlier lines.
-use Rattle.std.proofs.Common.{◌≡◌, Bool, true, false, cond, List, [], ◌∷◌, length, refl, sym}
+use Rattle.std.proofs.Common.{◌≡◌, Bool, true, false, cond, List, [], ◌∷◌, length, refl, sym, subst}
 use Rattle.std.specs.Prelude.{IsTrue, ◌↔◌}
 use Rattle.std.specs.List.{AllByRecursion}
 use Rattle.rp_geometry.specs.searches.ProofLine.{ProofLine}
@@ -18,6 +18,7 @@ use Rattle.rp_model.specs.commands.Row.{Reply, FormedChild, reply, lot_parts, co
 use Rattle.rp_verdicts.proofs.Right.{first_walks_are_right}
 use Rattle.rp_states.proofs.Labels.{label_is}
 use Rattle.rp_history.specs.Lots.{lots_in}
+use Rattle.rp_lotindex.proofs.Skipped.{apart_on}
 use Rattle.rp_region.proofs.Behind.{ComesBehind}
 use Rattle.rp_accepted.proofs.Kept.{FormedHave, ReplyHas}
 use Rattle.rp_accepted.proofs.Commands.{Any, AnyLabel, any_parts, any_labels, any_state}
@@ -96,15 +97,9 @@ apart_from_appended : (ps : List Part) (lists : List (List Part)) → IsRegion p
 unfolding appended
 apart_from_appended ps [] h apart = appended.passes Anything tt tt
 apart_from_appended ps (qs ∷ lists) h apart =
-    binds_appended (λ found. found ≡ false) Anything (common_nearby first_tester ps qs) (common_nearby first_tester ps qs) next next
-    (known_appended (λ found. found ≡ false) (common_nearby first_tester ps qs) (common_nearby_alike appended Any first_tester first_tester related_appended ps qs (any_parts ps) (any_parts qs)) (none_found ps qs h apart.0.0 apart.0.1)) by
-  where
-    next : Bool → Walk Work (Unit {0})
-    next found = elim found [ true ↦ stop taken_wrong | false ↦ all_apart_from first_tester ps lists ]
-
-    by : (found : Bool) → found ≡ false → Appended Anything (next found) (next found)
-    by true e = absurd (cc)
-    by false e = apart_from_appended ps lists h apart.1
+    binds_appended (λ found. found ≡ false) Anything (common_nearby first_tester ps qs) (common_nearby first_tester ps qs) (apart_on first_tester ps lists) (apart_on first_tester ps lists)
+    (known_appended (λ found. found ≡ false) (common_nearby first_tester ps qs) (common_nearby_alike appended Any first_tester first_tester related_appended ps qs (any_parts ps) (any_parts qs)) (none_found ps qs h apart.0.0 apart.0.1))
+    λ found e. subst (λ (b : Bool). Appended Anything (apart_on first_tester ps lists b) (apart_on first_tester ps lists b)) (sym e) (apart_from_appended ps lists h apart.1)
 
 -- so are each two lots
 apart_appended : (lots : List (Lot (Unit {0}))) → AllByRecursion (λ l. IsRegion l.parts) lots → Pairwise ApartLots lots → Appended Anything (all_apart first_tester lots) (all_apart first_tester lots)

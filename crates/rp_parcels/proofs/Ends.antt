@@ -14,11 +14,11 @@ use Rattle.rp_walks.specs.Walk.{Outcome, done, stopped, limit_met, Walk, Work, p
 use Rattle.rp_walks.specs.Form.{near_pair, test_pair_if, first_with_part, common_nearby, join, subtract, touch_nearby}
 use Rattle.rp_walks.specs.Compare.{show_then_no, is_covered}
 use Rattle.rp_walks.specs.FormLaws.{IfDone}
-use Rattle.rp_model.specs.states.State.{Lot, StateOf, PlainState, present_lots, live_lots, layer_of_first, layer_lots, ids_of, place_among, most_kept_parts, parts_under_lots}
+use Rattle.rp_model.specs.states.State.{Lot, StateOf, PlainState, present_lots, live_lots, layer_of_first, layer_lots, near_lots, ids_of, place_among, most_kept_parts, parts_under_lots}
 use Rattle.rp_geometry.specs.parts.Levels.{levels_along, chain_along}
-use Rattle.rp_model.specs.commands.Verdict.{Refusal, Verdict, access_lines, refused, known, unknown, repeated, layers, same_name, too_few, empty_region, overlaps, empty_side, empty_child, outside_lot, children_overlap, gap}
+use Rattle.rp_model.specs.commands.Verdict.{Refusal, Verdict, access_lines, neighbour_lines, clear, refused, known, unknown, repeated, layers, same_name, too_few, empty_region, overlaps, empty_side, empty_child, outside_lot, children_overlap, gap}
 use Rattle.rp_model.specs.commands.Checks.{refuse_if, and_then, check_new, check_live, check_each, check_repeated, check_layer, check_layers, check_cut, check_subdivide, check_consolidate, check_access}
-use Rattle.rp_model.specs.commands.Row.{Reply, refusal, accepted, reply, check, check_size, FormedChild, parts_with_id, joined_parts, child_parts, first_overlapped, first_empty_child, first_outside_child, first_overlapping_child, first_overlapping_children, row_register, row_cut, row_subdivide, row_consolidate, row_neighbours, row_access, row_audit}
+use Rattle.rp_model.specs.commands.Row.{Reply, refusal, accepted, reply, reply_lines, access_by_links, lot_parts, numbered_lists, links_among_lists, touched_lots, all_apart, check, check_size, FormedChild, parts_with_id, joined_parts, child_parts, first_overlapped, first_empty_child, first_outside_child, first_overlapping_child, first_overlapping_children, row_register, row_cut, row_subdivide, row_consolidate, row_neighbours, row_access, row_audit}
 use Rattle.rp_verdicts.proofs.Parts.{difference_done}
 use Rattle.rp_verdicts.proofs.Right.{first_walks_are_right}
 use Rattle.rp_parcels.specs.Shown.{EndsInside, Kind, by_points, by_none, never, kind_of, IsShownBy, IsShown}
@@ -39,6 +39,11 @@ then_ends R Q (stopped s w) next h each = tt
 after_ends : {A B : Type 0} (Q : B → List ProofLine → Type 0) (o : Outcome Work A) (next : A → Walk Work B) → ((x : A) (w : Work) → Ends Q (next x w)) → Ends Q (after_first next o)
 after_ends Q (done x w) next each = each x w
 after_ends Q (stopped s w) next each = tt
+
+-- one of two walks, by a test
+if_ends : {A : Type 0} (Q : A → List ProofLine → Type 0) (b : Bool) (yes no : Walk Work A) (w : Work) → (b ≡ true → Ends Q (yes w)) → (b ≡ false → Ends Q (no w)) → Ends Q ((elim b as (λ _. Walk Work A) [ true ↦ yes | false ↦ no ]) w)
+if_ends Q true yes no w f g = f refl
+if_ends Q false yes no w f g = g refl
 
 -- of a result alone
 done_ends : {A : Type 0} (P : A → Type 0) (o : Outcome Work A) → IfDone o P → Ends (λ x lines. P x) o
@@ -69,20 +74,16 @@ pair_ends false p q w = tt
 -- by those of a part with each of a list
 part_ends : (p : Part) (qs : List Part) (w : Work) → Ends FoundShown (first_with_part near_pair strict_test p qs w)
 part_ends p [] w = tt
-part_ends p (q ∷ qs) w = then_ends FoundShown FoundShown (test_pair_if (near_pair p q) strict_test p q w) (λ found. elim found [ true ↦ pass true | false ↦ first_with_part near_pair strict_test p qs ]) (pair_ends (near_pair p q) p q w) next
-  where
-    next : (found : Bool) (v : Work) → FoundShown found v.proofs → Ends FoundShown ((elim found as (λ _. Walk Work Bool) [ true ↦ pass true | false ↦ first_with_part near_pair strict_test p qs ]) v)
-    next true v h = h
-    next false v h = part_ends p qs v
+part_ends p (q ∷ qs) w =
+    then_ends FoundShown FoundShown (test_pair_if (near_pair p q) strict_test p q w) (λ found. elim found [ true ↦ pass true | false ↦ first_with_part near_pair strict_test p qs ]) (pair_ends (near_pair p q) p q w)
+    λ found v h. if_ends FoundShown found (pass true) (first_with_part near_pair strict_test p qs) v (λ e. subst (λ (b : Bool). FoundShown b v.proofs) e h) (λ e. part_ends p qs v)
 
 -- by those of two lists
 common_ends : (ps qs : List Part) (w : Work) → Ends FoundShown (common_nearby first_tester ps qs w)
 common_ends [] qs w = tt
-common_ends (p ∷ ps) qs w = then_ends FoundShown FoundShown (first_with_part near_pair strict_test p qs w) (λ found. elim found [ true ↦ pass true | false ↦ common_nearby first_tester ps qs ]) (part_ends p qs w) next
-  where
-    next : (found : Bool) (v : Work) → FoundShown found v.proofs → Ends FoundShown ((elim found as (λ _. Walk Work Bool) [ true ↦ pass true | false ↦ common_nearby first_tester ps qs ]) v)
-    next true v h = h
-    next false v h = common_ends ps qs v
+common_ends (p ∷ ps) qs w =
+    then_ends FoundShown FoundShown (first_with_part near_pair strict_test p qs w) (λ found. elim found [ true ↦ pass true | false ↦ common_nearby first_tester ps qs ]) (part_ends p qs w)
+    λ found v h. if_ends FoundShown found (pass true) (common_nearby first_tester ps qs) v (λ e. subst (λ (b : Bool). FoundShown b v.proofs) e h) (λ e. common_ends ps qs v)
 
 -- what is not covered is told by points
 abbrev CoverShown : Bool → List ProofLine → Type 0
@@ -120,38 +121,35 @@ LotShown o lines = IfSome o (λ _. EndsInside lines)
 -- the search for a lot that overlaps
 overlapped_ends : {S : Type 0} (ps : List Part) (ls : List (Lot S)) (w : Work) → Ends LotShown (first_overlapped first_tester ps ls w)
 overlapped_ends ps [] w = tt
-overlapped_ends ps (l ∷ ls) w = then_ends FoundShown LotShown (common_nearby first_tester ps l.parts w) (λ found. elim found [ true ↦ pass (Some l.id) | false ↦ first_overlapped first_tester ps ls ]) (common_ends ps l.parts w) next
-  where
-    next : (found : Bool) (v : Work) → FoundShown found v.proofs → Ends LotShown ((elim found as (λ _. Walk Work (Option Label)) [ true ↦ pass (Some l.id) | false ↦ first_overlapped first_tester ps ls ]) v)
-    next true v h = h
-    next false v h = overlapped_ends ps ls v
+overlapped_ends ps (l ∷ ls) w =
+    then_ends FoundShown LotShown (common_nearby first_tester ps l.parts w) (λ found. elim found [ true ↦ pass (Some l.id) | false ↦ first_overlapped first_tester ps ls ]) (common_ends ps l.parts w)
+    λ found v h. if_ends LotShown found (pass (Some l.id)) (first_overlapped first_tester ps ls) v (λ e. subst (λ (b : Bool). FoundShown b v.proofs) e h) (λ e. overlapped_ends ps ls v)
 
 -- the search for a child that is outside
 outside_ends : (qs : List Part) (k : ℕ) (cs : List FormedChild) → AllByRecursion IsPart qs → AllByRecursion (λ c. IsRegion c.parts) cs → (w : Work) → Ends MayShow (first_outside_child first_tester qs k cs w)
 outside_ends qs k [] g h w = tt
-outside_ends qs k (c ∷ cs) g h w = then_ends CoverShown MayShow (is_covered first_tester c.parts qs w) (λ inside. elim inside [ false ↦ pass (Some (outside_lot k)) | true ↦ first_outside_child first_tester qs (k + 1) cs ]) (cover_ends c.parts qs h.0 g w) next
-  where
-    next : (inside : Bool) (v : Work) → CoverShown inside v.proofs → Ends MayShow ((elim inside as (λ _. Walk Work (Option Refusal)) [ false ↦ pass (Some (outside_lot k)) | true ↦ first_outside_child first_tester qs (k + 1) cs ]) v)
-    next false v e = e
-    next true v e = outside_ends qs (k + 1) cs g h.1 v
+outside_ends qs k (c ∷ cs) g h w =
+    then_ends CoverShown MayShow (is_covered first_tester c.parts qs w) (λ inside. elim inside [ false ↦ pass (Some (outside_lot k)) | true ↦ first_outside_child first_tester qs (k + 1) cs ]) (cover_ends c.parts qs h.0 g w)
+    λ inside v f. if_ends MayShow inside (first_outside_child first_tester qs (k + 1) cs) (pass (Some (outside_lot k))) v (λ e. outside_ends qs (k + 1) cs g h.1 v) (λ e. subst (λ (b : Bool). CoverShown b v.proofs) e f)
 
 -- the search for a child that overlaps one
 overlap_ends : (m : ℕ) (ps : List Part) (n : ℕ) (cs : List FormedChild) (w : Work) → Ends MayShow (first_overlapping_child first_tester m ps n cs w)
 overlap_ends m ps n [] w = tt
-overlap_ends m ps n (c ∷ cs) w = then_ends FoundShown MayShow (common_nearby first_tester ps c.parts w) (λ found. elim found [ true ↦ pass (Some (children_overlap m n)) | false ↦ first_overlapping_child first_tester m ps (n + 1) cs ]) (common_ends ps c.parts w) next
-  where
-    next : (found : Bool) (v : Work) → FoundShown found v.proofs → Ends MayShow ((elim found as (λ _. Walk Work (Option Refusal)) [ true ↦ pass (Some (children_overlap m n)) | false ↦ first_overlapping_child first_tester m ps (n + 1) cs ]) v)
-    next true v h = h
-    next false v h = overlap_ends m ps (n + 1) cs v
+overlap_ends m ps n (c ∷ cs) w =
+    then_ends FoundShown MayShow (common_nearby first_tester ps c.parts w) (λ found. elim found [ true ↦ pass (Some (children_overlap m n)) | false ↦ first_overlapping_child first_tester m ps (n + 1) cs ]) (common_ends ps c.parts w)
+    λ found v h. if_ends MayShow found (pass (Some (children_overlap m n))) (first_overlapping_child first_tester m ps (n + 1) cs) v (λ e. subst (λ (b : Bool). FoundShown b v.proofs) e h) (λ e. overlap_ends m ps (n + 1) cs v)
 
 -- the search for two children that overlap
 double_ends : (m : ℕ) (cs : List FormedChild) (w : Work) → Ends MayShow (first_overlapping_children first_tester m cs w)
 double_ends m [] w = tt
-double_ends m (c ∷ cs) w = then_ends MayShow MayShow (first_overlapping_child first_tester m c.parts (m + 1) cs w) (λ found. elim found [ Some r ↦ pass (Some r) | None ↦ first_overlapping_children first_tester (m + 1) cs ]) (overlap_ends m c.parts (m + 1) cs w) next
+double_ends m (c ∷ cs) w =
+    then_ends MayShow MayShow (first_overlapping_child first_tester m c.parts (m + 1) cs w) (λ found. elim found [ Some r ↦ pass (Some r) | None ↦ first_overlapping_children first_tester (m + 1) cs ]) (overlap_ends m c.parts (m + 1) cs w)
+    λ found v h. by found v h (double_ends (m + 1) cs v)
   where
-    next : (found : Option Refusal) (v : Work) → MayShow found v.proofs → Ends MayShow ((elim found as (λ _. Walk Work (Option Refusal)) [ Some r ↦ pass (Some r) | None ↦ first_overlapping_children first_tester (m + 1) cs ]) v)
-    next (Some r) v h = h
-    next None v h = double_ends (m + 1) cs v
+    by : (found : Option Refusal) (v : Work) → MayShow found v.proofs → Ends MayShow (first_overlapping_children first_tester (m + 1) cs v)
+        → Ends MayShow ((elim found as (λ _. Walk Work (Option Refusal)) [ Some r ↦ pass (Some r) | None ↦ first_overlapping_children first_tester (m + 1) cs ]) v)
+    by (Some r) v h later = h
+    by None v h later = later
 
 -- ---- checks
 
@@ -287,12 +285,17 @@ module _ {S : Type 0} (s : StateOf S) where
 
   -- neighbours
   pub neighbours_ends : (x : Label) (w : Work) → Ends RowShown (row_neighbours first_tester s x w)
-  neighbours_ends x w = names_ends _ _ w (live_none s x) (after_ends RowShown (first_tester.count _ w) _ λ _ v. after_ends RowShown _ _ λ found u. tt)
+  neighbours_ends x w =
+      names_ends _ _ w (live_none s x) (after_ends RowShown (first_tester.count _ w) _ λ _ v.
+      after_ends RowShown (touched_lots first_tester [] (parts_with_id s x) (near_lots s x) v) (λ found. pass (reply_lines (neighbour_lines found))) λ found u. tt)
 
   -- access
   pub access_ends : (x y : Label) (w : Work) → Ends RowShown (row_access first_tester s x y w)
-  access_ends x y w = names_ends _ _ w (access_none s x y) (after_ends RowShown (first_tester.count _ w) _ λ _ v. after_ends RowShown _ _ λ links u. chain_shown (ids_of (layer_lots s x)) (chain_along links (length (ids_of (layer_lots s x))) (place_among x (ids_of (layer_lots s x))) (place_among y (ids_of (layer_lots s x)))) (levels_along links (length (ids_of (layer_lots s x))) (place_among y (ids_of (layer_lots s x)))) u.proofs)
+  access_ends x y w =
+      names_ends _ _ w (access_none s x y) (after_ends RowShown (first_tester.count _ w) _ λ _ v.
+      after_ends RowShown (links_among_lists first_tester [] (numbered_lists 0 (lot_parts (layer_lots s x))) v) (λ links. pass (reply_lines (access_by_links (ids_of (layer_lots s x)) links x y))) λ links u.
+      chain_shown (ids_of (layer_lots s x)) (chain_along links (length (ids_of (layer_lots s x))) (place_among x (ids_of (layer_lots s x))) (place_among y (ids_of (layer_lots s x)))) (levels_along links (length (ids_of (layer_lots s x))) (place_among y (ids_of (layer_lots s x)))) u.proofs)
 
   -- an audit
   pub audit_ends : (w : Work) → Ends RowShown (row_audit first_tester s w)
-  audit_ends w = after_ends RowShown (first_tester.count _ w) _ λ _ v. after_ends RowShown _ _ λ _ u. tt
+  audit_ends w = after_ends RowShown (first_tester.count _ w) _ λ _ v. after_ends RowShown (all_apart first_tester (live_lots s.lots) v) (λ _. pass (reply (clear (length (live_lots s.lots))))) λ _ u. tt

@@ -7,72 +7,58 @@ use Rattle.std.proofs.lemmas.List.{length-append}
 use Rattle.std.proofs.lemmas.List.Sums.{sum_by-cons}
 use Rattle.rp_algebra.proofs.Tests.{and_first, and_second}
 use Rattle.rp_algebra.proofs.Lists.{all_both}
-use Rattle.rp_geometry.specs.sets.Shape.{Shape, Part, shape_of_parts}
+use Rattle.rp_geometry.specs.sets.Shape.{Shape, Part}
 use Rattle.rp_geometry.specs.parts.Parts.{IsPart, IsRegion, AreOf}
 use Rattle.rp_language.specs.Name.{Label, label_eq, is_among}
 use Rattle.rp_language.specs.Expression.{Child as ChildLine, Meaning, named, first_of_two, if_missing, first_unknown_among}
 use Rattle.rp_walks.specs.Walk.{done, Walk, Work, after_first, first_tester}
 use Rattle.rp_walks.specs.Form.{parts_or_none}
-use Rattle.rp_model.specs.states.State.{Kept, Lot, State, PlainState, names_of, kept_named, parts_of_kept, plain_kept, lot_of_parts, plain_of, parts_in, parts_under_names, most_kept_parts}
+use Rattle.rp_model.specs.states.State.{Kept, Lot, PlainState, names_of, kept_named, parts_of_kept, kept_of_parts, state_of_parts, parts_in, parts_under_names, most_kept_parts}
 use Rattle.rp_model.specs.states.Sound.{are_distinct, IsSound}
 use Rattle.rp_model.specs.commands.Verdict.{unknown}
 use Rattle.rp_model.specs.commands.Row.{Reply, FormedChild, check, with_form, form_children, joined_parts, child_parts}
 use Rattle.rp_states.proofs.Labels.{label_itself, label_turned}
-use Rattle.rp_states.proofs.Parted.{same_lots}
 use Rattle.rp_parcels.specs.Kept.{AreSound}
 
--- parts under a name, with their set
-abbrev kept_child : FormedChild → Kept Shape
-kept_child c = record { name = c.id; set = shape_of_parts c.parts; parts = c.parts }
-
--- and without
-abbrev plain_child : FormedChild → Kept (Unit {0})
-plain_child c = record { name = c.id; set = tt; parts = c.parts }
+-- parts under a name
+abbrev pub kept_child : FormedChild → Kept (Unit {0})
+kept_child c = record { name = c.id; set = tt; parts = c.parts }
 
 -- an expression that is the name
 abbrev pub child_line : FormedChild → ChildLine
 child_line c = record { id = c.id; shape = named c.id }
 
--- the sets of lots, in a layer, with these names
-abbrev pub named_sets : Label → List FormedChild → List (Lot (Unit {0})) → State
-named_sets y cs lots = record { layer = y; names = map kept_child cs; lots = map lot_of_parts lots }
-
--- their parts
+-- lots, in a layer, with these names
 abbrev pub named_parts : Label → List FormedChild → List (Lot (Unit {0})) → PlainState
-named_parts y cs lots = record { layer = y; names = map plain_child cs; lots = lots }
+named_parts y cs lots = record { layer = y; names = map kept_child cs; lots = lots }
 
 -- ---- the state
 
--- names without their sets
-plain_names : (cs : List FormedChild) → map plain_kept (map kept_child cs) ≡ map plain_child cs
-plain_names [] = refl
-plain_names (c ∷ cs) = ap (λ (ks : List (Kept (Unit {0}))). plain_child c ∷ ks) (plain_names cs)
-
--- the parts are those of the sets
-pub named_plain : (y : Label) (cs : List FormedChild) (lots : List (Lot (Unit {0}))) → plain_of (named_sets y cs lots) ≡ named_parts y cs lots
-named_plain y cs lots = λ i. record { layer = y; names = plain_names cs i; lots = same_lots lots i }
+-- the names with the sets of their parts
+abbrev shaped : List FormedChild → List (Kept Shape)
+shaped cs = map kept_of_parts (map kept_child cs)
 
 -- the names
-child_names : (cs : List FormedChild) → names_of (map kept_child cs) ≡ map (λ c. c.id) cs
+child_names : (cs : List FormedChild) → names_of (shaped cs) ≡ map (λ c. c.id) cs
 child_names [] = refl
 child_names (c ∷ cs) = ap (λ (xs : List Label). c.id ∷ xs) (child_names cs)
 
 -- how many parts they keep
-child_sizes : (cs : List FormedChild) → parts_under_names (map kept_child cs) ≡ length (joined_parts (child_parts cs))
+child_sizes : (cs : List FormedChild) → parts_under_names (shaped cs) ≡ length (joined_parts (child_parts cs))
 child_sizes [] = refl
 child_sizes (c ∷ cs) =
-    let one = sum_by-cons (λ (k : Kept Shape). length k.parts) (kept_child c) (map kept_child cs) in
+    let one = sum_by-cons (λ (k : Kept Shape). length k.parts) (kept_of_parts (kept_child c)) (shaped cs) in
     let more = child_sizes cs in
     let both = length-append c.parts (joined_parts (child_parts cs)) in
     omega (arith, one, more, both)
 
 -- the parts of each are of its set
-children_of : (cs : List FormedChild) → AllByRecursion (λ c. IsRegion c.parts) cs → AllByRecursion (λ k. AreOf IsPart k.set k.parts) (map kept_child cs)
+children_of : (cs : List FormedChild) → AllByRecursion (λ c. IsRegion c.parts) cs → AllByRecursion (λ k. AreOf IsPart k.set k.parts) (shaped cs)
 children_of [] h = tt
 children_of (c ∷ cs) h = (record { all = h.0; members = ((λ p m. m), λ p m. m) }, children_of cs h.1)
 
 -- as many names as lists
-child_count : (cs : List FormedChild) → length (map kept_child cs) ≡ length cs
+child_count : (cs : List FormedChild) → length (shaped cs) ≡ length cs
 child_count [] = refl
 child_count (c ∷ cs) = ap (λ (n : ℕ). suc n) (child_count cs)
 
@@ -84,7 +70,7 @@ pub record AreNamed (cs : List FormedChild) : Type 0 where
   pub room : length (joined_parts (child_parts cs)) ≤ most_kept_parts
 
 -- they make a sound state
-pub named_sound : (y : Label) (cs : List FormedChild) (lots : List (Lot (Unit {0}))) → AreSound lots → AreNamed cs → IsSound (named_sets y cs lots)
+pub named_sound : (y : Label) (cs : List FormedChild) (lots : List (Lot (Unit {0}))) → AreSound lots → AreNamed cs → IsSound (state_of_parts (named_parts y cs lots))
 named_sound y cs lots h n = record {
   names_keep_parts = children_of cs n.regions;
   lots_keep_parts = h.lots_keep_parts;
@@ -109,18 +95,18 @@ each_other x (c ∷ cs) e = let p = or_parts (label_eq x c.id) (is_among x (map 
 
 -- the first of some names, or a later one
 abbrev found_or : FormedChild → Option (Kept (Unit {0})) → Bool → Option (List Part)
-found_or c later b = parts_of_kept (elim b as (λ _. Option (Kept (Unit {0}))) [ true ↦ Some (plain_child c) | false ↦ later ])
+found_or c later b = parts_of_kept (elim b as (λ _. Option (Kept (Unit {0}))) [ true ↦ Some (kept_child c) | false ↦ later ])
 
 -- a name stands for the parts
-abbrev Found : Label → List FormedChild → List (Lot (Unit {0})) → FormedChild → Type 0
+abbrev pub Found : Label → List FormedChild → List (Lot (Unit {0})) → FormedChild → Type 0
 Found y cs lots c = (parts_in (named_parts y cs lots)).of_name c.id ≡ Some c.parts
 
 -- so does each, where no two are one
-found_each : (y : Label) (cs : List FormedChild) (lots : List (Lot (Unit {0}))) → IsTrue (are_distinct (map (λ c. c.id) cs)) → AllByRecursion (Found y cs lots) cs
+pub found_each : (y : Label) (cs : List FormedChild) (lots : List (Lot (Unit {0}))) → IsTrue (are_distinct (map (λ c. c.id) cs)) → AllByRecursion (Found y cs lots) cs
 found_each y [] lots d = tt
 found_each y (c ∷ cs) lots d = (
-  ap (found_or c (kept_named c.id (map plain_child cs))) (label_itself c.id),
-  all_both (λ (k : FormedChild). label_eq k.id c.id ≡ false) (Found y cs lots) (Found y (c ∷ cs) lots) (λ k n f. ap (found_or c (kept_named k.id (map plain_child cs))) n ∙ f) cs
+  ap (found_or c (kept_named c.id (map kept_child cs))) (label_itself c.id),
+  all_both (λ (k : FormedChild). label_eq k.id c.id ≡ false) (Found y cs lots) (Found y (c ∷ cs) lots) (λ k n f. ap (found_or c (kept_named k.id (map kept_child cs))) n ∙ f) cs
       (each_other c.id cs (not-true (is_among c.id (map (λ k. k.id) cs)) (and_first (not (is_among c.id (map (λ k. k.id) cs))) (are_distinct (map (λ k. k.id) cs)) d)))
       (found_each y cs lots (and_second (not (is_among c.id (map (λ k. k.id) cs))) (are_distinct (map (λ k. k.id) cs)) d)),
 )

@@ -1,43 +1,27 @@
--- Sound lots are not many, since each has a part.
+-- Sound lots are few, and the parts of each are a region.
 use Rattle.std.proofs.Common.{◌≡◌, ℕ, ◌<◌, ◌≤◌, Bool, true, false, List, [], ◌∷◌, map, length, Option, Some, ap, ◌∙◌, subst, arith}
 use Rattle.std.proofs.lemmas.List.{length-map}
 use Rattle.std.specs.List.{AllByRecursion}
 use Rattle.rp_geometry.specs.sets.Shape.{Shape, shape_of_parts}
-use Rattle.rp_geometry.specs.sets.Sets.{IsNonempty}
 use Rattle.rp_geometry.specs.parts.Parts.{AreOf, IsPart, IsRegion, most_parts}
 use Rattle.rp_algebra.proofs.Listed.{all_map}
 use Rattle.rp_algebra.proofs.Lists.{all_filter}
 use Rattle.rp_language.specs.Name.{Label, label_eq}
 use Rattle.rp_walks.specs.Form.{parts_or_none}
-use Rattle.rp_model.specs.states.State.{Lot, lot_of_parts, bare_lot, is_live, live_lots, lot_with_id, parts_of_lot, parts_under_lots, most_kept_parts}
+use Rattle.rp_model.specs.states.State.{Lot, lot_of_parts, bare_lot, is_live, live_lots, lot_with_id, parts_of_lot, state_of_parts}
 use Rattle.rp_model.specs.commands.Row.{parts_with_id}
 use Rattle.rp_states.proofs.Listing.{all_unmapped}
-use Rattle.rp_states.proofs.Plain.{image_sums, kept_images}
-use Rattle.rp_history.specs.Lots.{lots_in, AreBornBefore}
-use Rattle.rp_history.proofs.Sizes.{as_many_parts}
+use Rattle.rp_states.proofs.Plain.{kept_images}
+use Rattle.rp_geometry.proofs.Kept.{part_is_checked}
+use Rattle.rp_history.specs.Lots.{lots_in}
 use Rattle.rp_store.specs.Kept.{AreFew}
 use Rattle.rp_parcels.specs.Kept.{AreSound}
-use Rattle.rp_parcels.specs.Register.{IsLater}
+use Rattle.rp_ledger.proofs.Applied.{sound_are_few}
+use Rattle.rp_ledger.proofs.States.{sound_where_checked}
 
--- each sound lot has a member
-pub all_nonempty : (lots : List (Lot (Unit {0}))) → AreSound lots → AllByRecursion (λ l. IsNonempty (shape_of_parts l.parts)) lots
-all_nonempty lots h = all_unmapped (λ (l : Lot Shape). IsNonempty l.set) lot_of_parts lots h.lots_nonempty
-
--- the parts of sound lots are few
-pub few_parts : (lots : List (Lot (Unit {0}))) → AreSound lots → parts_under_lots lots ≤ most_kept_parts
-few_parts lots h = subst (λ (n : ℕ). n ≤ most_kept_parts) (image_sums lot_of_parts (λ (l : Lot Shape). length l.parts) lots) h.few_parts_under_lots
-
--- and so are the lots
-pub few_lots : (lots : List (Lot (Unit {0}))) → AreSound lots → length lots ≤ most_kept_parts
-few_lots lots h = let many = as_many_parts lots (all_nonempty lots h) in let few = few_parts lots h in omega (arith, many, few)
-
--- so they can be kept
-pub sound_are_few : (lots : List (Lot (Unit {0}))) → AreSound lots → AreFew lots
-sound_are_few lots h = record { few_lots = few_lots lots h; few_parts = few_parts lots h }
-
--- all lots were born before a later line
-pub born_before : (n : ℕ) (lots : List (Lot (Unit {0}))) → IsLater n lots → AreBornBefore n lots
-born_before n lots h = all_unmapped (λ (l : Lot Shape). l.born < n) lot_of_parts lots h.births
+-- sound lots can be kept
+pub sound_few : (lots : List (Lot (Unit {0}))) → AreSound lots → AreFew lots
+sound_few lots h = sound_are_few (lots_in [] lots) (sound_where_checked IsPart part_is_checked (state_of_parts (lots_in [] lots)) h)
 
 -- the parts of each sound lot are a region
 pub all_regions : (lots : List (Lot (Unit {0}))) → AreSound lots → AllByRecursion (λ l. IsRegion l.parts) lots
@@ -65,4 +49,4 @@ region_with_id lots x h = by (live_lots lots) (live_regions lots h)
 
 -- the live ones are as many without their parts
 pub live_bare : (lots : List (Lot (Unit {0}))) → length (live_lots (map bare_lot lots)) ≡ length (live_lots lots)
-live_bare lots = ap length (kept_images bare_lot is_live lots) ∙ length-map bare_lot (live_lots lots)
+live_bare lots = ap length (kept_images bare_lot is_live lots) ∙ length-map (live_lots lots) bare_lot

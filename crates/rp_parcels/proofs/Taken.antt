@@ -1,5 +1,5 @@
 -- What a row has come to on a work that was begun fresh, taken over, is what it makes of the work.
-use Rattle.std.proofs.Common.{◌≡◌, ℕ, List, map, ◌++◌, inl, inr, Result, Ok, Err, refl, sym, ap, ◌∙◌, subst, append_assoc}
+use Rattle.std.proofs.Common.{◌≡◌, ℕ, List, [], ◌∷◌, map, ◌++◌, inl, inr, Result, Ok, Err, refl, sym, ap, ◌∙◌, subst, append_assoc}
 use Rattle.std.specs.Prelude.{IfOk, IsOk}
 use Rattle.rp_geometry.specs.searches.ProofLine.{ProofLine, in_line}
 use Rattle.rp_geometry.specs.sets.Shape.{Part}
@@ -28,7 +28,7 @@ use Rattle.rp_changes.specs.Changes.{Changes as RowChanges, replaced_of}
 use Rattle.rp_parcels.specs.declared.fault.ParcelFault.{ParcelFault}
 use Rattle.rp_parcels.specs.Register.{IsFitChange}
 use Rattle.rp_parcels.specs.Rows.{Cause, refuses, limited, wanting, cause_of, EndsBy, Answers, Changes}
-use Rattle.rp_parcels.specs.Shown.{EndIsShown}
+use Rattle.rp_parcels.specs.Shown.{EndIsShown, Kind, by_points, by_none, never, kind_of, IsShown, IsShownBy}
 use Rattle.rp_parcels.specs.Taken.{settled, IsEndedBy, IsTaken, IsFitFor, IsMade}
 use Rattle.rp_parcels.proofs.Ends.{Ends, RowShown}
 use Rattle.rp_parcels.proofs.Fits.{Fits}
@@ -48,6 +48,21 @@ settled_comes view (Err (StoppedEnd e)) w o h = h
 pub change_answers : {A : Type 0} (view : A → _) (came : Result A RowEnd) (w : Work) (o : Outcome Work Reply) → RowChanges view came w o → RowAnswers (λ x. accepted (view x)) came w o
 change_answers view (Ok x) w o h = h
 change_answers view (Err e) w o h = h
+
+-- what shows a refusal shows it behind other lines
+behind_shown : (front lines : List ProofLine) (k : Kind) → IsShownBy lines k → IsShownBy (front ++ lines) k
+behind_shown front lines by_points h = record { points = h.points; last = record { before = front ++ h.last.before; is = ap (λ (more : List ProofLine). front ++ more) h.last.is ∙ sym (append_assoc front h.last.before (in_line h.points ∷ [])) } }
+behind_shown front lines by_none h = tt
+behind_shown front lines never h = h
+
+-- so it is shown once the work of its row is taken over
+pub refusal_shown : {A : Type 0} (came : Result A RowEnd) (r : Refusal) (old walked new : Work) → EndIsShown walked.proofs came → TakesOver (settled came) walked (Ok (Err r)) old new → IsShown new.proofs (refusal_of r)
+refusal_shown (Ok x) r old walked new h t = let e = t.0 in absurd (cc)
+refusal_shown (Err (Refused q)) r old walked new h t =
+    let e = t.0 in
+    let same : q ≡ r = cc in
+    subst (λ (s : Refusal). IsShown new.proofs (refusal_of s)) same (subst (λ (w : Work). IsShown w.proofs (refusal_of q)) (sym t.1) (behind_shown old.proofs walked.proofs (kind_of (refusal_of q)) h))
+refusal_shown (Err (StoppedEnd s)) r old walked new h t = let e = t.0 in absurd (cc)
 
 -- the lines show the refusal that a row ends with
 pub end_shown : {A : Type 0} (view : A → Reply) (came : Result A RowEnd) (w : Work) (o : Outcome Work Reply) → Ends RowShown o → RowAnswers view came w o → EndIsShown w.proofs came
@@ -71,7 +86,7 @@ module _ {A : Type 0} (view : A → Reply) (row : Walk Work Reply) (law : ComesB
             told = record { more = walked.proofs; lines = ap (λ (w : Work). w.proofs) e };
             untold = subst (λ (o : Outcome Work Reply). TellsMore new (work_after o)) (sym made) (no_more new);
           }
-      by_came (Err s) ok is = absurd ok
+      by_came (Err s) ok is = absurd (cc)
 
   -- it ends by the cause of the fault
   row_ends : (c : Cause) → IsEndedBy came walked c old new → EndsBy c old new (row old)

@@ -116,10 +116,12 @@ impl Parcels {
         ensures sound { OnOk result (AreSound self.new) }
         ensures later { OnOk result (IsLater (line + 1) self.new) }
     {
-        if let Err(_) = self.history().check_live(id) {
-            return Err(ParcelFault::Unknown(id));
+        match self.history().check_live(id) {
+            Ok(_) => {
+                self.lots.end(line, id);
+                Ok(())
+            }
+            Err(_) => Err(ParcelFault::Unknown(id)),
         }
-        self.lots.end(line, id);
-        Ok(())
     }
 }
