@@ -102,6 +102,14 @@ module _ {A : Type 0} (view : A → Reply) (row : Walk Work Reply) (law : ComesB
 
 -- ---- changes
 
+-- the change that is answered is one that the lots may take
+pub taken_fits : (n : ℕ) (lots : List (Lot (Unit {0}))) (came : Result (Replaced (List Part)) RowEnd) (r : Replaced (List Part)) → settled came ≡ Ok (Ok r) → IsFitFor n lots came → IsFitChange n lots r.ends.items (new_lots r.births.items r.forms.items)
+taken_fits n lots (Ok q) r e h =
+    let same : q ≡ r = cc in
+    subst (λ (d : Replaced (List Part)). IsFitChange n lots d.ends.items (new_lots d.births.items d.forms.items)) same h
+taken_fits n lots (Err (Refused q)) r e h = absurd (cc)
+taken_fits n lots (Err (StoppedEnd s)) r e h = absurd (cc)
+
 module _ (row : Walk Work Reply) (old begun walked new : Work) (is_fresh : begun ≡ fresh old) (came : Result (Replaced (List Part)) RowEnd) (comes : RowChanges (replaced_of (λ form. form)) came walked (row begun)) where
   -- as the answer of a question
   change_comes : RowAnswers (λ r. accepted (replaced_of (λ form. form) r)) came walked (row begun)
