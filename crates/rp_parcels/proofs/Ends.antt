@@ -41,9 +41,9 @@ after_ends Q (done x w) next each = each x w
 after_ends Q (stopped s w) next each = tt
 
 -- one of two walks, by a test
-if_ends : {A : Type 0} (Q : A → List ProofLine → Type 0) (b : Bool) (yes no : Walk Work A) (w : Work) → (b ≡ true → Ends Q (yes w)) → (b ≡ false → Ends Q (no w)) → Ends Q ((elim b as (λ _. Walk Work A) [ true ↦ yes | false ↦ no ]) w)
-if_ends Q true yes no w f g = f refl
-if_ends Q false yes no w f g = g refl
+if_ends : {A : Type 0} (Q : A → List ProofLine → Type 0) (b : Bool) (one other : Walk Work A) (w : Work) → (b ≡ true → Ends Q (one w)) → (b ≡ false → Ends Q (other w)) → Ends Q ((elim b as (λ _. Walk Work A) [ true ↦ one | false ↦ other ]) w)
+if_ends Q true one other w f g = f refl
+if_ends Q false one other w f g = g refl
 
 -- of a result alone
 done_ends : {A : Type 0} (P : A → Type 0) (o : Outcome Work A) → IfDone o P → Ends (λ x lines. P x) o

@@ -17,9 +17,9 @@ ghost use Rattle.rp_parcels.specs.Taken.{IsMade, IsFitFor};
 use crate::answer::answered;
 use crate::child::Child;
 use crate::fault::ParcelFault;
-use crate::keeper::Watched;
 use crate::parcels::Parcels;
-use rp_boxindex::{Quiet, Watch};
+use crate::visits::Visits;
+use rp_boxindex::Watch;
 use rp_changes::{Child as FormedChild, Replaced, consolidate, cut, make_lot, subdivide};
 use rp_region::{Region, Work};
 use rp_rows::RowEnd;
@@ -50,11 +50,9 @@ impl Parcels {
         // Only so that it is known that the parts are those of a region.
         let _ = region.parts();
         let mut walked = work.fresh(alloc);
-        let keeper = Watched {
-            parcels: self,
-            watch,
-        };
-        let came = make_lot(alloc, &keeper, layer, id, region, &mut walked);
+        let visits = Visits::none();
+        let came = make_lot(alloc, &self.keeper(&visits), layer, id, region, &mut walked);
+        visits.tell(watch);
         self.make(alloc, line, walked, came, work)
     }
 
@@ -81,8 +79,7 @@ impl Parcels {
         // Only so that it is known that the parts are those of a region.
         let _ = by.parts();
         let mut walked = work.fresh(alloc);
-        let keeper = self.quiet();
-        let came = cut(alloc, &keeper, id, by, first, second, &mut walked);
+        let came = cut(alloc, &self.keeper(&Visits::none()), id, by, first, second, &mut walked);
         self.make(alloc, line, walked, came, work)
     }
 
@@ -110,8 +107,7 @@ impl Parcels {
     {
         let children = formed(alloc, children)?;
         let mut walked = work.fresh(alloc);
-        let keeper = self.quiet();
-        let came = subdivide(alloc, &keeper, id, children, &mut walked);
+        let came = subdivide(alloc, &self.keeper(&Visits::none()), id, children, &mut walked);
         self.make(alloc, line, walked, came, work)
     }
 
@@ -135,8 +131,7 @@ impl Parcels {
         ensures later { OnOk result (IsLater (line + 1) self.new) }
     {
         let mut walked = work.fresh(alloc);
-        let keeper = self.quiet();
-        let came = consolidate(alloc, &keeper, new, ids, &mut walked);
+        let came = consolidate(alloc, &self.keeper(&Visits::none()), new, ids, &mut walked);
         self.make(alloc, line, walked, came, work)
     }
 
@@ -171,7 +166,7 @@ impl Parcels {
 /// Children with copies of their regions, in order.
 fn formed(alloc: Global, children: &[Child]) -> Result<Listed<FormedChild<Region>>, AllocError>
     ensures each { IfOk result (λ made. formed_children (λ form. form) made ≡ map child_of children.now) }
-    ensures regions { IfOk result (λ made. AllByRecursion (λ c. IsRegion c.form) made.items) }
+    ensures regions { IfOk result (λ _. AllByRecursion (λ c. IsRegion c.parts) (map child_of children.now)) }
 {
     let mut made = Listed::new(alloc);
     for child in children {

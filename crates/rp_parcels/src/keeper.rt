@@ -4,6 +4,7 @@ ghost use Rattle.std.specs.List.{AllByRecursion};
 ghost use Rattle.rp_geometry.specs.parts.Parts.{most_parts};
 ghost use Rattle.rp_walks.specs.Walk.{Work as ModelWork, stopped, limit_met, most_tests, count_tests, first_tester};
 ghost use Rattle.rp_walks.specs.Form.{common_nearby};
+ghost use Rattle.rp_space.specs.Boxes.{integer_box};
 ghost use Rattle.rp_tester.specs.Comes.{Comes};
 ghost use Rattle.rp_model.specs.states.State.{bare_lot, parts_under_lots, most_kept_parts};
 ghost use Rattle.rp_model.specs.commands.Row.{lot_parts};
@@ -11,7 +12,7 @@ ghost use Rattle.rp_history.specs.Lots.{lots_in};
 ghost use Rattle.rp_lotindex.specs.Near.{others_in, is_near, lots_at, AreWithin};
 
 use crate::parcels::Parcels;
-use rp_boxindex::Watch;
+use crate::visits::Visits;
 use rp_changes::Overlaps;
 use rp_history::History;
 use rp_lotindex::Reach;
@@ -21,21 +22,23 @@ use rp_space::{IntBox, Listed, Name};
 use rp_tester::Stopped;
 use std::alloc::{AllocError, Global};
 
-/// The parcels, and an onlooker of what is visited in their index.
+/// The parcels, and where it is counted how many nodes of their index are visited.
 #[derive(Drop)]
-pub(crate) struct Watched<'a, W: Watch> {
+pub(crate) struct ParcelKeeper<'a> {
     pub parcels: &'a Parcels,
-    pub watch: &'a W,
+    pub visits: &'a Visits,
 }
 
-impl<W: Watch> Keeper<Work> for Watched<'_, W> {
+impl Keeper<Work> for ParcelKeeper<'_> {
     ghost state = { λ s. lots_in [] s.parcels.now };
 
     fn keep_limit(&self)
         ensures { (n : ℕ) (w : ModelWork) → most_tests < n → count_tests n w ≡ stopped limit_met w }
     {}
 
-    fn bounds(part: &Part) -> &IntBox {
+    fn bounds(part: &Part) -> &IntBox
+        ensures { integer_box result.now ≡ part.now.bounds }
+    {
         part.bounds()
     }
 
@@ -68,7 +71,7 @@ impl<W: Watch> Keeper<Work> for Watched<'_, W> {
         ensures few { IfOk result (λ places. length places.items ≤ most_kept_parts) }
     {
         let lots = self.parcels.lots();
-        lots.near(alloc, self.watch, form, layer, id, from, reach)
+        lots.near(alloc, self.visits, form, layer, id, from, reach)
     }
 
     fn have_room_for(&self, parts: usize) -> bool
@@ -78,7 +81,7 @@ impl<W: Watch> Keeper<Work> for Watched<'_, W> {
     }
 }
 
-impl<W: Watch> Overlaps<Work> for Watched<'_, W> {
+impl Overlaps<Work> for ParcelKeeper<'_> {
     fn overlap(
         alloc: Global,
         form: &Region,

@@ -20,6 +20,7 @@ mod keeper;
 mod parcels;
 mod points;
 mod questions;
+mod visits;
 
 pub use child::Child;
 pub use fault::ParcelFault;

@@ -11,8 +11,8 @@ ghost use Rattle.rp_parcels.specs.declared.fault.ParcelFault.TheVariants.{Unknow
 ghost use Rattle.rp_parcels.specs.Rows.{Changes};
 
 use crate::fault::ParcelFault;
-use crate::keeper::Watched;
-use rp_boxindex::Quiet;
+use crate::keeper::ParcelKeeper;
+use crate::visits::Visits;
 use rp_history::{Birth, History};
 use rp_region::Region;
 use rp_regionlots::Regions;
@@ -75,13 +75,14 @@ impl Parcels {
         &self.lots
     }
 
-    /// The parcels as what keeps lots, without an onlooker.
-    pub(crate) fn quiet(&self) -> Watched<'_, Quiet>
-        ensures { result.parcels.now ≡ self.now }
+    /// The parcels as what keeps lots. `visits` counts the nodes of their index that are visited.
+    pub(crate) fn keeper<'a>(&'a self, visits: &'a Visits) -> ParcelKeeper<'a>
+        ensures value { result.parcels.now ≡ self.now }
+        ensures sound { AreSound self.now }
     {
-        Watched {
+        ParcelKeeper {
             parcels: self,
-            watch: &Quiet,
+            visits,
         }
     }
 

@@ -12,6 +12,7 @@ ghost use Rattle.rp_parcels.specs.Rows.{Answers};
 use crate::answer::answered;
 use crate::fault::ParcelFault;
 use crate::parcels::Parcels;
+use crate::visits::Visits;
 use rp_boxindex::Watch;
 use rp_lotindex::Access;
 use rp_region::Work;
@@ -41,7 +42,8 @@ impl Parcels {
         ensures row { Answers (λ ids. reply_lines (neighbour_lines ids.items)) result work.old work.new (row_neighbours first_tester (lots_in [] self.now) id) }
     {
         let mut walked = work.fresh(alloc);
-        let keeper = self.quiet();
+        let visits = Visits::none();
+        let keeper = self.keeper(&visits);
         let came = neighbours(rt, alloc, watch, grain, &keeper, id, &mut walked);
         answered(work, walked, came)
     }
@@ -67,7 +69,8 @@ impl Parcels {
         ensures row { Answers access_reply result work.old work.new (row_access first_tester (lots_in [] self.now) from to) }
     {
         let mut walked = work.fresh(alloc);
-        let keeper = self.quiet();
+        let visits = Visits::none();
+        let keeper = self.keeper(&visits);
         let came = access(rt, alloc, watch, grain, &keeper, from, to, &mut walked);
         answered(work, walked, came)
     }
@@ -89,7 +92,8 @@ impl Parcels {
         ensures row { Answers (λ n. reply (clear n)) result work.old work.new (row_audit first_tester (lots_in [] self.now)) }
     {
         let mut walked = work.fresh(alloc);
-        let keeper = self.quiet();
+        let visits = Visits::none();
+        let keeper = self.keeper(&visits);
         let came = audit(rt, alloc, watch, grain, &keeper, &mut walked);
         answered(work, walked, came)
     }

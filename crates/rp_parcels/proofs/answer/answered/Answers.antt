@@ -6,6 +6,4 @@ use Rattle.rp_parcels.proofs.Taken.{refusal_shown}
 use Rattle.rp_parcels.proofs.answer.answered.Goals as goal
 
 pub fault_of-requires : goal.fault_of-requires
-fault_of-requires g c =
-    refusal_shown c.args.came c.in-Err.refusal c.args.work.now c.args.walked c.take_over.new.self c.requires
-    (subst (λ r. TakesOver r c.args.walked (Ok c.in_ok-found.field-0) c.args.work.now c.take_over.new.self) c.settled.ensures c.in_ok-found.ensures)
+fault_of-requires g c = refusal_shown c.args.came c.in-Err.refusal c.args.work.now c.args.walked c.take_over.new.self c.requires ?
