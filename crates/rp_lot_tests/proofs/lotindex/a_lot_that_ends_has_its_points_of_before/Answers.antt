@@ -2,7 +2,7 @@ use Rattle.std.proofs.Common.{◌≡◌, ℕ, ◌≤◌, List, [], ◌∷◌, ma
 use Rattle.std.proofs.lemmas.List.{length-map}
 use Rattle.rp_language.specs.Name.{Label}
 use Rattle.rp_model.specs.states.State.{Lot, ended_at}
-use Rattle.rp_lot_tests.proofs.nearby.a_lot_that_ends_has_its_points_of_before.Goals as goal
+use Rattle.rp_lot_tests.proofs.lotindex.a_lot_that_ends_has_its_points_of_before.Goals as goal
 
 -- the places behind one lot, ended or not
 behind_one : (n : ℕ) (ids : List Label) (old new : List (Lot (Unit {0}))) (k : ℕ) → length old ≡ 1 → new ≡ map (ended_at n ids) old → length new ≤ k → 1 ≤ k

@@ -3,7 +3,7 @@ use Rattle.rp_boxindex.specs.Boxes.{Boxes}
 use Rattle.rp_lotindex.specs.Indexed.{boxes_in, ArePut, NoneBehind}
 use Rattle.rp_lotindex.proofs.Boxed.{none_in_empty}
 use Rattle.rp_lotindex.proofs.Put.{none_behind_put}
-use Rattle.rp_lot_tests.proofs.nearby.box_of_plot.Goals as goal
+use Rattle.rp_lot_tests.proofs.lotindex.box_of_plot.Goals as goal
 
 pub add_all-requires-clause-live_free : goal.add_all-requires-clause-live_free
 add_all-requires-clause-live_free g c = subst (λ (m : Boxes). NoneBehind m 0) (sym c.new-boxes.ensures.live) (none_in_empty 0)

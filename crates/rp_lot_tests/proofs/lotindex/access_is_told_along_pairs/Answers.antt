@@ -2,7 +2,7 @@ use Rattle.std.proofs.Common.{◌≡◌, ℕ, suc, ◌<◌, Bool, true, false, L
 use Rattle.std.proofs.lemmas.Slice.Eq.{bytes_eq-Decides}
 use Rattle.rp_language.specs.Name.{Label, label_eq}
 use Rattle.rp_model.specs.states.State.{place_among}
-use Rattle.rp_lot_tests.proofs.nearby.access_is_told_along_pairs.Goals as goal
+use Rattle.rp_lot_tests.proofs.lotindex.access_is_told_along_pairs.Goals as goal
 
 -- the next id is the one looked for
 number_here : (x y : Label) (ids : List Label) → label_eq x y ≡ true → place_among x (y ∷ ids) ≡ 0
