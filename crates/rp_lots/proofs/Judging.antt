@@ -3,7 +3,7 @@ use Rattle.std.proofs.Common.{◌≡◌, ℕ, ◌<◌, Bool, List, [], map, leng
 use Rattle.std.specs.List.{AllByRecursion}
 use Rattle.std.proofs.lemmas.List.{length-map}
 use Rattle.rp_geometry.specs.sets.Shape.{Part}
-use Rattle.rp_walks.specs.Walk.{Outcome, done, Tester, pass, after_first}
+use Rattle.rp_walks.specs.Walk.{Outcome, done, Walk, Tester, pass, after_first}
 use Rattle.rp_model.specs.states.State.{Lot, bare_lot}
 use Rattle.rp_model.specs.commands.Row.{lot_parts}
 use Rattle.rp_tester.specs.declared.stopped.Stopped.{Stopped}
@@ -11,7 +11,7 @@ use Rattle.rp_tester.specs.Comes.{StopsBy}
 use Rattle.rp_tester.proofs.Left.{stops_on}
 use Rattle.rp_history.specs.declared.lot.LotLine.{LotLine}
 use Rattle.rp_history.specs.Lots.{lot_of}
-use Rattle.rp_lotindex.specs.declared.near.Reach.TheVariants.{Touch}
+use Rattle.rp_lotindex.specs.declared.near.Reach.{Reach}
 use Rattle.rp_lotindex.specs.Near.{AreWithin}
 use Rattle.rp_lots.specs.declared.pair.Pair.{Pair}
 use Rattle.rp_lots.specs.Meets.{meet_each, IsPairWithin}
@@ -30,19 +30,23 @@ within_forms view lots forms pairs judged e f h =
     let many : length lots ≡ length forms = sym (length-map lots (λ (l : Lot (Unit {0})). l.parts)) ∙ sym (ap length e) ∙ length-map forms view in
     subst (λ (n : ℕ). AllByRecursion (λ (p : Pair). (p.first < n) × (p.second < n)) judged) many (subst (AllByRecursion (IsPairWithin lots)) (sym f) h)
 
-module _ {W A : Type 0} (tester : Tester W) (lots : List (Lot (Unit {0}))) (lists : List (List Part)) (pairs judged : List Pair) (end : List Bool → A) (u v : W) (o : Outcome W A) (e : lists ≡ lot_parts lots) (f : judged ≡ pairs)
-    (left : o ≡ after_first (λ met. pass (end met)) (meet_each tester Touch (lot_parts lots) [] pairs u)) where
+-- the tests of pairs, as a walk over lists of parts
+abbrev pub meet_pairs : {W : Type 0} → Tester W → Reach → List (List Part) → List Pair → Walk W (List Bool)
+meet_pairs tester r lists pairs = meet_each tester r lists [] pairs
+
+module _ {W A B : Type 0} (walk : List (List Part) → List Pair → Walk W B) (lots : List (Lot (Unit {0}))) (lists : List (List Part)) (pairs judged : List Pair) (end : B → A) (u v : W) (o : Outcome W A) (e : lists ≡ lot_parts lots) (f : judged ≡ pairs)
+    (left : o ≡ after_first (λ x. pass (end x)) (walk (lot_parts lots) pairs u)) where
   -- they are those that are left
-  judged_left : o ≡ after_first (λ met. pass (end met)) (meet_each tester Touch lists [] judged u)
+  judged_left : o ≡ after_first (λ x. pass (end x)) (walk lists judged u)
   judged_left =
       left
-      ∙ ap (λ (ls : List (List Part)). after_first (λ met. pass (end met)) (meet_each tester Touch ls [] pairs u)) (sym e)
-      ∙ ap (λ (ps : List Pair). after_first (λ met. pass (end met)) (meet_each tester Touch lists [] ps u)) (sym f)
+      ∙ ap (λ (ls : List (List Part)). after_first (λ x. pass (end x)) (walk ls pairs u)) (sym e)
+      ∙ ap (λ (ps : List Pair). after_first (λ x. pass (end x)) (walk lists ps u)) (sym f)
 
   -- where a test stops, so does the walk
-  pub judged_stops : (why : Stopped) → StopsBy why v (meet_each tester Touch lists [] judged u) → StopsBy why v o
-  judged_stops why h = subst (λ (p : Outcome W A). StopsBy why v p) (sym judged_left) (stops_on (λ met. pass (end met)) why v (meet_each tester Touch lists [] judged u) h)
+  pub judged_stops : (why : Stopped) → StopsBy why v (walk lists judged u) → StopsBy why v o
+  judged_stops why h = subst (λ (p : Outcome W A). StopsBy why v p) (sym judged_left) (stops_on (λ x. pass (end x)) why v (walk lists judged u) h)
 
   -- where all are judged, it comes to what follows
-  pub judged_ends : (met : List Bool) → meet_each tester Touch lists [] judged u ≡ done met v → o ≡ done (end met) v
-  judged_ends met h = judged_left ∙ ap (after_first (λ met. pass (end met))) h
+  pub judged_ends : (x : B) → walk lists judged u ≡ done x v → o ≡ done (end x) v
+  judged_ends x h = judged_left ∙ ap (after_first (λ x. pass (end x))) h

@@ -9,3 +9,4 @@ pub mod Paired
 pub mod Numbers
 pub mod Accessed
 pub mod Judging
+pub mod Apart

@@ -19,7 +19,7 @@ use Rattle.rp_lotindex.specs.declared.near.Reach.TheVariants.{Touch}
 use Rattle.rp_lotindex.specs.Near.{lots_at, AreWithin}
 use Rattle.rp_lotindex.proofs.Skipped.{none_of_pairs}
 use Rattle.rp_lots.specs.declared.pair.Pair.{Pair}
-use Rattle.rp_lots.specs.Meets.{pair_of, meet_each, parts_at, id_at, IsPairWithin}
+use Rattle.rp_lots.specs.Meets.{pair_of, meet_each, parts_at, id_at}
 use Rattle.rp_lots.specs.Numbers.{lists_at, is_touching, places_with, places_among, AreRising, IsOneOf, IsPairOf, AreBelow, placed, links_met}
 use Rattle.rp_lots.proofs.Items.{parts_there, id_there, first_there}
 use Rattle.rp_lots.proofs.Meeting.{test_of, answers, from_none}
@@ -225,16 +225,6 @@ pub placed_there : (ks : List ℕ) (ps : List Pair) → AllByRecursion (AreBelow
 placed_there ks [] h = tt
 placed_there ks (p ∷ ps) h = ((record { number = p.first; below = h.0.0; is = refl }, record { number = p.second; below = h.0.1; is = refl }), placed_there ks ps h.1)
 
--- their places are within the lots
-pub placed_within : (lots : List (Lot (Unit {0}))) (places : List ℕ) → AreWithin lots places → (ps : List Pair) → AllByRecursion (AreBelow (length places)) ps → AllByRecursion (IsPairWithin lots) (map (placed places) ps)
-placed_within lots places h [] k = tt
-placed_within lots places h (p ∷ ps) k = ((there places h p.first k.0.0, there places h p.second k.0.1), placed_within lots places h ps k.1)
-  where
-    there : (ks : List ℕ) → AreWithin lots ks → (i : ℕ) → i < length ks → get_or ks i 0 < length lots
-    there [] w i e = absurd (omega (arith, e))
-    there (j ∷ ks) w zero e = w.0
-    there (j ∷ ks) w (suc i) e = there ks w.1 i (omega (arith, e))
-
 -- ---- one number for each place
 
 -- a place has one number
@@ -263,10 +253,6 @@ number_found ks k r up one found = by r (searched ks k r found level)
     by (Err i) h = ⊎_elim (λ f. let low = h.1 one.number f in let is = one.is in absurd (omega (arith, low, is))) (λ f. let high = h.2 one.number f one.below in let is = one.is in absurd (omega (arith, high, is))) (cases_lt one.number i)
 
 -- ---- the pairs of a layer
-
--- the pairs of places are within the lots
-pub among_within : (lots : List (Lot (Unit {0}))) (places : List ℕ) → AreWithin lots places → AllByRecursion (IsPairWithin lots) (places_among lots places)
-among_within lots places w = subst (AllByRecursion (IsPairWithin lots)) (all_placed lots places) (placed_within lots places w (touching_among 0 (lists_at lots places)) (pairs_below lots places))
 
 -- they are pairs of these places
 pub among_there : (lots : List (Lot (Unit {0}))) (places : List ℕ) → AllByRecursion (IsPairOf places) (places_among lots places)

@@ -4,6 +4,7 @@ use Rattle.std.specs.Prelude.{IsTrue, IfOk, Result, Ok, Err, option_map}
 use Rattle.std.specs.List.{AllByRecursion}
 use Rattle.std.proofs.lemmas.List.{drop_more, drop_all, length-drop}
 use Rattle.std.proofs.lemmas.Option.{slice_get-map, slice_get_read}
+use Rattle.rp_algebra.proofs.Listed.{all_append}
 use Rattle.rp_algebra.proofs.Lists.{get_some, all_filter}
 use Rattle.rp_geometry.specs.sets.Shape.{Part}
 use Rattle.rp_language.specs.Name.{Label, label_eq, is_among}
@@ -23,11 +24,12 @@ use Rattle.rp_lotindex.specs.Near.{others_in, pairs_with, is_near, lots_at, AreW
 use Rattle.rp_lotindex.proofs.Behind.{others_behind}
 use Rattle.rp_lots.specs.declared.near.Near.{Near}
 use Rattle.rp_lots.specs.declared.pair.Pair.{Pair}
-use Rattle.rp_lots.specs.Meets.{pair_of, parts_at}
+use Rattle.rp_lots.specs.Meets.{pair_of, parts_at, IsPairWithin}
 use Rattle.rp_lots.specs.Numbers.{lists_at, is_touching, places_with, places_among, AreRising}
 use Rattle.rp_lots.specs.Behind.{is_live_in, live_places, lots_behind, tests_behind, AreNearBehind, ArePairsBehind}
 use Rattle.rp_lots.proofs.Items.{parts_there, first_there}
 use Rattle.rp_lots.proofs.Linked.{lists_of_lots}
+use Rattle.rp_lots.proofs.Meeting.{pairs_within}
 
 -- ---- one place for each lot
 
@@ -201,12 +203,19 @@ near_behind r lots k ps ls (Err e) own others within there = tt
 
 module _ (lots : List (Lot (Unit {0}))) (k : ℕ) (l : Lot (Unit {0})) (ls : List (Lot (Unit {0}))) (left : drop k lots ≡ l ∷ ls) where
   -- the lots behind the first of those that are left
-  behind_first : lots_behind lots k ≡ lots_of_layer l.layer (live_lots ls)
+  pub behind_first : lots_behind lots k ≡ lots_of_layer l.layer (live_lots ls)
   behind_first = let next = left_further lots k l ls left in behind_here lots k l next.0 ∙ ap (λ (ms : List (Lot (Unit {0}))). lots_of_layer l.layer (live_lots ms)) next.1
 
   -- its parts
-  own_parts : parts_at lots k ≡ l.parts
+  pub own_parts : parts_at lots k ≡ l.parts
   own_parts = parts_there lots k l (left_further lots k l ls left).0
+
+-- the pairs behind some places are within the lots
+pub behind_within : (r : Reach) (lots : List (Lot (Unit {0}))) (ks : List ℕ) → AreWithin lots ks → (pairs : List Pair) → ArePairsBehind r lots ks pairs → AllByRecursion (IsPairWithin lots) pairs
+behind_within r lots [] w pairs h = subst (AllByRecursion (IsPairWithin lots)) (sym h) tt
+behind_within r lots (k ∷ ks) w pairs h =
+    subst (AllByRecursion (IsPairWithin lots)) (sym h.2)
+    (all_append (IsPairWithin lots) (map (pair_of k) h.0) h.1 (pairs_within lots lots k h.0 (map (pair_of k) h.0) refl w.0 h.3.within refl) (behind_within r lots ks w.1 h.1 h.4))
 
 -- ---- the live lots of a layer
 

@@ -3,3 +3,4 @@ pub mod Counted
 pub mod Behind
 pub mod Numbers
 pub mod Asked
+pub mod Apart

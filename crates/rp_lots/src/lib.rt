@@ -8,6 +8,7 @@
 //! Calls that answer `AllocError` do so only for want of memory.
 
 mod access;
+mod audit;
 mod behind;
 mod keeper;
 mod links;
@@ -16,6 +17,7 @@ mod pair;
 mod touching;
 
 pub use access::{access_left, access_told, layer_left};
+pub use audit::{AuditLeft, audit_left};
 pub use behind::{NearPairs, later_pairs, live_places};
 pub use keeper::Keeper;
 pub use links::AccessLeft;

@@ -20,4 +20,3 @@ pub mod Untold
 pub mod Subdivided
 pub mod Children
 pub mod Later
-pub mod Crewed

@@ -15,29 +15,17 @@ use Rattle.rp_forms.proofs.Common.{common_is_right_spec}
 use Rattle.rp_model.specs.states.State.{Lot}
 use Rattle.rp_model.specs.commands.Row.{lot_parts, all_apart_from}
 use Rattle.rp_region.specs.Makes.{work_after}
-use Rattle.rp_parallel.specs.Meanings.{meanings_from, meanings_of}
 use Rattle.rp_lotindex.specs.declared.near.Reach.{Reach}
 use Rattle.rp_lotindex.specs.declared.near.Reach.TheVariants.{Overlap}
 use Rattle.rp_parcels.specs.declared.pairs.Pair.{Pair}
 use Rattle.rp_parcels.specs.declared.pairs.Judged.{Judged}
 use Rattle.rp_lotindex.specs.Near.{lots_at, AreWithin}
-use Rattle.rp_parcels.specs.Judged.{pair_of, parts_at, id_at, pair_test, is_passed, pair_outcome, judged, with_all_lines, IsPairWithin, CountsNothing}
+use Rattle.rp_regionlots.specs.Shown.{pair_test, is_passed}
+use Rattle.rp_parcels.specs.Judged.{pair_of, parts_at, id_at, pair_outcome, judged, with_all_lines, IsPairWithin, CountsNothing}
 use Rattle.rp_parcels.specs.Kept.{AreSound}
 use Rattle.rp_parcels.proofs.Sizes.{region_each}
 use Rattle.rp_lotindex.proofs.Skipped.{apart_on}
-use Rattle.rp_parcels.proofs.Framed.{shown_behind, none_counted}
-
--- ---- items of a list by their numbers
-
--- the meanings of the items behind the first
-later_meanings : {X Y : Type 0} (f : X → Y) (d x : X) (xs : List X) (k n : ℕ) → meanings_from (λ i. f (get_or (x ∷ xs) i d)) (suc k) n ≡ meanings_from (λ i. f (get_or xs i d)) k n
-later_meanings f d x xs k zero = refl
-later_meanings f d x xs k (suc n) = ap (λ ys. f (get_or xs k d) ∷ ys) (later_meanings f d x xs (suc k) n)
-
--- the meanings of all items of a list
-pub all_meanings : {X Y : Type 0} (f : X → Y) (d : X) (xs : List X) → meanings_of (λ i. f (get_or xs i d)) (length xs) ≡ map f xs
-all_meanings f d [] = refl
-all_meanings f d (x ∷ xs) = ap (λ ys. f x ∷ ys) (later_meanings f d x xs zero (length xs) ∙ all_meanings f d xs)
+use Rattle.rp_regionlots.proofs.Framed.{shown_behind, none_counted}
 
 -- ---- one pair
 

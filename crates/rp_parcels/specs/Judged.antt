@@ -1,12 +1,12 @@
 -- Pairs of lots, and what the tests of each show by themselves.
-use Rattle.std.specs.Prelude.{◌≡◌, ℕ, ◌<◌, Bool, false, List, [], ◌∷◌, map, filter, length, get_or, Some, None, slice_get}
+use Rattle.std.specs.Prelude.{◌≡◌, ℕ, ◌<◌, Bool, List, [], ◌∷◌, map, filter, length, get_or, Some, None, slice_get}
 use Rattle.rp_geometry.specs.sets.Shape.{Part}
 use Rattle.rp_language.specs.Name.{Label}
-use Rattle.rp_walks.specs.Walk.{Outcome, done, stopped, Walk, Work, no_work, with_lines, first_tester}
+use Rattle.rp_walks.specs.Walk.{Outcome, done, Walk, Work, no_work, with_lines}
 use Rattle.rp_model.specs.states.State.{Lot}
 use Rattle.rp_region.specs.Makes.{work_after}
 use Rattle.rp_lotindex.specs.declared.near.Reach.{Reach}
-use Rattle.rp_lots.specs.Meets.{pair_test as tests_of_pair}
+use Rattle.rp_regionlots.specs.Shown.{pair_test, is_passed}
 use Rattle.rp_parcels.specs.declared.pairs.Pair.{Pair}
 use Rattle.rp_parcels.specs.declared.pairs.Judged.{Judged}
 
@@ -29,15 +29,6 @@ parts_at lots k = elim (slice_get lots k) [ None ↦ [] | Some l ↦ l.parts ]
 -- the id of the lot at a place
 abbrev pub id_at : {S : Type 0} → List (Lot S) → ℕ → Label
 id_at lots k = elim (slice_get lots k) [ None ↦ [] | Some l ↦ l.id ]
-
--- the tests of two lists of parts: of the pairs whose boxes let them meet alone, up to the first that does
-abbrev pub pair_test : Reach → List Part → List Part → Walk Work Bool
-pair_test r ps qs = tests_of_pair first_tester r ps qs
-
--- a test was passed
-abbrev pub is_passed : Outcome Work Bool → Bool
-is_passed (done b w) = b
-is_passed (stopped s w) = false
 
 -- what the tests of a pair come to by themselves
 abbrev pub pair_outcome : {S : Type 0} → Reach → List (Lot S) → Pair → Outcome Work Bool

@@ -3,7 +3,6 @@ pub mod Kept
 pub mod Register
 pub mod Rows
 pub mod Judged
-pub mod Crew
 pub mod Counted
 pub mod Behind
 pub mod Access

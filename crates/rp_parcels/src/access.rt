@@ -9,12 +9,12 @@ ghost use Rattle.rp_history.specs.Lots.{lots_in};
 ghost use Rattle.rp_parcels.specs.Access.{access_reply};
 ghost use Rattle.rp_parcels.specs.Rows.{Answers};
 
-use crate::crew::meet_in_halves;
 use crate::fault::ParcelFault;
 use crate::parcels::Parcels;
 use rp_boxindex::Watch;
 use rp_lotindex::{Access, Reach};
 use rp_lots::{access_told, layer_left};
+use rp_regionlots::meet_in_halves;
 use rp_region::Work;
 use rp_space::Name;
 use rp_tester::Stopped;

@@ -11,12 +11,12 @@ ghost use Rattle.rp_parcels.specs.Judged.{parts_at};
 ghost use Rattle.rp_parcels.specs.Walks.{touch_counted};
 ghost use Rattle.rp_parcels.specs.Rows.{Answers};
 
-use crate::crew::meet_in_halves;
 use crate::fault::ParcelFault;
 use crate::parcels::Parcels;
 use rp_boxindex::Watch;
 use rp_lotindex::Reach;
 use rp_lots::{contacts_left, ids_met};
+use rp_regionlots::meet_in_halves;
 use rp_region::{OpFault, Work};
 use rp_space::{Name, Names};
 use rp_tester::Stopped;

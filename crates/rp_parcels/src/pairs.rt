@@ -3,7 +3,8 @@ ghost use Rattle.std.specs.Prelude.{◌≡◌, ◌≤◌, ◌++◌, length, map,
 ghost use Rattle.std.specs.List.{AllByRecursion};
 ghost use Rattle.rp_walks.specs.Walk.{most_tests, count_tests};
 ghost use Rattle.rp_region.specs.Makes.{op_result, Makes};
-ghost use Rattle.rp_parcels.specs.Judged.{pair_of, pair_test, judged, judged_at, telling_all, IsPairWithin, ArePairsWithin, CountsNothing};
+ghost use Rattle.rp_regionlots.specs.Shown.{pair_test};
+ghost use Rattle.rp_parcels.specs.Judged.{pair_of, judged, judged_at, telling_all, IsPairWithin, ArePairsWithin, CountsNothing};
 
 use crate::near::count_tests;
 use crate::parcels::Parcels;

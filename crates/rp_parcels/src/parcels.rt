@@ -11,9 +11,9 @@ ghost use Rattle.rp_parcels.specs.declared.fault.ParcelFault.TheVariants.{Unknow
 ghost use Rattle.rp_parcels.specs.Rows.{Changes};
 
 use crate::fault::ParcelFault;
-use crate::regions::Regions;
 use rp_history::{Birth, History};
 use rp_region::Region;
+use rp_regionlots::Regions;
 use rp_space::{Listed, Name};
 use rp_store::Lots;
 use std::alloc::{AllocError, Global};

@@ -1,3 +1,1 @@
-pub mod PairsLeft
-pub mod ShownApart
 pub mod Sliced

@@ -1,30 +1,15 @@
-//! Commands that ask something about lots.
+//! Commands that ask something about lots, without a test.
 ghost use Rattle.rp_language.specs.Expression.{ask_history, ask_at, ask_as_of, ask_list};
-ghost use Rattle.rp_model.specs.commands.Row.{row, row_audit};
+ghost use Rattle.rp_model.specs.commands.Row.{row};
 ghost use Rattle.rp_reports.specs.Check.{Trail, line_tester};
 ghost use Rattle.rp_rows.specs.Replies.{Tells};
 
-use crate::apart::show_apart;
-use crate::behind::pairs_in_layers;
-use crate::live::count_live;
 use rp_lotindex::Moment;
-use rp_register::{Register, count_tests};
+use rp_register::Register;
 use rp_rows::{RowEnd, one_line, owner_verdict};
 use rp_space::{Name, Point};
-use rp_text::{Verdict, Verdicts};
-use rp_trail::Trail;
+use rp_text::Verdicts;
 use std::alloc::Global;
-
-/// `audit`: how many live lots `register` has, of which no two of one layer share a point, as the next lines of `trail`
-/// show. `TakenWrong` where a line shows that two do.
-pub fn audit(alloc: Global, register: &Register, trail: &mut Trail<'_>) -> Result<Verdicts, RowEnd>
-    ensures { Tells result trail.new (row_audit line_tester register.now trail.old) }
-{
-    let pairs = pairs_in_layers(alloc, register)?;
-    count_tests(trail, pairs)?;
-    show_apart(alloc, register, trail)?;
-    Ok(one_line(alloc, Verdict::Clear(count_live(register)))?)
-}
 
 /// `at`: the live lot of the present layer that has `point`. It makes no test.
 pub fn owner(alloc: Global, register: &Register, point: &Point) -> Result<Verdicts, RowEnd>

@@ -1,15 +1,15 @@
-//! Commands that ask which lots are in contact.
+//! Commands that ask which lots are in contact, and whether all are apart.
 ghost use Rattle.rp_language.specs.Expression.{ask_access};
-ghost use Rattle.rp_model.specs.commands.Row.{row, row_neighbours};
+ghost use Rattle.rp_model.specs.commands.Row.{row, row_audit, row_neighbours};
 ghost use Rattle.rp_reports.specs.Check.{line_tester};
 ghost use Rattle.rp_rows.specs.Replies.{Tells};
 
 use rp_lotindex::Reach;
-use rp_lots::{access_left, access_told, ids_met, touch_left};
-use rp_register::{Register, meet_in_turn};
-use rp_rows::{RowEnd, access_lines, neighbour_lines};
+use rp_lots::{access_left, access_told, audit_left, ids_met, touch_left};
+use rp_register::{Register, meet_in_turn, show_apart_in_turn};
+use rp_rows::{RowEnd, access_lines, neighbour_lines, one_line};
 use rp_space::Name;
-use rp_text::Verdicts;
+use rp_text::{Verdict, Verdicts};
 use rp_trail::Trail;
 use std::alloc::Global;
 
@@ -43,4 +43,14 @@ pub fn access(
     let met = meet_in_turn(alloc, register.forms(), &left.pairs, Reach::Touch, trail)?;
     let access = access_told(alloc, &left, &met)?;
     Ok(access_lines(alloc, &access)?)
+}
+
+/// `audit`: how many live lots `register` has, of which no two of one layer share a point, as the next lines of `trail`
+/// show. `TakenWrong` where a line shows that two do.
+pub fn audit(alloc: Global, register: &Register, trail: &mut Trail<'_>) -> Result<Verdicts, RowEnd>
+    ensures { Tells result trail.new (row_audit line_tester register.now trail.old) }
+{
+    let left = audit_left::<Trail<'_>, Register>(alloc, register, trail)?;
+    show_apart_in_turn(register.forms(), &left.pairs, trail)?;
+    Ok(one_line(alloc, Verdict::Clear(left.live))?)
 }

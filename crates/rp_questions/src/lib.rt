@@ -4,13 +4,10 @@
 //! Each comes to the verdict lines, the refusal or the limit that the definition has for it, or to the number of the
 //! line that is wrong. Nothing is changed.
 
-mod apart;
 mod asked;
-mod behind;
 mod contacts;
-mod live;
 mod slices;
 
-pub use asked::{audit, lineage, list, owner, owner_then};
-pub use contacts::{access, neighbours};
+pub use asked::{lineage, list, owner, owner_then};
+pub use contacts::{access, audit, neighbours};
 pub use slices::section;

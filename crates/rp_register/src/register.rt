@@ -1,5 +1,5 @@
 //! What the check keeps between two answers: the present layer, what names stand for, and the lots.
-ghost use Rattle.std.specs.Prelude.{◌≡◌, ◌+◌, ◌<◌, ◌≤◌, ◌&&◌, Some, length, map, filter, drop, nat_le, slice_get, option_copied, option_map, IfOk, OnOk};
+ghost use Rattle.std.specs.Prelude.{◌≡◌, ◌+◌, ◌≤◌, ◌&&◌, length, map, filter, drop, nat_le, option_copied, option_map, IfOk, OnOk};
 ghost use Rattle.rp_model.specs.states.State.{opening, base_layer, parts_in, state_of_parts, bare_lot, lots_of_layer, changed, parts_under_names, parts_under_lots, most_names, most_kept_parts};
 ghost use Rattle.rp_model.specs.states.Sound.{IsLaterThan};
 ghost use Rattle.rp_model.specs.commands.Row.{lot_parts, owner_line};
@@ -100,14 +100,6 @@ impl Register {
         self.lots.history()
     }
 
-    /// The form of the lot at a place, ended or not.
-    pub fn form_at(&self, place: usize) -> &Form
-        requires { place < length self.now.lots }
-        ensures { option_map (λ l. l.parts) (slice_get self.now.lots place) ≡ Some result.now.items }
-    {
-        self.lots.form_at(place)
-    }
-
     /// The forms of all lots, by their places.
     pub fn forms(&self) -> &[Form]
         ensures { map (λ f. f.items) result.now ≡ lot_parts self.now.lots }
@@ -135,11 +127,20 @@ impl Register {
     }
 
     /// The first lot of the present layer, of those that are there at a moment, that has the point.
-    pub(crate) fn owner_at(&self, moment: Moment, point: &Point) -> Option<Name>
+    fn owner_at(&self, moment: Moment, point: &Point) -> Option<Name>
         requires { BoxesHold self.now.lots }
         ensures { owner_verdict result ≡ owner_line (lots_of_layer self.now.layer (filter (is_there moment) self.now.lots)) point.now }
     {
         self.lots.owner(&self.layer, moment, point)
+    }
+
+    /// The first lot of the present layer, of those that are there at `moment`, that has `point`; it is found without a
+    /// walk over all lots. `None` exactly where there is none.
+    pub fn owner(&self, moment: Moment, point: &Point) -> Option<Name>
+        ensures { owner_verdict result ≡ owner_line (lots_of_layer self.now.layer (filter (is_there moment) self.now.lots)) point.now }
+    {
+        self.keep_sound();
+        self.owner_at(moment, point)
     }
 
     /// Whether one more name may stand for the form.

@@ -4,6 +4,7 @@ ghost use Rattle.std.specs.List.{AllByRecursion};
 ghost use Rattle.rp_reports.specs.Check.{line_tester};
 ghost use Rattle.rp_tester.specs.Comes.{Comes};
 ghost use Rattle.rp_lots.specs.Meets.{pair_test, meet_each, IsPairWithin};
+ghost use Rattle.rp_lots.specs.Apart.{apart_each};
 
 use rp_lotindex::Reach;
 use rp_lots::Pair;
@@ -32,6 +33,26 @@ pub fn meet_in_turn(
         put(&mut met, meets)?;
     }
     Ok(met)
+}
+
+/// The two lots of each of `pairs`, in order, whose forms stand in `forms` at its places, are shown to share no point, on
+/// the next lines of `trail`. Only those pairs of parts are tested whose boxes share more than boundary; nothing is
+/// counted. `TakenWrong` at the first line that shows a common point.
+pub fn show_apart_in_turn(
+    forms: &[Form],
+    pairs: &[Pair],
+    trail: &mut Trail<'_>,
+) -> Result<(), Stopped>
+    requires { AllByRecursion (IsPairWithin forms.now) pairs.now }
+    ensures { Comes (λ x. x) result trail.new (apart_each line_tester (map (λ f. f.items) forms.now) pairs.now trail.old) }
+{
+    for i in 0..pairs.len() {
+        let pair = pairs[i];
+        if common(&forms[pair.first], &forms[pair.second], true, trail)? {
+            return Err(Stopped::TakenWrong);
+        }
+    }
+    Ok(())
 }
 
 /// Puts an answer behind others.

@@ -12,7 +12,7 @@ use Rattle.rp_lots.specs.Behind.{live_places, tests_behind, ArePairsBehind}
 use Rattle.rp_lots.proofs.Accessed.{numbers_there, access_stops, access_leaves, leaves_as}
 use Rattle.rp_lots.proofs.Counted.{count_lost}
 use Rattle.rp_lots.proofs.Judging.{as_many, within_lines}
-use Rattle.rp_lots.proofs.Linked.{among_within, among_there}
+use Rattle.rp_lots.proofs.Linked.{among_there}
 use Rattle.rp_lots.proofs.Numbers.{bare_ids_at}
 use Rattle.rp_lots.proofs.Paired.{own_distinct, bare_places, places_within, all_rise, layer_paired}
 use Rattle.rp_lots.proofs.access.layer_left.Goals as goal
@@ -104,12 +104,9 @@ returns-clause-within g c =
     let s = g.K.Keeper.state c.args.keeper.now in
     let y = c.args.layer in
     let pairs = c.in_ok-near.near.pairs.items in
-    let places = live_places (Some y) 0 s.lots in
-    let made = c.in_ok-places.ensures.places ∙ ap (live_places (Some y) 0) (c.lots-lots.ensures.value ∙ c.history.ensures.value) ∙ bare_places (Some y) 0 s.lots in
-    let distinct = own_distinct s.lots c.history.result.now c.history.ensures.value c.lots-lots.ensures.well.distinct in
-    let behind = subst (λ (ks : List ℕ). ArePairsBehind Touch s.lots ks pairs) (c.deref.ensures.value ∙ made) c.in_ok-near.ensures.pairs in
-    let among : pairs ≡ places_among s.lots places = layer_paired s.lots y distinct 0 s.lots refl pairs behind in
-    subst (AllByRecursion (IsPairWithin s.lots)) (sym (c.in_ok-links_left.ensures.pairs ∙ among)) (among_within s.lots places (places_within s.lots (Some y)))
+    let here = c.deref.ensures.value ∙ c.in_ok-places.ensures.places ∙ ap (live_places (Some y) 0) (c.lots-lots.ensures.value ∙ c.history.ensures.value) ∙ bare_places (Some y) 0 s.lots in
+    subst (AllByRecursion (IsPairWithin s.lots)) (sym c.in_ok-links_left.ensures.pairs)
+    (behind_within Touch s.lots (live_places (Some y) 0 s.lots) (places_within s.lots (Some y)) pairs (subst (λ (ks : List ℕ). ArePairsBehind Touch s.lots ks pairs) here c.in_ok-near.ensures.pairs))
 
 pub returns-clause-left : goal.returns-clause-left
 returns-clause-left g c =

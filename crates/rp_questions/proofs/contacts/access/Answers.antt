@@ -4,8 +4,9 @@ use Rattle.rp_walks.specs.Walk.{done}
 use Rattle.rp_model.specs.commands.Verdict.{Verdict}
 use Rattle.rp_model.specs.commands.Row.{reply_lines}
 use Rattle.rp_reports.specs.Check.{line_tester}
+use Rattle.rp_lotindex.specs.declared.near.Reach.TheVariants.{Touch}
 use Rattle.rp_lots.specs.Asked.{access_reply}
-use Rattle.rp_lots.proofs.Judging.{within_forms, judged_stops, judged_ends}
+use Rattle.rp_lots.proofs.Judging.{within_forms, meet_pairs, judged_stops, judged_ends}
 use Rattle.rp_questions.proofs.contacts.access.Goals as goal
 
 pub returns-in_err-left : goal.returns-in_err-left
@@ -19,7 +20,7 @@ meet_in_turn-requires c = within_forms (λ f. f.items) c.args.register.now.lots 
 pub returns-in_err-met : goal.returns-in_err-met
 returns-in_err-met c =
     let p = err_from_is_err_and c.from_residual-in_err-met.result c.from_residual-in_err-met.ensures.1 in
-    rw (p.1, p.2) (judged_stops line_tester c.args.register.now.lots _ c.in_ok-left.left.pairs.items c.deref.result.now (access_reply c.in_ok-left.left) c.access_left.new.tests c.meet_in_turn.new.trail _ c.forms.ensures c.deref.ensures.value c.in_ok-left.ensures.left c.in_err-met.field-0.0 c.in_err-met.ensures.comes)
+    rw (p.1, p.2) (judged_stops (meet_pairs line_tester Touch) c.args.register.now.lots _ c.in_ok-left.left.pairs.items c.deref.result.now (access_reply c.in_ok-left.left) c.access_left.new.tests c.meet_in_turn.new.trail _ c.forms.ensures c.deref.ensures.value c.in_ok-left.ensures.left c.in_err-met.field-0.0 c.in_err-met.ensures.comes)
 
 pub access_told-requires-clause-each : goal.access_told-requires-clause-each
 access_told-requires-clause-each c = ap length c.deref-2.ensures.value ∙ c.in_ok-met.ensures.each ∙ ap length c.deref.ensures.value
@@ -28,6 +29,6 @@ pub returns : goal.returns
 returns c =
     let left = c.in_ok-left.left in
     let v = c.meet_in_turn.new.trail in
-    judged_ends line_tester c.args.register.now.lots _ left.pairs.items c.deref.result.now (access_reply left) c.access_left.new.tests v _ c.forms.ensures c.deref.ensures.value c.in_ok-left.ensures.left c.in_ok-met.met.items c.in_ok-met.ensures.comes
+    judged_ends (meet_pairs line_tester Touch) c.args.register.now.lots _ left.pairs.items c.deref.result.now (access_reply left) c.access_left.new.tests v _ c.forms.ensures c.deref.ensures.value c.in_ok-left.ensures.left c.in_ok-met.met.items c.in_ok-met.ensures.comes
     ∙ ap (λ (bs : List Bool). done (access_reply left bs) v) (sym c.deref-2.ensures.value)
     ∙ ap (λ (vs : List Verdict). done (reply_lines vs) v) (sym (c.in_ok-access_lines.ensures ∙ c.in_ok-access.ensures))

@@ -5,10 +5,11 @@ use Rattle.rp_model.specs.states.State.{Lot}
 use Rattle.rp_model.specs.commands.Verdict.{Verdict, neighbour_lines}
 use Rattle.rp_model.specs.commands.Row.{reply_lines}
 use Rattle.rp_reports.specs.Check.{line_tester}
+use Rattle.rp_lotindex.specs.declared.near.Reach.TheVariants.{Touch}
 use Rattle.rp_lots.specs.Asked.{contacts_reply}
 use Rattle.rp_lots.specs.Meets.{ids_met}
 use Rattle.rp_lots.proofs.Contacts.{bare_met}
-use Rattle.rp_lots.proofs.Judging.{within_lines, within_forms, judged_stops, judged_ends}
+use Rattle.rp_lots.proofs.Judging.{within_lines, within_forms, meet_pairs, judged_stops, judged_ends}
 use Rattle.rp_questions.proofs.contacts.neighbours.Goals as goal
 
 pub returns-in_err-left : goal.returns-in_err-left
@@ -23,7 +24,7 @@ pub returns-in_err-met : goal.returns-in_err-met
 returns-in_err-met c =
     let p = err_from_is_err_and c.from_residual-in_err-met.result c.from_residual-in_err-met.ensures.1 in
     let lots = c.args.register.now.lots in
-    rw (p.1, p.2) (judged_stops line_tester lots _ c.in_ok-left.left.pairs.items c.deref.result.now (contacts_reply lots c.in_ok-left.left) c.touch_left.new.tests c.meet_in_turn.new.trail _ c.forms.ensures c.deref.ensures.value c.in_ok-left.ensures.left c.in_err-met.field-0.0 c.in_err-met.ensures.comes)
+    rw (p.1, p.2) (judged_stops (meet_pairs line_tester Touch) lots _ c.in_ok-left.left.pairs.items c.deref.result.now (contacts_reply lots c.in_ok-left.left) c.touch_left.new.tests c.meet_in_turn.new.trail _ c.forms.ensures c.deref.ensures.value c.in_ok-left.ensures.left c.in_err-met.field-0.0 c.in_err-met.ensures.comes)
 
 pub ids_met-requires-clause-within : goal.ids_met-requires-clause-within
 ids_met-requires-clause-within c = within_lines c.args.register.now.lots c.history.result.now c.lots.result.now c.in_ok-left.left.places.items c.items.result.now c.history.ensures.value c.lots.ensures.value c.items.ensures c.in_ok-left.ensures.places
@@ -49,5 +50,5 @@ returns c =
     ∙ (λ i. ids_met (c.lots.ensures.value i) (c.items.ensures i) (c.deref-2.ensures.value i))
     ∙ ap (λ (ls : List (Lot (Unit {0}))). ids_met ls left.places.items met) c.history.ensures.value
     ∙ bare_met lots left.places.items met in
-    judged_ends line_tester lots _ left.pairs.items c.deref.result.now (contacts_reply lots left) c.touch_left.new.tests v _ c.forms.ensures c.deref.ensures.value c.in_ok-left.ensures.left met c.in_ok-met.ensures.comes
+    judged_ends (meet_pairs line_tester Touch) lots _ left.pairs.items c.deref.result.now (contacts_reply lots left) c.touch_left.new.tests v _ c.forms.ensures c.deref.ensures.value c.in_ok-left.ensures.left met c.in_ok-met.ensures.comes
     ∙ ap (λ (vs : List Verdict). done (reply_lines vs) v) (sym (c.in_ok-neighbour_lines.ensures ∙ ap neighbour_lines ids))

@@ -2,9 +2,9 @@ use Rattle.std.proofs.Common.{ap, ◌∙◌, subst}
 use Rattle.rp_model.specs.states.State.{Lot}
 use Rattle.rp_region.specs.Makes.{IsFaultOf}
 use Rattle.rp_history.specs.declared.lot.LotLine.{LotLine}
-use Rattle.rp_parcels.specs.Judged.{pair_test}
+use Rattle.rp_regionlots.specs.Shown.{pair_test}
 use Rattle.rp_history.proofs.Bare.{line_at}
-use Rattle.rp_parcels.proofs.Framed.{never_limited}
+use Rattle.rp_regionlots.proofs.Framed.{never_limited}
 use Rattle.rp_parcels.proofs.Shown.{parts_there, judged_is, second_id}
 use Rattle.rp_parcels.proofs.parcels.Parcels.judge_pair.Goals as goal
 

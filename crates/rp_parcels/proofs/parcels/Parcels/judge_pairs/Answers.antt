@@ -1,7 +1,7 @@
 use Rattle.std.proofs.Common.{◌∙◌}
 use Rattle.std.proofs.lemmas.Result.{IfOk-weaker}
 use Rattle.rp_parcels.specs.Judged.{pair_of, judged}
-use Rattle.rp_parcels.proofs.Shown.{all_meanings}
+use Rattle.rp_regionlots.proofs.Items.{all_meanings}
 use Rattle.rp_parcels.proofs.parcels.Parcels.judge_pairs.Goals as goal
 
 pub returns : goal.returns

@@ -5,9 +5,10 @@ use Rattle.rp_walks.specs.Walk.{done, first_tester}
 use Rattle.rp_model.specs.states.State.{Lot}
 use Rattle.rp_model.specs.commands.Verdict.{Verdict}
 use Rattle.rp_model.specs.commands.Row.{reply_lines, lot_parts}
+use Rattle.rp_lotindex.specs.declared.near.Reach.TheVariants.{Touch}
 use Rattle.rp_lots.specs.Asked.{access_reply}
-use Rattle.rp_lots.proofs.Judging.{within_forms, judged_stops, judged_ends}
-use Rattle.rp_parcels.proofs.Crewed.{own_map}
+use Rattle.rp_lots.proofs.Judging.{within_forms, meet_pairs, judged_stops, judged_ends}
+use Rattle.rp_regionlots.proofs.Shown.{own_map}
 use Rattle.rp_parcels.proofs.parcels.Parcels.walk_access.Goals as goal
 
 pub meet_in_halves-requires-clause-within : goal.meet_in_halves-requires-clause-within
@@ -19,7 +20,7 @@ pub returns-in_err-met : goal.returns-in_err-met
 returns-in_err-met g c =
     let p = err_from_is_err_and c.from_residual-in_err-met.result c.from_residual-in_err-met.ensures.1 in
     let same = own_map c.forms-forms.result.now ∙ c.forms-forms.ensures ∙ ap (λ (ls : List (Lot (Unit {0}))). lot_parts ls) c.lots.ensures.value in
-    rw (p.1, p.2) (judged_stops first_tester c.args.self.now c.forms-forms.result.now c.in_ok-left.left.pairs.items c.deref.result.now (access_reply c.in_ok-left.left) c.layer_left.new.tests c.meet_in_halves.new.work _ same c.deref.ensures.value c.in_ok-left.ensures.left c.in_err-met.field-0.0 c.in_err-met.ensures.comes)
+    rw (p.1, p.2) (judged_stops (meet_pairs first_tester Touch) c.args.self.now c.forms-forms.result.now c.in_ok-left.left.pairs.items c.deref.result.now (access_reply c.in_ok-left.left) c.layer_left.new.tests c.meet_in_halves.new.work _ same c.deref.ensures.value c.in_ok-left.ensures.left c.in_err-met.field-0.0 c.in_err-met.ensures.comes)
 
 pub access_told-requires-clause-each : goal.access_told-requires-clause-each
 access_told-requires-clause-each g c = ap length c.deref-2.ensures.value ∙ c.in_ok-met.ensures.each ∙ ap length c.deref.ensures.value
@@ -29,6 +30,6 @@ returns g c =
     let left = c.in_ok-left.left in
     let v = c.meet_in_halves.new.work in
     let same = own_map c.forms-forms.result.now ∙ c.forms-forms.ensures ∙ ap (λ (ls : List (Lot (Unit {0}))). lot_parts ls) c.lots.ensures.value in
-    judged_ends first_tester c.args.self.now c.forms-forms.result.now left.pairs.items c.deref.result.now (access_reply left) c.layer_left.new.tests v _ same c.deref.ensures.value c.in_ok-left.ensures.left c.in_ok-met.met.items c.in_ok-met.ensures.comes
+    judged_ends (meet_pairs first_tester Touch) c.args.self.now c.forms-forms.result.now left.pairs.items c.deref.result.now (access_reply left) c.layer_left.new.tests v _ same c.deref.ensures.value c.in_ok-left.ensures.left c.in_ok-met.met.items c.in_ok-met.ensures.comes
     ∙ ap (λ (bs : List Bool). done (access_reply left bs) v) (sym c.deref-2.ensures.value)
     ∙ ap (λ (vs : List Verdict). done (reply_lines vs) v) (sym c.in_ok-access_told.ensures)

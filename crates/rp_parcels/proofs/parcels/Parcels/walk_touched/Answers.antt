@@ -5,10 +5,11 @@ use Rattle.rp_language.specs.Name.{Label}
 use Rattle.rp_walks.specs.Walk.{done, first_tester}
 use Rattle.rp_model.specs.states.State.{Lot}
 use Rattle.rp_model.specs.commands.Row.{lot_parts}
+use Rattle.rp_lotindex.specs.declared.near.Reach.TheVariants.{Touch}
 use Rattle.rp_lots.specs.Meets.{ids_met}
 use Rattle.rp_lots.proofs.Contacts.{bare_met}
-use Rattle.rp_lots.proofs.Judging.{within_lines, within_forms, judged_stops, judged_ends}
-use Rattle.rp_parcels.proofs.Crewed.{own_map}
+use Rattle.rp_lots.proofs.Judging.{within_lines, within_forms, meet_pairs, judged_stops, judged_ends}
+use Rattle.rp_regionlots.proofs.Shown.{own_map}
 use Rattle.rp_parcels.proofs.parcels.Parcels.walk_touched.Goals as goal
 
 pub meet_in_halves-requires-clause-within : goal.meet_in_halves-requires-clause-within
@@ -21,7 +22,7 @@ returns-in_err-met g c =
     let p = err_from_is_err_and c.from_residual-in_err-met.result c.from_residual-in_err-met.ensures.1 in
     let lots = c.args.self.now in
     let same = own_map c.forms-forms.result.now ∙ c.forms-forms.ensures ∙ ap (λ (ls : List (Lot (Unit {0}))). lot_parts ls) c.lots.ensures.value in
-    rw (p.1, p.2) (judged_stops first_tester lots c.forms-forms.result.now c.in_ok-left.left.pairs.items c.deref.result.now (ids_met lots c.in_ok-left.left.places.items) c.contacts_left.new.tests c.meet_in_halves.new.work _ same c.deref.ensures.value c.in_ok-left.ensures.left c.in_err-met.field-0.0 c.in_err-met.ensures.comes)
+    rw (p.1, p.2) (judged_stops (meet_pairs first_tester Touch) lots c.forms-forms.result.now c.in_ok-left.left.pairs.items c.deref.result.now (ids_met lots c.in_ok-left.left.places.items) c.contacts_left.new.tests c.meet_in_halves.new.work _ same c.deref.ensures.value c.in_ok-left.ensures.left c.in_err-met.field-0.0 c.in_err-met.ensures.comes)
 
 pub ids_met-requires-clause-within : goal.ids_met-requires-clause-within
 ids_met-requires-clause-within g c = within_lines c.args.self.now c.history.result.now c.lots-2.result.now c.in_ok-left.left.places.items c.items.result.now c.history.ensures.value c.lots-2.ensures.value c.items.ensures c.in_ok-left.ensures.places
@@ -40,5 +41,5 @@ returns g c =
     ∙ (λ i. ids_met (c.lots-2.ensures.value i) (c.items.ensures i) (c.deref-2.ensures.value i))
     ∙ ap (λ (ls : List (Lot (Unit {0}))). ids_met ls left.places.items met) c.history.ensures.value
     ∙ bare_met lots left.places.items met in
-    judged_ends first_tester lots c.forms-forms.result.now left.pairs.items c.deref.result.now (ids_met lots left.places.items) c.contacts_left.new.tests v _ same c.deref.ensures.value c.in_ok-left.ensures.left met c.in_ok-met.ensures.comes
+    judged_ends (meet_pairs first_tester Touch) lots c.forms-forms.result.now left.pairs.items c.deref.result.now (ids_met lots left.places.items) c.contacts_left.new.tests v _ same c.deref.ensures.value c.in_ok-left.ensures.left met c.in_ok-met.ensures.comes
     ∙ ap (λ (xs : List Label). done xs v) (sym ids)

@@ -1,6 +1,0 @@
-use Rattle.std.proofs.Common.{sym, ◌∙◌}
-use Rattle.rp_verdicts.proofs.Points.{in_parts_is_member}
-use Rattle.rp_parcels.proofs.regions.RegionsForms.holds.Goals as goal
-
-pub returns : goal.returns
-returns c = c.holds.ensures ∙ sym (in_parts_is_member c.args.form.now c.args.point.now)

@@ -1,0 +1,4 @@
+pub mod Audited
+pub mod Framed
+pub mod Items
+pub mod Shown

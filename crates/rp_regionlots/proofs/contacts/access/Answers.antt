@@ -1,0 +1,38 @@
+use Rattle.std.proofs.Common.{Bool, List, length, sym, ap, ◌∙◌}
+use Rattle.std.proofs.lemmas.Result.{err_from_is_err_and}
+use Rattle.rp_geometry.specs.sets.Shape.{Part}
+use Rattle.rp_walks.specs.Walk.{done, first_tester}
+use Rattle.rp_model.specs.commands.Verdict.{Verdict}
+use Rattle.rp_model.specs.commands.Row.{reply_lines}
+use Rattle.rp_lotindex.specs.declared.near.Reach.TheVariants.{Touch}
+use Rattle.rp_lots.specs.Asked.{access_reply}
+use Rattle.rp_lots.proofs.Judging.{within_forms, meet_pairs, judged_stops, judged_ends}
+use Rattle.rp_regionlots.proofs.Shown.{own_map}
+use Rattle.rp_regionlots.proofs.contacts.access.Goals as goal
+
+pub returns-in_err-left : goal.returns-in_err-left
+returns-in_err-left g c =
+    let p = err_from_is_err_and c.from_residual.result c.from_residual.ensures.1 in
+    rw (p.1, p.2) c.in_err-left.ensures.left
+
+pub meet_in_halves-requires-clause-within : goal.meet_in_halves-requires-clause-within
+meet_in_halves-requires-clause-within g c =
+    within_forms (λ (x : List Part). x) (g.K.Keeper.state c.args.keeper.now).lots c.forms.result.now c.in_ok-left.left.pairs.items c.deref.result.now c.forms.ensures c.deref.ensures.value c.in_ok-left.ensures.within
+
+pub returns-in_err-met : goal.returns-in_err-met
+returns-in_err-met g c =
+    let p = err_from_is_err_and c.from_residual-in_err-met.result c.from_residual-in_err-met.ensures.1 in
+    let same = own_map c.forms.result.now ∙ c.forms.ensures in
+    rw (p.1, p.2) (judged_stops (meet_pairs first_tester Touch) (g.K.Keeper.state c.args.keeper.now).lots c.forms.result.now c.in_ok-left.left.pairs.items c.deref.result.now (access_reply c.in_ok-left.left) c.access_left.new.tests c.meet_in_halves.new.work _ same c.deref.ensures.value c.in_ok-left.ensures.left c.in_err-met.field-0.0 c.in_err-met.ensures.comes)
+
+pub access_told-requires-clause-each : goal.access_told-requires-clause-each
+access_told-requires-clause-each g c = ap length c.deref-2.ensures.value ∙ c.in_ok-met.ensures.each ∙ ap length c.deref.ensures.value
+
+pub returns : goal.returns
+returns g c =
+    let left = c.in_ok-left.left in
+    let v = c.meet_in_halves.new.work in
+    let same = own_map c.forms.result.now ∙ c.forms.ensures in
+    judged_ends (meet_pairs first_tester Touch) (g.K.Keeper.state c.args.keeper.now).lots c.forms.result.now left.pairs.items c.deref.result.now (access_reply left) c.access_left.new.tests v _ same c.deref.ensures.value c.in_ok-left.ensures.left c.in_ok-met.met.items c.in_ok-met.ensures.comes
+    ∙ ap (λ (bs : List Bool). done (access_reply left bs) v) (sym c.deref-2.ensures.value)
+    ∙ ap (λ (vs : List Verdict). done (reply_lines vs) v) (sym c.in_ok-access_told.ensures)

@@ -1,0 +1,164 @@
+//! Pairs of lots, judged in halves of work.
+ghost use Rattle.std.specs.Prelude.{◌≡◌, ◌≤◌, [], IfOk, OnOk, length, map};
+ghost use Rattle.std.specs.List.{AllByRecursion};
+ghost use Rattle.rp_walks.specs.Walk.{most_tests, first_tester};
+ghost use Rattle.rp_tester.specs.Comes.{Comes};
+ghost use Rattle.rp_lots.specs.Meets.{meet_each, IsPairWithin};
+ghost use Rattle.rp_region.specs.Makes.{Makes};
+ghost use Rattle.rp_regionlots.specs.Shown.{pair_test, shown, shown_at, with_all_shown, ShowsNothingCounted, ArePairsWithin};
+
+use rp_boxindex::Watch;
+use rp_lotindex::Reach;
+use rp_lots::Pair;
+use rp_parallel::{Judge, judge_all};
+use rp_region::{OpFault, Region, Work};
+use rp_tester::Stopped;
+use std::alloc::{AllocError, Global};
+use std::thread::Threads;
+
+/// What the tests of a pair have shown: whether the two meet, and the proof lines.
+#[derive(Drop)]
+pub(crate) struct Shown {
+    pub meets: bool,
+    pub work: Work,
+}
+
+/// Pairs of lots, whose forms stand at their places, and of which each is judged by itself.
+#[derive(Drop)]
+struct Judging<'a, W: Watch> {
+    forms: &'a [Region],
+    watch: &'a W,
+    pairs: &'a [Pair],
+    reach: Reach,
+    ghost within: { ArePairsWithin forms.now pairs.now },
+}
+
+impl<W: Watch> Judge for Judging<'_, W> {
+    type Out = Shown;
+
+    ghost size = { λ s. length s.pairs.now };
+
+    ghost meaning = { λ s i. shown_at s.reach s.forms.now s.pairs.now i };
+
+    fn count(&self) -> usize {
+        self.pairs.len()
+    }
+
+    fn judge(&self, alloc: Global, i: usize) -> Result<Shown, AllocError> {
+        self.watch.item(i);
+        judge_pair(alloc, self.forms, self.pairs[i], self.reach)
+    }
+}
+
+/// Of each pair, in order, whether its two lots meet, judged in halves, with the proof lines of all.
+pub(crate) fn meet_in_halves<R: Threads + Sync, W: Watch>(
+    rt: &R,
+    alloc: Global,
+    watch: &W,
+    grain: usize,
+    forms: &[Region],
+    pairs: &[Pair],
+    reach: Reach,
+    work: &mut Work,
+) -> Result<Vec<bool>, Stopped>
+    requires grain { 1 ≤ grain }
+    requires within { AllByRecursion (IsPairWithin forms.now) pairs.now }
+    ensures comes { Comes (λ met. met.items) result work.new (meet_each first_tester reach forms.now [] pairs.now work.old) }
+    ensures each { IfOk result (λ met. length met.items ≡ length pairs.now) }
+{
+    let all = judge_pairs(rt, alloc, watch, grain, forms, pairs, reach)?;
+    let met = met_of(alloc, &all)?;
+    // Only so that it is known that few tests are counted.
+    let _ = work.tests();
+    append_shown(alloc, work, all)?;
+    Ok(met)
+}
+
+/// What the tests of each pair show, in order. They are judged in halves, and a run of at most `grain` is not split;
+/// the watch is told of each pair as its tests begin.
+fn judge_pairs<R: Threads + Sync, W: Watch>(
+    rt: &R,
+    alloc: Global,
+    watch: &W,
+    grain: usize,
+    forms: &[Region],
+    pairs: &[Pair],
+    reach: Reach,
+) -> Result<Vec<Shown>, AllocError>
+    requires grain { 1 ≤ grain }
+    requires within { AllByRecursion (IsPairWithin forms.now) pairs.now }
+    ensures { IfOk result (λ all. all.items ≡ map (shown reach forms.now) pairs.now) }
+{
+    let judging = Judging {
+        forms,
+        watch,
+        pairs,
+        reach,
+    };
+    judge_all(rt, alloc, grain, &judging)
+}
+
+/// What the tests of a pair show.
+fn judge_pair(
+    alloc: Global,
+    forms: &[Region],
+    pair: Pair,
+    reach: Reach,
+) -> Result<Shown, AllocError>
+    requires { IsPairWithin forms.now pair }
+    ensures { IfOk result (λ one. one ≡ shown reach forms.now pair) }
+{
+    let mut work = Work::new(alloc);
+    match do_meet(
+        alloc,
+        &forms[pair.first],
+        &forms[pair.second],
+        reach,
+        &mut work,
+    ) {
+        Ok(meets) => Ok(Shown { meets, work }),
+        Err(OpFault::Memory(error)) => Err(error),
+        Err(OpFault::Limit) => unreachable!(),
+    }
+}
+
+/// Whether two regions meet. Only those pairs of their parts are tested whose boxes let them; nothing is counted.
+fn do_meet(
+    alloc: Global,
+    first: &Region,
+    second: &Region,
+    reach: Reach,
+    work: &mut Work,
+) -> Result<bool, OpFault>
+    ensures { Makes (λ meets. meets) result work.old work.new (pair_test reach first.now second.now) }
+{
+    match reach {
+        Reach::Overlap => Ok(first.first_common(alloc, second, true, work)?.is_some()),
+        Reach::Touch => Ok(first.first_touch(alloc, second, true, work)?.is_some()),
+    }
+}
+
+/// Of each pair whether it meets.
+fn met_of(alloc: Global, all: &[Shown]) -> Result<Vec<bool>, AllocError>
+    ensures { IfOk result (λ met. met.items ≡ map (λ s. s.meets) all.now) }
+{
+    let mut met = Vec::new(alloc);
+    for one in all {
+        met.push(one.meets)?;
+    }
+    Ok(met)
+}
+
+/// Appends the proof lines of all pairs in order; they are moved.
+fn append_shown(alloc: Global, work: &mut Work, all: Vec<Shown>) -> Result<(), AllocError>
+    requires few { work.old.tests ≤ most_tests }
+    requires uncounted { AllByRecursion ShowsNothingCounted all.items }
+    ensures { OnOk result (work.new ≡ with_all_shown work.old all.items) }
+{
+    // As a rule each pair has one line.
+    work.reserve(all.len())?;
+    for one in all {
+        work.append(alloc, one.work)?;
+    }
+    Ok(())
+}
