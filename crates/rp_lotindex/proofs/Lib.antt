@@ -10,4 +10,3 @@ pub mod Skipped
 pub mod Behind
 pub mod Owned
 pub mod Floored
-pub mod AccessLines

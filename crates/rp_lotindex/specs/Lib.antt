@@ -2,4 +2,3 @@ pub mod Indexed
 pub mod Layers
 pub mod Near
 pub mod Owner
-pub mod Access

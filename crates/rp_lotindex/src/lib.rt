@@ -10,20 +10,14 @@
 //! a layer, from a place on, with another id than one, around which the box meets a box: so of each that has a part
 //! which may meet a part within it, in rising order. [`LotBoxes::owner`] answers the first lot of a layer that has a
 //! point, now or after a line. The lemmas show that what the walks over all lots come to is what they come to over
-//! these, for every tester.
-//!
-//! Beside them stands what is told of lots in contact: [`Access::along`] answers a shortest chain from one to another,
-//! and levels, by the ids of lots. Calls that answer `AllocError` do so only for want of memory.
+//! these, for every tester. Calls that answer `AllocError` do so only for want of memory.
 
-mod access;
 mod boxes;
 mod layer;
 mod moment;
 mod near;
-mod numbered;
 mod owner;
 
-pub use access::{Access, Levels};
 pub use boxes::LotBoxes;
 pub use layer::moved;
 pub use moment::{Moment, is_there};

@@ -28,4 +28,4 @@ mod subdivide;
 pub use child::Child;
 pub use fault::ParcelFault;
 pub use parcels::Parcels;
-pub use rp_lotindex::{Access, Levels};
+pub use rp_rows::{Access, Levels};

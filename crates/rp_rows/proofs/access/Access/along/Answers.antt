@@ -2,9 +2,9 @@ use Rattle.std.proofs.Common.{ℕ, ◌<◌, length, ap, ap₂, ◌∙◌, arith}
 use Rattle.rp_geometry.specs.parts.Levels.{levels_along, chain_along}
 use Rattle.rp_model.specs.states.State.{most_kept_parts}
 use Rattle.rp_model.specs.commands.Verdict.{access_lines, level_lines}
-use Rattle.rp_lotindex.specs.Access.{told_chain, told_levels}
-use Rattle.rp_lotindex.proofs.AccessLines.{route_within, route_few, both_told}
-use Rattle.rp_lotindex.proofs.access.Access.along.Goals as goal
+use Rattle.rp_rows.specs.Access.{told_chain, told_levels}
+use Rattle.rp_rows.proofs.AccessLines.{route_within, route_few, both_told}
+use Rattle.rp_rows.proofs.access.Access.along.Goals as goal
 
 pub named_chain-requires-clause-within : goal.named_chain-requires-clause-within
 named_chain-requires-clause-within c =

@@ -8,7 +8,7 @@ use Rattle.rp_language.specs.Name.{Label}
 use Rattle.rp_access.specs.Route.{Numbers}
 use Rattle.rp_lotindex.specs.Near.{AreWithin}
 use Rattle.rp_lotindex.proofs.Places.{place_within}
-use Rattle.rp_lotindex.proofs.numbered.named_chain.Goals as goal
+use Rattle.rp_rows.proofs.numbered.named_chain.Goals as goal
 
 pub loop-number-preserved : goal.loop-number-preserved
 loop-number-preserved c =

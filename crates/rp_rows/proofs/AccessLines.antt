@@ -13,7 +13,7 @@ use Rattle.rp_access.proofs.Routes.{route_below}
 use Rattle.rp_access.proofs.Short.{chain_is_short}
 use Rattle.rp_access.proofs.Computed.{levels_are_computed_spec, chain_is_computed_spec}
 use Rattle.rp_lotindex.specs.Near.{AreWithin}
-use Rattle.rp_lotindex.specs.Access.{told_levels}
+use Rattle.rp_rows.specs.Access.{told_levels}
 
 -- ---- by their ids
 

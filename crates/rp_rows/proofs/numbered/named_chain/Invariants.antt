@@ -1,7 +1,7 @@
 use Rattle.std.proofs.Common.{◌≡◌, length, take}
 use Rattle.std.specs.Prelude.{filter_map}
 use Rattle.std.specs.List.{slice_get}
-use Rattle.rp_lotindex.proofs.numbered.named_chain.Given as goal
+use Rattle.rp_rows.proofs.numbered.named_chain.Given as goal
 
 -- the ids of the numbers so far
 abbrev pub invariant-loop-number : goal.invariant-loop-number

@@ -1,7 +1,7 @@
 use Rattle.std.proofs.Common.{◌≡◌, ◌++◌, drop}
 use Rattle.rp_model.specs.commands.Verdict.{level_lines}
-use Rattle.rp_lotindex.specs.Access.{told_levels}
-use Rattle.rp_lotindex.proofs.numbered.named_levels.Given as goal
+use Rattle.rp_rows.specs.Access.{told_levels}
+use Rattle.rp_rows.proofs.numbered.named_levels.Given as goal
 
 -- the levels of the ids still to come are left
 abbrev pub invariant-loop-number : goal.invariant-loop-number

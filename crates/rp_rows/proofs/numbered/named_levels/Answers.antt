@@ -1,9 +1,9 @@
 use Rattle.std.proofs.Common.{◌+◌, ◌<◌, [], ◌∷◌, length, drop, get_or, None, ap, ◌∙◌, arith}
 use Rattle.std.proofs.lemmas.List.{drop_more}
 use Rattle.rp_algebra.proofs.Lists.{drop_item}
-use Rattle.rp_lotindex.proofs.AccessLines.{level_told, level_passed}
-use Rattle.rp_lotindex.proofs.numbered.named_levels.Goals as goal
-use Rattle.rp_lotindex.proofs.numbered.named_levels.Goals.{in-Some+in_ok-push, in_default}
+use Rattle.rp_rows.proofs.AccessLines.{level_told, level_passed}
+use Rattle.rp_rows.proofs.numbered.named_levels.Goals as goal
+use Rattle.rp_rows.proofs.numbered.named_levels.Goals.{in-Some+in_ok-push, in_default}
 
 pub loop-number-preserved : goal.loop-number-preserved
 loop-number-preserved c =

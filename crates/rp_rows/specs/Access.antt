@@ -3,7 +3,7 @@ use Rattle.std.specs.Prelude.{ℕ, ◌-◌, List, [], ◌∷◌, ◌++◌, map, 
 use Rattle.rp_language.specs.Name.{Label}
 use Rattle.rp_space.specs.Listed.{Listed}
 use Rattle.rp_model.specs.commands.Verdict.{Verdict}
-use Rattle.rp_lotindex.specs.declared.access.Access.{Access}
+use Rattle.rp_rows.specs.declared.access.Access.{Access}
 
 -- the verdict lines of a chain, if there is one
 abbrev pub told_chain : Option (Listed Label) → List Verdict
