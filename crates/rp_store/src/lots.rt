@@ -11,6 +11,7 @@ ghost use Rattle.rp_store.specs.Kept.{AreFew, has_point};
 
 use crate::forms::Forms;
 use crate::hulls::{boxes_of, hull_of};
+use crate::limits::MAX_KEPT_PARTS;
 use rp_boxindex::Watch;
 use rp_history::{Birth, History};
 use rp_lotindex::{Holder, LotBoxes, Moment, Reach};
@@ -18,9 +19,6 @@ use rp_space::{Listed, Name, Point};
 use std::alloc::{AllocError, Global};
 use std::fmt;
 use std::marker::Model;
-
-/// The most parts under all lots together.
-const MAX_PARTS: usize = 65536;
 
 /// All lots that were ever registered, in the order of registration, with their forms: at most 65,536 lots, with at
 /// most 65,536 parts together. Their ids are distinct, and around each there is a box in an index.
@@ -149,7 +147,7 @@ impl<F: Forms> Lots<F> {
     pub fn have_room_for(&self, parts: usize) -> bool
         ensures { result ≡ nat_le (parts_under_lots self.now + parts) most_kept_parts }
     {
-        parts <= MAX_PARTS - self.parts
+        parts <= MAX_KEPT_PARTS - self.parts
     }
 
     /// Ends the lots of the ids `ends` at the line, as far as they are live, and lets others be born in their place,
