@@ -1,11 +1,14 @@
 //! What keeps a register, for the rows that change it.
-ghost use Rattle.std.specs.Prelude.{◌≡◌, ◌+◌, ◌&&◌, length, nat_le};
+ghost use Rattle.std.specs.Prelude.{◌≡◌, ◌+◌, ◌&&◌, filter, length, nat_le};
 ghost use Rattle.rp_walks.specs.Form.{common_nearby};
-ghost use Rattle.rp_model.specs.states.State.{parts_in, parts_under_names, most_names, most_kept_parts};
+ghost use Rattle.rp_model.specs.states.State.{lots_of_layer, parts_in, parts_under_names, most_names, most_kept_parts};
+ghost use Rattle.rp_model.specs.commands.Row.{owner_line};
+ghost use Rattle.rp_lotindex.specs.Owner.{is_there, owner_verdict};
 ghost use Rattle.rp_tester.specs.Comes.{Comes};
 
+use rp_lotindex::Moment;
 use rp_lots::Keeper;
-use rp_space::Name;
+use rp_space::{Name, Point};
 use rp_tester::{Named, Stopped, Tests};
 use std::alloc::Global;
 
@@ -31,6 +34,11 @@ pub trait Registry<T: Tests>: Overlaps<T> + Named<T> {
     /// The present layer.
     fn layer(&self) -> Name
         ensures { result ≡ (Self.state self.now).layer };
+
+    /// The first lot of the present layer, of those that are there at `moment`, that has `point`. `None` exactly where
+    /// there is none.
+    fn owner(&self, moment: Moment, point: &Point) -> Option<Name>
+        ensures { owner_verdict result ≡ owner_line (lots_of_layer (Self.state self.now).layer (filter (is_there moment) (Self.state self.now).lots)) point.now };
 
     /// Whether one more name may stand for the form.
     fn have_room_for_name(&self, form: &T::Form) -> bool

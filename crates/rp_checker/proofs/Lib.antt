@@ -1,5 +1,4 @@
 pub mod Ahead
 pub mod Numbered
 pub mod States
-pub mod ToldLemmas
 pub mod Whole

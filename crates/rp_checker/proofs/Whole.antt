@@ -24,7 +24,7 @@ use Rattle.rp_checker.specs.Found.{found_of, TellsRight}
 use Rattle.rp_checker.specs.Marks.{behind_mark}
 use Rattle.rp_checker.specs.declared.report.Found.{Found}
 use Rattle.rp_checker.specs.declared.report.Found.TheVariants.{Accepted, Wrong}
-use Rattle.rp_checker.proofs.States.{later_on_lines}
+use Rattle.rp_ledger.proofs.States.{later_by_parts}
 
 -- the number of the last answer, and what is kept after it
 abbrev pub progress : ℕ → PlainState → Progress
@@ -58,7 +58,7 @@ begins lines v start t first told behind =
 
 -- the next number is above all births and ends
 pub going_late : (lines : List (List ℕ)) (v : Version) (last : ℕ) (p : PlainState) (t : Trail) → IsGoing lines v last p t → IsLaterThan (last + 1) (state_of_parts p)
-going_late lines v last p t g = subst (λ (n : ℕ). IsLaterThan n (state_of_parts p)) (sym (add-one last)) (later_on_lines (suc last) g.sets p g.agrees.late g.agrees.plain)
+going_late lines v last p t g = subst (λ (n : ℕ). IsLaterThan n (state_of_parts p)) (sym (add-one last)) (later_by_parts (suc last) g.sets p g.agrees.late g.agrees.plain)
 
 -- the room that is needed while a line is left
 needs_room : (room n : ℕ) → suc n ≤ room → (k : ℕ) × (room ≡ suc k) × (n ≤ k)

@@ -3,6 +3,7 @@ ghost use Rattle.std.specs.Prelude.{◌≡◌, ◌+◌, ◌<◌, ◌∷◌, [], 
 ghost use Rattle.std.specs.List.{AllByRecursion};
 ghost use Rattle.rp_command.specs.Versions.{version_of};
 ghost use Rattle.rp_command.specs.Views.{child_of, command_of, expression_of, fault_of, line_of};
+ghost use Rattle.rp_geometry.specs.parts.Parts.{IsCheckedPart};
 ghost use Rattle.rp_geometry.specs.sections.Trace.{IsHeight};
 ghost use Rattle.rp_language.specs.Expression.{IsKeptExpression, expressions_of, first_unknown_among, heights_of, HasFewChildren};
 ghost use Rattle.rp_language.specs.Grammar.{bad, reading};
@@ -13,14 +14,15 @@ ghost use Rattle.rp_reports.specs.Check.{Trail as ModelTrail, limit_allowed, fol
 ghost use Rattle.rp_walks.specs.Walk.{Outcome};
 ghost use Rattle.rp_tester.specs.Comes.{StopsBy};
 ghost use Rattle.rp_checker.specs.Answers.{Answers, IsRead, echo_with};
-ghost use Rattle.rp_register.specs.Kept.{IsSoundOnLines, ComesFromKnown};
-ghost use Rattle.rp_register.specs.Replies.{change_in, Replies};
+ghost use Rattle.rp_ledger.specs.Taken.{IsTaken};
+ghost use Rattle.rp_register.specs.Followed.{change_followed, IsFollowed};
 
 use crate::halt::Halt;
 use crate::lines::{follow_limit, follow_verdict, follow_verdicts};
-use crate::rows::carry_out;
+use crate::rows::carried_out;
 use rp_command::{Command, Expr, Line, Version, Why};
-use rp_register::{Register, Reply};
+use rp_ledger::Reply;
+use rp_register::{Followed, Register};
 use rp_rows::{RowEnd, one_line};
 use rp_space::Name;
 use rp_syntax::read_line;
@@ -146,21 +148,20 @@ fn follow_reply(
     register: &mut Register,
     n: u32,
     allowed: bool,
-    reply: Reply,
+    followed: Followed,
     trail: &mut Trail<'_>,
 ) -> Result<(), Halt>
     requires later { IsLaterThan n (state_of_parts register.old) }
-    requires known { ComesFromKnown register.old (change_in reply) }
-    requires sound { IsSoundOnLines (changed n register.old (change_in reply)) }
-    ensures { (o : Outcome ModelTrail ModelReply) → Replies (Ok reply) trail.old o → Answers (λ _. register.new) result trail.new (follow_walk n register.old allowed o) }
+    requires taken { IsTaken IsCheckedPart n register.old (change_followed followed) }
+    ensures { (o : Outcome ModelTrail ModelReply) → IsFollowed (Ok followed) trail.old o → Answers (λ _. register.new) result trail.new (follow_walk n register.old allowed o) }
 {
     if allowed && trail.tells_limit() {
         return follow_limit(trail);
     }
-    match reply {
-        Reply::Told(lines) => follow_verdicts(alloc, lines.items(), trail),
-        Reply::Unshown(number) => Err(Halt::Wrong(number)),
-        Reply::Changed(change) => {
+    match followed {
+        Followed::Replied(Reply::Told(lines)) => follow_verdicts(alloc, lines.items(), trail),
+        Followed::Unshown(number) => Err(Halt::Wrong(number)),
+        Followed::Replied(Reply::Changed(change)) => {
             follow_verdict(alloc, &Verdict::Ok, trail)?;
             register.apply(alloc, n, change)?;
             Ok(())
@@ -174,20 +175,20 @@ fn follow_row(
     register: &mut Register,
     n: u32,
     allowed: bool,
-    row: Result<Reply, RowEnd>,
+    row: Result<Followed, RowEnd>,
     trail: &mut Trail<'_>,
 ) -> Result<(), Halt>
     requires later { IsLaterThan n (state_of_parts register.old) }
-    requires known { IfOk row (λ reply. ComesFromKnown register.old (change_in reply)) }
-    requires sound { IfOk row (λ reply. IsSoundOnLines (changed n register.old (change_in reply))) }
-    ensures { (o : Outcome ModelTrail ModelReply) → Replies row trail.old o → Answers (λ _. register.new) result trail.new (follow_walk n register.old allowed o) }
+    requires taken { IfOk row (λ followed. IsTaken IsCheckedPart n register.old (change_followed followed)) }
+    ensures { (o : Outcome ModelTrail ModelReply) → IsFollowed row trail.old o → Answers (λ _. register.new) result trail.new (follow_walk n register.old allowed o) }
 {
     match row {
-        Ok(reply) => follow_reply(alloc, register, n, allowed, reply, trail),
+        Ok(followed) => follow_reply(alloc, register, n, allowed, followed, trail),
         Err(RowEnd::Refused(refusal)) => {
             register.keep_sound();
             let lines = one_line(alloc, Verdict::Refused(refusal))?;
-            follow_reply(alloc, register, n, allowed, Reply::Told(lines), trail)
+            let told = Followed::Replied(Reply::Told(lines));
+            follow_reply(alloc, register, n, allowed, told, trail)
         }
         Err(RowEnd::Stopped(stopped)) => follow_stopped(allowed, stopped, trail),
     }
@@ -209,7 +210,7 @@ fn follow_command(
 {
     register.keep_sound();
     let allowed = limit_allowed(register, command);
-    let row = carry_out(alloc, register, command, trail);
+    let row = carried_out(alloc, register, command, trail);
     follow_row(alloc, register, n, allowed, row, trail)
 }
 

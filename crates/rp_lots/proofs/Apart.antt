@@ -48,14 +48,14 @@ live_counted k (l ∷ ls) = by (is_live l) (live_counted (k + 1) ls)
 
 -- ---- walks
 
+-- what follows where the two of a pair share a member, or do not
+abbrev pub apart_next : {W : Type 0} → Tester W → List (List Part) → List Pair → Bool → Walk W (Unit {0})
+apart_next tester lists ps found = elim found [ true ↦ stop taken_wrong | false ↦ apart_each tester lists ps ]
+
 module _ {W : Type 0} (tester : Tester W) (lots : List (Lot (Unit {0}))) where
   -- the pairs are shown to be apart
   abbrev shown : List Pair → Walk W (Unit {0})
   shown ps = apart_each tester (lot_parts lots) ps
-
-  -- what follows where the two lots of a pair share a member, or do not
-  abbrev shown_on : List Pair → Bool → Walk W (Unit {0})
-  shown_on ps found = elim found [ true ↦ stop taken_wrong | false ↦ shown ps ]
 
   -- the pairs of a lot with others, and then further ones
   own_shown : (k : ℕ) (js : List ℕ) → AreWithin lots js → (more : List Pair) (w : W) → shown (map (pair_of k) js ++ more) w ≡ after_first (λ _. shown more) (all_apart_from tester (parts_at lots k) (lot_parts (lots_at lots js)) w)
@@ -63,18 +63,18 @@ module _ {W : Type 0} (tester : Tester W) (lots : List (Lot (Unit {0}))) where
   own_shown k (j ∷ js) h more w =
       let item = get_some lots j h.0 in
       let m = item.0 in
-      ap (λ (qs : List Part). after_first (shown_on (map (pair_of k) js ++ more)) (common_nearby tester (parts_at lots k) qs w)) (parts_there lots j m item.1)
+      ap (λ (qs : List Part). after_first (apart_next tester (lot_parts lots) (map (pair_of k) js ++ more)) (common_nearby tester (parts_at lots k) qs w)) (parts_there lots j m item.1)
       ∙ by (common_nearby tester (parts_at lots k) m.parts w) (own_shown k js h.1 more)
       ∙ sym (ap (λ (ls : List (Lot (Unit {0}))). after_first (λ _. shown more) (all_apart_from tester (parts_at lots k) (lot_parts ls) w)) (first_there lots j m item.1 js))
     where
       Later : Type 0
       Later = (v : W) → shown (map (pair_of k) js ++ more) v ≡ after_first (λ _. shown more) (all_apart_from tester (parts_at lots k) (lot_parts (lots_at lots js)) v)
 
-      one : (found : Bool) (v : W) → Later → shown_on (map (pair_of k) js ++ more) found v ≡ after_first (λ _. shown more) (apart_on tester (parts_at lots k) (lot_parts (lots_at lots js)) found v)
+      one : (found : Bool) (v : W) → Later → apart_next tester (lot_parts lots) (map (pair_of k) js ++ more) found v ≡ after_first (λ _. shown more) (apart_on tester (parts_at lots k) (lot_parts (lots_at lots js)) found v)
       one true v later = refl
       one false v later = later v
 
-      by : (o : Outcome W Bool) → Later → after_first (shown_on (map (pair_of k) js ++ more)) o ≡ after_first (λ _. shown more) (after_first (apart_on tester (parts_at lots k) (lot_parts (lots_at lots js))) o)
+      by : (o : Outcome W Bool) → Later → after_first (apart_next tester (lot_parts lots) (map (pair_of k) js ++ more)) o ≡ after_first (λ _. shown more) (after_first (apart_on tester (parts_at lots k) (lot_parts (lots_at lots js))) o)
       by (done found v) later = one found v later
       by (stopped s v) later = refl
 
@@ -144,13 +144,10 @@ pub none_meet : {W : Type 0} (tester : Tester W) (lists : List (List Part)) (ps 
 none_meet tester lists [] found w h = refl
 none_meet {W = W} tester lists (p ∷ ps) found w h = by (common_nearby tester (get_or lists p.first []) (get_or lists p.second []) w) h (λ more v. none_meet tester lists ps more v)
   where
-    abbrev next : Bool → Walk W (Unit {0})
-    next b = elim b [ true ↦ stop taken_wrong | false ↦ apart_each tester lists ps ]
-
     Later : Type 0
     Later = (more : List Bool) (v : W) → ((u : W) → apart_each tester lists ps v ≡ stopped taken_wrong u → ⊥) → apart_each tester lists ps v ≡ after_first (λ _. pass tt) (meet_each tester Overlap lists more ps v)
 
-    by : (o : Outcome W Bool) → ((u : W) → after_first next o ≡ stopped taken_wrong u → ⊥) → Later → after_first next o ≡ after_first (λ _. pass tt) (after_first (λ more. meet_each tester Overlap lists more ps) (after_first (λ b. pass (found ++ b ∷ [])) o))
+    by : (o : Outcome W Bool) → ((u : W) → after_first (apart_next tester lists ps) o ≡ stopped taken_wrong u → ⊥) → Later → after_first (apart_next tester lists ps) o ≡ after_first (λ _. pass tt) (after_first (λ more. meet_each tester Overlap lists more ps) (after_first (λ b. pass (found ++ b ∷ [])) o))
     by (done true v) k later = absurd (k v refl)
     by (done false v) k later = later (found ++ false ∷ []) v k
     by (stopped s v) k later = refl

@@ -41,16 +41,3 @@ form_taken m e came r old begun walked new is h t =
 pub op_fails : (fault : OpFault) (m : Meaning (List Part)) (e : Expression) (old new : Work) → Makes {A = List Part} (λ f. f) (Err fault) old new (form first_tester m e) → MakesForm {A = List Part} (λ f. f) (Err (fault_of_form fault)) old new (form first_tester m e)
 op_fails Limit m e old new h = h
 op_fails (Memory x) m e old new h = h
-
--- parts that agree with a set are few
-short_if : (o : Option (List Part)) (s : Option Shape) → Agree IsPart o s → IfSome o (λ ps. length ps ≤ most_parts)
-short_if None s h = tt
-short_if (Some ps) (Some s) h = h.all.few
-short_if (Some ps) None h = absurd h
-
--- names and live lots stand for short lists of parts
-pub stand_short : (m : Meaning (List Part)) (sets : Meaning Shape) → MeaningsAgree IsPart m sets → StandShort m
-stand_short m sets h = record {
-  names = λ x. short_if (m.of_name x) (sets.of_name x) (h.names x);
-  lots = λ x. short_if (m.of_lot x) (sets.of_lot x) (h.lots x);
-}

@@ -1,9 +1,5 @@
-mod AccessLemmas
-mod Changes
-mod ChildLemmas
 mod Formed
 mod LaterLemmas
-mod LotLemmas
 mod Names
 mod RowLemmas
 mod Told

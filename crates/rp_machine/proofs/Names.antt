@@ -18,29 +18,6 @@ use Rattle.rp_states.proofs.Listing.{all_unmapped}
 use Rattle.rp_states.proofs.Plain.{image_sums}
 use Rattle.rp_store.specs.Kept.{kept_under, state_with, IsNewName}
 
--- a region that is kept under a new name, for which there is room, leaves a sound state
-pub named_is_sound : (y : Label) (ks : List (Kept (Unit {0}))) (lots : List (Lot (Unit {0}))) (x : Label) (ps : List Part) → IsSound (state_of_parts (state_with y ks lots)) → IsNewName ks x ps → IsRegion ps → IsSound (state_of_parts (state_with y (ks ++ kept_under x ps ∷ []) lots))
-named_is_sound y ks lots x ps sound new region =
-    let k = kept_under x ps in
-    let name = λ (j : Kept Shape). j.name in
-    let names = images_twice kept_of_parts name (ks ++ k ∷ []) ∙ map-append (λ (j : Kept (Unit {0})). j.name) ks (k ∷ []) in
-    let distinct = subst (λ (xs : List Label). IsTrue (are_distinct xs)) (images_twice kept_of_parts name ks) sound.names_distinct in
-    let keeps = λ (j : Kept Shape). AreOf IsPart j.set j.parts in
-    record {
-      names_keep_parts = subst (AllByRecursion keeps) (sym (map-append kept_of_parts ks (k ∷ []))) (all_append keeps (map kept_of_parts ks) (kept_of_parts k ∷ []) sound.names_keep_parts (record { all = region; members = ((λ p m. m), λ p m. m) }, tt));
-      lots_keep_parts = sound.lots_keep_parts;
-      names_distinct = subst (λ (xs : List Label). IsTrue (are_distinct xs)) (sym names) (distinct_together (names_of ks) (x ∷ []) distinct refl (new.fresh, tt));
-      ids_distinct = sound.ids_distinct;
-      live_lots_apart = sound.live_lots_apart;
-      lots_nonempty = sound.lots_nonempty;
-      few_names = subst (λ (n : ℕ). n ≤ most_names) (sym (length-map (ks ++ k ∷ []) kept_of_parts ∙ length_push ks k)) new.few_names;
-      few_parts_under_names = subst (λ (n : ℕ). n ≤ most_kept_parts) (sym (image_sums kept_of_parts (λ (j : Kept Shape). length j.parts) (ks ++ k ∷ []) ∙ sum_by_push (λ (j : Kept (Unit {0})). length j.parts) ks k)) new.few_parts;
-      few_parts_under_lots = sound.few_parts_under_lots;
-      ends_after_birth = sound.ends_after_birth;
-      origins_before = sound.origins_before;
-      origins_of_layer = sound.origins_of_layer;
-    }
-
 -- a region agrees with the shape of its parts
 region_agrees : (o : Option (List Part)) → IfSome o IsRegion → Agree IsPart o (option_map shape_of_parts o)
 region_agrees None h = tt

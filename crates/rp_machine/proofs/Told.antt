@@ -1,6 +1,7 @@
 -- What was walked of a command, as the answer and the state that are computed.
 use Rattle.std.proofs.Common.{◌≡◌, ℕ, List, Option, Some, None, Result, Ok, Err, refl, sym, ap, ◌∙◌}
 use Rattle.std.specs.Prelude.{IfSome, IsNone, OnOk}
+use Rattle.rp_geometry.specs.sets.Shape.{Part}
 use Rattle.rp_language.specs.Expression.{Command}
 use Rattle.rp_language.specs.Grammar.{Version, Reading, command, reading}
 use Rattle.rp_walks.specs.Walk.{Stop, Outcome, stopped, Work, no_work, first_tester}
@@ -13,8 +14,10 @@ use Rattle.rp_tester.specs.declared.stopped.Stopped.{Stopped}
 use Rattle.rp_tester.specs.Comes.{stop_of, StopsBy}
 use Rattle.rp_rows.specs.declared.reply.RowEnd.{RowEnd}
 use Rattle.rp_rows.specs.declared.reply.RowEnd.TheVariants.{Refused, Stopped as StoppedEnd}
-use Rattle.rp_machine.specs.declared.reply.Reply.{Reply as CodeReply}
-use Rattle.rp_machine.specs.Replies.{Runs, IsWant, verdicts_of_row, proofs_of_row}
+use Rattle.rp_ledger.specs.declared.reply.Reply.{Reply as CodeReply}
+use Rattle.rp_ledger.specs.declared.reply.Reply.TheVariants.{Told, Changed}
+use Rattle.rp_ledger.specs.Rows.{Replies}
+use Rattle.rp_machine.specs.Replies.{made_by_row, IsWant, verdicts_of_row, proofs_of_row}
 
 -- ---- a line as it is read
 
@@ -42,29 +45,31 @@ is_stopped {A} e w o there h = by (stop_of e) there h
     by None there h = absurd (there refl)
     by (Some why) there h = (why, h)
 
--- it is that of the row that was run
-told_of_run : (n : ℕ) (line : List ℕ) (before after : PlainState) (r : Result CodeReply RowEnd) (w : Work) (o : Outcome Work Reply) → (IsWant r → ⊥) → Runs r n w before after o
+-- it is that of the row that was made
+told_of_row : (n : ℕ) (line : List ℕ) (r : Result (CodeReply (List Part)) RowEnd) (w : Work) (o : Outcome Work Reply) → (IsWant r → ⊥) → Replies (λ f. f) r w o
     → record { number = n; echo = line; proofs = proofs_of_row r w.proofs; verdicts = verdicts_of_row r } ≡ told n line o
-told_of_run n line before after (Ok r) w o there h = ap (told n line) (sym h.says)
-told_of_run n line before after (Err (Refused r)) w o there h = ap (told n line) (sym h.0)
-told_of_run n line before after (Err (StoppedEnd e)) w o there h = ap (told n line) (sym (is_stopped e w o there h.0).1)
+told_of_row n line (Ok (Told lines)) w o there h = ap (told n line) (sym h)
+told_of_row n line (Ok (Changed c)) w o there h = ap (told n line) (sym h)
+told_of_row n line (Err (Refused r)) w o there h = ap (told n line) (sym h)
+told_of_row n line (Err (StoppedEnd e)) w o there h = ap (told n line) (sym (is_stopped e w o there h).1)
 
--- the answer of a row that was run is the one that is computed
-pub row_answered : (s after : PlainState) (n : ℕ) (line : List ℕ) (c : Command) (r : Result CodeReply RowEnd) (w : Work) → (IsWant r → ⊥) → Runs r n w s after (row first_tester s c no_work)
+-- the answer of a row that was made is the one that is computed
+pub row_answered : (s : PlainState) (n : ℕ) (line : List ℕ) (c : Command) (r : Result (CodeReply (List Part)) RowEnd) (w : Work) → (IsWant r → ⊥) → Replies (λ f. f) r w (row first_tester s c no_work)
     → record { number = n; echo = line; proofs = proofs_of_row r w.proofs; verdicts = verdicts_of_row r } ≡ answer_read s n line (command c)
 unfolding walked
-row_answered s after n line c r w there h = told_of_run n line s after r w (row first_tester s c no_work) there h
+row_answered s n line c r w there h = told_of_row n line r w (row first_tester s c no_work) there h
 
 -- the state after what a row comes to
-state_of_run : (n : ℕ) (before after : PlainState) (r : Result CodeReply RowEnd) (w : Work) (o : Outcome Work Reply) → (IsWant r → ⊥) → Runs r n w before after o → after ≡ changed n before (change_walked o)
-state_of_run n before after (Ok r) w o there h = h.state ∙ ap (λ (o : Outcome Work Reply). changed n before (change_walked o)) (sym h.says)
-state_of_run n before after (Err (Refused r)) w o there h = h.1 ∙ ap (λ (o : Outcome Work Reply). changed n before (change_walked o)) (sym h.0)
-state_of_run n before after (Err (StoppedEnd e)) w o there h = h.1 ∙ ap (λ (o : Outcome Work Reply). changed n before (change_walked o)) (sym (is_stopped e w o there h.0).1)
+state_of_row : (n : ℕ) (s : PlainState) (r : Result (CodeReply (List Part)) RowEnd) (w : Work) (o : Outcome Work Reply) → (IsWant r → ⊥) → Replies (λ f. f) r w o → changed n s (made_by_row r) ≡ changed n s (change_walked o)
+state_of_row n s (Ok (Told lines)) w o there h = ap (λ (o : Outcome Work Reply). changed n s (change_walked o)) (sym h)
+state_of_row n s (Ok (Changed c)) w o there h = ap (λ (o : Outcome Work Reply). changed n s (change_walked o)) (sym h)
+state_of_row n s (Err (Refused r)) w o there h = ap (λ (o : Outcome Work Reply). changed n s (change_walked o)) (sym h)
+state_of_row n s (Err (StoppedEnd e)) w o there h = ap (λ (o : Outcome Work Reply). changed n s (change_walked o)) (sym (is_stopped e w o there h).1)
 
--- the state after a row that was run is the one that is computed
-pub row_changed : (s after : PlainState) (n : ℕ) (c : Command) (r : Result CodeReply RowEnd) (w : Work) → (IsWant r → ⊥) → Runs r n w s after (row first_tester s c no_work) → after ≡ state_read s n (command c)
+-- the state with the change of a row that was made is the one that is computed
+pub row_changed : (s : PlainState) (n : ℕ) (c : Command) (r : Result (CodeReply (List Part)) RowEnd) (w : Work) → (IsWant r → ⊥) → Replies (λ f. f) r w (row first_tester s c no_work) → changed n s (made_by_row r) ≡ state_read s n (command c)
 unfolding walked
-row_changed s after n c r w there h = state_of_run n s after r w (row first_tester s c no_work) there h
+row_changed s n c r w there h = state_of_row n s r w (row first_tester s c no_work) there h
 
 -- ---- what is true of an answer that is there
 

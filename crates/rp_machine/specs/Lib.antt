@@ -1,3 +1,2 @@
-pub mod Children
 pub mod Forms
 pub mod Replies

@@ -1,4 +1,4 @@
-//! The forms of the expressions of a command.
+//! The forms of expressions.
 ghost use Rattle.std.specs.Prelude.{◌≡◌, Err, IfSome, IfOk, IsNone};
 ghost use Rattle.rp_command.specs.Views.{expression_of};
 ghost use Rattle.rp_geometry.specs.sets.Shape.{shape_of_parts};
@@ -16,34 +16,9 @@ use crate::state::State;
 use rp_command::Expr;
 use rp_queries::{first_unknown, formed};
 use rp_region::{Region, Work};
-use rp_space::Name;
-use rp_tester::Named;
 use std::alloc::Global;
 
-impl Named<Work> for State {
-    ghost meaning = { parts_in };
-
-    fn keep_short(&self) {
-        self.keep_sound();
-    }
-
-    fn form_named(&self, name: &Name) -> Option<&Region> {
-        self.region_named(name)
-    }
-
-    fn form_of_lot(&self, lot: &Name) -> Option<&Region> {
-        self.region_of_lot(lot)
-    }
-}
-
 impl State {
-    /// The first name or lot of the expression, in reading order, that isn't there.
-    pub(crate) fn first_unknown(&self, region: &Expr) -> Option<Name>
-        ensures { result ≡ first_unknown (parts_in self.now) (expression_of region.now) }
-    {
-        first_unknown::<Work, State>(self, region)
-    }
-
     /// The form of an expression: its parts, made test by test in reading order, with the parts kept for names.
     /// The members of the parts are those of the expression, in which each name stands for its region.
     ///
@@ -63,7 +38,7 @@ impl State {
         ensures sound { IsSound (state_of_parts self.now) }
     {
         self.keep_sound();
-        if let Some(name) = self.first_unknown(region) {
+        if let Some(name) = first_unknown::<Work, State>(self, region) {
             return Err(FormFault::Unknown(name));
         }
         let mut walked = work.fresh(alloc);

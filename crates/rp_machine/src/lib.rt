@@ -11,10 +11,8 @@
 
 mod fault;
 mod form;
-mod lots;
+mod keeper;
 mod machine;
-mod orders;
-mod reply;
 mod rows;
 mod state;
 mod step;

@@ -52,7 +52,7 @@ impl Machine {
     {
         Ok(Machine {
             version,
-            state: State::new(alloc)?,
+            state: State::new(alloc),
         })
     }
 

@@ -1,100 +1,110 @@
-//! The row of each command: its checks and tests in order.
+//! The row of each command.
 ghost use Rattle.std.specs.Prelude.{◌≡◌};
-ghost use Rattle.rp_command.specs.Views.{expression_of, command_of};
-ghost use Rattle.rp_geometry.specs.sections.Trace.{IsHeight};
 ghost use Rattle.std.specs.List.{AllByRecursion};
-ghost use Rattle.rp_language.specs.Expression.{IsKeptExpression, expressions_of, heights_of, ask_section, HasFewChildren};
-ghost use Rattle.rp_walks.specs.Walk.{Work, first_tester};
-ghost use Rattle.rp_model.specs.states.State.{state_of_parts};
-ghost use Rattle.rp_model.specs.states.Sound.{IsLaterThan};
-ghost use Rattle.rp_model.specs.commands.Row.{row};
+ghost use Rattle.rp_command.specs.Views.{command_of};
+ghost use Rattle.rp_geometry.specs.sections.Trace.{IsHeight};
+ghost use Rattle.rp_language.specs.Expression.{IsKeptExpression, expressions_of, heights_of, HasFewChildren};
+ghost use Rattle.rp_walks.specs.Walk.{first_tester};
+ghost use Rattle.rp_model.specs.commands.Row.{row, row_access, row_audit, row_neighbours, row_section};
 ghost use Rattle.rp_rows.specs.Replies.{Tells};
-ghost use Rattle.rp_machine.specs.Replies.{Runs, reply_told};
+ghost use Rattle.rp_ledger.specs.Rows.{Replies, reply_told};
 
-use crate::reply::Reply;
 use crate::state::State;
-use rp_command::{Command, Expr};
-use rp_queries::Question;
-use rp_region::Work;
-use rp_rows::{
-    RowEnd, comparison, emptiness, membership, piece_numbers, related, row_form, shown_parts,
-    slice_lines,
-};
+use rp_boxindex::Quiet;
+use rp_command::Command;
+use rp_ledger::{Reply, Row, carry_out};
+use rp_region::{Region, Work};
+use rp_regionlots::{access, audit, neighbours};
+use rp_rows::{RowEnd, access_lines, neighbour_lines, one_line, slice_lines};
 use rp_section::section;
-use rp_text::Verdicts;
+use rp_space::Name;
+use rp_text::{Verdict, Verdicts};
 use std::alloc::Global;
 use std::thread::Threads;
 
+/// A run of at most so many pairs of lots is not split.
+const GRAIN: usize = 16;
+
 /// The reply to a question.
-fn told(asked: Result<Verdicts, RowEnd>) -> Result<Reply, RowEnd>
+fn told(asked: Result<Verdicts, RowEnd>) -> Result<Reply<Region>, RowEnd>
     ensures { result ≡ reply_told asked }
 {
     Ok(Reply::Told(asked?))
 }
 
+/// The slices of the parts of a form at a height.
+fn slices(alloc: Global, form: &Region, z: i32) -> Result<Verdicts, RowEnd>
+    requires { IsHeight z }
+    ensures { (w : Work) → Tells result w (row_section first_tester z form.now w) }
+{
+    let slices = section(alloc, form, z)?;
+    Ok(slice_lines(alloc, slices)?)
+}
+
 impl State {
-    /// Carries out the command of the line with the number `n`: its reply, or why there is none. Where there is none
-    /// the state is as it was.
+    /// Carries out a command: its reply, or why there is none. Nothing is changed yet.
     pub(crate) fn carry_out<R: Threads + Sync>(
-        &mut self,
+        &self,
         rt: &R,
         alloc: Global,
-        n: u32,
         command: &Command,
         work: &mut Work,
-    ) -> Result<Reply, RowEnd>
-        requires later { IsLaterThan n (state_of_parts self.old) }
+    ) -> Result<Reply<Region>, RowEnd>
         requires kept { AllByRecursion IsKeptExpression (expressions_of (command_of command.now)) }
         requires heights { AllByRecursion IsHeight (heights_of (command_of command.now)) }
         requires few { HasFewChildren (command_of command.now) }
-        ensures { Runs result n work.new self.old self.new (row first_tester self.old (command_of command.now) work.old) }
+        ensures { Replies (λ form. form) result work.new (row first_tester self.now (command_of command.now) work.old) }
     {
-        match command {
-            Command::Let(name, region) => self.define(alloc, *name, region, work),
-            Command::Member(region, point) => told(membership::<Work, State>(
-                alloc, self, region, point,
-            )),
-            Command::Empty(region) => told(emptiness(alloc, self, region, work)),
-            Command::Pieces(region) => told(piece_numbers(alloc, self, region, work)),
-            Command::Show(region) => told(shown_parts(alloc, self, region, work)),
-            Command::Equal(a, b) => told(comparison(alloc, self, Question::Equal, a, b, work)),
-            Command::Within(a, b) => told(comparison(alloc, self, Question::Within, a, b, work)),
-            Command::Overlap(a, b) => told(comparison(alloc, self, Question::Overlap, a, b, work)),
-            Command::Contact(a, b) => told(comparison(alloc, self, Question::Contact, a, b, work)),
-            Command::Rcc(a, b) => told(related(alloc, self, a, b, work)),
-            Command::Register(id, region) => self.register(alloc, n, *id, region, work),
-            Command::Cut(id, by, first, second) => {
-                self.cut(alloc, n, *id, by, *first, *second, work)
-            }
-            Command::Subdivide(id, entries) => self.subdivide(alloc, n, *id, entries.items(), work),
-            Command::Consolidate(new, ids) => self.consolidate(alloc, n, *new, ids.items(), work),
-            Command::Retire(id) => self.retire(n, *id),
-            Command::Neighbours(id) => told(self.neighbours(rt, alloc, *id, work)),
-            Command::History(id) => told(self.lineage(alloc, *id)),
-            Command::At(point) => told(self.owner(alloc, point)),
-            Command::Asof(line, point) => told(self.owner_then(alloc, *line, point)),
-            Command::Audit => told(self.audit(rt, alloc, work)),
-            Command::List => told(self.list(alloc)),
-            Command::Layer(layer) => self.set_layer(*layer),
-            Command::Section(region, z) => told(self.section(alloc, region, *z, work)),
-            Command::Access(from, to) => told(self.access(rt, alloc, *from, *to, work)),
+        match carry_out(alloc, self, command, work)? {
+            Row::Replied(reply) => Ok(reply),
+            Row::Neighbours(id) => told(self.neighbours(rt, alloc, id, work)),
+            Row::Audit => told(self.audit(rt, alloc, work)),
+            Row::Access(from, to) => told(self.access(rt, alloc, from, to, work)),
+            Row::Section(form, z) => told(slices(alloc, &form, z)),
         }
     }
 
-    /// `section`: the slices of the parts of the form at a height.
-    fn section(
+    /// The other live lots of the lot's layer in contact with it.
+    fn neighbours<R: Threads + Sync>(
         &self,
+        rt: &R,
         alloc: Global,
-        region: &Expr,
-        z: i32,
+        id: Name,
         work: &mut Work,
     ) -> Result<Verdicts, RowEnd>
-        requires kept { IsKeptExpression (expression_of region.now) }
-        requires height { IsHeight z }
-        ensures { Tells result work.new (row first_tester self.now (ask_section (expression_of region.now) z) work.old) }
+        ensures { Tells result work.new (row_neighbours first_tester self.now id work.old) }
     {
-        let form = row_form(alloc, self, region, work)?;
-        let slices = section(alloc, &form, z)?;
-        Ok(slice_lines(alloc, slices)?)
+        let ids = neighbours(rt, alloc, &Quiet, GRAIN, self, id, work)?;
+        Ok(neighbour_lines(alloc, ids.items())?)
+    }
+
+    /// How many live lots there are, of which no two of one layer share a point.
+    fn audit<R: Threads + Sync>(
+        &self,
+        rt: &R,
+        alloc: Global,
+        work: &mut Work,
+    ) -> Result<Verdicts, RowEnd>
+        ensures { Tells result work.new (row_audit first_tester self.now work.old) }
+    {
+        self.keep_sound();
+        let live = audit(rt, alloc, &Quiet, GRAIN, self, work)?;
+        Ok(one_line(alloc, Verdict::Clear(live))?)
+    }
+
+    /// A shortest chain of live lots of one layer from one to another, each in contact with the next, and the level of
+    /// each lot of the layer that has one.
+    fn access<R: Threads + Sync>(
+        &self,
+        rt: &R,
+        alloc: Global,
+        from: Name,
+        to: Name,
+        work: &mut Work,
+    ) -> Result<Verdicts, RowEnd>
+        ensures { Tells result work.new (row_access first_tester self.now from to work.old) }
+    {
+        let access = access(rt, alloc, &Quiet, GRAIN, self, from, to, work)?;
+        Ok(access_lines(alloc, &access)?)
     }
 }

@@ -1,23 +1,25 @@
 //! The answer to a line, and what it changes.
-ghost use Rattle.std.specs.Prelude.{◌≡◌, ◌<◌, ◌∷◌, ◌++◌, [], map, IfOk, OnOk, OnErr};
+ghost use Rattle.std.specs.Prelude.{◌≡◌, ◌<◌, ◌∷◌, ◌++◌, [], Err, map, IfOk, OnOk, OnErr};
 ghost use Rattle.std.specs.List.{AllByRecursion};
 ghost use Rattle.rp_command.specs.Views.{command_of, fault_of};
+ghost use Rattle.rp_geometry.specs.parts.Parts.{IsPart};
 ghost use Rattle.rp_geometry.specs.sections.Trace.{IsHeight};
 ghost use Rattle.rp_language.specs.Expression.{IsKeptExpression, expressions_of, heights_of, HasFewChildren};
 ghost use Rattle.rp_language.specs.Grammar.{command};
-ghost use Rattle.rp_model.specs.states.State.{state_of_parts};
+ghost use Rattle.rp_model.specs.states.State.{changed, state_of_parts};
 ghost use Rattle.rp_model.specs.states.Sound.{IsLaterThan};
 ghost use Rattle.rp_reports.specs.Report.{echoed, bad_answer};
 ghost use Rattle.rp_reports.specs.Machine.{answer_read, state_read};
 ghost use Rattle.rp_cert.specs.Lines.{line_of};
 ghost use Rattle.rp_text.specs.Views.{answer_of, verdict_of};
-ghost use Rattle.rp_machine.specs.Replies.{verdicts_of_row, proofs_of_row, IsWant};
+ghost use Rattle.rp_ledger.specs.Taken.{IsTaken};
+ghost use Rattle.rp_machine.specs.Replies.{made_by, made_by_row, verdicts_of_row, proofs_of_row, IsWant};
 
-use crate::reply::Reply;
 use crate::state::State;
 use rp_cert::Proofs;
 use rp_command::{Command, Why};
-use rp_region::Work;
+use rp_ledger::Reply;
+use rp_region::{Region, Work};
 use rp_rows::RowEnd;
 use rp_tester::Stopped;
 use rp_text::{Answer, Echo, Refusal, Verdict, Verdicts};
@@ -61,28 +63,26 @@ fn with_line(mut lines: Verdicts, verdict: Verdict) -> Verdicts
     lines
 }
 
-/// The verdict lines of a row: those of its reply, or the one line of a refusal or a change, for which there is room.
-/// Takes no memory. Answers `AllocError` only where the row does.
-fn row_lines(row: Result<Reply, RowEnd>, room: Verdicts) -> Result<Verdicts, AllocError>
+/// The verdict lines of a row that has no reply: the one line of a refusal or of a limit, for which there is room. Takes
+/// no memory. Answers `AllocError` only where the row does.
+fn end_lines(end: RowEnd, room: Verdicts) -> Result<Verdicts, AllocError>
     requires empty { room.items ≡ [] }
     requires room { 0 < room.spare }
-    ensures lines { IfOk result (λ lines. map verdict_of lines.items ≡ verdicts_of_row row) }
-    ensures there { OnOk result (¬ IsWant row) }
-    ensures want { OnErr result (IsWant row) }
+    ensures lines { IfOk result (λ lines. map verdict_of lines.items ≡ verdicts_of_row (Err end)) }
+    ensures there { OnOk result (¬ IsWant (Err end)) }
+    ensures want { OnErr result (IsWant (Err end)) }
 {
-    match row {
-        Ok(Reply::Told(lines)) => Ok(lines),
-        Ok(Reply::Done) => Ok(with_line(room, Verdict::Ok)),
-        Err(RowEnd::Refused(refusal)) => Ok(with_line(room, Verdict::Refused(refusal))),
-        Err(RowEnd::Stopped(Stopped::Memory(fault))) => Err(fault),
-        Err(
-            RowEnd::Stopped(Stopped::Wrong | Stopped::TakenWrong | Stopped::Told | Stopped::Limit),
-        ) => Ok(with_line(room, Verdict::Refused(Refusal::Limit))),
+    match end {
+        RowEnd::Refused(refusal) => Ok(with_line(room, Verdict::Refused(refusal))),
+        RowEnd::Stopped(Stopped::Memory(fault)) => Err(fault),
+        RowEnd::Stopped(Stopped::Wrong | Stopped::TakenWrong | Stopped::Told | Stopped::Limit) => {
+            Ok(with_line(room, Verdict::Refused(Refusal::Limit)))
+        }
     }
 }
 
 /// The proof lines of a row, which has done this work: none where it is stopped. Takes no memory.
-fn row_proofs(alloc: Global, row: &Result<Reply, RowEnd>, work: Work) -> Proofs
+fn row_proofs(alloc: Global, row: &Result<Reply<Region>, RowEnd>, work: Work) -> Proofs
     ensures { map line_of result.items ≡ proofs_of_row row.now work.proofs }
 {
     match row {
@@ -92,6 +92,34 @@ fn row_proofs(alloc: Global, row: &Result<Reply, RowEnd>, work: Work) -> Proofs
 }
 
 impl State {
+    /// The verdict lines of a row, whose change, if it has one, is made; there is room for one line. Takes memory for
+    /// the change alone. After `AllocError` all is as before.
+    fn follow(
+        &mut self,
+        alloc: Global,
+        n: u32,
+        row: Result<Reply<Region>, RowEnd>,
+        room: Verdicts,
+    ) -> Result<Verdicts, AllocError>
+        requires later { IsLaterThan n (state_of_parts self.old) }
+        requires taken { IfOk row (λ reply. IsTaken IsPart n self.old (made_by reply)) }
+        requires empty { room.items ≡ [] }
+        requires room { 0 < room.spare }
+        ensures lines { IfOk result (λ lines. map verdict_of lines.items ≡ verdicts_of_row row) }
+        ensures state { OnOk result (self.new ≡ changed n self.old (made_by_row row)) }
+        ensures there { OnOk result (¬ IsWant row) }
+        ensures unchanged { OnErr result (self.new ≡ self.old) }
+    {
+        match row {
+            Ok(Reply::Told(lines)) => Ok(lines),
+            Ok(Reply::Changed(change)) => {
+                self.apply(alloc, n, change)?;
+                Ok(with_line(room, Verdict::Ok))
+            }
+            Err(end) => end_lines(end, room),
+        }
+    }
+
     /// The answer to a line that reads as the command, and what it changes. The memory of the answer is taken before
     /// anything changes.
     pub(crate) fn answer<R: Threads + Sync>(
@@ -110,12 +138,13 @@ impl State {
         ensures state { OnOk result (self.new ≡ state_read self.old n (command (command_of asked.now))) }
         ensures unchanged { OnErr result (self.new ≡ self.old) }
     {
+        self.keep_sound();
         let echo = Echo::copy_of(alloc, line)?;
         let room = room_for_one(alloc)?;
         let mut work = Work::new(alloc);
-        let row = self.carry_out(rt, alloc, n, asked, &mut work);
+        let row = self.carry_out(rt, alloc, asked, &mut work);
         let proofs = row_proofs(alloc, &row, work);
-        let verdicts = row_lines(row, room)?;
+        let verdicts = self.follow(alloc, n, row, room)?;
         Ok(Answer {
             n,
             echo,

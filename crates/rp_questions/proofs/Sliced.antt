@@ -16,7 +16,7 @@ use Rattle.rp_tester.specs.declared.stopped.Stopped.TheVariants.{Wrong}
 use Rattle.rp_tester.specs.Comes.{StopsBy, Comes}
 use Rattle.rp_trail.specs.Slices.{follow_slice_lines}
 use Rattle.rp_tester.proofs.Left.{stops_on}
-use Rattle.rp_register.specs.Replies.{IsUnshown}
+use Rattle.rp_register.specs.Followed.{IsUnshown}
 use Rattle.rp_questions.specs.Slices.{follow_section_lines}
 
 -- slices that are those told are as many

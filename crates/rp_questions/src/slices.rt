@@ -1,10 +1,8 @@
 //! The row of a horizontal section.
 ghost use Rattle.std.specs.Prelude.{◌≡◌, ◌≤◌, IfOk, IfErr, OnOk, length, map};
-ghost use Rattle.rp_command.specs.Views.{expression_of};
 ghost use Rattle.rp_geometry.specs.parts.Parts.{most_parts};
 ghost use Rattle.rp_geometry.specs.sections.Trace.{IsHeight};
-ghost use Rattle.rp_language.specs.Expression.{IsKeptExpression, ask_section};
-ghost use Rattle.rp_model.specs.commands.Row.{row, row_section};
+ghost use Rattle.rp_model.specs.commands.Row.{row_section};
 ghost use Rattle.rp_reports.specs.Text.{verdict_text};
 ghost use Rattle.rp_reports.specs.Check.{taken, slices_told, follow_line, line_tester};
 ghost use Rattle.rp_cert.specs.Section.{slice_shown};
@@ -12,44 +10,33 @@ ghost use Rattle.rp_tester.specs.Comes.{Comes};
 ghost use Rattle.rp_trail.specs.Stops.{IsWrongOrMemory};
 ghost use Rattle.rp_text.specs.Views.{verdict_of};
 ghost use Rattle.rp_questions.specs.Slices.{follow_section_lines};
-ghost use Rattle.rp_register.specs.Replies.{Replies};
+ghost use Rattle.rp_register.specs.Followed.{IsFollowed};
 
-use rp_command::Expr;
-use rp_register::{Register, Reply};
-use rp_rows::{RowEnd, row_form, slice_lines};
+use rp_ledger::Reply;
+use rp_register::Followed;
+use rp_rows::{RowEnd, slice_lines};
 use rp_tester::Stopped;
 use rp_text::{Verdict, write_verdict};
 use rp_trail::{Form, Slices, Trail, slices};
 use std::alloc::Global;
 
-/// `section`: the slices of the parts of the form of `region` at the height `z`. Which these are the next lines of
-/// `trail` say, behind the one that tells how many there are; none of them is taken. `Unshown` where one of them is
-/// missing, or shows no slice that passes.
+/// `section`: the slices of the parts of `form` at the height `z`. Which these are the next lines of `trail` say, behind
+/// the one that tells how many there are; none of them is taken. `Unshown` where one of them is missing, or shows no
+/// slice that passes.
 pub fn section(
     alloc: Global,
-    register: &Register,
-    region: &Expr,
+    form: &Form,
     z: i32,
-    trail: &mut Trail<'_>,
-) -> Result<Reply, RowEnd>
-    requires kept { IsKeptExpression (expression_of region.now) }
-    requires height { IsHeight z }
-    ensures { Replies result trail.new (row line_tester register.now (ask_section (expression_of region.now) z) trail.old) }
-{
-    let form = row_form(alloc, register, region, trail)?;
-    shown_slices(alloc, &form, z, trail)
-}
-
-/// The slices of the parts of a form, as the next lines show them.
-fn shown_slices(alloc: Global, form: &Form, z: i32, trail: &Trail<'_>) -> Result<Reply, RowEnd>
+    trail: &Trail<'_>,
+) -> Result<Followed, RowEnd>
     requires few { length form.now.items ≤ most_parts }
     requires height { IsHeight z }
-    ensures { Replies result trail.now (row_section line_tester z form.now.items trail.now) }
+    ensures { IsFollowed result trail.now (row_section line_tester z form.now.items trail.now) }
 {
     let mut ahead = trail.ahead();
     match follow_slices(alloc, form, z, &mut ahead) {
-        Ok(slices) => Ok(Reply::Told(slice_lines(alloc, slices)?)),
-        Err(Stopped::Wrong) => Ok(Reply::Unshown(ahead.number())),
+        Ok(slices) => Ok(Followed::Replied(Reply::Told(slice_lines(alloc, slices)?))),
+        Err(Stopped::Wrong) => Ok(Followed::Unshown(ahead.number())),
         Err(stopped) => Err(RowEnd::Stopped(stopped)),
     }
 }

@@ -40,6 +40,6 @@ module _ (s : PlainState) (sound : IsSound (state_of_parts s)) where
       none : (v : Work) → apart_each first_tester (lot_parts s.lots) pairs u ≡ stopped taken_wrong v → ⊥
       none v h = no_line (row_audit first_tester s w) v (limited w) (left ∙ ap (after_first (λ _. told)) h)
 
-      once : (o : Outcome Work (List Bool)) → after_first (λ _. told) (after_first (λ _. pass tt) o) ≡ after_first (λ _. told) o
+      once : (o : Outcome Work (List Bool)) → after_first (λ _. told) (after_first (λ _. pass {A = Unit {0}} tt) o) ≡ after_first (λ _. told) o
       once (done met v) = refl
       once (stopped why v) = refl

@@ -50,8 +50,13 @@ impl<W: Watch> Judge for Judging<'_, W> {
     }
 }
 
-/// Of each pair, in order, whether its two lots meet, judged in halves, with the proof lines of all.
-pub(crate) fn meet_in_halves<R: Threads + Sync, W: Watch>(
+/// Of each of `pairs`, in order, whether the two lots meet whose forms stand in `forms` at its places, as `reach` says,
+/// with the proof lines of all in `work`. Only those pairs of parts are tested whose boxes let them meet, up to the
+/// first that does; nothing is counted.
+///
+/// The pairs are judged in halves, of which one of at most `grain` is not split; `watch` is told of each as its tests
+/// begin. The answers and the proof lines are the same for every grain.
+pub fn meet_in_halves<R: Threads + Sync, W: Watch>(
     rt: &R,
     alloc: Global,
     watch: &W,
@@ -74,8 +79,7 @@ pub(crate) fn meet_in_halves<R: Threads + Sync, W: Watch>(
     Ok(met)
 }
 
-/// What the tests of each pair show, in order. They are judged in halves, and a run of at most `grain` is not split;
-/// the watch is told of each pair as its tests begin.
+/// What the tests of each pair show, in order.
 fn judge_pairs<R: Threads + Sync, W: Watch>(
     rt: &R,
     alloc: Global,

@@ -1,4 +1,1 @@
-pub mod Applied
-pub mod Known
-pub mod Present
 pub mod Turns

@@ -1,5 +1,5 @@
-//! The register as what keeps lots, for the rows that are written once.
-ghost use Rattle.std.specs.Prelude.{◌≡◌, ◌<◌, ◌≤◌, ℕ, ◌+◌, ◌&&◌, IfOk, length, map, filter, drop, nat_le};
+//! The register as what keeps names, lots and the present layer, for the rows that stand once.
+ghost use Rattle.std.specs.Prelude.{◌≡◌, ◌<◌, ◌≤◌, ℕ, ◌+◌, ◌&&◌, IfOk, length, map, filter, drop, nat_le, option_copied, option_map};
 ghost use Rattle.std.specs.List.{AllByRecursion};
 ghost use Rattle.rp_geometry.specs.parts.Parts.{most_parts};
 ghost use Rattle.rp_walks.specs.Walk.{stopped, limit_met, most_tests};
@@ -7,19 +7,43 @@ ghost use Rattle.rp_walks.specs.Form.{common_nearby};
 ghost use Rattle.rp_tester.specs.Comes.{Comes};
 ghost use Rattle.rp_reports.specs.Check.{Trail as ModelTrail, follow_count, line_tester};
 ghost use Rattle.rp_space.specs.Boxes.{integer_box};
-ghost use Rattle.rp_model.specs.states.State.{bare_lot, parts_in, parts_under_names, parts_under_lots, most_names, most_kept_parts};
-ghost use Rattle.rp_model.specs.commands.Row.{lot_parts};
+ghost use Rattle.rp_model.specs.states.State.{bare_lot, lots_of_layer, parts_in, parts_under_names, parts_under_lots, most_names, most_kept_parts};
+ghost use Rattle.rp_model.specs.commands.Row.{lot_parts, owner_line};
 ghost use Rattle.rp_lotindex.specs.Near.{others_in, is_near, lots_at, AreWithin};
+ghost use Rattle.rp_lotindex.specs.Owner.{is_there, owner_verdict};
+ghost use Rattle.rp_tester.specs.Short.{StandShort};
 
 use crate::register::Register;
 use rp_changes::{Overlaps, Registry};
 use rp_history::History;
-use rp_lotindex::Reach;
+use rp_lotindex::{Moment, Reach};
 use rp_lots::Keeper;
-use rp_space::{IntBox, Listed, Name};
-use rp_tester::Stopped;
+use rp_space::{IntBox, Listed, Name, Point};
+use rp_tester::{Named, Stopped};
 use rp_trail::{Form, Kept, Trail, common};
 use std::alloc::{AllocError, Global};
+
+impl<'a> Named<Trail<'a>> for Register {
+    ghost meaning = { parts_in };
+
+    fn keep_short(&self)
+        ensures { StandShort (parts_in self.now) }
+    {
+        self.ledger().keep_short();
+    }
+
+    fn form_named(&self, name: &Name) -> Option<&Form>
+        ensures { option_map (λ f. f.items) (option_copied result) ≡ (parts_in self.now).of_name name.now }
+    {
+        self.ledger().form_named(name)
+    }
+
+    fn form_of_lot(&self, lot: &Name) -> Option<&Form>
+        ensures { option_map (λ f. f.items) (option_copied result) ≡ (parts_in self.now).of_lot lot.now }
+    {
+        self.ledger().form_of_lot(lot)
+    }
+}
 
 impl<'a> Keeper<Trail<'a>> for Register {
     ghost state = { λ s. s };
@@ -39,13 +63,13 @@ impl<'a> Keeper<Trail<'a>> for Register {
         ensures few { length self.now.lots ≤ most_kept_parts }
         ensures short { AllByRecursion (λ l. length l.parts ≤ most_parts) self.now.lots }
     {
-        self.history()
+        self.ledger().history()
     }
 
     fn forms(&self) -> &[Form]
         ensures { map (λ f. f.items) result.now ≡ lot_parts self.now.lots }
     {
-        self.forms()
+        self.ledger().forms()
     }
 
     fn near(
@@ -62,13 +86,13 @@ impl<'a> Keeper<Trail<'a>> for Register {
         ensures within { IfOk result (λ places. AreWithin self.now.lots places.items) }
         ensures few { IfOk result (λ places. length places.items ≤ most_kept_parts) }
     {
-        self.places_near(alloc, form, layer, id, from, reach)
+        self.ledger().near(alloc, form, layer, id, from, reach)
     }
 
     fn have_room_for(&self, parts: usize) -> bool
         ensures { result ≡ nat_le (parts_under_lots self.now.lots + parts) most_kept_parts }
     {
-        self.has_room_for_parts(parts)
+        self.ledger().have_room_for(parts)
     }
 }
 
@@ -93,12 +117,18 @@ impl<'a> Registry<Trail<'a>> for Register {
     fn layer(&self) -> Name
         ensures { result ≡ self.now.layer }
     {
-        self.layer()
+        self.ledger().layer()
+    }
+
+    fn owner(&self, moment: Moment, point: &Point) -> Option<Name>
+        ensures { owner_verdict result ≡ owner_line (lots_of_layer self.now.layer (filter (is_there moment) self.now.lots)) point.now }
+    {
+        self.ledger().owner(moment, point)
     }
 
     fn have_room_for_name(&self, form: &Form) -> bool
         ensures { result ≡ (nat_le (length self.now.names + 1) most_names && nat_le (parts_under_names self.now.names + length form.now.items) most_kept_parts) }
     {
-        self.has_room_for_name(form)
+        self.ledger().have_room_for_name(form)
     }
 }

@@ -14,7 +14,7 @@ use Rattle.rp_lots.proofs.Counted.{count_lost}
 use Rattle.rp_lots.proofs.Judging.{as_many, within_lines}
 use Rattle.rp_lots.proofs.Linked.{among_there}
 use Rattle.rp_lots.proofs.Numbers.{bare_ids_at}
-use Rattle.rp_lots.proofs.Paired.{own_distinct, bare_places, places_within, all_rise, layer_paired}
+use Rattle.rp_lots.proofs.Paired.{own_distinct, bare_places, places_within, behind_within, all_rise, layer_paired}
 use Rattle.rp_lots.proofs.access.layer_left.Goals as goal
 
 pub later_pairs-requires : goal.later_pairs-requires

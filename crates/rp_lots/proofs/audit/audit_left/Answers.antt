@@ -58,5 +58,5 @@ returns-clause-left g c =
     let pairs = c.in_ok-near.near.pairs.items in
     let made = c.in_ok-places.ensures.places ∙ ap (live_places None 0) (c.lots-lots.ensures.value ∙ c.history.ensures.value) ∙ bare_places None 0 s.lots in
     let here = c.deref.ensures.value ∙ made in
-    audit_leaves g.T.Tests.tester s c.in_ok-near.near.tests c.args.tests.now (c.in_ok-near.ensures.tests.0 ∙ ap (tests_behind Overlap s.lots) here) c.len-live.result (c.len-live.ensures ∙ ap length made) pairs
+    audit_leaves g.T.Tests.tester s c.in_ok-near.near.tests c.args.tests.now (c.in_ok-near.ensures.tests.0 ∙ ap (tests_behind Overlap s.lots) here) c.len-live.result (c.len-live.ensures ∙ c.in_ok-places.places.ok.0 ∙ ap length made) pairs
     (subst (λ (ks : List ℕ). ArePairsBehind Overlap s.lots ks pairs) here c.in_ok-near.ensures.pairs) c.count_tests.new.tests c.in_ok-count_tests.ensures

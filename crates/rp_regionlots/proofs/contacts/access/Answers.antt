@@ -16,7 +16,7 @@ returns-in_err-left g c =
     rw (p.1, p.2) c.in_err-left.ensures.left
 
 pub meet_in_halves-requires-clause-within : goal.meet_in_halves-requires-clause-within
-meet_in_halves-requires-clause-within g c =
+meet_in_halves-requires-clause-within g c κs alive =
     within_forms (λ (x : List Part). x) (g.K.Keeper.state c.args.keeper.now).lots c.forms.result.now c.in_ok-left.left.pairs.items c.deref.result.now c.forms.ensures c.deref.ensures.value c.in_ok-left.ensures.within
 
 pub returns-in_err-met : goal.returns-in_err-met

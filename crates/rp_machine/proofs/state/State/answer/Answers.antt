@@ -1,22 +1,28 @@
 use Rattle.std.proofs.Common.{◌∙◌, subst}
+use Rattle.rp_geometry.specs.parts.Parts.{IsPart}
 use Rattle.rp_walks.specs.Walk.{Work, first_tester}
 use Rattle.rp_model.specs.commands.Row.{row}
 use Rattle.rp_command.specs.Views.{command_of}
-use Rattle.rp_machine.specs.Replies.{Runs}
+use Rattle.rp_run_laws.proofs.Rows.{first_rows}
+use Rattle.rp_ledger.specs.Rows.{Replies}
+use Rattle.rp_ledger.proofs.States.{reply_is_taken}
 use Rattle.rp_machine.proofs.Told.{row_answered, row_changed}
 use Rattle.rp_machine.proofs.state.State.answer.Goals as goal
+
+pub follow-requires-clause-taken : goal.follow-requires-clause-taken
+follow-requires-clause-taken g c = reply_is_taken IsPart first_tester first_rows c.args.self.now c.keep_sound.ensures.sound c.args.n c.requires.later (command_of c.args.asked.now) c.requires.kept c.new-work.result (λ f. f) c.carry_out-row.new.work c.carry_out-row.result c.carry_out-row.ensures
 
 pub returns-clause-answer : goal.returns-clause-answer
 returns-clause-answer g c =
     let s = c.args.self.now in
     let asked = command_of c.args.asked.now in
-    let run = subst (λ (w : Work). Runs c.carry_out-row.result c.args.n c.carry_out-row.new.work s c.carry_out-row.new.self (row first_tester s asked w)) c.new-work.ensures c.carry_out-row.ensures in
+    let made = subst (λ (w : Work). Replies (λ f. f) c.carry_out-row.result c.carry_out-row.new.work (row first_tester s asked w)) c.new-work.ensures c.carry_out-row.ensures in
     (λ i. record { number = c.args.n; echo = c.in_ok-echo.ensures i; proofs = c.row_proofs-proofs.ensures i; verdicts = c.in_ok-verdicts.ensures.lines i })
-    ∙ row_answered s c.carry_out-row.new.self c.args.n c.args.line.now asked c.carry_out-row.result c.carry_out-row.new.work c.in_ok-verdicts.ensures.there run
+    ∙ row_answered s c.args.n c.args.line.now asked c.carry_out-row.result c.carry_out-row.new.work c.in_ok-verdicts.ensures.there made
 
 pub returns-clause-state : goal.returns-clause-state
 returns-clause-state g c =
     let s = c.args.self.now in
     let asked = command_of c.args.asked.now in
-    let run = subst (λ (w : Work). Runs c.carry_out-row.result c.args.n c.carry_out-row.new.work s c.carry_out-row.new.self (row first_tester s asked w)) c.new-work.ensures c.carry_out-row.ensures in
-    row_changed s c.carry_out-row.new.self c.args.n asked c.carry_out-row.result c.carry_out-row.new.work c.in_ok-verdicts.ensures.there run
+    let made = subst (λ (w : Work). Replies (λ f. f) c.carry_out-row.result c.carry_out-row.new.work (row first_tester s asked w)) c.new-work.ensures c.carry_out-row.ensures in
+    c.in_ok-verdicts.ensures.state ∙ row_changed s c.args.n asked c.carry_out-row.result c.carry_out-row.new.work c.in_ok-verdicts.ensures.there made

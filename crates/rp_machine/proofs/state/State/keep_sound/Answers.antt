@@ -3,11 +3,8 @@ use Rattle.rp_geometry.specs.parts.Parts.{IsPart}
 use Rattle.rp_walks.specs.FormLaws.{MeaningsAgree}
 use Rattle.rp_model.specs.states.State.{PlainState, parts_in}
 use Rattle.rp_model.specs.commands.Row.{shapes_of_parts}
-use Rattle.rp_store.specs.Kept.{state_with}
 use Rattle.rp_machine.proofs.Names.{regions_agree}
 use Rattle.rp_machine.proofs.state.State.keep_sound.Goals as goal
 
 pub returns-clause-regions : goal.returns-clause-regions
-returns-clause-regions c =
-    let i = c.self.inside in
-    subst (λ (s : PlainState). MeaningsAgree IsPart (parts_in s) (shapes_of_parts (parts_in s))) c.self.view_is (regions_agree (state_with i.layer i.names i.parcels) c.self.invariant)
+returns-clause-regions c = subst (λ (s : PlainState). MeaningsAgree IsPart (parts_in s) (shapes_of_parts (parts_in s))) c.self.view_is (regions_agree c.self.inside.ledger c.self.invariant)

@@ -1,0 +1,4 @@
+pub mod Applied
+pub mod Known
+pub mod States
+pub mod Told

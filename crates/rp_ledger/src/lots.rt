@@ -1,0 +1,59 @@
+//! The questions about lots that make no test.
+ghost use Rattle.rp_language.specs.Expression.{ask_history, ask_at, ask_as_of, ask_list};
+ghost use Rattle.rp_model.specs.commands.Row.{row};
+ghost use Rattle.rp_rows.specs.Replies.{Tells};
+
+use rp_changes::Registry;
+use rp_lots::Keeper;
+use rp_lotindex::Moment;
+use rp_rows::{RowEnd, lineage, list, one_line, owner_verdict};
+use rp_space::{Name, Point};
+use rp_tester::Tests;
+use rp_text::Verdicts;
+use std::alloc::Global;
+
+/// `at`: the live lot of the present layer that has the point.
+pub(crate) fn owner<T: Tests, K: Registry<T>>(
+    alloc: Global,
+    keeper: &K,
+    point: &Point,
+) -> Result<Verdicts, RowEnd>
+    ensures { (w : T) → Tells result w (row T.tester (K.state keeper.now) (ask_at point.now) w) }
+{
+    let owner = keeper.owner(Moment::Now, point);
+    Ok(one_line(alloc, owner_verdict(owner))?)
+}
+
+/// `asof`: the lot of the present layer that had the point after a line.
+pub(crate) fn owner_then<T: Tests, K: Registry<T>>(
+    alloc: Global,
+    keeper: &K,
+    line: u32,
+    point: &Point,
+) -> Result<Verdicts, RowEnd>
+    ensures { (w : T) → Tells result w (row T.tester (K.state keeper.now) (ask_as_of line point.now) w) }
+{
+    let owner = keeper.owner(Moment::After(line), point);
+    Ok(one_line(alloc, owner_verdict(owner))?)
+}
+
+/// `list`: the live lots.
+pub(crate) fn live_list<T: Tests, K: Registry<T>>(
+    alloc: Global,
+    keeper: &K,
+) -> Result<Verdicts, RowEnd>
+    ensures { (w : T) → Tells result w (row T.tester (K.state keeper.now) ask_list w) }
+{
+    Ok(list(alloc, keeper.history())?)
+}
+
+/// `history`: the lot and all lots that it was made from.
+pub(crate) fn origins<T: Tests, K: Registry<T>>(
+    alloc: Global,
+    keeper: &K,
+    id: Name,
+) -> Result<Verdicts, RowEnd>
+    ensures { (w : T) → Tells result w (row T.tester (K.state keeper.now) (ask_history id) w) }
+{
+    lineage(alloc, keeper.history(), id)
+}

@@ -1,0 +1,123 @@
+//! The state as what keeps a register, for the rows that stand once.
+ghost use Rattle.std.specs.Prelude.{◌≡◌, ◌<◌, ◌≤◌, ℕ, ◌+◌, ◌&&◌, IfOk, length, map, filter, drop, nat_le};
+ghost use Rattle.std.specs.List.{AllByRecursion};
+ghost use Rattle.rp_geometry.specs.parts.Parts.{most_parts};
+ghost use Rattle.rp_walks.specs.Walk.{Work as ModelWork, stopped, limit_met, most_tests, count_tests, first_tester};
+ghost use Rattle.rp_walks.specs.Form.{common_nearby};
+ghost use Rattle.rp_tester.specs.Comes.{Comes};
+ghost use Rattle.rp_model.specs.states.State.{bare_lot, lots_of_layer, parts_in, parts_under_names, parts_under_lots, most_names, most_kept_parts};
+ghost use Rattle.rp_model.specs.commands.Row.{lot_parts, owner_line};
+ghost use Rattle.rp_lotindex.specs.Near.{others_in, is_near, lots_at, AreWithin};
+ghost use Rattle.rp_lotindex.specs.Owner.{is_there, owner_verdict};
+
+use crate::state::State;
+use rp_changes::{Overlaps, Registry};
+use rp_history::History;
+use rp_lotindex::{Moment, Reach};
+use rp_lots::Keeper;
+use rp_region::{Part, Region, Work};
+use rp_space::{IntBox, Listed, Name, Point};
+use rp_tester::{Named, Stopped};
+use std::alloc::{AllocError, Global};
+
+impl Named<Work> for State {
+    ghost meaning = { parts_in };
+
+    fn keep_short(&self) {
+        self.ledger().keep_short();
+    }
+
+    fn form_named(&self, name: &Name) -> Option<&Region> {
+        self.ledger().form_named(name)
+    }
+
+    fn form_of_lot(&self, lot: &Name) -> Option<&Region> {
+        self.ledger().form_of_lot(lot)
+    }
+}
+
+impl Keeper<Work> for State {
+    ghost state = { λ s. s };
+
+    fn keep_limit(&self)
+        ensures { (n : ℕ) (w : ModelWork) → most_tests < n → count_tests n w ≡ stopped limit_met w }
+    {}
+
+    fn bounds(part: &Part) -> &IntBox {
+        part.bounds()
+    }
+
+    fn history(&self) -> &History
+        ensures value { result.now ≡ map bare_lot self.now.lots }
+        ensures few { length self.now.lots ≤ most_kept_parts }
+        ensures short { AllByRecursion (λ l. length l.parts ≤ most_parts) self.now.lots }
+    {
+        self.ledger().history()
+    }
+
+    fn forms(&self) -> &[Region]
+        ensures { result.now ≡ lot_parts self.now.lots }
+    {
+        self.ledger().forms()
+    }
+
+    fn near(
+        &self,
+        alloc: Global,
+        form: &Region,
+        layer: &Name,
+        id: &Name,
+        from: usize,
+        reach: Reach,
+    ) -> Result<Listed<usize>, AllocError>
+        requires { from ≤ length self.now.lots }
+        ensures near { IfOk result (λ places. filter (is_near reach form.now) (lots_at self.now.lots places.items) ≡ filter (is_near reach form.now) (others_in layer.now id.now (drop from self.now.lots))) }
+        ensures within { IfOk result (λ places. AreWithin self.now.lots places.items) }
+        ensures few { IfOk result (λ places. length places.items ≤ most_kept_parts) }
+    {
+        self.ledger().near(alloc, form, layer, id, from, reach)
+    }
+
+    fn have_room_for(&self, parts: usize) -> bool
+        ensures { result ≡ nat_le (parts_under_lots self.now.lots + parts) most_kept_parts }
+    {
+        self.ledger().have_room_for(parts)
+    }
+}
+
+impl Overlaps<Work> for State {
+    fn overlap(
+        alloc: Global,
+        form: &Region,
+        other: &Region,
+        tests: &mut Work,
+    ) -> Result<bool, Stopped>
+        ensures { Comes (λ found. found) result tests.new (common_nearby first_tester form.now other.now tests.old) }
+    {
+        Ok(form.first_common(alloc, other, true, tests)?.is_some())
+    }
+}
+
+impl Registry<Work> for State {
+    fn keep_meaning(&self)
+        ensures { parts_in self.now ≡ parts_in self.now }
+    {}
+
+    fn layer(&self) -> Name
+        ensures { result ≡ self.now.layer }
+    {
+        self.ledger().layer()
+    }
+
+    fn owner(&self, moment: Moment, point: &Point) -> Option<Name>
+        ensures { owner_verdict result ≡ owner_line (lots_of_layer self.now.layer (filter (is_there moment) self.now.lots)) point.now }
+    {
+        self.ledger().owner(moment, point)
+    }
+
+    fn have_room_for_name(&self, form: &Region) -> bool
+        ensures { result ≡ (nat_le (length self.now.names + 1) most_names && nat_le (parts_under_names self.now.names + length form.now) most_kept_parts) }
+    {
+        self.ledger().have_room_for_name(form)
+    }
+}
