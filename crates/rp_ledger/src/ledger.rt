@@ -139,7 +139,6 @@ impl<F: Forms> Ledger<F> {
     pub fn owner(&self, moment: Moment, point: &Point) -> Option<Name>
         ensures { owner_verdict result ≡ owner_line (lots_of_layer self.now.layer (filter (is_there moment) self.now.lots)) point.now }
     {
-        self.keep_sound();
         self.lots.owner(&self.layer, moment, point)
     }
 
