@@ -1,5 +1,6 @@
 pub mod Indexed
 pub mod Layers
+pub mod Stretches
 pub mod Near
 pub mod Owner
 pub mod Access

@@ -10,6 +10,7 @@ mod forms;
 mod hulls;
 mod lots;
 mod names;
+mod settle;
 
 pub use forms::Forms;
 pub use lots::Lots;
