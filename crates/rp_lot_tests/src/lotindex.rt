@@ -20,13 +20,16 @@ fn bounds(x: i16) -> IntBox {
     }
 }
 
-/// The box of one lot of the layer `land` with two parts, side by side.
+/// The box around two parts, side by side.
+fn plot() -> IntBox {
+    bounds(0).union(&bounds(10))
+}
+
+/// The box of one lot of the layer `land` with these parts.
 fn box_of_plot(rt: &impl Abort, alloc: Global) -> LotBoxes
-    ensures live { NoneBehind result.live 1 }
-    ensures ever { NoneBehind result.ever 1 }
+    ensures { NoneBehind result.index 1 }
 {
-    let hull = bounds(0).union(&bounds(10));
-    let hull = moved(&name(b"land"), &hull);
+    let hull = moved(&name(b"land"), &plot());
     let mut boxes = LotBoxes::new(alloc);
     boxes.add_all(alloc, 0, &[hull]).expect(rt, "no memory");
     boxes
@@ -34,7 +37,7 @@ fn box_of_plot(rt: &impl Abort, alloc: Global) -> LotBoxes
 
 /// How many lots of the layer `land` touch the box from 20 on.
 fn count_near(rt: &impl Abort, alloc: Global, history: &History, boxes: &LotBoxes) -> usize
-    requires { NoneBehind boxes.now.live (length history.now) }
+    requires { NoneBehind boxes.now.index (length history.now) }
 {
     let (layer, id) = (name(b"land"), name(b"other"));
     let hull = bounds(20);
@@ -82,9 +85,11 @@ fn a_lot_that_ends_has_its_points_of_before(rt: HostRuntime) {
     let mut boxes = box_of_plot(&rt, alloc);
     assert!(rt; is_owned(&rt, &history, &boxes, Moment::Now));
     history.end(2, name(b"plot"));
-    boxes.end_all(&history, 1, &[name(b"plot")]);
+    assert_eq!(rt; history.lots().len(), 1);
+    boxes.settle(0, &history.lots()[0], &plot());
     assert!(rt; !is_owned(&rt, &history, &boxes, Moment::Now));
     assert!(rt; is_owned(&rt, &history, &boxes, Moment::After(1)));
+    assert!(rt; !is_owned(&rt, &history, &boxes, Moment::After(2)));
     let near = count_near(&rt, alloc, &history, &boxes);
     assert_eq!(rt; near, 0);
 }

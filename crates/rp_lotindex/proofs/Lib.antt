@@ -1,9 +1,10 @@
 pub mod Places
 pub mod Put
-pub mod Emptied
+pub mod Settled
 pub mod Boxed
 pub mod Hulls
 pub mod Layers
+pub mod Stretches
 pub mod Reached
 pub mod Passed
 pub mod Skipped

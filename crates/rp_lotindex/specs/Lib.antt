@@ -1,4 +1,5 @@
 pub mod Indexed
 pub mod Layers
+pub mod Stretches
 pub mod Near
 pub mod Owner

@@ -11,6 +11,7 @@ mod hulls;
 mod limits;
 mod lots;
 mod names;
+mod settle;
 
 pub use forms::Forms;
 pub use limits::MAX_KEPT_PARTS;

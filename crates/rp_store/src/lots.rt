@@ -12,6 +12,7 @@ ghost use Rattle.rp_store.specs.Kept.{AreFew, has_point};
 use crate::forms::Forms;
 use crate::hulls::{boxes_of, hull_of};
 use crate::limits::MAX_KEPT_PARTS;
+use crate::settle::settle_all;
 use rp_boxindex::Watch;
 use rp_history::{Birth, History};
 use rp_lotindex::{Holder, LotBoxes, Moment, Reach};
@@ -49,7 +50,7 @@ impl<F: Forms> Model for Lots<F> {
 
     ghost view = { λ a. lots_with_parts a.history (map F.parts_of a.forms.items) };
 
-    ghost invariant = { λ a. AreLots a.history (map F.parts_of a.forms.items) a.parts a.boxes.live a.boxes.ever };
+    ghost invariant = { λ a. AreLots a.history (map F.parts_of a.forms.items) a.parts a.boxes.index };
 }
 
 impl<F: Forms> Lots<F> {
@@ -178,9 +179,9 @@ impl<F: Forms> Lots<F> {
             self.boxes.remove_all(first, added.len());
             return Err(error);
         }
-        self.boxes.end_all(&self.history, first, ends);
         self.forms.append(forms).unwrap();
         self.parts += parts;
+        settle_all::<F>(&mut self.boxes, &self.history, self.forms.items(), ends);
         Ok(())
     }
 
@@ -190,8 +191,7 @@ impl<F: Forms> Lots<F> {
         ensures { self.new ≡ lots_after line self.old (lots_replaced (id ∷ []) []) }
     {
         self.history.end(line, id);
-        let count = self.forms.items().len();
-        self.boxes.end_all(&self.history, count, &[id]);
+        settle_all::<F>(&mut self.boxes, &self.history, self.forms.items(), &[id]);
     }
 }
 

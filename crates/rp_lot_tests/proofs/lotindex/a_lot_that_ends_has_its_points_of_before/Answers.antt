@@ -11,4 +11,4 @@ behind_one n ids old new k one is f = let many = ap length is ∙ length-map old
 pub count_near-near-requires : goal.count_near-near-requires
 count_near-near-requires g c k f =
     let behind = behind_one 2 (c.name.result ∷ []) c.with_plot-history.result c.end.new.self k c.with_plot-history.ensures.one c.end.ensures.lots f in
-    c.end_all.ensures.live.rest k behind ∙ c.box_of_plot-boxes.ensures.live k behind
+    c.settle.ensures.rest k (λ same. absurd (omega (arith, behind, same))) ∙ c.box_of_plot-boxes.ensures k behind

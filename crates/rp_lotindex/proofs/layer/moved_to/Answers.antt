@@ -1,23 +1,22 @@
 use Rattle.std.proofs.Common.{◌≡◌, ℕ, ◌%◌, ◌/◌, ℤ, pos, rules, w32, to_z, of_z, get_or, ◌∙◌, ap}
 use Rattle.std.proofs.lemmas.Int.{to_z-of_z}
 use mir.Val.{SFits}
-use Rattle.rp_lotindex.specs.Layers.{cube_number, step_of, moved_low, moved_high, moved}
-use Rattle.rp_lotindex.proofs.layer.moved.Goals as goal
+use Rattle.rp_lotindex.specs.Layers.{step_of, moved_low, moved_high, moved_to}
+use Rattle.rp_lotindex.proofs.layer.moved_to.Goals as goal
 
 -- a side that was moved by a step
 as_read : (move : ℤ → ℤ → ℤ) (r s t v : ℤ) → SFits w32 r → SFits w32 s → SFits w32 v → s ≡ t → r ≡ move (to_z w32 (of_z w32 s)) (to_z w32 (of_z w32 v)) → to_z w32 (of_z w32 r) ≡ move t v
 as_read move r s t v fr fs fv e h = to_z-of_z w32 r fr ∙ h ∙ (λ i. move ((to_z-of_z w32 s fs ∙ e) i) (to_z-of_z w32 v fv i))
 
 pub returns : goal.returns
-unfolding moved
+unfolding moved_to
 returns c =
     let lo = c.args.bounds.now.lo in
     let hi = c.args.bounds.now.hi in
-    let n : ℕ = cube_number c.args.layer.now in
-    let e = c.cube_number-number.ensures in
-    let x = c.step_of-x.ensures.value ∙ ap (λ k. step_of (k % 64)) e in
-    let y = c.step_of-y.ensures.value ∙ ap (λ k. step_of (k / 64 % 64)) e in
-    let z = c.step_of-z.ensures.value ∙ ap (λ k. step_of (k / 4096 % 64)) e in
+    let n : ℕ = c.args.number in
+    let x = c.step_of-x.ensures.value in
+    let y = c.step_of-y.ensures.value in
+    let z = c.step_of-z.ensures.value in
     let fx : SFits w32 c.step_of-x.result = search rules in
     let fy : SFits w32 c.step_of-y.result = search rules in
     let fz : SFits w32 c.step_of-z.result = search rules in
