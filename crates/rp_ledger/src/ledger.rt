@@ -158,7 +158,12 @@ impl<F: Forms> Ledger<F> {
 
     /// Makes `change` at line `n`, which is above every birth and every end; a sound state comes of it. After
     /// `AllocError` all is as before.
-    pub fn apply(&mut self, alloc: Global, n: u32, change: Change<F::Form>) -> Result<(), AllocError>
+    pub fn apply(
+        &mut self,
+        alloc: Global,
+        n: u32,
+        change: Change<F::Form>,
+    ) -> Result<(), AllocError>
         requires later { IsLaterThan n (state_of_parts self.old) }
         requires taken { IsTaken IsCheckedPart n self.old (change_of F.parts_of change) }
         ensures ok { OnOk result (self.new ≡ changed n self.old (change_of F.parts_of change)) }
