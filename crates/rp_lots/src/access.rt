@@ -43,7 +43,7 @@ pub fn access_left<T: Tests, K: Keeper<T>>(
 }
 
 /// `access` from `from` to `to`, as `access_left`, behind the checks on both ids: they are live lots of `layer`.
-pub fn layer_left<T: Tests, K: Keeper<T>>(
+fn layer_left<T: Tests, K: Keeper<T>>(
     alloc: Global,
     keeper: &K,
     layer: Name,
