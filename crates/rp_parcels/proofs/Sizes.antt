@@ -1,51 +1,52 @@
--- Sound lots are not many, since each has a part.
-use Rattle.std.proofs.Common.{◌≡◌, ℕ, zero, suc, ◌<◌, ◌≤◌, List, [], ◌∷◌, length, Some, slice_get, subst, arith}
+-- Sound lots are few, and the parts of each are a region.
+use Rattle.std.proofs.Common.{◌≡◌, ℕ, ◌<◌, ◌≤◌, Bool, true, false, List, [], ◌∷◌, map, length, Option, Some, ap, ◌∙◌, subst, arith}
+use Rattle.std.proofs.lemmas.List.{length-map}
 use Rattle.std.specs.List.{AllByRecursion}
 use Rattle.rp_geometry.specs.sets.Shape.{Shape, shape_of_parts}
-use Rattle.rp_geometry.specs.sets.Sets.{IsNonempty}
 use Rattle.rp_geometry.specs.parts.Parts.{AreOf, IsPart, IsRegion, most_parts}
-use Rattle.rp_model.specs.states.State.{Lot, lot_of_parts, parts_under_lots, most_kept_parts}
+use Rattle.rp_algebra.proofs.Listed.{all_map}
+use Rattle.rp_algebra.proofs.Lists.{all_filter}
+use Rattle.rp_language.specs.Name.{Label, label_eq}
+use Rattle.rp_walks.specs.Form.{parts_or_none}
+use Rattle.rp_model.specs.states.State.{Lot, lot_of_parts, bare_lot, is_live, live_lots, lot_with_id, parts_of_lot, state_of_parts}
+use Rattle.rp_model.specs.commands.Row.{parts_with_id}
 use Rattle.rp_states.proofs.Listing.{all_unmapped}
-use Rattle.rp_states.proofs.Plain.{image_sums}
-use Rattle.rp_history.specs.Lots.{AreBornBefore}
-use Rattle.rp_history.proofs.Sizes.{as_many_parts}
+use Rattle.rp_states.proofs.Plain.{kept_images}
+use Rattle.rp_geometry.proofs.Kept.{part_is_checked}
+use Rattle.rp_history.specs.Lots.{lots_in}
 use Rattle.rp_store.specs.Kept.{AreFew}
 use Rattle.rp_parcels.specs.Kept.{AreSound}
-use Rattle.rp_parcels.specs.Register.{IsLater}
+use Rattle.rp_ledger.proofs.Applied.{sound_are_few}
+use Rattle.rp_ledger.proofs.States.{sound_where_checked}
 
--- each sound lot has a member
-pub all_nonempty : (lots : List (Lot (Unit {0}))) → AreSound lots → AllByRecursion (λ l. IsNonempty (shape_of_parts l.parts)) lots
-all_nonempty lots h = all_unmapped (λ (l : Lot Shape). IsNonempty l.set) lot_of_parts lots h.lots_nonempty
-
--- the parts of sound lots are few
-pub few_parts : (lots : List (Lot (Unit {0}))) → AreSound lots → parts_under_lots lots ≤ most_kept_parts
-few_parts lots h = subst (λ (n : ℕ). n ≤ most_kept_parts) (image_sums lot_of_parts (λ (l : Lot Shape). length l.parts) lots) h.few_parts_under_lots
-
--- and so are the lots
-pub few_lots : (lots : List (Lot (Unit {0}))) → AreSound lots → length lots ≤ most_kept_parts
-few_lots lots h = let many = as_many_parts lots (all_nonempty lots h) in let few = few_parts lots h in omega (arith, many, few)
-
--- so they can be kept
-pub sound_are_few : (lots : List (Lot (Unit {0}))) → AreSound lots → AreFew lots
-sound_are_few lots h = record { few_lots = few_lots lots h; few_parts = few_parts lots h }
-
--- all lots were born before a later line
-pub born_before : (n : ℕ) (lots : List (Lot (Unit {0}))) → IsLater n lots → AreBornBefore n lots
-born_before n lots h = all_unmapped (λ (l : Lot Shape). l.born < n) lot_of_parts lots h.births
+-- sound lots can be kept
+pub sound_few : (lots : List (Lot (Unit {0}))) → AreSound lots → AreFew lots
+sound_few lots h = sound_are_few (lots_in [] lots) (sound_where_checked IsPart part_is_checked (state_of_parts (lots_in [] lots)) h)
 
 -- the parts of each sound lot are a region
-pub region_each : (lots : List (Lot (Unit {0}))) → AreSound lots → (k : ℕ) (l : Lot (Unit {0})) → slice_get lots k ≡ Some l → IsRegion l.parts
-region_each lots h = by lots (all_unmapped (λ (l : Lot Shape). AreOf IsPart l.set l.parts) lot_of_parts lots h.lots_keep_parts)
-  where
-    by : (ls : List (Lot (Unit {0}))) → AllByRecursion (λ l. AreOf IsPart (shape_of_parts l.parts) l.parts) ls → (k : ℕ) (l : Lot (Unit {0})) → slice_get ls k ≡ Some l → IsRegion l.parts
-    by [] all k l e = absurd (cc)
-    by (m ∷ ls) all zero l e = let same : m ≡ l = cc in subst (λ (a : Lot (Unit {0})). IsRegion a.parts) same all.0.all
-    by (m ∷ ls) all (suc k) l e = by ls all.1 k l e
+pub all_regions : (lots : List (Lot (Unit {0}))) → AreSound lots → AllByRecursion (λ l. IsRegion l.parts) lots
+all_regions lots h = all_map (λ (l : Lot (Unit {0})). AreOf IsPart (shape_of_parts l.parts) l.parts) (λ (l : Lot (Unit {0})). IsRegion l.parts) (λ l of. of.all) lots (all_unmapped (λ (l : Lot Shape). AreOf IsPart l.set l.parts) lot_of_parts lots h.lots_keep_parts)
 
 -- so each has few
 pub all_short : (lots : List (Lot (Unit {0}))) → AreSound lots → AllByRecursion (λ l. length l.parts ≤ most_parts) lots
-all_short lots h = by lots (all_unmapped (λ (l : Lot Shape). AreOf IsPart l.set l.parts) lot_of_parts lots h.lots_keep_parts)
+all_short lots h = all_map (λ (l : Lot (Unit {0})). IsRegion l.parts) (λ (l : Lot (Unit {0})). length l.parts ≤ most_parts) (λ l of. of.few) lots (all_regions lots h)
+
+-- those of the live ones
+pub live_regions : (lots : List (Lot (Unit {0}))) → AreSound lots → AllByRecursion (λ l. IsRegion l.parts) (live_lots lots)
+live_regions lots h = all_filter (λ (l : Lot (Unit {0})). IsRegion l.parts) is_live lots (all_regions lots h)
+
+-- so are those of a live lot
+pub region_with_id : (lots : List (Lot (Unit {0}))) (x : Label) → AreSound lots → IsRegion (parts_with_id (lots_in [] lots) x)
+region_with_id lots x h = by (live_lots lots) (live_regions lots h)
   where
-    by : (ls : List (Lot (Unit {0}))) → AllByRecursion (λ l. AreOf IsPart (shape_of_parts l.parts) l.parts) ls → AllByRecursion (λ l. length l.parts ≤ most_parts) ls
-    by [] all = tt
-    by (l ∷ ls) all = (all.0.all.few, by ls all.1)
+    by : (ls : List (Lot (Unit {0}))) → AllByRecursion (λ l. IsRegion l.parts) ls → IsRegion (parts_or_none (parts_of_lot (lot_with_id x ls)))
+    by [] all = record { each = tt; few = omega arith }
+    by (l ∷ ls) all = first (label_eq x l.id) (by ls all.1)
+      where
+        first : (b : Bool) → IsRegion (parts_or_none (parts_of_lot (lot_with_id x ls))) → IsRegion (parts_or_none (parts_of_lot (elim b as (λ _. Option (Lot (Unit {0}))) [ true ↦ Some l | false ↦ lot_with_id x ls ])))
+        first true later = all.0
+        first false later = later
+
+-- the live ones are as many without their parts
+pub live_bare : (lots : List (Lot (Unit {0}))) → length (live_lots (map bare_lot lots)) ≡ length (live_lots lots)
+live_bare lots = ap length (kept_images bare_lot is_live lots) ∙ length-map (live_lots lots) bare_lot

@@ -2,9 +2,7 @@ pub mod Faults
 pub mod Kept
 pub mod Register
 pub mod Rows
-pub mod Judged
-pub mod Counted
-pub mod Behind
 pub mod Access
-pub mod Walks
+pub mod Shown
+pub mod Taken
 pub mod Points

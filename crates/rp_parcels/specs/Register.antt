@@ -1,8 +1,7 @@
 -- What is asked of a register, and how its lots change.
-use Rattle.std.specs.Prelude.{ℕ, ◌≤◌, List, [], ◌∷◌, length, sum_by}
-use Rattle.rp_geometry.specs.sets.Shape.{Part}
+use Rattle.std.specs.Prelude.{ℕ, List, []}
 use Rattle.rp_language.specs.Name.{Label}
-use Rattle.rp_model.specs.states.State.{Lot, NewLot, lots_replaced, state_of_parts, most_kept_parts}
+use Rattle.rp_model.specs.states.State.{Lot, NewLot, lots_replaced, state_of_parts}
 use Rattle.rp_model.specs.states.Sound.{IsLaterThan}
 use Rattle.rp_model.specs.commands.Row.{FormedChild}
 use Rattle.rp_history.specs.Lots.{lots_in, lots_after, AreNew}
@@ -21,10 +20,3 @@ child_of c = record { id = c.id; parts = c.region }
 pub record IsFitChange (n : ℕ) (lots : List (Lot (Unit {0}))) (ids : List Label) (new : List (NewLot (Unit {0}))) : Type 0 where
   pub fresh : AreNew lots new
   pub sound : AreSound (lots_after n lots (lots_replaced ids new))
-  pub few : sum_by (λ a. length a.parts) new ≤ most_kept_parts
-
--- lots to be made of one lot, in its layer
-abbrev pub parts_divided : Label → Label → List Label → List (List Part) → List (NewLot (Unit {0}))
-parts_divided y x [] lists = []
-parts_divided y x (z ∷ ids) [] = []
-parts_divided y x (z ∷ ids) (ps ∷ lists) = record { id = z; layer = y; set = tt; parts = ps; origins = x ∷ [] } ∷ parts_divided y x ids lists

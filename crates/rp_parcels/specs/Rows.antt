@@ -73,25 +73,3 @@ pub record IsAccepted (n : ℕ) (before after : List (Lot (Unit {0}))) (w : Work
 abbrev pub Changes : {A : Type 0} → Result A ParcelFault → ℕ → Work → Work → List (Lot (Unit {0})) → List (Lot (Unit {0})) → Walk Work Reply → Type 0
 Changes (Ok x) n old new before after row = IsAccepted n before after new (row old)
 Changes (Err e) n old new before after row = EndsWith e old new (row old) × (after ≡ before)
-
--- what a check comes to where it is failed by this cause: the refusal; nothing is said where memory ran out
-abbrev pub FailsBy : Cause → Option Refusal → Type 0
-FailsBy (refuses r) o = o ≡ Some r
-FailsBy limited o = ⊥
-FailsBy wanting o = Unit {0}
-
--- a check was made: it refuses nothing, or it has the fault
-abbrev pub Checks : {A : Type 0} → Result A ParcelFault → Option Refusal → Type 0
-Checks (Ok x) o = o ≡ None
-Checks (Err e) o = FailsBy (cause_of e) o
-
--- what a walk that looks for a refusal comes to where its call has a fault of this cause, from the work old to the work new; where memory ran out it was given up on the way
-abbrev pub RefusesBy : Cause → Work → Work → Outcome Work (Option Refusal) → Type 0
-RefusesBy (refuses r) old new o = o ≡ done (Some r) new
-RefusesBy limited old new o = o ≡ stopped limit_met new
-RefusesBy wanting old new o = IsCutShort old new o
-
--- a walk looked for a refusal, from the work old to the work new: there is none, or it has the fault
-abbrev pub Refuses : {A : Type 0} → Result A ParcelFault → Work → Work → Walk Work (Option Refusal) → Type 0
-Refuses (Ok x) old new walk = walk old ≡ done None new
-Refuses (Err e) old new walk = RefusesBy (cause_of e) old new (walk old)

@@ -1,6 +1,5 @@
 //! Why a call of the register is refused.
 
-use rp_history::NameFault;
 use rp_region::OpFault;
 use rp_space::{Inside, Name};
 use std::alloc::AllocError;
@@ -101,25 +100,6 @@ impl From<OpFault> for ParcelFault {
         match fault {
             OpFault::Limit => ParcelFault::Limit,
             OpFault::Memory(fault) => ParcelFault::Memory(fault),
-        }
-    }
-}
-
-impl From<NameFault> for ParcelFault {
-    ghost use Rattle.std.specs.Prelude.{◌≡◌};
-    ghost use Rattle.rp_parcels.specs.Faults.{fault_of_names};
-
-    ghost from_gives = { λ x e. e ≡ fault_of_names x };
-
-    fn from(fault: NameFault) -> ParcelFault {
-        match fault {
-            NameFault::Known(id) => ParcelFault::Known(id),
-            NameFault::Unknown(id) => ParcelFault::Unknown(id),
-            NameFault::Repeated(id) => ParcelFault::Repeated(id),
-            NameFault::Layers(id) => ParcelFault::Layers(id),
-            NameFault::Same => ParcelFault::Same,
-            NameFault::Few => ParcelFault::Few,
-            NameFault::Memory(fault) => ParcelFault::Memory(fault),
         }
     }
 }

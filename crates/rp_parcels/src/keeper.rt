@@ -2,45 +2,58 @@
 ghost use Rattle.std.specs.Prelude.{◌≡◌, ◌<◌, ◌≤◌, ℕ, ◌+◌, [], IfOk, length, map, filter, drop, nat_le};
 ghost use Rattle.std.specs.List.{AllByRecursion};
 ghost use Rattle.rp_geometry.specs.parts.Parts.{most_parts};
-ghost use Rattle.rp_walks.specs.Walk.{Work as ModelWork, stopped, limit_met, most_tests, count_tests};
+ghost use Rattle.rp_walks.specs.Walk.{Work as ModelWork, stopped, limit_met, most_tests, count_tests, first_tester};
+ghost use Rattle.rp_walks.specs.Form.{common_nearby};
 ghost use Rattle.rp_space.specs.Boxes.{integer_box};
+ghost use Rattle.rp_tester.specs.Comes.{Comes};
 ghost use Rattle.rp_model.specs.states.State.{bare_lot, parts_under_lots, most_kept_parts};
 ghost use Rattle.rp_model.specs.commands.Row.{lot_parts};
 ghost use Rattle.rp_history.specs.Lots.{lots_in};
 ghost use Rattle.rp_lotindex.specs.Near.{others_in, is_near, lots_at, AreWithin};
 
 use crate::parcels::Parcels;
-use rp_boxindex::Quiet;
+use crate::visits::Visits;
+use rp_changes::Overlaps;
 use rp_history::History;
 use rp_lotindex::Reach;
 use rp_lots::Keeper;
 use rp_region::{Part, Region, Work};
 use rp_space::{IntBox, Listed, Name};
+use rp_tester::Stopped;
 use std::alloc::{AllocError, Global};
 
-impl Keeper<Work> for Parcels {
-    ghost state = { λ lots. lots_in [] lots };
+/// The parcels, and where it is counted how many nodes of their index are visited.
+#[derive(Drop)]
+pub(crate) struct ParcelKeeper<'a> {
+    pub parcels: &'a Parcels,
+    pub visits: &'a Visits,
+}
+
+impl Keeper<Work> for ParcelKeeper<'_> {
+    ghost state = { λ s. lots_in [] s.parcels.now };
 
     fn keep_limit(&self)
         ensures { (n : ℕ) (w : ModelWork) → most_tests < n → count_tests n w ≡ stopped limit_met w }
     {}
 
-    fn bounds(part: &Part) -> &IntBox {
+    fn bounds(part: &Part) -> &IntBox
+        ensures { integer_box result.now ≡ part.now.bounds }
+    {
         part.bounds()
     }
 
     fn history(&self) -> &History
-        ensures value { result.now ≡ map bare_lot self.now }
-        ensures few { length self.now ≤ most_kept_parts }
-        ensures short { AllByRecursion (λ l. length l.parts ≤ most_parts) self.now }
+        ensures value { result.now ≡ map bare_lot self.now.parcels.now }
+        ensures few { length self.now.parcels.now ≤ most_kept_parts }
+        ensures short { AllByRecursion (λ l. length l.parts ≤ most_parts) self.now.parcels.now }
     {
-        self.history()
+        self.parcels.history()
     }
 
     fn forms(&self) -> &[Region]
-        ensures { result.now ≡ lot_parts self.now }
+        ensures { result.now ≡ lot_parts self.now.parcels.now }
     {
-        self.lots().forms()
+        self.parcels.lots().forms()
     }
 
     fn near(
@@ -52,18 +65,31 @@ impl Keeper<Work> for Parcels {
         from: usize,
         reach: Reach,
     ) -> Result<Listed<usize>, AllocError>
-        requires { from ≤ length self.now }
-        ensures near { IfOk result (λ places. filter (is_near reach form.now) (lots_at self.now places.items) ≡ filter (is_near reach form.now) (others_in layer.now id.now (drop from self.now))) }
-        ensures within { IfOk result (λ places. AreWithin self.now places.items) }
+        requires { from ≤ length self.now.parcels.now }
+        ensures near { IfOk result (λ places. filter (is_near reach form.now) (lots_at self.now.parcels.now places.items) ≡ filter (is_near reach form.now) (others_in layer.now id.now (drop from self.now.parcels.now))) }
+        ensures within { IfOk result (λ places. AreWithin self.now.parcels.now places.items) }
         ensures few { IfOk result (λ places. length places.items ≤ most_kept_parts) }
     {
-        self.lots()
-            .near(alloc, &Quiet, form, layer, id, from, reach)
+        let lots = self.parcels.lots();
+        lots.near(alloc, self.visits, form, layer, id, from, reach)
     }
 
     fn have_room_for(&self, parts: usize) -> bool
-        ensures { result ≡ nat_le (parts_under_lots self.now + parts) most_kept_parts }
+        ensures { result ≡ nat_le (parts_under_lots self.now.parcels.now + parts) most_kept_parts }
     {
-        self.have_room_for(parts)
+        self.parcels.lots().have_room_for(parts)
+    }
+}
+
+impl Overlaps<Work> for ParcelKeeper<'_> {
+    fn overlap(
+        alloc: Global,
+        form: &Region,
+        other: &Region,
+        tests: &mut Work,
+    ) -> Result<bool, Stopped>
+        ensures { Comes (λ found. found) result tests.new (common_nearby first_tester form.now other.now tests.old) }
+    {
+        Ok(form.first_common(alloc, other, true, tests)?.is_some())
     }
 }

@@ -8,24 +8,21 @@
 //! before. The items of `neighbours`, `access` and `audit` are judged in halves; the answer, the count of tests and the
 //! proof lines are those of the row for every grain. The parcel at a point is the only one of its layer. Points that a
 //! refusal carries are those of its last proof line. Calls that answer `AllocError` do so only for want of memory.
+//!
+//! The rows are those of `rp_changes` and `rp_regionlots`, each walked on a work of its own, which the work of the call
+//! takes over.
 
-mod access;
-mod audit;
-mod behind;
-mod checks;
+mod answer;
+mod changes;
 mod child;
 mod fault;
 mod keeper;
-mod near;
-mod neighbours;
-mod pairs;
 mod parcels;
 mod points;
-mod register;
-mod reshape;
-mod subdivide;
+mod questions;
+mod visits;
 
 pub use child::Child;
 pub use fault::ParcelFault;
 pub use parcels::Parcels;
-pub use rp_lotindex::{Access, Levels};
+pub use rp_rows::{Access, Levels};

@@ -1,7 +1,7 @@
 //! The register of parcels: what it keeps, and how it changes.
-ghost use Rattle.std.specs.Prelude.{◌≡◌, ◌+◌, ◌<◌, ◌≤◌, [], length, map, nat_le, slice_get, option_copied, option_map, Some, IfOk, IfErr, OnOk, OnErr};
+ghost use Rattle.std.specs.Prelude.{◌≡◌, ◌+◌, ◌≤◌, [], length, map, option_copied, IfOk, IfErr, OnOk, OnErr};
 ghost use Rattle.rp_walks.specs.Walk.{no_work};
-ghost use Rattle.rp_model.specs.states.State.{Lot, live_lot, parts_of_lot, bare_lot, lots_replaced, parts_under_lots, most_kept_parts};
+ghost use Rattle.rp_model.specs.states.State.{live_lot, parts_of_lot, bare_lot, lots_replaced, most_kept_parts};
 ghost use Rattle.rp_model.specs.commands.Row.{row_retire};
 ghost use Rattle.rp_history.specs.Lots.{lots_in, lots_after};
 ghost use Rattle.rp_parcels.specs.Kept.{AreSound};
@@ -11,6 +11,8 @@ ghost use Rattle.rp_parcels.specs.declared.fault.ParcelFault.TheVariants.{Unknow
 ghost use Rattle.rp_parcels.specs.Rows.{Changes};
 
 use crate::fault::ParcelFault;
+use crate::keeper::ParcelKeeper;
+use crate::visits::Visits;
 use rp_history::{Birth, History};
 use rp_region::Region;
 use rp_regionlots::Regions;
@@ -65,14 +67,6 @@ impl Parcels {
         self.lots.find(&id)
     }
 
-    /// The region of the parcel at a place, ended or not.
-    pub(crate) fn region_at(&self, place: usize) -> &Region
-        requires { place < length self.now }
-        ensures { option_map (λ l. l.parts) (slice_get self.now place) ≡ Some result.now }
-    {
-        self.lots.form_at(place)
-    }
-
     /// The parcels as they are kept.
     pub(crate) fn lots(&self) -> &Lots<Regions>
         ensures value { result.now ≡ self.now }
@@ -81,20 +75,15 @@ impl Parcels {
         &self.lots
     }
 
-    /// How many parcels there are, ended ones included: each has a part at least.
-    pub(crate) fn count(&self) -> usize
-        ensures value { result ≡ length self.now }
-        ensures few { result ≤ most_kept_parts }
-    {
-        self.lots.count()
-    }
-
-    /// Whether all parcels together may keep so many more parts.
-    pub(crate) fn have_room_for(&self, parts: usize) -> bool
+    /// The parcels as what keeps lots. `visits` counts the nodes of their index that are visited.
+    pub(crate) fn keeper<'a>(&'a self, visits: &'a Visits) -> ParcelKeeper<'a>
+        ensures value { result.parcels.now ≡ self.now }
         ensures sound { AreSound self.now }
-        ensures value { result ≡ nat_le (parts_under_lots self.now + parts) most_kept_parts }
     {
-        self.lots.have_room_for(parts)
+        ParcelKeeper {
+            parcels: self,
+            visits,
+        }
     }
 
     /// Ends the parcels of the ids `ends` at the line, and lets others be born in their place, which go last, each with
@@ -128,8 +117,12 @@ impl Parcels {
         ensures sound { OnOk result (AreSound self.new) }
         ensures later { OnOk result (IsLater (line + 1) self.new) }
     {
-        self.live_place(id)?;
-        self.lots.end(line, id);
-        Ok(())
+        match self.history().check_live(id) {
+            Ok(_) => {
+                self.lots.end(line, id);
+                Ok(())
+            }
+            Err(_) => Err(ParcelFault::Unknown(id)),
+        }
     }
 }

@@ -1,18 +1,19 @@
-use Rattle.std.proofs.Common.{◌+◌, List, map, sym, ap₂, ◌∙◌, subst}
+use Rattle.std.proofs.Common.{◌+◌, List, [], map, sym, ap₂, ◌∙◌, subst}
 use Rattle.std.proofs.lemmas.List.{map-id}
 use Rattle.rp_geometry.specs.sets.Shape.{Part}
 use Rattle.rp_model.specs.states.State.{Lot, lots_replaced}
-use Rattle.rp_history.specs.Lots.{lots_after, AreBornBefore, AreNew}
+use Rattle.rp_history.specs.Lots.{lots_in, lots_after, AreBornBefore, AreNew}
 use Rattle.rp_history.specs.Parts.{new_lots}
 use Rattle.rp_store.specs.Kept.{AreFew}
 use Rattle.rp_parcels.specs.Kept.{AreSound}
 use Rattle.rp_parcels.specs.Register.{IsLater}
-use Rattle.rp_parcels.proofs.Sizes.{sound_are_few, born_before}
+use Rattle.rp_ledger.proofs.Applied.{later_births}
+use Rattle.rp_parcels.proofs.Sizes.{sound_few}
 use Rattle.rp_parcels.proofs.Later.{later_after}
 use Rattle.rp_parcels.proofs.parcels.Parcels.replace.Goals as goal
 
 pub replace-requires-clause-later : goal.replace-requires-clause-later
-replace-requires-clause-later c = subst (AreBornBefore c.args.line) (sym c.self.view_is) (born_before c.args.line c.args.self.now c.requires.later)
+replace-requires-clause-later c = subst (AreBornBefore c.args.line) (sym c.self.view_is) (later_births c.args.line (lots_in [] c.args.self.now) c.requires.later)
 
 pub replace-requires-clause-new : goal.replace-requires-clause-new
 replace-requires-clause-new c =
@@ -22,7 +23,7 @@ replace-requires-clause-new c =
 pub replace-requires-clause-few : goal.replace-requires-clause-few
 replace-requires-clause-few c =
     let after = λ (ls : List (Lot (Unit {0}))) (lists : List (List Part)). lots_after c.args.line ls (lots_replaced c.args.ends.now (new_lots c.args.births.now lists)) in
-    subst AreFew (sym (ap₂ after c.self.view_is (map-id c.args.regions.items))) (sound_are_few (after c.args.self.now c.args.regions.items) c.requires.fit.sound)
+    subst AreFew (sym (ap₂ after c.self.view_is (map-id c.args.regions.items))) (sound_few (after c.args.self.now c.args.regions.items) c.requires.fit.sound)
 
 pub returns-clause-ok : goal.returns-clause-ok
 returns-clause-ok c = c.in_ok-replace.ensures.ok ∙ ap₂ (λ (ls : List (Lot (Unit {0}))) (lists : List (List Part)). lots_after c.args.line ls (lots_replaced c.args.ends.now (new_lots c.args.births.now lists))) c.self.view_is (map-id c.args.regions.items)

@@ -1,8 +1,0 @@
-use Rattle.std.proofs.Common.{◌∙◌}
-use Rattle.std.proofs.lemmas.Result.{IfOk-weaker}
-use Rattle.rp_parcels.specs.Judged.{pair_of, judged}
-use Rattle.rp_regionlots.proofs.Items.{all_meanings}
-use Rattle.rp_parcels.proofs.parcels.Parcels.judge_pairs.Goals as goal
-
-pub returns : goal.returns
-returns g c = IfOk-weaker c.judge_all.result _ _ (λ all e. e ∙ all_meanings (judged c.args.reach c.args.self.now) (pair_of 0 0) c.args.pairs.now) c.judge_all.ensures

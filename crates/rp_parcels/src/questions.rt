@@ -1,0 +1,106 @@
+//! Which parcels are in contact, how one gets from one to another, and that all are apart: by the rows that are written
+//! once.
+ghost use Rattle.std.specs.Prelude.{◌≡◌, ◌≤◌, [], length};
+ghost use Rattle.rp_walks.specs.Walk.{first_tester};
+ghost use Rattle.rp_model.specs.states.State.{live_lots};
+ghost use Rattle.rp_model.specs.commands.Verdict.{clear, neighbour_lines};
+ghost use Rattle.rp_model.specs.commands.Row.{reply, reply_lines, row_access, row_audit, row_neighbours};
+ghost use Rattle.rp_history.specs.Lots.{lots_in};
+ghost use Rattle.rp_parcels.specs.Access.{access_reply};
+ghost use Rattle.rp_parcels.specs.Rows.{Answers};
+
+use crate::answer::answered;
+use crate::fault::ParcelFault;
+use crate::parcels::Parcels;
+use crate::visits::Visits;
+use rp_boxindex::Watch;
+use rp_region::Work;
+use rp_regionlots::{access, audit, neighbours};
+use rp_rows::{Access, live_count};
+use rp_space::{Name, Names};
+use std::alloc::Global;
+use std::thread::Threads;
+
+impl Parcels {
+    /// The other live parcels of the parcel's layer in contact with it, in the order of registration. Refusals, in this
+    /// order: `Unknown(id)` where it isn't live; `Limit` where too many pairs of their parts have boxes that meet, the
+    /// boundary included.
+    ///
+    /// The items are the other live parcels of the layer that have such a pair with it. They are judged in halves, and
+    /// a run of at most `grain` is not split; the answer and the proof lines are the same for every grain.
+    pub fn neighbours<R: Threads + Sync, W: Watch>(
+        &self,
+        rt: &R,
+        alloc: Global,
+        watch: &W,
+        grain: usize,
+        id: Name,
+        work: &mut Work,
+    ) -> Result<Names, ParcelFault>
+        requires { 1 ≤ grain }
+        ensures row { Answers (λ ids. reply_lines (neighbour_lines ids.items)) result work.old work.new (row_neighbours first_tester (lots_in [] self.now) id) }
+    {
+        let mut walked = work.fresh(alloc);
+        let visits = Visits::none();
+        let keeper = self.keeper(&visits);
+        let came = neighbours(rt, alloc, watch, grain, &keeper, id, &mut walked);
+        answered(work, walked, came)
+    }
+
+    /// A shortest chain of live parcels of one layer from one to another, each in contact with the next, and the level
+    /// of each parcel of the layer that has one: how many steps the shortest chain from it has. Refusals, in this
+    /// order: `Unknown(from)` and `Unknown(to)` where one isn't live; `Layers(to)` where the layers differ; `Limit`
+    /// where too many pairs of parts of parcels of the layer have boxes that meet, the boundary included.
+    ///
+    /// The items are the pairs of live parcels of the layer that have such a pair of parts. They are judged in halves,
+    /// and a run of at most `grain` is not split; the answer and the proof lines are the same for every grain.
+    pub fn access<R: Threads + Sync, W: Watch>(
+        &self,
+        rt: &R,
+        alloc: Global,
+        watch: &W,
+        grain: usize,
+        from: Name,
+        to: Name,
+        work: &mut Work,
+    ) -> Result<Access, ParcelFault>
+        requires { 1 ≤ grain }
+        ensures row { Answers access_reply result work.old work.new (row_access first_tester (lots_in [] self.now) from to) }
+    {
+        let mut walked = work.fresh(alloc);
+        let visits = Visits::none();
+        let keeper = self.keeper(&visits);
+        let came = access(rt, alloc, watch, grain, &keeper, from, to, &mut walked);
+        answered(work, walked, came)
+    }
+
+    /// The number of live parcels of all layers, with a proof line in `work` for each pair of parts whose boxes meet,
+    /// of two live parcels of one layer: they share no point. `Limit` exactly where there are too many of these pairs.
+    ///
+    /// The items are the pairs of parcels that have such a pair of parts. They are judged in halves, and a run of at
+    /// most `grain` is not split; the answer and the proof lines are the same for every grain.
+    pub fn audit<R: Threads + Sync, W: Watch>(
+        &self,
+        rt: &R,
+        alloc: Global,
+        watch: &W,
+        grain: usize,
+        work: &mut Work,
+    ) -> Result<u32, ParcelFault>
+        requires { 1 ≤ grain }
+        ensures row { Answers (λ n. reply (clear n)) result work.old work.new (row_audit first_tester (lots_in [] self.now)) }
+    {
+        let mut walked = work.fresh(alloc);
+        let visits = Visits::none();
+        let keeper = self.keeper(&visits);
+        let came = audit(rt, alloc, watch, grain, &keeper, &mut walked);
+        answered(work, walked, came)
+    }
+
+    /// How many parcels of all layers are live.
+    pub fn count_live(&self) -> u32
+        ensures { result ≡ length (live_lots self.now) }
+    {
+        live_count(self.history().lots()) as u32
+    }
+}
