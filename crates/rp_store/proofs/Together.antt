@@ -73,10 +73,10 @@ module _ (ls : List (Lot (Unit {0}))) (lists : List (List Part)) (parts : ℕ) (
       by (Some ps) e = let same : ps ≡ l.parts = cc in ap (λ (qs : List Part). is_in_parts qs p) same
 
 -- lots are kept after a change
-pub lots_kept_after : (n : ℕ) (ids : List Label) (births : List Birth) (ls new : List (Lot (Unit {0}))) (lists more all : List (List Part)) (parts count : ℕ) (boxes after : Boxes) → AreLots ls lists parts boxes → length births ≡ length more →
+pub lots_kept_after : (n : ℕ) (ids : List Label) (births : List Birth) (ls new : List (Lot (Unit {0}))) (lists more all : List (List Part)) (parts count : ℕ) (boxes next : Boxes) → AreLots ls lists parts boxes → length births ≡ length more →
     AreFew (lots_after n (lots_with_parts ls lists) (lots_replaced ids (new_lots births more))) → IsTrue (are_distinct (ids_of new)) → new ≡ lots_after n ls (lots_replaced ids (map new_lot_of births)) → all ≡ lists ++ more → count ≡ sum_by (λ ps. length ps) more →
-    IsIndexOf (lots_after n (lots_with_parts ls lists) (lots_replaced ids (new_lots births more))) after → AreLots new all (parts + count) after
-lots_kept_after n ids births ls new lists more all parts count boxes after h e few distinct f g k indexed =
+    IsIndexOf (lots_after n (lots_with_parts ls lists) (lots_replaced ids (new_lots births more))) next → AreLots new all (parts + count) next
+lots_kept_after n ids births ls new lists more all parts count boxes next h e few distinct f g k indexed =
     let together = ap₂ lots_with_parts f g ∙ after_with_parts n ids births ls lists more h.each in
     record {
       each = ap length f ∙ length-append (map (ended_at n ids) ls) (map (born_at n) (map new_lot_of births)) ∙ ap₂ ◌+◌ (length-map ls (ended_at n ids) ∙ h.each) (length-map (map new_lot_of births) (born_at n) ∙ length-map births new_lot_of ∙ e) ∙ sym (length-append lists more) ∙ sym (ap length g);
@@ -84,7 +84,7 @@ lots_kept_after n ids births ls new lists more all parts count boxes after h e f
       distinct = distinct;
       count = ap₂ ◌+◌ h.count (k ∙ sym (new_parts births more e)) ∙ sym (parts_after n ids (new_lots births more) (lots_with_parts ls lists)) ∙ sym (ap parts_under_lots together);
       few = subst AreFew (sym together) few;
-      indexed = subst (λ (lots : List (Lot (Unit {0}))). IsIndexOf lots after) (sym together) indexed;
+      indexed = subst (λ (lots : List (Lot (Unit {0}))). IsIndexOf lots next) (sym together) indexed;
     }
 
 -- lots of the history end, and so do those with parts
@@ -93,9 +93,9 @@ ended_together n ids ls new lists lots seen e =
     ap (λ (ks : List (Lot (Unit {0}))). lots_with_parts ks lists) e ∙ all_ended_with_parts n ids ls lists ∙ ap (map (ended_at n ids)) seen ∙ sym (append-nil (map (ended_at n ids) lots))
 
 -- lots of which some end are kept
-pub lots_kept_ended : (n : ℕ) (ids : List Label) (ls new : List (Lot (Unit {0}))) (lists : List (List Part)) (parts : ℕ) (boxes after : Boxes) → AreLots ls lists parts boxes → IsTrue (are_distinct (ids_of new)) → new ≡ map (ended_at n ids) ls →
-    IsIndexOf (lots_after n (lots_with_parts ls lists) (lots_replaced ids [])) after → AreLots new lists parts after
-lots_kept_ended n ids ls new lists parts boxes after h distinct e indexed =
+pub lots_kept_ended : (n : ℕ) (ids : List Label) (ls new : List (Lot (Unit {0}))) (lists : List (List Part)) (parts : ℕ) (boxes next : Boxes) → AreLots ls lists parts boxes → IsTrue (are_distinct (ids_of new)) → new ≡ map (ended_at n ids) ls →
+    IsIndexOf (lots_after n (lots_with_parts ls lists) (lots_replaced ids [])) next → AreLots new lists parts next
+lots_kept_ended n ids ls new lists parts boxes next h distinct e indexed =
     let together = ended_together n ids ls new lists (lots_with_parts ls lists) refl e in
     let after = append-nil (map (ended_at n ids) (lots_with_parts ls lists)) in
     let parts_stay = ended_parts n ids (lots_with_parts ls lists) in
@@ -108,5 +108,5 @@ lots_kept_ended n ids ls new lists parts boxes after h distinct e indexed =
         few_lots = subst (λ (m : ℕ). m ≤ most_kept_parts) (sym (length-map (lots_with_parts ls lists) (ended_at n ids))) h.few.few_lots;
         few_parts = subst (λ (m : ℕ). m ≤ most_kept_parts) (sym parts_stay) h.few.few_parts;
       });
-      indexed = subst (λ (lots : List (Lot (Unit {0}))). IsIndexOf lots after) (sym together) indexed;
+      indexed = subst (λ (lots : List (Lot (Unit {0}))). IsIndexOf lots next) (sym together) indexed;
     }

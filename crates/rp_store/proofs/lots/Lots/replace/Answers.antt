@@ -1,14 +1,14 @@
 use Rattle.std.proofs.Common.{ℕ, ◌+◌, ◌++◌, List, map, length, sum_by, sym, ap, ap₂, ◌∙◌, subst, arith}
-use Rattle.std.proofs.lemmas.List.{length-map, map-append}
+use Rattle.std.proofs.lemmas.List.{length-append, length-map, map-append}
 use Rattle.rp_geometry.specs.sets.Shape.{Part}
-use Rattle.rp_model.specs.states.State.{Lot, lots_replaced}
+use Rattle.rp_language.specs.Name.{is_among}
+use Rattle.rp_model.specs.states.State.{Lot, ended_at, born_at, lots_replaced}
 use Rattle.rp_space.specs.Boxes.{integer_box}
 use Rattle.rp_states.proofs.Plain.{image_sums}
-use Rattle.rp_history.specs.Lots.{lots_after, AreBornBefore, AreNew}
+use Rattle.rp_history.specs.Lots.{new_lot_of, lots_after, AreBornBefore, AreNew}
 use Rattle.rp_history.specs.Parts.{lots_with_parts, new_lots}
 use Rattle.rp_history.proofs.Together.{born_before, new_to_history, after_with_parts, parts_after, new_parts}
-use Rattle.rp_boxindex.specs.Boxes.{Boxes}
-use Rattle.rp_lotindex.specs.Indexed.{boxes_in, ArePut}
+use Rattle.rp_lotindex.specs.Indexed.{boxes_in, AreSettled}
 use Rattle.rp_lotindex.proofs.Put.{none_behind_put}
 use Rattle.rp_store.specs.Kept.{AreFew, AreLots}
 use Rattle.rp_store.proofs.Together.{lots_counted, lots_few, lots_parts, lots_kept_after}
@@ -107,7 +107,20 @@ settle_all-requires-clause-each g c =
     omega (arith, forms, lots, old, born, before, each)
 
 pub settle_all-requires-clause-few : goal.settle_all-requires-clause-few
-settle_all-requires-clause-few g c = ?
+settle_all-requires-clause-few g c =
+    let i = c.self.inside in
+    let parts = g.F.Forms.parts_of in
+    let more = map parts c.args.forms.items in
+    let new = c.args.births.now in
+    let first = ap length c.items-first.ensures ∙ sym (length-map i.forms.items parts) in
+    let room = room_for i.history (map parts i.forms.items) i.parts i.boxes.index c.self.invariant (length c.items-first.result.now) first c.args.line c.args.ends.now new more (c.requires.each ∙ sym (length-map c.args.forms.items parts))
+    (subst (λ (ls : List (Lot (Unit {0}))). AreFew (lots_after c.args.line ls (lots_replaced c.args.ends.now (new_lots new more)))) (sym c.self.view_is) c.requires.few) in
+    let lots = ap length c.in_default.ensures.ok ∙ length-append (map (ended_at c.args.line c.args.ends.now) i.history) (map (born_at c.args.line) (map new_lot_of new)) in
+    let old = length-map i.history (ended_at c.args.line c.args.ends.now) in
+    let born = length-map (map new_lot_of new) (born_at c.args.line) ∙ length-map new new_lot_of in
+    let before = c.self.invariant.each in
+    let each = c.requires.each ∙ sym (length-map c.args.forms.items parts) in
+    omega (arith, room, lots, old, born, before, each, first)
 
 pub overflow_add-self : goal.overflow_add-self
 overflow_add-self g c =
