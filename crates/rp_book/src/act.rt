@@ -1,5 +1,5 @@
 //! When lines were added, by whom and under which deed.
-ghost use Rattle.std.specs.Prelude.{◌≡◌, IfOk};
+ghost use Rattle.std.specs.Prelude.{◌≡◌, IfOk, option_map, string_bytes};
 ghost use Rattle.rp_book.specs.Act.{act_at, act_of};
 
 use std::alloc::{AllocError, Global};
@@ -25,7 +25,7 @@ pub struct Act {
 
 /// A text that may not be told, of its own.
 fn own(alloc: Global, text: Option<&str>) -> Result<Option<String>, AllocError>
-    ensures { IfOk result (λ own. option_map string_bytes own ≡ option_map (λ t. t.now) text) }
+    ensures { IfOk result (λ own. option_map string_bytes own ≡ option_map (λ t. t.now) text.entry) }
 {
     match text {
         Some(text) => Ok(Some(String::from_str(alloc, text)?)),
@@ -41,7 +41,7 @@ impl Act {
         last: u32,
         entry: Entry<'_>,
     ) -> Result<Act, AllocError>
-        ensures { IfOk result (λ act. act_of act ≡ act_at first last entry) }
+        ensures { IfOk result (λ act. act_of act ≡ act_at first last entry.entry) }
     {
         let added = String::from_str(alloc, entry.added)?;
         let who = own(alloc, entry.who)?;

@@ -46,8 +46,10 @@ pub fn line_numbers(script: &[u8], before: u32, lines: &[u8]) -> (u32, u32)
     requires end { IsEnded script.now }
     requires short { length script.now + length lines.now ≤ most_script_bytes }
     requires before { before ≡ last_number script.now }
+    requires fits { before ≤ length script.now }
     ensures first { result.0 ≡ first_number script.now lines.now }
     ensures last { result.1 ≡ last_number (script.now ++ lines.now) }
+    ensures fits { result.1 ≤ length script.now + length lines.now }
 {
     if script.is_empty() {
         let (version, body) = split_mark(lines);
