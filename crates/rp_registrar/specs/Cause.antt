@@ -14,21 +14,21 @@ use Rattle.rp_registrar.specs.declared.stop.Stop.{Stop}
 use Rattle.rp_registrar.specs.declared.stop.Stop.TheVariants.{Read, Put, Memory, TooLong, Change, Book}
 use Rattle.rp_registrar.specs.Added.{ended, has_change}
 
--- an output that was not put whole stops a call for the same cause
-abbrev pub Becomes : OutputFault → Stop → Type 0
-Becomes output.Put stop = stop ≡ Put
-Becomes (output.Memory e) stop = stop ≡ Memory e
+-- what the fault of an output becomes
+abbrev pub stop_of_output : OutputFault → Stop
+stop_of_output output.Put = Put
+stop_of_output (output.Memory e) = Memory e
 
 -- a script with the lines of an input would have so many bytes
 abbrev pub HasLength : List ℕ → List ℕ → Length → Type 0
 HasLength script input (Exactly n) = (n ≡ length script + length (ended input)) × (most_script_bytes < n)
 HasLength script input (MoreThan n) = (n ≡ length script + most_script_bytes) × (n < length script + length input)
 
--- what a fault of an input becomes, which is to stand behind a script of so many bytes
-abbrev pub IsIntakeStop : ℕ → IntakeFault → Stop → Type 0
-IsIntakeStop bytes input.Failed stop = stop ≡ Read
-IsIntakeStop bytes input.TooLong stop = stop ≡ TooLong (MoreThan (bytes + most_script_bytes))
-IsIntakeStop bytes (input.Memory e) stop = stop ≡ Memory e
+-- what the fault of an input becomes, which is to stand behind a script of so many bytes
+abbrev pub stop_of_intake : ℕ → IntakeFault → Stop
+stop_of_intake bytes input.Failed = Read
+stop_of_intake bytes input.TooLong = TooLong (MoreThan (bytes + most_script_bytes))
+stop_of_intake bytes (input.Memory e) = Memory e
 
 -- why lines were not read that are to stand behind a script: a read failed, or there are too many bytes; nothing is claimed where memory ran out
 abbrev pub HasInputCause : ℕ → ℕ → List ℕ → Option (List ℕ) → Stop → Type 0

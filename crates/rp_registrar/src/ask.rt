@@ -74,7 +74,11 @@ fn version_behind(script: &[u8], lines: &[u8]) -> Version
     requires { IsEnded script.now }
     ensures { version_of result ≡ script_version (script.now ++ lines.now) }
 {
-    let (version, _) = split_mark(if script.is_empty() { lines } else { script });
+    if script.is_empty() {
+        let (version, _) = split_mark(lines);
+        return version;
+    }
+    let (version, _) = split_mark(script);
     version
 }
 

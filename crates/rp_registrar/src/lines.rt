@@ -3,7 +3,7 @@ ghost use Rattle.std.specs.Prelude.{◌≡◌, ◌+◌, ◌≤◌, length, IfErr
 ghost use Rattle.rp_book.specs.Lines.{IsEnded};
 ghost use Rattle.rp_reports.specs.Output.{most_script_bytes};
 ghost use Rattle.rp_registrar.specs.Added.{ended};
-ghost use Rattle.rp_registrar.specs.Cause.{HasInputCause, IsIntakeStop};
+ghost use Rattle.rp_registrar.specs.Cause.{HasInputCause, stop_of_intake};
 
 use crate::stop::{Length, Stop};
 use rp_io::{IntakeFault, Source, read_whole};
@@ -27,7 +27,7 @@ fn end_lines(mut lines: Vec<u8>) -> Result<Vec<u8>, AllocError>
 /// Why lines that are to stand behind a script of so many bytes were not read.
 fn intake_stop(fault: IntakeFault, script: usize) -> Stop
     requires { script ≤ most_script_bytes }
-    ensures { IsIntakeStop script fault result }
+    ensures { result ≡ stop_of_intake script fault }
 {
     match fault {
         IntakeFault::Failed => Stop::Read,

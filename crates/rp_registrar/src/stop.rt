@@ -1,6 +1,6 @@
 //! Why a call stopped before it was done.
 ghost use Rattle.std.specs.Prelude.{◌≡◌};
-ghost use Rattle.rp_registrar.specs.Cause.{Becomes};
+ghost use Rattle.rp_registrar.specs.Cause.{stop_of_output};
 ghost use Rattle.rp_registrar.specs.declared.stop.Stop.TheVariants.{Book, Memory, Put};
 
 use rp_book::BookFault;
@@ -43,7 +43,7 @@ impl From<AllocError> for Stop {
 }
 
 impl From<OutputFault> for Stop {
-    ghost from_gives = { Becomes };
+    ghost from_gives = { λ d e. e ≡ stop_of_output d };
 
     fn from(fault: OutputFault) -> Self {
         match fault {
