@@ -1,17 +1,11 @@
-//! Access between lots of which some are in contact: a shortest chain, and levels, by the ids of lots, and their verdict
-//! lines.
-ghost use Rattle.std.specs.Prelude.{◌≡◌, ◌≤◌, IfOk, length, map};
+//! Access between lots of which some are in contact: a shortest chain, and levels, by the ids of lots.
+ghost use Rattle.std.specs.Prelude.{◌≤◌, length};
 ghost use Rattle.std.specs.Option.{ForSome};
 ghost use Rattle.rp_model.specs.states.State.{most_kept_parts};
-ghost use Rattle.rp_text.specs.Views.{verdict_of};
-ghost use Rattle.rp_rows.specs.Access.{told_access};
 
-use crate::lot_lines::parcel_lines;
 use crate::numbered::{named_chain, named_levels, number_of};
-use crate::reply::one_line;
 use rp_access::{Links, chain, levels};
 use rp_space::{Listed, Name, Names};
-use rp_text::{Verdict, Verdicts};
 use std::alloc::{AllocError, Global};
 
 /// Levels, each with the id of its lot.
@@ -58,21 +52,4 @@ impl Access {
         let levels = named_levels(alloc, ids, &levels)?;
         Ok(Access { chain, levels })
     }
-}
-
-/// The verdict lines of `access`: those of its chain, and then those of its levels.
-pub fn access_lines(alloc: Global, access: &Access) -> Result<Verdicts, AllocError>
-    ensures { IfOk result (λ lines. map verdict_of lines.items ≡ told_access access.now) }
-{
-    let mut lines = match &access.chain {
-        None => one_line(alloc, Verdict::NoAccess)?,
-        Some(ids) => {
-            let steps = ids.items().len().saturating_sub(1);
-            parcel_lines(alloc, Verdict::Access(steps as u32), ids.items())?
-        }
-    };
-    for (steps, id) in access.levels.items() {
-        lines.push(Verdict::Level(*steps, *id))?;
-    }
-    Ok(lines)
 }

@@ -5,8 +5,10 @@ ghost use Rattle.rp_model.specs.commands.Verdict.{Verdict as ModelVerdict, neigh
 ghost use Rattle.rp_history.specs.Lots.{lot_of};
 ghost use Rattle.rp_lotindex.specs.Owner.{owner_verdict};
 ghost use Rattle.rp_text.specs.Views.{verdict_of};
+ghost use Rattle.rp_rows.specs.Access.{told_access};
 ghost use Rattle.rp_rows.specs.Lots.{lots_under};
 
+use crate::access::Access;
 use crate::reply::one_line;
 use rp_history::{History, LotLine};
 use rp_space::{Name, Names};
@@ -31,12 +33,25 @@ pub fn neighbour_lines(alloc: Global, ids: &[Name]) -> Result<Verdicts, AllocErr
     parcel_lines(alloc, Verdict::Neighbours(ids.len() as u32), ids)
 }
 
+/// The verdict lines of `access`: those of its chain, and then those of its levels.
+pub fn access_lines(alloc: Global, access: &Access) -> Result<Verdicts, AllocError>
+    ensures { IfOk result (λ lines. map verdict_of lines.items ≡ told_access access.now) }
+{
+    let mut lines = match &access.chain {
+        None => one_line(alloc, Verdict::NoAccess)?,
+        Some(ids) => {
+            let steps = ids.items().len().saturating_sub(1);
+            parcel_lines(alloc, Verdict::Access(steps as u32), ids.items())?
+        }
+    };
+    for (steps, id) in access.levels.items() {
+        lines.push(Verdict::Level(*steps, *id))?;
+    }
+    Ok(lines)
+}
+
 /// A verdict line, and one for each of some ids.
-pub(crate) fn parcel_lines(
-    alloc: Global,
-    first: Verdict,
-    ids: &[Name],
-) -> Result<Verdicts, AllocError>
+fn parcel_lines(alloc: Global, first: Verdict, ids: &[Name]) -> Result<Verdicts, AllocError>
     ensures { IfOk result (λ lines. map verdict_of lines.items ≡ verdict_of first ∷ map ModelVerdict.parcel ids.now) }
 {
     let mut lines = one_line(alloc, first)?;
