@@ -139,7 +139,6 @@ impl<F: Forms> Ledger<F> {
     pub fn owner(&self, moment: Moment, point: &Point) -> Option<Name>
         ensures { owner_verdict result ≡ owner_line (lots_of_layer self.now.layer (filter (is_there moment) self.now.lots)) point.now }
     {
-        self.keep_sound();
         self.lots.owner(&self.layer, moment, point)
     }
 
@@ -159,7 +158,12 @@ impl<F: Forms> Ledger<F> {
 
     /// Makes `change` at line `n`, which is above every birth and every end; a sound state comes of it. After
     /// `AllocError` all is as before.
-    pub fn apply(&mut self, alloc: Global, n: u32, change: Change<F::Form>) -> Result<(), AllocError>
+    pub fn apply(
+        &mut self,
+        alloc: Global,
+        n: u32,
+        change: Change<F::Form>,
+    ) -> Result<(), AllocError>
         requires later { IsLaterThan n (state_of_parts self.old) }
         requires taken { IsTaken IsCheckedPart n self.old (change_of F.parts_of change) }
         ensures ok { OnOk result (self.new ≡ changed n self.old (change_of F.parts_of change)) }

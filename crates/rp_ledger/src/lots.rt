@@ -4,8 +4,8 @@ ghost use Rattle.rp_model.specs.commands.Row.{row};
 ghost use Rattle.rp_rows.specs.Replies.{Tells};
 
 use rp_changes::Registry;
-use rp_lots::Keeper;
 use rp_lotindex::Moment;
+use rp_lots::Keeper;
 use rp_rows::{RowEnd, lineage, list, one_line, owner_verdict};
 use rp_space::{Name, Point};
 use rp_tester::Tests;

@@ -1,7 +1,8 @@
 //! The row of each command.
-ghost use Rattle.std.specs.Prelude.{◌≡◌};
+ghost use Rattle.std.specs.Prelude.{◌≡◌, ◌≤◌, length};
 ghost use Rattle.std.specs.List.{AllByRecursion};
 ghost use Rattle.rp_command.specs.Views.{command_of};
+ghost use Rattle.rp_geometry.specs.parts.Parts.{most_parts};
 ghost use Rattle.rp_geometry.specs.sections.Trace.{IsHeight};
 ghost use Rattle.rp_language.specs.Expression.{IsKeptExpression, expressions_of, heights_of, HasFewChildren};
 ghost use Rattle.rp_walks.specs.Walk.{first_tester};
@@ -34,7 +35,8 @@ fn told(asked: Result<Verdicts, RowEnd>) -> Result<Reply<Region>, RowEnd>
 
 /// The slices of the parts of a form at a height.
 fn slices(alloc: Global, form: &Region, z: i32) -> Result<Verdicts, RowEnd>
-    requires { IsHeight z }
+    requires few { length form.now ≤ most_parts }
+    requires height { IsHeight z }
     ensures { (w : Work) → Tells result w (row_section first_tester z form.now w) }
 {
     let slices = section(alloc, form, z)?;

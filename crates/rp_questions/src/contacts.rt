@@ -5,7 +5,7 @@ ghost use Rattle.rp_reports.specs.Check.{line_tester};
 ghost use Rattle.rp_rows.specs.Replies.{Tells};
 
 use rp_lotindex::Reach;
-use rp_lots::{access_left, access_told, audit_left, ids_met, touch_left};
+use rp_lots::{Keeper, access_left, access_told, audit_left, ids_met, touch_left};
 use rp_register::{Register, meet_in_turn, show_apart_in_turn};
 use rp_rows::{RowEnd, access_lines, neighbour_lines, one_line};
 use rp_space::Name;

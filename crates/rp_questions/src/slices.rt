@@ -23,12 +23,7 @@ use std::alloc::Global;
 /// `section`: the slices of the parts of `form` at the height `z`. Which these are the next lines of `trail` say, behind
 /// the one that tells how many there are; none of them is taken. `Unshown` where one of them is missing, or shows no
 /// slice that passes.
-pub fn section(
-    alloc: Global,
-    form: &Form,
-    z: i32,
-    trail: &Trail<'_>,
-) -> Result<Followed, RowEnd>
+pub fn section(alloc: Global, form: &Form, z: i32, trail: &Trail<'_>) -> Result<Followed, RowEnd>
     requires few { length form.now.items ≤ most_parts }
     requires height { IsHeight z }
     ensures { IsFollowed result trail.now (row_section line_tester z form.now.items trail.now) }

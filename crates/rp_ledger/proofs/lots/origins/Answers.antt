@@ -1,4 +1,4 @@
-use Rattle.std.proofs.Common.{length, ap, ◌∙◌, arith}
+use Rattle.std.proofs.Common.{length, ap, arith}
 use Rattle.std.proofs.lemmas.List.{length-map}
 use Rattle.rp_model.specs.states.State.{bare_lot}
 use Rattle.rp_rows.proofs.BareLots.{bare_told}

@@ -1,15 +1,18 @@
-use Rattle.std.proofs.Common.{ap, sym, ◌∙◌, subst, List, map}
+use Rattle.std.proofs.Common.{ap, sym, ◌∙◌, subst, List, map, rules, w32}
+use Rattle.std.proofs.lemmas.Int.{to_z-of_z}
+use Rattle.std.specs.Int.RustNames.{FitsSigned}
 use Rattle.std.specs.List.{AllByRecursion}
 use Rattle.rp_geometry.specs.sets.Shape.{Part}
 use Rattle.rp_language.specs.Name.{Label}
-use Rattle.rp_language.specs.Expression.{Command, IsKeptExpression, Meaning, expressions_of, define, register, cut, subdivide, consolidate, retire, ask_at, ask_as_of, ask_list, ask_member, ask_equal, ask_within, ask_overlap, ask_empty, ask_pieces, ask_show, ask_contact, ask_relation, ask_history}
+use Rattle.rp_language.specs.Expression.{Command, IsKeptExpression, Meaning, expressions_of, define, register, cut, subdivide, consolidate, retire, ask_at, ask_as_of, ask_list, ask_member, ask_equal, ask_within, ask_overlap, ask_empty, ask_pieces, ask_show, ask_contact, ask_relation, ask_history, ask_section}
 use Rattle.rp_command.specs.declared.command.Expr.{Expr}
 use Rattle.rp_command.specs.Views.{child_of, command_of, expression_of, shapes_of}
 use Rattle.rp_command.proofs.Children.{kept_shapes}
-use Rattle.rp_model.specs.commands.Row.{row_empty, row_pieces, row_relation}
+use Rattle.rp_model.specs.commands.Row.{row, row_empty, row_pieces, row_relation}
 use Rattle.rp_queries.specs.declared.question.Question.TheVariants.{Equal, Within, Overlap, Contact}
 use Rattle.rp_rows.specs.Asked.{row_asking, row_of_member, row_show}
-use Rattle.rp_rows.specs.Replies.{Tells, row_of_form, row_of_forms}
+use Rattle.rp_rows.specs.Replies.{Tells, GoesOn, row_of_form, row_of_forms}
+use Rattle.rp_ledger.specs.Rows.{rest_of}
 use Rattle.rp_ledger.proofs.Told.{question_told, change_told, told_ready, changed_ready}
 use Rattle.rp_ledger.proofs.rows.carry_out.Goals as goal
 
@@ -226,3 +229,11 @@ returns-in-Retire-clause-goes_on g c =
 
 pub returns-in-Retire-clause-ready : goal.returns-in-Retire-clause-ready
 returns-in-Retire-clause-ready g c = changed_ready g.T.Tests.parts_of c.changed-in-Retire.result c.retirement.result c.changed-in-Retire.ensures
+
+pub returns-in-Section-clause-goes_on : goal.returns-in-Section-clause-goes_on
+returns-in-Section-clause-goes_on g c =
+    let tester = g.T.Tests.tester in
+    let s = g.K.Keeper.state c.args.keeper.now in
+    let fits : FitsSigned w32 c.in-Section.z = search rules in
+    let same = ap command_of c.in-Section.is ∙ ap (ask_section (expression_of c.in-Section.region)) (sym (to_z-of_z w32 c.in-Section.z fits)) in
+    subst (λ (d : Command). GoesOn (λ x. x) c.formed.result c.formed.new.tests (rest_of tester g.T.Tests.parts_of s) (row tester s d c.args.tests.now)) (sym same) c.formed.ensures.goes_on

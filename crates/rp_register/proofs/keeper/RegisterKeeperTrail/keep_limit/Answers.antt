@@ -1,4 +1,4 @@
-use Rattle.rp_register.proofs.Turns.{never_many}
+use Rattle.rp_register.proofs.Limits.{never_many}
 use Rattle.rp_register.proofs.keeper.RegisterKeeperTrail.keep_limit.Goals as goal
 
 pub returns : goal.returns
