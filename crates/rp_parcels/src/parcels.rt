@@ -80,6 +80,8 @@ impl Parcels {
         ensures value { result.parcels.now ≡ self.now }
         ensures sound { AreSound self.now }
     {
+        // Only so that it is known that the parcels are sound.
+        let _ = &self.lots;
         ParcelKeeper {
             parcels: self,
             visits,
