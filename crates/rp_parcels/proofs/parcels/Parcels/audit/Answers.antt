@@ -1,5 +1,4 @@
-use Rattle.std.proofs.Common.{◌≡◌, List, [], sym, subst}
-use Rattle.rp_parcels.specs.Kept.{AreSound}
+use Rattle.std.proofs.Common.{◌≡◌, List, [], subst}
 use Rattle.rp_walks.specs.Walk.{first_tester}
 use Rattle.rp_model.specs.states.State.{Lot}
 use Rattle.rp_model.specs.commands.Row.{row_audit}
@@ -18,11 +17,8 @@ answered-requires g c =
     let comes = subst (λ ls. Answers (λ n. reply (clear n)) c.audit-came.result c.audit-came.new.work (row ls c.fresh-walked.result)) c.keeper-keeper.ensures.value c.audit-came.ensures in
     end_shown (λ n. reply (clear n)) c.audit-came.result c.audit-came.new.work (row c.args.self.now c.fresh-walked.result) (audit_ends (lots_in [] c.args.self.now) c.fresh-walked.result) comes
 
-pub returns : goal.returns
-returns g c =
+pub returns-clause-row : goal.returns-clause-row
+returns-clause-row g c =
     let row = λ (ls : List (Lot (Unit {0}))). row_audit first_tester (lots_in [] ls) in
     let comes = subst (λ ls. Answers (λ n. reply (clear n)) c.audit-came.result c.audit-came.new.work (row ls c.fresh-walked.result)) c.keeper-keeper.ensures.value c.audit-came.ensures in
     row_answered (λ n. reply (clear n)) (row c.args.self.now) (audit_behind c.args.self.now c.keeper-keeper.ensures.sound) c.args.work.now c.fresh-walked.result c.audit-came.new.work c.answered.new.work c.fresh-walked.ensures c.audit-came.result comes c.answered.result c.answered.ensures.taken
-
-pub audit-came-requires-clause-sound : goal.audit-came-requires-clause-sound
-audit-came-requires-clause-sound g c = subst AreSound (sym c.keeper-keeper.ensures.value) c.keeper-keeper.ensures.sound
