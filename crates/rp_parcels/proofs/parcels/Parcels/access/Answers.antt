@@ -16,8 +16,8 @@ answered-requires g c =
     let comes = subst (λ ls. Answers (access_reply) c.access-came.result c.access-came.new.work (row ls c.fresh-walked.result)) c.keeper-keeper.ensures.value c.access-came.ensures in
     end_shown (access_reply) c.access-came.result c.access-came.new.work (row c.args.self.now c.fresh-walked.result) (access_ends (lots_in [] c.args.self.now) c.args.from c.args.to c.fresh-walked.result) comes
 
-pub returns-clause-row : goal.returns-clause-row
-returns-clause-row g c =
+pub returns : goal.returns
+returns g c =
     let row = λ (ls : List (Lot (Unit {0}))). row_access first_tester (lots_in [] ls) c.args.from c.args.to in
     let comes = subst (λ ls. Answers (access_reply) c.access-came.result c.access-came.new.work (row ls c.fresh-walked.result)) c.keeper-keeper.ensures.value c.access-came.ensures in
-    row_answered (access_reply) (row c.args.self.now) (access_behind (lots_in [] c.args.self.now) c.args.from c.args.to) c.args.work.now c.fresh-walked.result c.access-came.new.work c.answered.new.work c.fresh-walked.ensures c.access-came.result comes c.answered.result c.answered.ensures.taken
+    record { row = row_answered (access_reply) (row c.args.self.now) (access_behind (lots_in [] c.args.self.now) c.args.from c.args.to) c.args.work.now c.fresh-walked.result c.access-came.new.work c.answered.new.work c.fresh-walked.ensures c.access-came.result comes c.answered.result c.answered.ensures.taken }

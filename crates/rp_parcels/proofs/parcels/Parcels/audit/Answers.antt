@@ -17,8 +17,8 @@ answered-requires g c =
     let comes = subst (λ ls. Answers (λ n. reply (clear n)) c.audit-came.result c.audit-came.new.work (row ls c.fresh-walked.result)) c.keeper-keeper.ensures.value c.audit-came.ensures in
     end_shown (λ n. reply (clear n)) c.audit-came.result c.audit-came.new.work (row c.args.self.now c.fresh-walked.result) (audit_ends (lots_in [] c.args.self.now) c.fresh-walked.result) comes
 
-pub returns-clause-row : goal.returns-clause-row
-returns-clause-row g c =
+pub returns : goal.returns
+returns g c =
     let row = λ (ls : List (Lot (Unit {0}))). row_audit first_tester (lots_in [] ls) in
     let comes = subst (λ ls. Answers (λ n. reply (clear n)) c.audit-came.result c.audit-came.new.work (row ls c.fresh-walked.result)) c.keeper-keeper.ensures.value c.audit-came.ensures in
-    row_answered (λ n. reply (clear n)) (row c.args.self.now) (audit_behind c.args.self.now c.keeper-keeper.ensures.sound) c.args.work.now c.fresh-walked.result c.audit-came.new.work c.answered.new.work c.fresh-walked.ensures c.audit-came.result comes c.answered.result c.answered.ensures.taken
+    record { row = row_answered (λ n. reply (clear n)) (row c.args.self.now) (audit_behind c.args.self.now c.keeper-keeper.ensures.sound) c.args.work.now c.fresh-walked.result c.audit-came.new.work c.answered.new.work c.fresh-walked.ensures c.audit-came.result comes c.answered.result c.answered.ensures.taken }

@@ -17,8 +17,8 @@ answered-requires g c =
     let comes = subst (λ ls. Answers (λ ids. reply_lines (neighbour_lines ids.items)) c.neighbours-came.result c.neighbours-came.new.work (row ls c.fresh-walked.result)) c.keeper-keeper.ensures.value c.neighbours-came.ensures.row in
     end_shown (λ ids. reply_lines (neighbour_lines ids.items)) c.neighbours-came.result c.neighbours-came.new.work (row c.args.self.now c.fresh-walked.result) (neighbours_ends (lots_in [] c.args.self.now) c.args.id c.fresh-walked.result) comes
 
-pub returns-clause-row : goal.returns-clause-row
-returns-clause-row g c =
+pub returns : goal.returns
+returns g c =
     let row = λ (ls : List (Lot (Unit {0}))). row_neighbours first_tester (lots_in [] ls) c.args.id in
     let comes = subst (λ ls. Answers (λ ids. reply_lines (neighbour_lines ids.items)) c.neighbours-came.result c.neighbours-came.new.work (row ls c.fresh-walked.result)) c.keeper-keeper.ensures.value c.neighbours-came.ensures.row in
-    row_answered (λ ids. reply_lines (neighbour_lines ids.items)) (row c.args.self.now) (neighbours_behind (lots_in [] c.args.self.now) c.args.id) c.args.work.now c.fresh-walked.result c.neighbours-came.new.work c.answered.new.work c.fresh-walked.ensures c.neighbours-came.result comes c.answered.result c.answered.ensures.taken
+    record { row = row_answered (λ ids. reply_lines (neighbour_lines ids.items)) (row c.args.self.now) (neighbours_behind (lots_in [] c.args.self.now) c.args.id) c.args.work.now c.fresh-walked.result c.neighbours-came.new.work c.answered.new.work c.fresh-walked.ensures c.neighbours-came.result comes c.answered.result c.answered.ensures.taken }
