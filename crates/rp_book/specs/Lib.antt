@@ -1,1 +1,3 @@
+pub mod Act
 pub mod Kept
+pub mod Lines

@@ -1,17 +1,17 @@
-//! Why a book was not read, or lines were not added to it.
+//! Why lines were not added to a book.
 ghost use Rattle.std.specs.Prelude.{◌≡◌};
 ghost use Rattle.rp_book.specs.declared.fault.BookFault.TheVariants.{Memory};
 
 use std::alloc::AllocError;
 
-/// Why a book was not read, or lines were not added to it.
+/// Why lines were not added to a book.
 #[derive(Clone, Copy, Debug, PartialEq, Eq)]
 pub enum BookFault {
     /// Memory ran out.
     Memory(AllocError),
     /// The disk is full.
     Full,
-    /// The disk failed, or gave bytes that are no book.
+    /// The disk failed, now or before.
     Disk,
 }
 

@@ -2,12 +2,15 @@
 //! A script that lives on: a book keeps lines in the order in which they were added, and none is ever taken out.
 //!
 //! [`Book`] says what a book does, wherever it is kept: lines are added all at once or not at all, also where memory runs
-//! out, the disk fails or the power does. [`MemoryBook`] is one in memory.
+//! out, the disk fails or the power does. Lines that are added at once are an act ([`Act`]), whose lines have the numbers
+//! that the report of the script echoes ([`line_numbers`]).
 
+mod act;
 mod book;
 mod fault;
-mod memory;
+mod numbers;
 
-pub use book::{Book, Entry};
+pub use act::{Act, Entry};
+pub use book::Book;
 pub use fault::BookFault;
-pub use memory::MemoryBook;
+pub use numbers::{has_end, line_numbers};

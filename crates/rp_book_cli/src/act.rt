@@ -12,6 +12,13 @@ pub enum Act<'a> {
     },
     /// Answers questions.
     Ask,
+    /// Writes what became of a lot, with the acts.
+    History(&'a str),
+    /// Writes whose a place was on a date.
+    AsOf {
+        date: &'a str,
+        place: &'a [String],
+    },
     /// Writes its script.
     Script,
     /// Writes its report.
@@ -42,22 +49,35 @@ fn act_of_two<'a>(word: &str, next: &'a str) -> Option<Act<'a>> {
             who: Some(next),
             deed: None,
         }),
+        "history" => Some(Act::History(next)),
         "line" => Some(Act::Line(next)),
+        _ => None,
+    }
+}
+
+/// What a word with several behind it asks for.
+fn act_of_more<'a>(word: &str, rest: &'a [String]) -> Option<Act<'a>> {
+    match (word, rest) {
+        ("add", [who, deed]) => Some(Act::Add {
+            who: Some(who.as_str()),
+            deed: Some(deed.as_str()),
+        }),
+        ("asof", [date, place @ ..]) if place.len() == 4 => Some(Act::AsOf {
+            date: date.as_str(),
+            place,
+        }),
         _ => None,
     }
 }
 
 /// The file that words name, and what they ask for, if they are listed.
 pub fn act_of(words: &[String]) -> Option<(&str, Act<'_>)> {
-    let (path, rest) = words.split_first()?;
+    let (path, words) = words.split_first()?;
+    let (word, rest) = words.split_first()?;
     let act = match rest {
-        [word] => act_of_one(word.as_str()),
-        [word, next] => act_of_two(word.as_str(), next.as_str()),
-        [word, who, deed] if word.as_str() == "add" => Some(Act::Add {
-            who: Some(who.as_str()),
-            deed: Some(deed.as_str()),
-        }),
-        _ => None,
+        [] => act_of_one(word.as_str()),
+        [next] => act_of_two(word.as_str(), next.as_str()),
+        _ => act_of_more(word.as_str(), rest),
     };
     Some((path.as_str(), act?))
 }

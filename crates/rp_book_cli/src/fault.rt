@@ -1,8 +1,9 @@
-//! Why nothing was done, and the status of each outcome.
+//! Why nothing was done.
 
 use rp_book::BookFault;
 use rp_file_book::FileFault;
-use rp_registrar::Stop;
+use rp_registrar::{Length, Stop};
+use std::fmt;
 
 /// Why nothing was done. The book is as it was.
 #[derive(Clone, Copy)]
@@ -34,7 +35,10 @@ impl From<Stop> for Fault {
 /// What a fault of the file says.
 fn file_message(fault: FileFault) -> &'static str {
     match fault {
-        FileFault::NoBook => "the file is no book, or one of another layout; it is as it was",
+        FileFault::NoBook => "the file is no book; it is as it was",
+        FileFault::Layout => {
+            "the file is a book of another layout, which this program does not read; it is as it was"
+        }
         FileFault::Taken => "the file is a database with tables already; it is as it was",
         FileFault::CannotOpen => {
             "the file is not there, or may not be read and written; a book that may not be written is asked in a copy"
@@ -48,7 +52,7 @@ fn file_message(fault: FileFault) -> &'static str {
     }
 }
 
-/// What a stop says.
+/// What a stop says, but for how many bytes there are.
 fn stop_message(stop: Stop) -> &'static str {
     match stop {
         Stop::Read => "reading the input failed; the book is as it was",
@@ -56,25 +60,41 @@ fn stop_message(stop: Stop) -> &'static str {
         Stop::Memory(_) | Stop::Book(BookFault::Memory(_)) => {
             "out of memory; the book is as it was"
         }
-        Stop::TooLong => {
-            "the script of the book, with these lines, has more than 16777216 bytes; the book is as it was"
-        }
+        Stop::TooLong(_) => "the script of the book would be too long; the book is as it was",
         Stop::Change => "a line changes the register: only questions are taken here",
         Stop::Book(BookFault::Full) => "the disk is full; the book is as it was",
         Stop::Book(BookFault::Disk) => "the disk failed; the book is as it was",
     }
 }
 
-/// What a fault says.
-pub fn message(fault: Fault) -> &'static str {
+/// What a fault says, but for how many bytes there are.
+fn message(fault: Fault) -> &'static str {
     match fault {
         Fault::Unlisted => {
-            "these words are not known; the listed ones are, behind the name of the file: new, add, add WHO, add WHO DEED, ask, script, report, line DATE"
+            "these words are not known; the listed ones are, behind the name of the file: new, add, add WHO, add WHO DEED, ask, history ID, asof DATE X Y Z W, script, report, line DATE"
         }
-        Fault::Words => "the words of the command line cannot be read",
+        Fault::Words => {
+            "the words of the command line cannot be read, or a line feed or the like stands in one"
+        }
         Fault::NoDate => "a date is written as 2026-11-30",
         Fault::File(fault) => file_message(fault),
         Fault::Stopped(stop) => stop_message(stop),
+    }
+}
+
+impl fmt::Display for Fault {
+    fn fmt<W: fmt::Write>(&self, f: &mut fmt::Formatter<W>) -> fmt::Result {
+        match *self {
+            Fault::Stopped(Stop::TooLong(Length::Exactly(bytes))) => write!(
+                f,
+                "the script of the book, with these lines, would have {bytes} bytes, and may have 16777216; the book is as it was"
+            ),
+            Fault::Stopped(Stop::TooLong(Length::MoreThan(bytes))) => write!(
+                f,
+                "the script of the book, with these lines, would have more than {bytes} bytes, and may have 16777216; the book is as it was"
+            ),
+            fault => f.write_str(message(fault)),
+        }
     }
 }
 
@@ -82,7 +102,7 @@ pub fn message(fault: Fault) -> &'static str {
 fn file_status(fault: FileFault) -> u8 {
     match fault {
         FileFault::Memory => 5,
-        FileFault::NoBook | FileFault::Taken | FileFault::CannotOpen => 8,
+        FileFault::NoBook | FileFault::Layout | FileFault::Taken | FileFault::CannotOpen => 8,
         FileFault::Busy => 9,
         FileFault::Full | FileFault::Disk => 10,
     }
@@ -94,20 +114,18 @@ fn stop_status(stop: Stop) -> u8 {
         Stop::Read => 3,
         Stop::Put => 4,
         Stop::Memory(_) | Stop::Book(BookFault::Memory(_)) => 5,
-        Stop::TooLong => 6,
+        Stop::TooLong(_) => 6,
         Stop::Book(BookFault::Full | BookFault::Disk) => 10,
         Stop::Change => 11,
     }
 }
 
-/// The status of an outcome, which tells whether a line is refused.
-pub fn status_of(outcome: Result<bool, Fault>) -> u8 {
-    match outcome {
-        Ok(false) => 0,
-        Ok(true) => 1,
-        Err(Fault::Unlisted | Fault::NoDate) => 2,
-        Err(Fault::Words) => 7,
-        Err(Fault::File(fault)) => file_status(fault),
-        Err(Fault::Stopped(stop)) => stop_status(stop),
+/// The status of a fault.
+pub fn status_of(fault: Fault) -> u8 {
+    match fault {
+        Fault::Unlisted | Fault::NoDate => 2,
+        Fault::Words => 7,
+        Fault::File(fault) => file_status(fault),
+        Fault::Stopped(stop) => stop_status(stop),
     }
 }

@@ -8,12 +8,12 @@ mod act;
 mod fault;
 mod work;
 
-use act::{Act, act_of};
-use fault::{Fault, message, status_of};
+use fault::{Fault, status_of};
+use rp_registrar::add::Outcome;
 use std::process::ExitCode;
 use std::rt::Env;
-use std::{env, io};
-use work::work;
+use std::{env, io, str};
+use work::{Done, work};
 
 /// The words behind the program's name.
 fn words_of(rt: &(impl Env + AllocGlobal)) -> io::Result<Vec<String>> {
@@ -21,33 +21,48 @@ fn words_of(rt: &(impl Env + AllocGlobal)) -> io::Result<Vec<String>> {
     Ok(words)
 }
 
-/// Whether the words ask that lines be added.
-fn adds(words: &[String]) -> bool {
-    match act_of(words) {
-        Some((_, act)) => matches!(act, Act::Add { .. }),
-        None => false,
+/// Whether a control character stands in a word.
+fn has_control(words: &[String]) -> bool {
+    words
+        .iter()
+        .any(|word| word.as_bytes().iter().any(|byte| *byte < b' '))
+}
+
+/// Says on standard error what came of lines that were to be added, where their answers do not tell it.
+fn tell_added(rt: &impl Eprint, outcome: &Outcome) -> io::Result<()> {
+    match outcome {
+        Outcome::Refused => eprintln!(rt; "rpstore-book: a line is refused; nothing was added"),
+        Outcome::Empty => eprintln!(rt; "rpstore-book: there are no lines; nothing was added"),
+        Outcome::Added(layers) => {
+            for layer in layers {
+                let name = str::from_utf8(layer.bytes()).unwrap_or("");
+                eprintln!(rt;
+                    "rpstore-book: layer {name} is named here for the first time; a mistyped one would be new too"
+                )?;
+            }
+            Ok(())
+        }
     }
 }
 
-/// What standard error says of an outcome, if anything.
-fn remark(words: &[String], outcome: Result<bool, Fault>) -> Option<&'static str> {
+/// The status of an outcome.
+fn status(outcome: &Result<Done, Fault>) -> u8 {
     match outcome {
-        Ok(refused) if refused && adds(words) => Some("a line is refused; nothing was added"),
-        Ok(_) => None,
-        Err(fault) => Some(message(fault)),
+        Ok(Done::Written(true) | Done::Added(Outcome::Refused)) => 1,
+        Ok(_) => 0,
+        Err(fault) => status_of(*fault),
     }
 }
 
 fn main(rt: HostRuntime) -> ExitCode {
-    let (outcome, text) = match words_of(&rt) {
-        Ok(words) => {
-            let outcome = work(&rt, &rt, &words);
-            (outcome, remark(&words, outcome))
-        }
-        Err(_) => (Err(Fault::Words), Some(message(Fault::Words))),
+    let outcome = match words_of(&rt) {
+        Ok(words) if !has_control(&words) => work(&rt, &rt, &words),
+        _ => Err(Fault::Words),
     };
-    if let Some(text) = text {
-        let _ = eprintln!(rt; "rpstore-book: {text}");
-    }
-    ExitCode::from(status_of(outcome))
+    let _ = match &outcome {
+        Ok(Done::Written(_)) => Ok(()),
+        Ok(Done::Added(added)) => tell_added(&rt, added),
+        Err(fault) => eprintln!(rt; "rpstore-book: {fault}"),
+    };
+    ExitCode::from(status(&outcome))
 }

@@ -2,13 +2,24 @@
 
 use crate::act::{Act, act_of};
 use crate::fault::Fault;
-use rp_book::Entry;
+use rp_book::{Book, Entry};
 use rp_file_book::{BookFile, make};
 use rp_io::{StdSink, StdSource};
-use rp_registrar::add::add;
+use rp_registrar::add::{Outcome, add};
 use rp_registrar::ask::ask;
+use rp_registrar::date::{as_of, last_line_by};
+use rp_registrar::history::history;
 use rp_registrar::{Stop, put_report, put_script};
 use std::thread::Threads;
+
+/// What came of the words.
+#[derive(Drop)]
+pub enum Done {
+    /// Something was written, and whether a line of it is a refusal.
+    Written(bool),
+    /// Lines were to be added.
+    Added(Outcome),
+}
 
 /// Adds the lines of standard input, and writes their answers.
 fn add_lines<T: Threads + Sync>(
@@ -17,55 +28,52 @@ fn add_lines<T: Threads + Sync>(
     path: &str,
     who: Option<&str>,
     deed: Option<&str>,
-) -> Result<bool, Fault> {
+) -> Result<Outcome, Fault> {
     let (mut file, time) = BookFile::open(rt, path)?;
     let entry = Entry {
         added: time.as_str(),
         who,
         deed,
     };
-    let refused = add(
+    let outcome = add(
         threads,
         rt.alloc(),
-        file.book(),
+        file.book_mut(),
         entry,
         &mut StdSource::new(rt.stdin()),
         &mut StdSink::new(rt.stdout()),
     )?;
     file.close();
-    Ok(refused)
+    Ok(outcome)
 }
 
-/// Answers the questions of standard input.
-fn ask_lines<T: Threads + Sync>(rt: &HostRuntime, threads: &T, path: &str) -> Result<bool, Fault> {
-    let (mut file, _) = BookFile::open(rt, path)?;
-    let refused = ask(
-        threads,
-        rt.alloc(),
-        file.book(),
-        &mut StdSource::new(rt.stdin()),
-        &mut StdSink::new(rt.stdout()),
-    )?;
-    Ok(refused)
-}
-
-/// Writes the script.
-fn write_script(rt: &HostRuntime, path: &str) -> Result<bool, Fault> {
-    let (mut file, _) = BookFile::open(rt, path)?;
-    put_script(rt.alloc(), file.book(), &mut StdSink::new(rt.stdout()))?;
-    Ok(false)
-}
-
-/// Writes the report.
-fn write_report<T: Threads + Sync>(
+/// Writes what is asked of a book, and answers whether a line of it is a refusal.
+fn write_answer<T: Threads + Sync, B: Book>(
     rt: &HostRuntime,
     threads: &T,
-    path: &str,
-) -> Result<bool, Fault> {
-    let (mut file, _) = BookFile::open(rt, path)?;
+    book: &B,
+    act: Act<'_>,
+) -> Result<bool, Stop> {
     let mut sink = StdSink::new(rt.stdout());
-    let refused = put_report(threads, rt.alloc(), file.book(), &mut sink)?;
-    Ok(refused)
+    match act {
+        Act::Ask => {
+            let mut source = StdSource::new(rt.stdin());
+            ask(threads, rt.alloc(), book, &mut source, &mut sink)
+        }
+        Act::History(id) => history(threads, rt.alloc(), book, id, &mut sink),
+        Act::AsOf { date, place } => as_of(threads, rt.alloc(), book, date, place, &mut sink),
+        Act::Report => put_report(threads, rt.alloc(), book, &mut sink),
+        Act::Line(date) => write_line(rt, last_line_by(book.acts(), date)),
+        _ => put_script(book, &mut sink).map(|_| false),
+    }
+}
+
+/// Writes the number of a line.
+fn write_line(rt: &HostRuntime, line: u32) -> Result<bool, Stop> {
+    match println!(rt; "{line}") {
+        Ok(()) => Ok(false),
+        Err(_) => Err(Stop::Put),
+    }
 }
 
 /// Whether a word is a date, as 2026-11-30.
@@ -78,37 +86,37 @@ fn is_date(word: &str) -> bool {
         .all(|byte| byte.is_ascii_digit())
 }
 
-/// Writes the number of the last line that was added on a date or before.
-fn write_line(rt: &HostRuntime, path: &str, date: &str) -> Result<bool, Fault> {
-    if !is_date(date) {
-        return Err(Fault::NoDate);
-    }
-    let (file, _) = BookFile::open(rt, path)?;
-    let last = file.last_line_by(date)?;
-    match println!(rt; "{last}") {
-        Ok(()) => Ok(false),
-        Err(_) => Err(Fault::Stopped(Stop::Put)),
+/// Whether a date that is asked of is none.
+fn has_no_date(act: Act<'_>) -> bool {
+    match act {
+        Act::Line(date) => !is_date(date),
+        Act::AsOf { date, .. } => !is_date(date),
+        _ => false,
     }
 }
 
-/// Does what `words` ask for; lots are judged by `threads`. Answers whether a line is refused.
+/// Does what `words` ask for; lots are judged by `threads`.
 pub fn work<T: Threads + Sync>(
     rt: &HostRuntime,
     threads: &T,
     words: &[String],
-) -> Result<bool, Fault> {
+) -> Result<Done, Fault> {
     let Some((path, act)) = act_of(words) else {
         return Err(Fault::Unlisted);
     };
+    if has_no_date(act) {
+        return Err(Fault::NoDate);
+    }
     match act {
         Act::New => {
             make(rt, path)?;
-            Ok(false)
+            Ok(Done::Written(false))
         }
-        Act::Add { who, deed } => add_lines(rt, threads, path, who, deed),
-        Act::Ask => ask_lines(rt, threads, path),
-        Act::Script => write_script(rt, path),
-        Act::Report => write_report(rt, threads, path),
-        Act::Line(date) => write_line(rt, path, date),
+        Act::Add { who, deed } => add_lines(rt, threads, path, who, deed).map(Done::Added),
+        _ => {
+            let (file, _) = BookFile::open(rt, path)?;
+            let refused = write_answer(rt, threads, file.book(), act)?;
+            Ok(Done::Written(refused))
+        }
     }
 }

@@ -18,7 +18,7 @@ use Rattle.rp_boxindex.specs.declared.place.Place.{Place}
 use Rattle.rp_boxindex.specs.tree.Order.{corner_of, lows_of, place_of, is_at_place}
 use Rattle.rp_boxindex.proofs.Counts.{count-none, count-le, count-all, false_not_true, when, not_counted}
 use Rattle.rp_boxindex.proofs.Order.{at_place, at_place_from, and_parts, int_eq_is, int_eq_same}
-use Rattle.rp_boxindex.proofs.Places.{has_id, IsUnique, count-map, at_is, at_itself, is_some-count, none_at, none_found, inserted_counts, removed_counts, sorted_unique, found_counts}
+use Rattle.rp_boxindex.proofs.Places.{has_id, IsUnique, count-map, at_is, at_itself, is_some-count, none_at, none_found, inserted_counts, removed_counts, changed_counts, sorted_unique, found_counts}
 use Rattle.rp_boxindex.proofs.Same.{same_box, same_box_is, same_box_itself}
 
 find_lookup : (es : List Entry) (q : ℕ) → find nat_cmp q es ≡ lookup (is_at (nat_cmp q)) es
@@ -207,8 +207,9 @@ kept_less t s pl ql k low gone same there is id least shrunk p =
     let g : cond {A = ℕ} (p own) 1 0 ≡ cond {A = ℕ} (p (f gone)) 1 0 = ap₂ (λ (i : ℕ) (z : Corner). cond {A = ℕ} (p (i, z)) 1 0) id least in
     omega arith
 
-pub taken : (t s : List Entry) (pl ql : List (ℕ × Corner)) (k : ℕ) (low : Corner) (gone : Option Entry) → SameCounts (lows_of t) pl → lookup (is_at (nat_cmp k)) pl ≡ Some low → ql ≡ remove_entry (is_at (nat_cmp k)) pl → IsTakenOut t s (record { low = low; id = k }) gone → IsTaken t s ql k
-taken t s pl ql k low None same there is out =
+-- something is taken out where the id stands beside the tree
+pub none_taken : (t s : List Entry) (pl : List (ℕ × Corner)) (k : ℕ) (low : Corner) → SameCounts (lows_of t) pl → lookup (is_at (nat_cmp k)) pl ≡ Some low → IsTakenOut t s (record { low = low; id = k }) None → ⊥
+none_taken t s pl k low same there out =
     let f : Entry → ℕ × Corner = λ e. (e.0, corner_of e) in
     let place : Place = record { low = low; id = k } in
     let p : ℕ × Corner → Bool = λ e. has_id k e && same_corner e.1 low in
@@ -219,7 +220,10 @@ taken t s pl ql k low None same there is out =
     let d = count-map f p t in
     let e = count-le (λ (y : Entry). p (f y)) (is_at_place place) (λ y h. passes_stands place y h) t in
     let none = out.found in
-    absurd (omega arith)
+    omega arith
+
+pub taken : (t s : List Entry) (pl ql : List (ℕ × Corner)) (k : ℕ) (low : Corner) (gone : Option Entry) → SameCounts (lows_of t) pl → lookup (is_at (nat_cmp k)) pl ≡ Some low → ql ≡ remove_entry (is_at (nat_cmp k)) pl → IsTakenOut t s (record { low = low; id = k }) gone → IsTaken t s ql k
+taken t s pl ql k low None same there is out = absurd (none_taken t s pl k low same there out)
 taken t s pl ql k low (Some gone) same there is out =
     let place : Place = record { low = low; id = k } in
     let id : k ≡ gone.0 = (at_place place gone out.found).id in
@@ -230,6 +234,54 @@ taken t s pl ql k low (Some gone) same there is out =
       shrunk = out.shrunk;
       kept = λ p. kept_less t s pl ql k low gone same there is id least out.shrunk p;
     }
+
+-- a box in the place of another, in the map
+box_again : (m : Boxes) (k : ℕ) (v : IntBox) → insert (remove m k) k v ≡ insert m k v
+box_again m k v = same_map nat_cmp_total nat_cmp-IsAntisymmetric _ _ (λ q.
+    get-insert nat_cmp_total (remove m k) k v q ∙ ap (cond (is_at (nat_cmp q) k) (Some v)) (get-remove nat_cmp_total m k q) ∙ twice (is_at (nat_cmp q) k) (get m q) ∙ sym (get-insert nat_cmp_total m k v q))
+  where
+    twice : (b : Bool) (o : Option IntBox) → cond b (Some v) (cond b None o) ≡ cond b (Some v) o
+    twice true o = refl
+    twice false o = refl
+
+-- and in the tree: the entry of the id is taken out, and one with the other box is put in
+module _ (t rest : List Entry) (pl : List (ℕ × Corner)) (k : ℕ) (low : Corner) (v : IntBox) (same : SameCounts (lows_of t) pl) (order : IsStrictlySortedBy nat_cmp (keys_of pl)) (there : lookup (is_at (nat_cmp k)) pl ≡ Some low) (out : IsTaken t rest (remove_entry (is_at (nat_cmp k)) pl) k) where
+  -- an id stands as often with the new entry as it did
+  as_often : (q : ℕ) → cond {A = ℕ} (has_id {Y = IntBox} q (k, v)) 1 0 + count (has_id q) rest ≤ 1
+  as_often q =
+      let once = ids_unique t pl same order q in
+      let all = out.shrunk (has_id q) in
+      let own : cond {A = ℕ} (has_id {Y = IntBox} q (k, v)) 1 0 ≡ cond {A = ℕ} (has_id q out.entry) 1 0 = ap (λ (j : ℕ). cond {A = ℕ} (is_at (nat_cmp q) j) 1 0) out.id in
+      omega arith
+
+  -- the place of the new entry is free
+  pub place_is_left : count (is_at_place (place_of (k, v))) rest ≡ 0
+  place_is_left =
+      let own : Entry = (k, v) in
+      let once = as_often k in
+      let here = when (has_id {Y = IntBox} k (k, v)) true (at_itself k k refl) in
+      let none : count (has_id k) rest ≡ 0 = omega arith in
+      count-none (is_at_place (place_of own)) (has_id k) (λ e h. at_itself k e.0 (at_place (place_of own) e h).id) rest none
+
+  module _ (s : List Entry) (grown : SameCounts s ((k, v) ∷ rest)) where
+    -- the tree still has what stands beside it
+    pub kept_changed : (ql : List (ℕ × Corner)) → ql ≡ insert_entry nat_cmp pl k (corner_of (k, v)) → SameCounts (lows_of s) ql
+    kept_changed ql is p =
+        let f : Entry → ℕ × Corner = λ e. (e.0, corner_of e) in
+        let own : Entry = (k, v) in
+        let a = out.kept p in
+        let b = grown (λ e. p (f e)) in
+        let c : count p ql ≡ cond (p (f own)) 1 0 + count p (remove_entry (is_at (nat_cmp k)) pl) = ap (count p) is ∙ changed_counts pl k low (corner_of own) order there p in
+        let d = count-map f p rest in
+        let e = count-map f p s in
+        omega arith
+
+    -- and makes the map with the new box
+    pub map_changed : from_entries {R = nat_cmp} s ≡ insert (from_entries t) k v
+    map_changed =
+        map_inserted rest s k v grown (λ q. let often = as_often q in let all = grown (has_id q) in omega arith)
+        ∙ ap (λ (m : Boxes). insert m k v) (map_removed t rest k out.entry out.shrunk out.id (ids_unique t pl same order))
+        ∙ box_again (from_entries t) k v
 
 -- lists with the same items are of one length
 pub same_length : {X : Type 0} (xs ys : List X) → SameCounts xs ys → length xs ≡ length ys

@@ -1,5 +1,5 @@
 -- Lists of pairs under ids: what is found at an id, and how many pairs it has.
-use Rattle.std.proofs.Common.{◌≡◌, ℕ, ◌+◌, ◌<◌, ◌≤◌, Bool, true, false, cond, ◌&&◌, ltb, List, [], ◌∷◌, map, Option, Some, None, is_some, refl, sym, ap, ap₂, arith, subst}
+use Rattle.std.proofs.Common.{◌≡◌, ℕ, ◌+◌, ◌<◌, ◌≤◌, Bool, true, false, cond, ◌&&◌, ltb, List, [], ◌∷◌, map, Option, Some, None, is_some, refl, sym, ap, ap₂, ◌∙◌, arith, subst}
 use Rattle.std.specs.Ordering.{nat_cmp, is_eq, match_ordering}
 use Rattle.std.specs.declared.cmp.Ordering.{Ordering}
 use Rattle.std.specs.declared.cmp.Ordering.TheVariants.{Less, Equal, Greater}
@@ -10,6 +10,7 @@ use Rattle.std.specs.BTreeMap.{is_at, insert_entry}
 use Rattle.std.specs.List.{AllByRecursion}
 use Rattle.std.specs.List.Sorted.{IsStrictlySortedBy}
 use Rattle.std.proofs.lemmas.Bool.{lt-ltb}
+use Rattle.std.proofs.lemmas.Bool.Decides.{nat_tests}
 use Rattle.rp_algebra.proofs.Options.{some_not_none}
 use Rattle.rp_boxindex.specs.Counts.{count, SameCounts}
 use Rattle.rp_boxindex.proofs.Counts.{count-none, false_not_true, when, not_counted}
@@ -125,3 +126,34 @@ found_counts {Y} es k v p h once =
     let none_both = count-none both id (λ e t. (and_parts (id e) (p e) t).0) rest none in
     let own_both : cond {A = ℕ} (both own) 1 0 ≡ cond {A = ℕ} (p own) 1 0 = ap (λ (c : Bool). cond {A = ℕ} (c && p own) 1 0) at in
     omega arith
+
+-- a number below another is below all that are above that one
+less_trans : (a b c : ℕ) → nat_cmp a b ≡ Less → nat_cmp b c ≡ Less → nat_cmp a c ≡ Less
+less_trans a b c h k = grind (arith, nat_tests)
+
+all_above : {Y : Type 0} (k x : ℕ) (es : List (ℕ × Y)) → nat_cmp k x ≡ Less → AllByRecursion (λ y. nat_cmp x y ≡ Less) (keys_of es) → AllByRecursion (λ y. nat_cmp k y ≡ Less) (keys_of es)
+all_above k x [] h all = tt
+all_above k x (e ∷ es) h all = (less_trans k x e.0 h all.0, all_above k x es h all.1)
+
+-- an id that is found is not below the first
+not_less : {Y : Type 0} (k : ℕ) (v : Y) (e : ℕ × Y) (es : List (ℕ × Y)) → AllByRecursion (λ y. nat_cmp e.0 y ≡ Less) (keys_of es) → lookup (is_at (nat_cmp k)) (e ∷ es) ≡ Some v → nat_cmp k e.0 ≡ Less → ⊥
+not_less k v e es above found less =
+    let own : is_at (nat_cmp k) e.0 ≡ false = ap is_eq less in
+    let later : lookup (is_at (nat_cmp k)) es ≡ Some v = rw own at found in
+    some_not_none v (sym later ∙ none_found es k (none_later k es (all_above k e.0 es less above)))
+
+-- a pair in the place of another
+changed_cases : {Y : Type 0} (o : Ordering) (k : ℕ) (w : Y) (e : ℕ × Y) (es rest less : List (ℕ × Y)) (p : ℕ × Y → Bool) → (o ≡ Less → ⊥) → (o ≡ Equal → k ≡ e.0) → (o ≡ Greater → count p rest ≡ cond (p (k, w)) 1 0 + count p less)
+    → count p (match_ordering o ((k, w) ∷ e ∷ es) ((e.0, w) ∷ es) (e ∷ rest)) ≡ cond (p (k, w)) 1 0 + count p (cond (is_eq o) es (e ∷ less))
+changed_cases Less k w e es rest less p not own h = absurd (not refl)
+changed_cases Equal k w e es rest less p not own h = ap (λ (i : ℕ). cond {A = ℕ} (p (i, w)) 1 0 + count p es) (sym (own refl))
+changed_cases Greater k w e es rest less p not own h = let more = h refl in omega arith
+
+pub changed_counts : {Y : Type 0} (es : List (ℕ × Y)) (k : ℕ) (v w : Y) → IsStrictlySortedBy nat_cmp (keys_of es) → lookup (is_at (nat_cmp k)) es ≡ Some v → SameCounts (insert_entry nat_cmp es k w) ((k, w) ∷ remove_entry (is_at (nat_cmp k)) es)
+unfolding IsStrictlySortedBy
+changed_counts [] k v w order found p = absurd (some_not_none v (sym found))
+changed_counts (e ∷ es) k v w order found p =
+    changed_cases (nat_cmp k e.0) k w e es (insert_entry nat_cmp es k w) (remove_entry (is_at (nat_cmp k)) es) p
+    (not_less k v e es order.0 found)
+    (λ same. nat_cmp-IsAntisymmetric k e.0 same)
+    (λ greater. let own : is_at (nat_cmp k) e.0 ≡ false = ap is_eq greater in let later : lookup (is_at (nat_cmp k)) es ≡ Some v = rw own at found in changed_counts es k v w order.1 later p)

@@ -1,5 +1,5 @@
 //! An index over boxes.
-ghost use Rattle.std.specs.Prelude.{◌≡◌, ℕ, ◌+◌, ◌*◌, ◌≤◌, false, IfOk, IfErr, OnOk, OnErr};
+ghost use Rattle.std.specs.Prelude.{◌≡◌, ℕ, ◌+◌, ◌*◌, ◌≤◌, true, false, IfOk, IfErr, OnOk, OnErr};
 ghost use Rattle.std.specs.FinMap as map;
 ghost use Rattle.rp_space.specs.Boxes.{integer_box};
 ghost use Rattle.rp_boxindex.specs.Bound.{count_on_x, IsGreatestExponent};
@@ -78,6 +78,27 @@ impl Index {
         let tree = self.tree.take();
         self.tree = tree.with(node);
         Ok(())
+    }
+
+    /// Puts `bounds` in the place of the box that `id` has, and answers whether it has one; else all is as it was. Takes
+    /// no memory.
+    pub fn change(&mut self, id: u32, bounds: IntBox) -> bool
+        ensures there { result ≡ map.contains_key self.old id }
+        ensures changed { result ≡ true → self.new ≡ map.insert self.old id bounds }
+        ensures stays { result ≡ false → self.new ≡ self.old }
+    {
+        // Fewer than 2^63 ids, so the tree is not too high, and none twice.
+        self.lows.show_order();
+        let entry = (id, bounds);
+        let Some(low) = self.lows.change(id, Corner::of(&entry)) else {
+            return false;
+        };
+        let tree = self.tree.take();
+        let (rest, node) = tree.without(&Place { low, id });
+        let Some(mut node) = node else { unreachable!() };
+        node.hold(entry);
+        self.tree = rest.with(node);
+        true
     }
 
     /// Takes the box of an id out, and answers whether the id had one. Takes no memory.

@@ -1,5 +1,5 @@
 //! The least corner of the box under each id.
-ghost use Rattle.std.specs.Prelude.{◌≡◌, ◌<◌, ◌^◌, [], length, is_some, IfNone, OnOk, OnErr};
+ghost use Rattle.std.specs.Prelude.{◌≡◌, ◌<◌, ◌^◌, [], length, is_some, IfSome, IfNone, OnOk, OnErr};
 ghost use Rattle.std.specs.BTreeMap.{is_at, insert_entry};
 ghost use Rattle.std.specs.List.Sorted.{IsStrictlySortedBy};
 ghost use Rattle.std.specs.Map.{keys_of, lookup, remove_entry};
@@ -36,6 +36,21 @@ impl Lows {
     {
         self.map.insert(id, low)?;
         Ok(())
+    }
+
+    /// Puts another corner under an id, and answers the one that it had, where the id is there. Takes no memory.
+    pub(crate) fn change(&mut self, id: u32, low: Corner) -> Option<Corner>
+        ensures value { result ≡ lookup (is_at (nat_cmp id)) self.old.map.entries }
+        ensures entries { IfSome result (λ _. self.new.map.entries ≡ insert_entry nat_cmp self.old.map.entries id low) }
+        ensures unchanged { IfNone result (self.new.map.entries ≡ self.old.map.entries) }
+    {
+        if !self.contains(id) {
+            return None;
+        }
+        match self.map.insert(id, low) {
+            Ok(old) => old,
+            Err(_) => unreachable!(),
+        }
     }
 
     /// Takes an id out and answers its corner, where the id is there. Takes no memory.

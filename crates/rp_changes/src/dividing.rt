@@ -12,12 +12,10 @@ use rp_history::Birth;
 use rp_lots::{Keeper, form_at};
 use rp_rows::RowEnd;
 use rp_space::{Listed, Name, Names};
+use rp_store::MAX_KEPT_PARTS;
 use rp_tester::{Stopped, Tests};
 use rp_text::Refusal;
 use std::alloc::{AllocError, Global};
-
-/// The most parts under all lots together.
-const MAX_PARTS: usize = 65536;
 
 /// The live lot `id` is to be cut in two: `first` gets its points in the form `by`, and `second` the others.
 pub fn cut<T: Tests, K: Keeper<T>>(
@@ -57,7 +55,7 @@ fn check_room_for_both<T: Tests, K: Keeper<T>>(
 ) -> Result<(), Stopped>
     ensures { (w : T) → Comes (λ x. x) result w (check_size (parts_under_lots (K.state keeper.now).lots + (first + second)) most_kept_parts w) }
 {
-    if first > MAX_PARTS || second > MAX_PARTS {
+    if first > MAX_KEPT_PARTS || second > MAX_KEPT_PARTS {
         return Err(Stopped::Limit);
     }
     if !keeper.have_room_for(first + second) {

@@ -6,4 +6,4 @@
 #[cfg(test)]
 mod checker;
 #[cfg(test)]
-mod follow;
+mod trail;

@@ -15,7 +15,7 @@ use Rattle.rp_run_laws.proofs.Rows.{followed_row_tells_truth_spec}
 use Rattle.rp_accepted.proofs.FirstWrong.{finds_first_wrong_spec}
 use Rattle.rp_accepted.proofs.GoneWrong.{found_after, find_next, DonePast, answer_past}
 use Rattle.rp_accepted.proofs.ReportTaken.{body_few}
-use Rattle.rp_run_laws.proofs.Accepted.{accepted_is_true_spec}
+use Rattle.rp_run_laws.proofs.Accepted.{accepted_is_true_spec, opening_agrees}
 use Rattle.rp_run_laws.proofs.Answered.{Agrees, TellsNext, answer_told}
 use Rattle.rp_run_laws.proofs.Followed.{Comes}
 use Rattle.rp_trail.specs.Lines.{next_line}
@@ -37,27 +37,6 @@ pub record IsGoing (lines : List (List ℕ)) (v : Version) (last : ℕ) (p : Pla
   pub finds : find_wrong v room (progress last p) t ≡ finding lines
   pub sets : State
   pub agrees : Agrees sets (progress last p)
-
--- the sets at the beginning
-opening_agrees : Agrees opening (progress 0 opening)
-opening_agrees = record {
-  sound = record {
-    names_keep_parts = tt;
-    lots_keep_parts = tt;
-    names_distinct = refl;
-    ids_distinct = refl;
-    live_lots_apart = tt;
-    lots_nonempty = tt;
-    few_names = omega arith;
-    few_parts_under_names = omega arith;
-    few_parts_under_lots = omega arith;
-    ends_after_birth = tt;
-    origins_before = tt;
-    origins_of_layer = tt;
-  };
-  late = record { births = tt; ends = tt };
-  plain = refl;
-}
 
 -- behind the mark of a version
 marked_trail : (v : Version) (lines : List (List ℕ)) → behind_mark v (record { lines = lines; number = 1; tests = 0 }) ≡ record { lines = body_of v lines; number = first_line_number v; tests = 0 }

@@ -1,2 +1,4 @@
 pub mod DiskLemmas
+pub mod EntryLemmas
+pub mod KeptLemmas
 pub mod UniqueLemmas

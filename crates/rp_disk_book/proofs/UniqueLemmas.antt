@@ -1,13 +1,27 @@
 -- A database holds one script.
-use Rattle.std.proofs.Common.{◌≡◌, ◌⊎◌, inl, inr, ℕ, suc, zero, ◌+◌, ◌≤◌, pos, Bool, IsTrue, List, [], ◌∷◌, length, refl, sym, ap, subst, ◌∙◌, arith}
+use Rattle.std.proofs.Common.{◌≡◌, ◌⊎◌, inl, inr, ℕ, suc, zero, ◌+◌, ◌≤◌, pos, Bool, IsTrue, List, [], ◌∷◌, ◌++◌, length, map, refl, sym, ap, subst, ◌∙◌, arith}
+use Rattle.std.specs.Prelude.{⊤}
 use Rattle.std.specs.List.{Contains, flat_map}
 use Rattle.std.proofs.lemmas.List.Sorted.{Contains-permutation, IsPermutation-sym, IsPermutation-trans, length_permutation}
 use Rattle.sqlite.specs.declared.types.Value.TheVariants.{Int}
 use Rattle.sqlite.specs.Order.{Row}
 use Rattle.sqlite.specs.Tree.{Trees, rowid}
 use Rattle.sqlite.specs.State.{State, HasCleanDisk}
-use Rattle.rp_entries.specs.Entry.{entries_in, lines_in}
-use Rattle.rp_disk_book.specs.Disk.{AreNumbered, HoldsScript, IsBook, FindsInDatabase}
+use Rattle.rp_book.specs.Act.{Told}
+use Rattle.rp_entries.specs.Entry.{entries_in, shown_entry}
+use Rattle.rp_disk_book.specs.Disk.{AreEntries, HoldsScript, IsBook, FindsInDatabase}
+use Rattle.rp_disk_book.proofs.EntryLemmas.{entries_script, shown_lines}
+
+-- each row has the number behind that of the row before it
+abbrev AreNumbered : ℕ → List Row → Type 0
+AreNumbered first [] = ⊤
+AreNumbered first (row ∷ rows) = (rowid row ≡ Int (pos first)) × AreNumbered (first + 1) rows
+
+-- entries are numbered
+numbered : (first : ℕ) (before : List ℕ) (rows : List Row) (acts : List Told) (script : List ℕ) → AreEntries first before (map shown_entry rows) acts script → AreNumbered first rows
+numbered first before [] acts script h = tt
+numbered first before (row ∷ rows) [] script h = absurd h
+numbered first before (row ∷ rows) (act ∷ acts) script h = (h.1.shows.number, numbered (first + 1) (before ++ h.0) rows acts script h.2)
 
 -- an element is the first one or one of the others
 contains-cases : (y : Row) (ys : List Row) (x : Row) → Contains (y ∷ ys) x → (y ≡ x) ⊎ Contains ys x
@@ -48,17 +62,19 @@ same_numbered first (x ∷ xs) (y ∷ ys) h k long within =
     ap (λ row. row ∷ xs) (sym head) ∙ ap (λ rows. y ∷ rows) (same_numbered (first + 1) xs ys h.1 k.1 (omega (arith, long)) others)
 
 -- a database holds one script alone
-pub one_script : (rows : List Row) (m n : ℕ) (one other : List ℕ) → HoldsScript rows m one → HoldsScript rows n other → one ≡ other
-one_script rows m n one other h k =
+one_script : (rows : List Row) (acts more : List Told) (one other : List ℕ) → HoldsScript rows acts one → HoldsScript rows more other → one ≡ other
+one_script rows acts more one other h k =
     let moved = IsPermutation-trans h.ordered rows k.ordered (IsPermutation-sym rows h.ordered h.same) k.same in
     let same : h.ordered ≡ k.ordered =
-    same_numbered 1 h.ordered k.ordered h.numbered k.numbered (sym (length_permutation h.ordered k.ordered moved)) (λ x. Contains-permutation h.ordered k.ordered x moved) in
-    h.is ∙ ap (flat_map lines_in) same ∙ sym k.is
+    same_numbered 1 h.ordered k.ordered (numbered 1 [] h.ordered acts one h.entries) (numbered 1 [] k.ordered more other k.entries) (sym (length_permutation h.ordered k.ordered moved))
+    (λ x. Contains-permutation h.ordered k.ordered x moved) in
+    entries_script 1 [] (map shown_entry h.ordered) acts one h.entries ∙ ap (λ rs. flat_map shown_lines (map shown_entry rs)) same
+    ∙ sym (entries_script 1 [] (map shown_entry k.ordered) more other k.entries)
 
 -- a book that is opened has a script that a book before promised an open to find
-pub is_found : (before s : State) (n : ℕ) (script : List ℕ) (db : Trees) → IsBook s n script → s.committed.trees ≡ db
+pub is_found : (before s : State) (acts : List Told) (script : List ℕ) (db : Trees) → IsBook s acts script → s.committed.trees ≡ db
     → HasCleanDisk before → before.may_leave db → (test : List ℕ → Bool) → FindsInDatabase before test → IsTrue (test script)
-is_found before s n script db book same clean may test finds =
+is_found before s acts script db book same clean may test finds =
     let found = finds clean db may in
-    let holds : HoldsScript (entries_in db) n script = subst (λ (d : Trees). HoldsScript (entries_in d) n script) same book.holds in
-    subst (λ lines. IsTrue (test lines)) (one_script (entries_in db) found.0 n found.1 script found.2 holds) found.3
+    let holds : HoldsScript (entries_in db) acts script = subst (λ (d : Trees). HoldsScript (entries_in d) acts script) same book.holds in
+    subst (λ lines. IsTrue (test lines)) (one_script (entries_in db) found.0 acts found.1 script found.2 holds) found.3

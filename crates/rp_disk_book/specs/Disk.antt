@@ -1,65 +1,89 @@
 -- What a database that is a book holds.
-use Rattle.std.specs.Prelude.{◌≡◌, ℕ, ◌+◌, pos, Bool, false, IsTrue, List, [], ◌∷◌, ◌++◌, length, ⊤, refl}
-use Rattle.std.specs.List.{flat_map}
+use Rattle.std.specs.Prelude.{◌≡◌, ℕ, ◌+◌, pos, Bool, false, IsTrue, List, [], ◌∷◌, ◌++◌, Option, length, map, refl}
 use Rattle.std.specs.List.Sorted.{IsPermutation}
-use Rattle.std.specs.Coded.{Coded, code_by, coded×, coded_ℕ, coded_bool, coded_list}
-use Rattle.sqlite.specs.declared.types.Value.TheVariants.{Int}
-use Rattle.sqlite.specs.Order.{Row, bytes, column}
-use Rattle.sqlite.specs.Tree.{Trees, rowid}
+use Rattle.std.specs.Coded.{Coded, code_by, coded×, coded_ℕ, coded_list, coded_option}
+use Rattle.sqlite.specs.declared.types.Value.TheVariants.{Int, Text}
+use Rattle.sqlite.specs.Order.{Row, column}
+use Rattle.sqlite.specs.Tree.{Trees}
 use Rattle.sqlite.specs.State.{State, HasCleanDisk}
 use Rattle.sqlite.specs.Held.{Held, held_code}
-use Rattle.rp_entries.specs.Entry.{book_schema, entries_in, lines_in}
+use Rattle.rp_book.specs.Act.{Told, HasNumbers}
+use Rattle.rp_book.specs.Lines.{HasEnd}
+use Rattle.rp_entries.specs.Entry.{book_schema, entries_in, shown_entry, told}
+use Rattle.rp_disk_book.specs.Kept.{Kept, with_act}
 
--- each row has the number behind that of the row before it
-abbrev pub AreNumbered : ℕ → List Row → Type 0
-AreNumbered first [] = ⊤
-AreNumbered first (row ∷ rows) = (rowid row ≡ Int (pos first)) × AreNumbered (first + 1) rows
+-- a row that a query shows is the entry with the number, of this act
+pub record ShowsAct (number : ℕ) (row : Row) (act : Told) : Type 0 where
+  pub number : column row 0 ≡ Int (pos number)
+  pub first : column row 1 ≡ Int (pos act.first)
+  pub last : column row 2 ≡ Int (pos act.last)
+  pub added : column row 3 ≡ Text act.added
+  pub who : column row 4 ≡ told act.who
+  pub deed : column row 5 ≡ told act.deed
 
--- the rows are entries 1 to n, whose lines in the order of the numbers are the script
-pub record HoldsScript (rows : List Row) (n : ℕ) (script : List ℕ) : Type 0 where
+-- it has these lines, which come behind the lines before, and the act has their numbers
+pub record IsEntry (number : ℕ) (before lines : List ℕ) (row : Row) (act : Told) : Type 0 where
+  pub shows : ShowsAct number row act
+  pub lines : column row 6 ≡ Text lines
+  pub end : HasEnd lines
+  pub numbers : HasNumbers before lines act
+
+-- rows that a query shows are the entries of these acts, the first of which has the number; behind the lines before, their lines are the script
+abbrev pub AreEntries : ℕ → List ℕ → List Row → List Told → List ℕ → Type 0
+AreEntries number before [] [] script = before ≡ script
+AreEntries number before [] (act ∷ acts) script = ⊥
+AreEntries number before (row ∷ rows) [] script = ⊥
+AreEntries number before (row ∷ rows) (act ∷ acts) script = (lines : List ℕ) × IsEntry number before lines row act × AreEntries (number + 1) (before ++ lines) rows acts script
+
+-- the rows, in the order of their numbers, are the entries of these acts, whose lines are the script
+pub record HoldsScript (rows : List Row) (acts : List Told) (script : List ℕ) : Type 0 where
   pub ordered : List Row
   pub same : IsPermutation rows ordered
-  pub numbered : AreNumbered 1 ordered
-  pub count : length ordered ≡ n
-  pub is : script ≡ flat_map lines_in ordered
+  pub entries : AreEntries 1 [] (map shown_entry ordered) acts script
 
--- the lines that a query shows of an entry
-abbrev pub shown_lines : Row → List ℕ
-shown_lines row = bytes (column row 1)
+-- a row came to what was read
+pub record GainsRow (row : Row) (old new : Kept) : Type 0 where
+  pub act : Told
+  pub lines : List ℕ
+  pub is : IsEntry (length old.acts + 1) old.script lines row act
+  pub read : new ≡ with_act old act lines
 
--- rows that were read, which are entries 1 to n with these lines, and others
-pub record HasRead (rows rest : List Row) (n : ℕ) (script : List ℕ) : Type 0 where
+-- rows that were read, and others
+pub record HasRead (rows rest : List Row) (k : Kept) : Type 0 where
   pub told : List Row
   pub whole : told ++ rest ≡ rows
-  pub numbered : AreNumbered 1 told
-  pub count : length told ≡ n
-  pub is : script ≡ flat_map shown_lines told
+  pub entries : AreEntries 1 [] told k.acts k.script
 
--- the last commit is a book with the script, and no transaction has begun
-pub record IsBook (s : State) (n : ℕ) (script : List ℕ) : Type 0 where
+-- the last commit is a book with the acts and the script, and no transaction has begun
+pub record IsBook (s : State) (acts : List Told) (script : List ℕ) : Type 0 where
   pub is_open : IsTrue s.is_open
   pub schema : s.committed.schema ≡ book_schema
   pub autocommit : s.in_transaction ≡ false
   pub settled : s.now ≡ s.committed
-  pub holds : HoldsScript (entries_in s.committed.trees) n script
+  pub holds : HoldsScript (entries_in s.committed.trees) acts script
 
 -- so it is as long as no write failed and the disk has returned what was written
-abbrev pub IsBookUntil : Bool → State → ℕ → List ℕ → Type 0
-IsBookUntil failed s n script = failed ≡ false → HasCleanDisk s → IsBook s n script
+abbrev pub IsBookUntil : ℕ → State → List Told → List ℕ → Type 0
+IsBookUntil faults s acts script = faults ≡ 0 → HasCleanDisk s → IsBook s acts script
 
 -- each database that a crash may leave holds a script that passes the test
 abbrev pub FindsInDatabase : State → (List ℕ → Bool) → Type 0
-FindsInDatabase s test = HasCleanDisk s → (db : Trees) → s.may_leave db → (n : ℕ) × (script : List ℕ) × HoldsScript (entries_in db) n script × IsTrue (test script)
+FindsInDatabase s test = HasCleanDisk s → (db : Trees) → s.may_leave db → (acts : List Told) × (script : List ℕ) × HoldsScript (entries_in db) acts script × IsTrue (test script)
 
 -- a book as contracts see it
 pub record Opened (S : Type 0) : Type 0 where
   pub conn : Held S
   pub script : List ℕ
-  pub entries : ℕ
-  pub lines : ℕ
-  pub failed : Bool
+  pub acts : List Told
+  pub faults : ℕ
+
+abbrev told_code : Coded Told
+told_code =
+    code_by (ℕ × (ℕ × (List ℕ × (Option (List ℕ) × Option (List ℕ)))))
+    (coded× coded_ℕ (coded× coded_ℕ (coded× (coded_list coded_ℕ) (coded× (coded_option (coded_list coded_ℕ)) (coded_option (coded_list coded_ℕ))))))
+    (λ t. (t.first, (t.last, (t.added, (t.who, t.deed))))) (λ p. record { first = p.0; last = p.1.0; added = p.1.1.0; who = p.1.1.1.0; deed = p.1.1.1.1 }) (λ _. refl)
 
 abbrev pub opened_code : {S : Type 0} → Coded S → Coded (Opened S)
 opened_code {S} store =
-    code_by (Held S × (List ℕ × (ℕ × (ℕ × Bool)))) (coded× (held_code store) (coded× (coded_list coded_ℕ) (coded× coded_ℕ (coded× coded_ℕ coded_bool))))
-    (λ o. (o.conn, (o.script, (o.entries, (o.lines, o.failed))))) (λ p. record { conn = p.0; script = p.1.0; entries = p.1.1.0; lines = p.1.1.1.0; failed = p.1.1.1.1 }) (λ _. refl)
+    code_by (Held S × (List ℕ × (List Told × ℕ))) (coded× (held_code store) (coded× (coded_list coded_ℕ) (coded× (coded_list told_code) coded_ℕ)))
+    (λ o. (o.conn, (o.script, (o.acts, o.faults)))) (λ p. record { conn = p.0; script = p.1.0; acts = p.1.1.0; faults = p.1.1.1 }) (λ _. refl)

@@ -1,13 +1,17 @@
 //! A database that is made a book, or opened as one.
-ghost use Rattle.std.specs.Prelude.{◌≡◌, ◌++◌, [], false, pos, Bool, IfOk, IsTrue, List, ℕ};
-ghost use Rattle.sqlite.specs.declared.types.Value.TheVariants.{Int};
-ghost use Rattle.sqlite.specs.Tree.{rowid};
-ghost use Rattle.rp_disk_book.specs.Disk.{FindsInDatabase, HasRead, IsBookUntil, shown_lines};
+ghost use Rattle.std.specs.Prelude.{◌≡◌, [], Bool, IfOk, IfSome, IsTrue, List, OnOk, ℕ, pos};
+ghost use Rattle.sqlite.specs.declared.types.Value.TheVariants.{Text};
+ghost use Rattle.sqlite.specs.Order.{column};
 ghost use Rattle.sqlite.specs.State.{HasCleanDisk};
 ghost use Rattle.sqlite.specs.Held.{Held, state};
+ghost use Rattle.rp_book.specs.Act.{act_of};
+ghost use Rattle.rp_disk_book.specs.Kept.{IsKept, contents_of};
+ghost use Rattle.rp_disk_book.specs.Disk.{FindsInDatabase, HasRead, IsBookUntil, GainsRow, ShowsAct};
 
-use crate::book::{DiskBook, count_lines, mark_lines};
-use rp_entries::{create, is_book, is_empty, select};
+use crate::book::DiskBook;
+use crate::contents::{Contents, MOST_BYTES};
+use rp_book::{Act, has_end, line_numbers};
+use rp_entries::{create, has_entries, is_book, is_empty, select};
 use sqlite::types::ValueRef;
 use sqlite::{Alter, Connection, Error, Row};
 use std::alloc::{AllocError, Global};
@@ -15,8 +19,10 @@ use std::alloc::{AllocError, Global};
 /// Why a connection is no book.
 #[derive(Clone, Copy, Debug, PartialEq, Eq)]
 pub enum OpenFault {
-    /// The database has another schema, or its entries are not numbered from 1.
+    /// The database has another schema, without a table `entry`, or its entries are none of a book.
     NoBook,
+    /// The database has a table `entry`, and another schema.
+    Layout,
     /// The database that is to be made a book has tables already.
     Taken,
     /// SQLite refused.
@@ -25,7 +31,10 @@ pub enum OpenFault {
 
 impl From<Error> for OpenFault {
     fn from(error: Error) -> Self {
-        OpenFault::Sqlite(error)
+        match error {
+            Error::SqliteFailure(_) => OpenFault::Sqlite(error),
+            _ => OpenFault::NoBook,
+        }
     }
 }
 
@@ -35,45 +44,77 @@ impl From<AllocError> for OpenFault {
     }
 }
 
-/// Whether an entry has the number; its lines go behind the script.
-fn push_entry(row: &Row, number: u32, script: &mut Vec<u8>) -> Result<bool, AllocError>
-    ensures { IfOk result (λ found. IsTrue found → (rowid row.now ≡ Int (pos number)) × (script.new.items ≡ script.old.items ++ shown_lines row.now)) }
+/// The lines of an entry.
+fn lines_of(row: &Row) -> Option<&[u8]>
+    ensures { IfSome result (λ lines. column row.now 6 ≡ Text lines.now) }
 {
-    match (row.get_ref(0), row.get_ref(1)) {
-        (Ok(ValueRef::Int(found)), Ok(ValueRef::Text(lines))) if found == i64::from(number) => {
-            script.extend_from_slice(lines)?;
-            Ok(true)
-        }
-        _ => Ok(false),
+    match row.get_ref(6) {
+        Ok(ValueRef::Text(lines)) => Some(lines),
+        _ => None,
     }
 }
 
-/// The script of entries that are numbered from 1, and how many they are.
-fn read_entries(alloc: Global, rows: &[Row]) -> Result<(Vec<u8>, u32), OpenFault>
-    ensures { IfOk result (λ read. HasRead rows.now [] read.1 read.0.items) }
+/// The act of an entry with the number.
+fn act_of(row: &Row, number: u32) -> Result<Act, OpenFault>
+    ensures { IfOk result (λ act. ShowsAct number row.now (act_of act)) }
 {
-    let mut script = Vec::new(alloc);
-    let mut entries = 0u32;
-    let mut rest = rows;
-    while let Some((row, more)) = rest.split_first() {
-        if entries == u32::MAX || !push_entry(row, entries + 1, &mut script)? {
-            return Err(OpenFault::NoBook);
-        }
-        entries += 1;
-        rest = more;
+    let found: u32 = row.get(0)?;
+    if found != number {
+        return Err(OpenFault::NoBook);
     }
-    Ok((script, entries))
+    let first = row.get(1)?;
+    let last = row.get(2)?;
+    let added = row.get(3)?;
+    let who = row.get(4)?;
+    let deed = row.get(5)?;
+    Ok(Act {
+        first,
+        last,
+        added,
+        who,
+        deed,
+    })
 }
 
-/// How many lines a script has behind its mark, if it has one.
-fn body_lines(script: &[u8]) -> u32 {
-    count_lines(script).saturating_sub(mark_lines(script))
+/// Takes an entry: its number is the next one, its lines have their ends, and it has their numbers.
+fn push_entry(row: &Row, contents: &mut Contents) -> Result<(), OpenFault>
+    requires { IsKept (contents_of contents.old) }
+    ensures kept { OnOk result (IsKept (contents_of contents.new)) }
+    ensures gained { OnOk result (GainsRow row.now (contents_of contents.old) (contents_of contents.new)) }
+{
+    let Some(lines) = lines_of(row) else {
+        return Err(OpenFault::NoBook);
+    };
+    if !has_end(lines) || lines.len() > MOST_BYTES - contents.script.len() {
+        return Err(OpenFault::NoBook);
+    }
+    let (first, last) = line_numbers(&contents.script, contents.lines, lines);
+    contents.script.reserve(lines.len())?;
+    contents.acts.reserve(1)?;
+    let act = act_of(row, contents.acts.len() as u32 + 1)?;
+    if act.first != first || act.last != last {
+        return Err(OpenFault::NoBook);
+    }
+    contents.push(act, lines);
+    Ok(())
+}
+
+/// What a book with these entries has in memory.
+fn read_entries(alloc: Global, rows: &[Row]) -> Result<Contents, OpenFault>
+    ensures kept { IfOk result (λ contents. IsKept (contents_of contents)) }
+    ensures read { IfOk result (λ contents. HasRead rows.now [] (contents_of contents)) }
+{
+    let mut contents = Contents::new(alloc);
+    for row in rows {
+        push_entry(row, &mut contents)?;
+    }
+    Ok(contents)
 }
 
 impl<S: Alter + Drop> DiskBook<S> {
     /// Makes an empty database a book.
     pub fn create(alloc: Global, mut conn: Connection<S>) -> Result<DiskBook<S>, OpenFault>
-        ensures { IfOk result (λ book. (book.script ≡ []) × (book.failed ≡ false)) }
+        ensures { IfOk result (λ book. (book.script ≡ []) × (book.faults ≡ 0)) }
     {
         if !is_empty(conn.schema()) || !conn.is_autocommit() {
             return Err(OpenFault::Taken);
@@ -81,54 +122,56 @@ impl<S: Alter + Drop> DiskBook<S> {
         create(&mut conn)?;
         Ok(DiskBook {
             conn,
-            script: Vec::new(alloc),
-            entries: 0,
-            lines: 0,
-            failed: false,
+            contents: Contents::new(alloc),
+            faults: 0,
         })
     }
 
     /// Reads the script of a database that is a book. Where the database is one that a crash could leave of a book that was
     /// open before, the script is one of those that this book said the next open may find.
     pub fn open(alloc: Global, mut conn: Connection<S>) -> Result<DiskBook<S>, OpenFault>
-        ensures sound { IfOk result (λ book. book.failed ≡ false) }
+        ensures sound { IfOk result (λ book. book.faults ≡ 0) }
         ensures found { IfOk result (λ book. HasCleanDisk (state S.Store book.conn) → (before : Held S) → HasCleanDisk (state S.Store before)
             → (state S.Store before).may_leave (state S.Store conn).committed.trees
             → (test : List ℕ → Bool) → FindsInDatabase (state S.Store before) test → IsTrue (test book.script)) }
     {
         if !is_book(conn.schema()) || !conn.is_autocommit() {
-            return Err(OpenFault::NoBook);
+            return Err(other_fault(&conn));
         }
         let rows = select(&mut conn)?;
-        let (script, entries) = read_entries(alloc, &rows)?;
-        let lines = body_lines(&script);
+        let contents = read_entries(alloc, &rows)?;
         Ok(DiskBook {
             conn,
-            script,
-            entries,
-            lines,
-            failed: false,
+            contents,
+            faults: 0,
         })
     }
 
     /// The script. Until a write failed, and as long as the disk returns what was written, the last commit of the database
-    /// holds it and nothing else.
+    /// holds it with its acts and nothing else.
     pub fn script(&self) -> &[u8]
         ensures value { result.now ≡ self.now.script }
-        ensures held { IsBookUntil self.now.failed (state S.Store self.now.conn) self.now.entries self.now.script }
+        ensures held { IsBookUntil self.now.faults (state S.Store self.now.conn) self.now.acts self.now.script }
     {
-        self.script.as_slice()
+        self.contents.script.as_slice()
     }
 
     /// The connection, for what no clause speaks of.
     pub fn into_connection(self) -> Connection<S> {
         let DiskBook {
             conn,
-            script: _,
-            entries: _,
-            lines: _,
-            failed: _,
+            contents: _,
+            faults: _,
         } = self;
         conn
+    }
+}
+
+/// What a database is that is no book.
+fn other_fault<S: Alter>(conn: &Connection<S>) -> OpenFault {
+    if has_entries(conn.schema()) {
+        OpenFault::Layout
+    } else {
+        OpenFault::NoBook
     }
 }

@@ -1,5 +1,5 @@
 -- What the statements on entries do.
-use Rattle.std.proofs.Common.{◌≡◌, ◌⊎◌, inl, inr, ℕ, ℤ, pos, negsuc, List, [], ◌∷◌, ◌++◌, map, codes, slice_get, Bool, true, false, not, ◌&&◌, cond, Some, None, Ok, Err, Result, IfOk, OnOk, OnErr, refl, sym, ap, subst, subst₂, ◌∙◌}
+use Rattle.std.proofs.Common.{◌≡◌, ◌⊎◌, inl, inr, ℕ, ℤ, pos, negsuc, List, [], ◌∷◌, ◌++◌, map, codes, slice_get, Bool, true, false, not, ◌&&◌, cond, Option, option_map, Some, None, Ok, Err, Result, IfOk, OnOk, OnErr, refl, sym, ap, subst, subst₂, ◌∙◌}
 use Rattle.std.specs.List.{flat_map}
 use Rattle.std.specs.List.Sorted.{IsPermutation}
 use Rattle.sqlite.specs.declared.types.Value.{Value}
@@ -7,11 +7,12 @@ use Rattle.sqlite.specs.declared.types.Value.TheVariants.{Null, Int, Text}
 use Rattle.sqlite.specs.Order.{Row, column}
 use Rattle.sqlite.specs.Term.{Term, Env, lit, col}
 use Rattle.sqlite.specs.Ops.{unary}
+use Rattle.sqlite.specs.Values.{bound_value, or_null}
 use Rattle.sqlite.specs.Query.{Query, inner, end, IsAnswer, output, page, Output}
 use Rattle.sqlite.specs.Program.{overlay}
 use Rattle.sqlite.specs.Table.{Table}
 use Rattle.sqlite.specs.Schema.{Schema}
-use Rattle.sqlite.specs.Kind.TheVariants.{Integer}
+use Rattle.sqlite.specs.Kind.TheVariants.{Integer, Text as Wording}
 use Rattle.sqlite.specs.Source.TheVariants.{Values}
 use Rattle.sqlite.specs.Command.TheVariants.{Insert, Select, CreateTable}
 use Rattle.sqlite.specs.Compile.{table_defined_by}
@@ -34,7 +35,7 @@ use Rattle.sqlite_schema.specs.declared.schema.Keys.TheVariants.{Enforced}
 use Rattle.sqlite_value.specs.declared.keys.Key.{Key}
 use Rattle.sqlite.specs.Collation.TheVariants.{Binary}
 use Rattle.sqlite_trees.proofs.ListLemmas.{map-map, pull_back}
-use Rattle.rp_entries.specs.Entry.{entry_table, book_schema, no_schema, lines_in, entries_in, shown_entry, entry_values, AreEntryValues, GainsEntry, AddsEntry, LeavesCommit, ListsEntries, MakesTable}
+use Rattle.rp_entries.specs.Entry.{entry_table, book_schema, no_schema, entries_in, shown_entry, entry_values, fields_of, told, Fields, GainsEntry, AddsEntry, LeavesCommit, ListsEntries, MakesTable}
 
 abbrev pub create_text : List ℕ
 create_text = codes "CREATE TABLE entry (number INTEGER PRIMARY KEY, first INTEGER NOT NULL, last INTEGER NOT NULL, added TEXT NOT NULL, who TEXT, deed TEXT, lines TEXT NOT NULL) STRICT"
@@ -43,7 +44,7 @@ abbrev pub insert_text : List ℕ
 insert_text = codes "INSERT INTO entry (number, first, last, added, who, deed, lines) VALUES (?1, ?2, ?3, ?4, ?5, ?6, ?7)"
 
 abbrev pub select_text : List ℕ
-select_text = codes "SELECT number, lines FROM entry ORDER BY number"
+select_text = codes "SELECT number, first, last, added, who, deed, lines FROM entry ORDER BY number"
 
 abbrev terms : List Term
 terms = col 0 0 ∷ lit Null ∷ col 0 1 ∷ col 0 2 ∷ col 0 3 ∷ col 0 4 ∷ col 0 5 ∷ col 0 6 ∷ []
@@ -56,7 +57,7 @@ query = record {
   from = inner 0 end;
   filter = [];
   group = None;
-  project = col 1 0 ∷ col 1 7 ∷ [];
+  project = col 1 0 ∷ col 1 2 ∷ col 1 3 ∷ col 1 4 ∷ col 1 5 ∷ col 1 6 ∷ col 1 7 ∷ [];
   distinct = false;
   collations = [];
   order = (col 1 0, by_number) ∷ [];
@@ -72,7 +73,7 @@ insert_is : command_of (understood book_schema insert_text) ≡ Insert 0 (Values
 unfolding understood everything
 insert_is = refl
 
-select_is : (command_of (understood book_schema select_text) ≡ Select (record { lets = []; body = query }) (codes "number" ∷ codes "lines" ∷ [])) × (reads_listing book_schema select_text ≡ false)
+select_is : (command_of (understood book_schema select_text) ≡ Select (record { lets = []; body = query }) (codes "number" ∷ codes "first" ∷ codes "last" ∷ codes "added" ∷ codes "who" ∷ codes "deed" ∷ codes "lines" ∷ [])) × (reads_listing book_schema select_text ≡ false)
 unfolding understood everything
 select_is = (refl, refl)
 
@@ -110,20 +111,37 @@ untaken : (b : Bool) → (not b && true) ≡ true → b ≡ false
 untaken true h = absurd (cc)
 untaken false h = refl
 
-module _ (number first last : ℤ) (added : List ℕ) (who deed : Value) (lines : List ℕ) where
-  abbrev pub given_params : Row
-  given_params = entry_values number first last added who deed lines
+-- so does a text
+cast_told : (text : Option (List ℕ)) → cast Wording (told text) ≡ told text
+cast_told None = refl
+cast_told (Some text) = refl
 
+-- a text that is bound
+bound_told : {X : Type 0} (f : X → List ℕ) (text : Option X) → bound_value (or_null (λ t. Text (f t)) text) ≡ told (option_map f text)
+bound_told f None = refl
+bound_told f (Some text) = refl
+
+-- the values that are bound are those of the entry
+pub values_are : {X : Type 0} (t : X → List ℕ) (number first last : ℕ) (added : List ℕ) (who deed : Option X) (lines : List ℕ) (a b c d e f : Value)
+    → a ≡ Int (pos number) → b ≡ Int (pos first) → c ≡ Int (pos last) → d ≡ Text added → e ≡ or_null (λ x. Text (t x)) who → f ≡ or_null (λ x. Text (t x)) deed
+    → bound_value a ∷ bound_value b ∷ bound_value c ∷ bound_value d ∷ bound_value e ∷ bound_value f ∷ Text lines ∷ []
+    ≡ entry_values (fields_of number first last added (option_map t who) (option_map t deed) lines)
+values_are t number first last added who deed lines a b c d e f ha hb hc hd he hf = rw (ha, hb, hc, hd, he, hf, bound_told t who, bound_told t deed) refl
+
+module _ (e : Fields) where
   abbrev source : Row
-  source = Int number ∷ Null ∷ Int first ∷ Int last ∷ Text added ∷ who ∷ deed ∷ Text lines ∷ []
+  source = Int e.number ∷ Null ∷ Int e.first ∷ Int e.last ∷ Text e.added ∷ told e.who ∷ told e.deed ∷ Text e.lines ∷ []
+
+  source_shown : shown_entry (cast_row entry_table source) ≡ entry_values e
+  source_shown = rw (cast_int e.number, cast_int e.first, cast_int e.last, cast_told e.who, cast_told e.deed) refl
 
   -- what the statement makes of the rows
   gained : (s : State) (text : List ℕ) (tally : Tally) (after : Database) → s.now.schema ≡ book_schema
-      → Does s.step_limit (mode_of s) given_params s.now text None (Insert 0 (Values terms 8)) (Ok (tally, after))
-      → GainsEntry (entries_in s.now.trees) (entries_in after.trees) number lines × (after.schema ≡ book_schema)
+      → Does s.step_limit (mode_of s) (entry_values e) s.now text None (Insert 0 (Values terms 8)) (Ok (tally, after))
+      → GainsEntry (entries_in s.now.trees) (entries_in after.trees) e × (after.schema ≡ book_schema)
   gained s text tally after has does =
       let db = s.now.trees in
-      let done = went (subst (λ it. Does s.step_limit (mode_of s) given_params (record s.now { schema = it }) text None (Insert 0 (Values terms 8)) (Ok (tally, after))) has does) in
+      let done = went (subst (λ it. Does s.step_limit (mode_of s) (entry_values e) (record s.now { schema = it }) text None (Insert 0 (Values terms 8)) (Ok (tally, after))) has does) in
       let now = ap (λ (p : Tally × Database). p.1) (same_value (went (went done.2).2).2) in
       let given = went done.1 in
       let written = went (went given.2).2 in
@@ -131,22 +149,21 @@ module _ (number first last : ℤ) (added : List ℕ) (who deed : Value) (lines 
       let trees : done.0.trees ≡ written.0 = ap (λ (it : Written). it.trees) (same_value counted.2) ∙ same_value counted.1 in
       let row = cast_row entry_table source in
       let edit : edit_of db entry_table [] Chosen 0 given.0 ≡ record { table = entry_table; gone = []; news = row ∷ [] } =
-      ap (edit_of db entry_table [] Chosen 0) given.1.1 ∙ ap (λ (r : Row). record { table = entry_table; gone = []; news = r ∷ [] }) (rowid_given (db 0) row number (cast_int number)) in
+      ap (edit_of db entry_table [] Chosen 0) given.1.1 ∙ ap (λ (r : Row). record { table = entry_table; gone = []; news = r ∷ [] }) (rowid_given (db 0) row e.number (cast_int e.number)) in
       let applied = subst (λ (e : Edit). Applies book_schema Enforced db e written.0) edit (one_step book_schema Enforced db written.0 (edit_of db entry_table [] Chosen 0 given.0) refl written.1) in (
         record {
           row = row;
-          number_is = cast_int number;
-          lines_are = refl;
+          shown = source_shown;
           free = untaken _ applied.fresh;
           put = ap (λ (d : Database). d.trees 0) now ∙ ap (λ (t : Trees). t 0) trees ∙ applied.rows;
         },
         ap (λ (d : Database). d.schema) now,
       )
 
-  pub adds : (old new : State) (r : Result ℕ Error) → old.now.schema ≡ book_schema → Executes insert_text given_params old new r → OnOk r (AddsEntry old new number lines)
+  pub adds : (old new : State) (r : Result ℕ Error) → old.now.schema ≡ book_schema → Executes insert_text (entry_values e) old new r → OnOk r (AddsEntry old new e)
   adds old new (Err e) has h = tt
   adds old new (Ok count) has h =
-      let w = runs_as insert_text given_params old new book_schema has (Insert 0 (Values terms 8)) insert_is insert_plain count h in
+      let w = runs_as insert_text (entry_values e) old new book_schema has (Insert 0 (Values terms 8)) insert_is insert_plain count h in
       let g = gained old (statement_of insert_text (understood book_schema insert_text)) w.tally new.now has w.changed in
       record {
         gains = g.0;
@@ -199,18 +216,18 @@ leaves_on old new sql params (Ok count) h = tt
 leaves_on old new sql params (Err e) h = leaves old new sql params e h
 
 -- what the statement commits
-pub commits : (number first last : ℤ) (added : List ℕ) (who deed : Value) (lines : List ℕ) (s : State) (db : Trees) → s.now.schema ≡ book_schema
-    → CommitsBy insert_text (given_params number first last added who deed lines) s db → GainsEntry (entries_in s.now.trees) (entries_in db) number lines
+pub commits : (e : Fields) (s : State) (db : Trees) → s.now.schema ≡ book_schema
+    → CommitsBy insert_text (entry_values e) s db → GainsEntry (entries_in s.now.trees) (entries_in db) e
 unfolding CommitsBy
-commits number first last added who deed lines s db has h =
-    let params = given_params number first last added who deed lines in
+commits e s db has h =
+    let params = entry_values e in
     let known = sym h.1.is ∙ ap (λ t. understood t insert_text) has in
     let bare = subst IsPlain (sym known) insert_plain in
     let may = subst₂ (λ k t. MayCommit s None k t params db) (ap command_of known ∙ insert_is) (ap (statement_of insert_text) known) (rw (bare.0, bare.1, append-nil params) at h.2) in
     elim may [
       | inl ends ↦ elim ends.0 [ inl commit ↦ absurd (cc) | inr release ↦ absurd (let e = release.2 in cc) ]
-      | inr writes ↦ subst (λ (t : Trees). GainsEntry (entries_in s.now.trees) (entries_in t) number lines) (sym writes.5)
-          (gained number first last added who deed lines s (statement_of insert_text (understood book_schema insert_text)) writes.1 writes.2 has writes.3).0
+      | inr writes ↦ subst (λ (t : Trees). GainsEntry (entries_in s.now.trees) (entries_in t) e) (sym writes.5)
+          (gained e s (statement_of insert_text (understood book_schema insert_text)) writes.1 writes.2 has writes.3).0
     ]
 
 pub lists_on : {V E : Type 0} (items : V → List Row) (old new : State) (r : Result V E) → old.now.schema ≡ book_schema → IfOk r (λ v. Shown select_text [] old new (items v))
@@ -254,10 +271,9 @@ makes old new (Ok count) has h =
       is_open = w.shown.is_open;
     }
 
-pub adds_by : (old new : State) (r : Result ℕ Error) (params : Row) (number : ℤ) (lines : List ℕ) → AreEntryValues params number lines → old.now.schema ≡ book_schema → Executes insert_text params old new r
-    → OnOk r (AddsEntry old new number lines)
-adds_by old new r params number lines v has h = adds number v.0 v.1 v.2 v.3 v.4 lines old new r has (subst (λ p. Executes insert_text p old new r) v.5 h)
+pub adds_by : (old new : State) (r : Result ℕ Error) (params : Row) (e : Fields) → params ≡ entry_values e → old.now.schema ≡ book_schema → Executes insert_text params old new r → OnOk r (AddsEntry old new e)
+adds_by old new r params e v has h = adds e old new r has (subst (λ p. Executes insert_text p old new r) v h)
 
-pub commits_by : (s : State) (db : Trees) (params : Row) (number : ℤ) (lines : List ℕ) → AreEntryValues params number lines → s.now.schema ≡ book_schema → CommitsBy insert_text params s db
-    → GainsEntry (entries_in s.now.trees) (entries_in db) number lines
-commits_by s db params number lines v has h = commits number v.0 v.1 v.2 v.3 v.4 lines s db has (subst (λ p. CommitsBy insert_text p s db) v.5 h)
+pub commits_by : (s : State) (db : Trees) (params : Row) (e : Fields) → params ≡ entry_values e → s.now.schema ≡ book_schema → CommitsBy insert_text params s db
+    → GainsEntry (entries_in s.now.trees) (entries_in db) e
+commits_by s db params e v has h = commits e s db has (subst (λ p. CommitsBy insert_text p s db) v h)

@@ -1,15 +1,15 @@
 -- The table of entries, and what a statement on it leaves.
-use Rattle.std.specs.Prelude.{◌≡◌, ◌⊎◌, ℕ, ℤ, Bool, true, false, IsTrue, List, [], ◌∷◌, map, Some, codes}
+use Rattle.std.specs.Prelude.{◌≡◌, ◌⊎◌, ℕ, ℤ, pos, Bool, true, false, IsTrue, List, [], ◌∷◌, map, Option, None, Some, codes}
 use Rattle.std.specs.List.Sorted.{IsPermutation}
 use Rattle.sqlite.specs.Collation.TheVariants.{Binary}
 use Rattle.sqlite.specs.declared.types.Value.{Value}
 use Rattle.sqlite.specs.declared.types.Value.TheVariants.{Null, Int, Text as Words}
-use Rattle.sqlite.specs.Order.{Row, column, bytes}
+use Rattle.sqlite.specs.Order.{Row, column}
 use Rattle.sqlite.specs.Table.{Table}
 use Rattle.sqlite.specs.Schema.{Schema}
 use Rattle.sqlite.specs.Kind.{Kind}
 use Rattle.sqlite.specs.Kind.TheVariants.{Integer, Text}
-use Rattle.sqlite.specs.Tree.{Trees, rowid, put_row}
+use Rattle.sqlite.specs.Tree.{Trees, put_row}
 use Rattle.sqlite.specs.Edit.{is_taken}
 use Rattle.sqlite.specs.State.{State, IsUnchanged, IsRolledBack}
 use Rattle.sqlite_schema.specs.declared.schema.Column.{Column}
@@ -54,29 +54,51 @@ no_schema = record { tables = []; indexes = []; views = [] }
 abbrev pub entries_in : Trees → List Row
 entries_in db = db 0
 
--- the lines of an entry
-abbrev pub lines_in : Row → List ℕ
-lines_in row = bytes (column row 7)
+-- what an entry says: its number, the numbers of its first and its last line, when it was added, by whom and under which deed, and its lines
+pub record Fields : Type 0 where
+  pub number : ℤ
+  pub first : ℤ
+  pub last : ℤ
+  pub added : List ℕ
+  pub who : Option (List ℕ)
+  pub deed : Option (List ℕ)
+  pub lines : List ℕ
 
--- the values of an entry, as its statement takes them
-abbrev pub entry_values : ℤ → ℤ → ℤ → List ℕ → Value → Value → List ℕ → Row
-entry_values number first last added who deed lines = Int number ∷ Int first ∷ Int last ∷ Words added ∷ who ∷ deed ∷ Words lines ∷ []
+-- what an entry says that is added so
+abbrev pub fields_of : ℕ → ℕ → ℕ → List ℕ → Option (List ℕ) → Option (List ℕ) → List ℕ → Fields
+fields_of number first last added who deed lines = record {
+  number = pos number;
+  first = pos first;
+  last = pos last;
+  added = added;
+  who = who;
+  deed = deed;
+  lines = lines;
+}
 
--- these are the values of an entry with the number and the lines
-abbrev pub AreEntryValues : Row → ℤ → List ℕ → Type 0
-AreEntryValues values number lines = (first last : ℤ) × (added : List ℕ) × (who deed : Value) × (values ≡ entry_values number first last added who deed lines)
+-- a text that may not be told
+abbrev pub told : Option (List ℕ) → Value
+told None = Null
+told (Some text) = Words text
 
--- an entry with this number and these lines came to the rows, none of which had the number
-pub record GainsEntry (rows after : List Row) (number : ℤ) (lines : List ℕ) : Type 0 where
+-- the values of an entry, as its statement takes them and a query of all columns shows them
+abbrev pub entry_values : Fields → Row
+entry_values e = Int e.number ∷ Int e.first ∷ Int e.last ∷ Words e.added ∷ told e.who ∷ told e.deed ∷ Words e.lines ∷ []
+
+-- what a query of all columns shows of an entry
+abbrev pub shown_entry : Row → Row
+shown_entry row = column row 0 ∷ column row 2 ∷ column row 3 ∷ column row 4 ∷ column row 5 ∷ column row 6 ∷ column row 7 ∷ []
+
+-- an entry that says this came to the rows, none of which had its number
+pub record GainsEntry (rows after : List Row) (entry : Fields) : Type 0 where
   pub row : Row
-  pub number_is : rowid row ≡ Int number
-  pub lines_are : lines_in row ≡ lines
+  pub shown : shown_entry row ≡ entry_values entry
   pub free : is_taken rows row ≡ false
   pub put : after ≡ put_row row rows
 
 -- an entry came to the table, and was committed
-pub record AddsEntry (old new : State) (number : ℤ) (lines : List ℕ) : Type 0 where
-  pub gains : GainsEntry (entries_in old.now.trees) (entries_in new.now.trees) number lines
+pub record AddsEntry (old new : State) (entry : Fields) : Type 0 where
+  pub gains : GainsEntry (entries_in old.now.trees) (entries_in new.now.trees) entry
   pub schema : new.now.schema ≡ book_schema
   pub committed : old.in_transaction ≡ false → new.committed ≡ new.now
   pub mode : new.in_transaction ≡ old.in_transaction
@@ -93,10 +115,6 @@ pub record MakesTable (old new : State) : Type 0 where
   pub committed : old.in_transaction ≡ false → new.committed ≡ new.now
   pub mode : new.in_transaction ≡ old.in_transaction
   pub is_open : IsTrue new.is_open
-
--- what a query of the numbers and the lines shows of an entry
-abbrev pub shown_entry : Row → Row
-shown_entry row = column row 0 ∷ column row 7 ∷ []
 
 -- the answer shows the entries, each once
 pub record ListsEntries (rows shown : List Row) : Type 0 where

@@ -4,16 +4,16 @@
 //! The table `entry` has a row for each time that lines were added: its number, the numbers of its first and last line as the
 //! report echoes them, the time, who added them and under which deed, where that was told, and the lines, each with its line
 //! end.
-ghost use Rattle.std.specs.Prelude.{◌≡◌, ◌≤◌, ℕ, ℤ, pos, List, OnOk, OnErr, IfOk};
+ghost use Rattle.std.specs.Prelude.{◌≡◌, ◌≤◌, OnOk, OnErr, IfOk, option_map};
 ghost use Rattle.sqlite.specs.Values.{bound};
 ghost use Rattle.sqlite.specs.State.{HasCleanDisk, IsUnchanged, Survives};
 ghost use Rattle.sqlite_trees.specs.View.{doubt};
 ghost use Rattle.sqlite.specs.Held.{state};
-ghost use Rattle.rp_entries.specs.Entry.{AddsEntry, AreEntryValues, GainsEntry, LeavesCommit, ListsEntries, MakesTable, book_schema, entries_in, no_schema};
+ghost use Rattle.rp_entries.specs.Entry.{AddsEntry, Fields, GainsEntry, LeavesCommit, ListsEntries, MakesTable, book_schema, entries_in, entry_values, fields_of, no_schema};
 
 mod schema;
 
-pub use schema::{is_book, is_empty};
+pub use schema::{has_entries, is_book, is_empty};
 use sqlite::types::{ToSql, ValueRef};
 use sqlite::{Alter, Connection, Error, Row};
 
@@ -33,12 +33,12 @@ fn insert_values<S: Alter>(
     conn: &mut Connection<S>,
     values: [ValueRef<'_>; 7],
 ) -> Result<usize, Error>
-    ensures adds { HasCleanDisk (state S.Store conn.new) → (state S.Store conn.old).now.schema ≡ book_schema → (number : ℤ) (lines : List ℕ)
-        → AreEntryValues (bound values.entry) number lines → OnOk result (AddsEntry (state S.Store conn.old) (state S.Store conn.new) number lines) }
+    ensures adds { HasCleanDisk (state S.Store conn.new) → (state S.Store conn.old).now.schema ≡ book_schema → (entry : Fields)
+        → bound values.entry ≡ entry_values entry → OnOk result (AddsEntry (state S.Store conn.old) (state S.Store conn.new) entry) }
     ensures clean { doubt (state S.Store conn.old).is_clean ≤ doubt (state S.Store conn.new).is_clean }
     ensures fails { HasCleanDisk (state S.Store conn.new) → OnErr result (LeavesCommit (state S.Store conn.old) (state S.Store conn.new)) }
-    ensures survives { (state S.Store conn.old).now.schema ≡ book_schema → (number : ℤ) (lines : List ℕ) → AreEntryValues (bound values.entry) number lines
-        → Survives (state S.Store conn.old) (state S.Store conn.new) (λ db. GainsEntry (entries_in (state S.Store conn.old).now.trees) (entries_in db) number lines) }
+    ensures survives { (state S.Store conn.old).now.schema ≡ book_schema → (entry : Fields) → bound values.entry ≡ entry_values entry
+        → Survives (state S.Store conn.old) (state S.Store conn.new) (λ db. GainsEntry (entries_in (state S.Store conn.old).now.trees) (entries_in db) entry) }
 {
     conn.execute(
         "INSERT INTO entry (number, first, last, added, who, deed, lines) VALUES (?1, ?2, ?3, ?4, ?5, ?6, ?7)",
@@ -59,11 +59,13 @@ pub fn insert<'x, S: Alter>(
     lines: &'x [u8],
 ) -> Result<usize, Error>
     ensures adds { HasCleanDisk (state S.Store conn.new) → (state S.Store conn.old).now.schema ≡ book_schema
-        → OnOk result (AddsEntry (state S.Store conn.old) (state S.Store conn.new) (pos number) lines.now) }
+        → OnOk result (AddsEntry (state S.Store conn.old) (state S.Store conn.new)
+        (fields_of number first last added.now (option_map (λ t. t.now) who.entry) (option_map (λ t. t.now) deed.entry) lines.now)) }
     ensures clean { doubt (state S.Store conn.old).is_clean ≤ doubt (state S.Store conn.new).is_clean }
     ensures fails { HasCleanDisk (state S.Store conn.new) → OnErr result (LeavesCommit (state S.Store conn.old) (state S.Store conn.new)) }
     ensures survives { (state S.Store conn.old).now.schema ≡ book_schema → Survives (state S.Store conn.old) (state S.Store conn.new)
-        (λ db. GainsEntry (entries_in (state S.Store conn.old).now.trees) (entries_in db) (pos number) lines.now) }
+        (λ db. GainsEntry (entries_in (state S.Store conn.old).now.trees) (entries_in db)
+        (fields_of number first last added.now (option_map (λ t. t.now) who.entry) (option_map (λ t. t.now) deed.entry) lines.now)) }
 {
     let values = [
         number.to_sql(),
@@ -77,12 +79,15 @@ pub fn insert<'x, S: Alter>(
     insert_values(conn, values)
 }
 
-/// The number and the lines of each entry.
+/// All that each entry says.
 pub fn select<S: Alter>(conn: &mut Connection<S>) -> Result<Vec<Row>, Error>
     ensures lists { HasCleanDisk (state S.Store conn.new) → (state S.Store conn.old).now.schema ≡ book_schema
         → IfOk result (λ rows. ListsEntries (entries_in (state S.Store conn.old).now.trees) rows.items) }
     ensures same { HasCleanDisk (state S.Store conn.new) → (state S.Store conn.old).now.schema ≡ book_schema
         → OnOk result (IsUnchanged (state S.Store conn.old) (state S.Store conn.new)) }
 {
-    conn.query_all("SELECT number, lines FROM entry ORDER BY number", &[])
+    conn.query_all(
+        "SELECT number, first, last, added, who, deed, lines FROM entry ORDER BY number",
+        &[],
+    )
 }

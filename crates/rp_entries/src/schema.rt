@@ -1,5 +1,5 @@
 //! Whether a schema is that of a book.
-ghost use Rattle.std.specs.Prelude.{◌≡◌, [], IsTrue};
+ghost use Rattle.std.specs.Prelude.{◌≡◌, ◌↔◌, [], Any, IsTrue, codes};
 ghost use Rattle.rp_entries.specs.Entry.{book_schema, entry_column, entry_columns, entry_table, no_schema};
 
 use sqlite_schema::schema::{Column, Kind, Schema, Stamps, Table};
@@ -78,4 +78,15 @@ pub fn is_empty(schema: &Schema) -> bool
     ensures { IsTrue result → schema.now ≡ no_schema }
 {
     schema.tables.is_empty() && schema.indexes.is_empty() && schema.views.is_empty()
+}
+
+/// Whether a schema has a table of entries, of any layout.
+pub fn has_entries(schema: &Schema) -> bool
+    ensures { IsTrue result ↔ Any (λ table. table.name ≡ codes "entry") schema.now.tables }
+{
+    schema
+        .tables
+        .as_slice()
+        .iter()
+        .any(|table| table.name.as_slice() == b"entry".as_slice())
 }

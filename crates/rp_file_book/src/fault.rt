@@ -6,8 +6,10 @@ use sqlite::{Error, ErrorCode};
 /// Why a file was not made a book, or not opened as one, or not closed.
 #[derive(Clone, Copy, Debug, PartialEq, Eq)]
 pub enum FileFault {
-    /// The file is no book, or one of another layout.
+    /// The file is no book.
     NoBook,
+    /// The file is a book of another layout.
+    Layout,
     /// The database that is to be made a book has tables already.
     Taken,
     /// The file is not there, or cannot be opened for reading and writing.
@@ -42,6 +44,7 @@ impl From<OpenFault> for FileFault {
     fn from(fault: OpenFault) -> Self {
         match fault {
             OpenFault::NoBook => FileFault::NoBook,
+            OpenFault::Layout => FileFault::Layout,
             OpenFault::Taken => FileFault::Taken,
             OpenFault::Sqlite(error) => FileFault::from(error),
         }

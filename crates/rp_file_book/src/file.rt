@@ -2,7 +2,7 @@
 
 use crate::fault::FileFault;
 use rp_disk_book::DiskBook;
-use sqlite::{Alter, Connection, FileFrom, FileStore, Wary, params};
+use sqlite::{Alter, Connection, FileFrom, FileStore, Wary};
 use std::alloc::Global;
 use std::fs;
 
@@ -35,17 +35,6 @@ fn time_of<S: Alter>(conn: &mut Connection<S>) -> Result<String, FileFault> {
     Ok(time)
 }
 
-/// The number of the last line that was added on `date` or before, 0 if there is none.
-fn last_line_by<S: Alter>(conn: &mut Connection<S>, date: &str) -> Result<i64, FileFault> {
-    let last: Option<i64> = conn
-        .query_row(
-            "SELECT max(last) FROM entry WHERE substr(added, 1, 10) <= ?1",
-            params![date],
-        )?
-        .get(0)?;
-    Ok(last.unwrap_or(0))
-}
-
 /// Makes the file at `path` an empty book, where there is none yet or an empty database.
 pub fn make(rt: &HostRuntime, path: &str) -> Result<(), FileFault> {
     let conn = connect(rt, path)?;
@@ -67,14 +56,13 @@ impl BookFile {
     }
 
     /// The book itself.
-    pub fn book(&mut self) -> &mut DiskBook<FileStored> {
-        &mut self.book
+    pub fn book(&self) -> &DiskBook<FileStored> {
+        &self.book
     }
 
-    /// The number of the last line that was added on `date` or before, as 2026-11-30, of UTC; 0 if there is none.
-    pub fn last_line_by(self, date: &str) -> Result<i64, FileFault> {
-        let BookFile { book } = self;
-        last_line_by(&mut book.into_connection(), date)
+    /// The book itself, to which lines may be added.
+    pub fn book_mut(&mut self) -> &mut DiskBook<FileStored> {
+        &mut self.book
     }
 
     /// Closes the file. What its log has comes into it; where the disk does not let it, it stays in the log, and the next

@@ -10,7 +10,7 @@ use Rattle.rp_model.specs.states.State.{Lot, is_live, live_lots, live_lot, lot_w
 use Rattle.rp_model.specs.states.Sound.{are_distinct}
 use Rattle.rp_states.proofs.Picked.{pick}
 use Rattle.rp_states.proofs.Labels.{label_is}
-use Rattle.rp_states.proofs.Plain.{kept_images}
+use Rattle.rp_states.proofs.Plain.{kept_images, found_content, live_content}
 use Rattle.rp_history.specs.declared.lot.LotLine.{LotLine}
 use Rattle.rp_history.specs.Lots.{lot_of}
 use Rattle.rp_history.proofs.Found.{found_has_id, found_is_live, picked_lot, if_passed, own_place}
@@ -20,22 +20,13 @@ module _ {S : Type 0} where
   pub bare_ids : (ls : List (Lot S)) → ids_of (map bare_lot ls) ≡ ids_of ls
   bare_ids ls = images_twice bare_lot (λ (l : Lot S). l.id) ls
 
-  -- a lot is found without its parts
-  pub bare_found : (x : Label) (ls : List (Lot S)) → lot_with_id x (map bare_lot ls) ≡ option_map bare_lot (lot_with_id x ls)
-  bare_found x [] = refl
-  bare_found x (l ∷ ls) = by (label_eq x l.id) (bare_found x ls)
-    where
-      by : (b : Bool) → lot_with_id x (map bare_lot ls) ≡ option_map bare_lot (lot_with_id x ls) → pick b (Some (bare_lot l)) (lot_with_id x (map bare_lot ls)) ≡ option_map bare_lot (pick b (Some l) (lot_with_id x ls))
-      by true later = refl
-      by false later = later
-
   -- live lots without their parts
   pub bare_live : (ls : List (Lot S)) → live_lots (map bare_lot ls) ≡ map bare_lot (live_lots ls)
   bare_live ls = kept_images bare_lot is_live ls
 
   -- a live lot is found without its parts
   pub bare_live_found : (x : Label) (ls : List (Lot S)) → live_lot x (map bare_lot ls) ≡ option_map bare_lot (live_lot x ls)
-  bare_live_found x ls = ap (lot_with_id x) (bare_live ls) ∙ bare_found x (live_lots ls)
+  bare_live_found = live_content (λ l. l.set) (λ l. [])
 
   -- what is found without its parts is there with them
   mapped_back : (o : Option (Lot S)) (l : Lot S) → option_map bare_lot o ≡ Some (bare_lot l) → (k : Lot S) × (o ≡ Some k) × (bare_lot k ≡ bare_lot l)
@@ -57,7 +48,7 @@ none_live_here x lots history e f = none_mapped bare_lot (live_lot x lots) (f �
 
 -- no lot
 pub none_here : (x : Label) (lots history : List (Lot (Unit {0}))) → history ≡ map bare_lot lots → None ≡ lot_with_id x history → lot_with_id x lots ≡ None
-none_here x lots history e f = none_mapped bare_lot (lot_with_id x lots) (f ∙ ap (lot_with_id x) e ∙ bare_found x lots)
+none_here x lots history e f = none_mapped bare_lot (lot_with_id x lots) (f ∙ ap (lot_with_id x) e ∙ found_content (λ l. l.set) (λ l. []) x lots)
 
 -- a place within the history is one within the lots
 pub within_lots : (lots history : List (Lot (Unit {0}))) → history ≡ map bare_lot lots → (k : ℕ) → k < length history → k < length lots

@@ -8,12 +8,12 @@ mod access;
 #[cfg(test)]
 mod boxindex;
 #[cfg(test)]
-mod crew;
-#[cfg(test)]
 mod history;
+#[cfg(test)]
+mod lotindex;
 #[cfg(test)]
 mod names;
 #[cfg(test)]
-mod nearby;
+mod parallel;
 #[cfg(test)]
 mod parcels;

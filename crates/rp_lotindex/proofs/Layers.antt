@@ -1,13 +1,12 @@
--- What meets before boxes are moved into the cube of a layer meets after it.
+-- What meets before boxes are moved into a cube meets after it.
 use Rattle.std.proofs.Common.{◌≡◌, ℕ, ◌<◌, ◌≤◌, ◌/◌, ◌%◌, ℤ, pos, negsuc, ◌+ℤ◌, unsigned_abs, Bool, true, false, cond, refl, arith}
 use Rattle.std.specs.Prelude.{int_le}
 use Rattle.std.proofs.lemmas.Int.{ints}
 use Rattle.rp_algebra.specs.Within.{IsWithin}
 use Rattle.rp_algebra.proofs.Tests.{both_follow, and_first, and_second}
 use Rattle.rp_geometry.specs.Geometry.{IntegerBox}
-use Rattle.rp_language.specs.Name.{Label}
 use Rattle.rp_boxindex.specs.Meeting.{is_below, do_meet}
-use Rattle.rp_lotindex.specs.Layers.{cube_number, step_of, is_near_domain, moved_low, moved_high, moved_by, moved}
+use Rattle.rp_lotindex.specs.Layers.{step_of, is_near_domain, moved_low, moved_high, moved_by, moved_to}
 
 -- ---- one side below another
 
@@ -57,10 +56,9 @@ moved_by_meet true x y z sx sy sz b c =
 pub step_within : (n : ℕ) → n < 64 → IsWithin 2113929216 (step_of n)
 step_within n h = record { abs_le = omega (arith, ints) }
 
--- what meets does so in the cube of a layer
-pub moved_meet : (closed : Bool) (y : Label) (b c : IntegerBox) → do_meet closed b c ≡ true → do_meet closed (moved y b) (moved y c) ≡ true
-unfolding moved
-moved_meet closed y b c h =
-    let n : ℕ = cube_number y in
+-- what meets does so in the cube of a number
+pub moved_to_meet : (closed : Bool) (n : ℕ) (b c : IntegerBox) → do_meet closed b c ≡ true → do_meet closed (moved_to n b) (moved_to n c) ≡ true
+unfolding moved_to
+moved_to_meet closed n b c h =
     moved_by_meet closed (step_of (n % 64)) (step_of (n / 64 % 64)) (step_of (n / 4096 % 64))
     (step_within (n % 64) (omega arith)) (step_within (n / 64 % 64) (omega arith)) (step_within (n / 4096 % 64) (omega arith)) b c h

@@ -1,13 +1,13 @@
 pub mod Places
 pub mod Put
-pub mod Emptied
+pub mod Settled
 pub mod Boxed
 pub mod Hulls
 pub mod Layers
+pub mod Stretches
 pub mod Reached
 pub mod Passed
 pub mod Skipped
 pub mod Behind
 pub mod Owned
 pub mod Floored
-pub mod AccessLines

@@ -1,11 +1,11 @@
 -- Whose a point is: it is found among the lots around which the box has the point.
-use Rattle.std.proofs.Common.{◌≡◌, ℕ, zero, suc, ◌<◌, ◌≤◌, Bool, true, false, ◌&&◌, cond, List, [], ◌∷◌, ⊎_elim, map, filter, length, Option, Some, None, slice_get, refl, sym, ap, ◌∙◌, subst, arith}
-use Rattle.std.specs.Prelude.{option_map}
+use Rattle.std.proofs.Common.{◌≡◌, ℕ, zero, suc, ◌/◌, ◌<◌, ◌≤◌, Bool, true, false, ◌&&◌, cond, List, [], ◌∷◌, ◌⊎◌, inl, inr, ⊎_elim, map, filter, length, Option, Some, None, slice_get, refl, sym, ap, ◌∙◌, subst, arith}
+use Rattle.std.specs.Prelude.{option_map, is_none, nat_le, nat_lt}
 use Rattle.std.specs.List.{AllByRecursion, list_any}
 use Rattle.std.specs.List.Sorted.{IsStrictlySortedBy}
 use Rattle.std.specs.Ordering.{nat_cmp}
 use Rattle.std.specs.declared.cmp.Ordering.TheVariants.{Less}
-use Rattle.std.proofs.lemmas.Bool.{or_cases}
+use Rattle.std.proofs.lemmas.Bool.{or_cases, leb-true}
 use Rattle.std.proofs.lemmas.Bool.Decides.{nat_tests}
 use Rattle.std.proofs.lemmas.Map.Keys.{sorted_head, sorted_tail}
 use Rattle.std.proofs.lemmas.Option.{slice_get-map, slice_get_within}
@@ -17,7 +17,7 @@ use Rattle.rp_geometry.specs.parts.LeastBox.{IsInBox, BoxHoldsCell}
 use Rattle.rp_geometry.specs.parts.Parts.{IsPart, IsCheckedPart, AreOf}
 use Rattle.rp_geometry.proofs.LeastBoxes.{box_itself}
 use Rattle.rp_language.specs.Name.{Label, label_eq}
-use Rattle.rp_model.specs.states.State.{Lot, is_live, lots_of_layer, bare_lot, lot_of_parts}
+use Rattle.rp_model.specs.states.State.{Lot, ends_later, lots_of_layer, bare_lot, lot_of_parts}
 use Rattle.rp_model.specs.commands.Verdict.{Verdict}
 use Rattle.rp_model.specs.commands.Row.{is_in_parts, owner_line}
 use Rattle.rp_states.proofs.Labels.{label_is}
@@ -26,12 +26,15 @@ use Rattle.rp_boxindex.specs.Boxes.{Boxes}
 use Rattle.rp_boxindex.specs.Meeting.{do_meet, meeting_ids, first_that}
 use Rattle.rp_boxindex.proofs.Exact.{meeting_ids_rise_spec}
 use Rattle.rp_lotindex.specs.declared.moment.Moment.{Moment}
+use Rattle.rp_lotindex.specs.declared.stretch.Stretch.{Stretch}
 use Rattle.rp_lotindex.specs.declared.moment.Moment.TheVariants.{Now, After}
-use Rattle.rp_lotindex.specs.Indexed.{hull_of_parts, box_of, box_at, hull_if, IsIndexOf, IsIndexed}
-use Rattle.rp_lotindex.specs.Layers.{moved}
-use Rattle.rp_lotindex.specs.Owner.{is_there, is_there_at, boxes_at, owner_verdict, KnowsOwners, BoxesHold, IsOwner}
+use Rattle.rp_lotindex.specs.Indexed.{hull_of_parts, box_at, box_of_lot, IsIndexOf}
+use Rattle.rp_lotindex.specs.Layers.{cube_number, past_number, moved, moved_past}
+use Rattle.rp_lotindex.specs.Stretches.{stretch_of, stretches_with}
+use Rattle.rp_lotindex.specs.Owner.{is_there, is_there_at, boxes_asked, lesser_of, first_in, owner_verdict, IsLine, KnowsOwners, BoxesHold, IsOwner}
 use Rattle.rp_lotindex.proofs.Hulls.{part_within, wider_meet}
-use Rattle.rp_lotindex.proofs.Layers.{moved_meet}
+use Rattle.rp_lotindex.proofs.Layers.{moved_to_meet}
+use Rattle.rp_lotindex.proofs.Stretches.{stretch_listed}
 use Rattle.rp_lotindex.proofs.Reached.{box_reached}
 
 -- ---- the boxes of sound lots
@@ -92,6 +95,75 @@ none_passes test (i ∷ ids) e j l t = by (test i) refl e (none_passes test ids)
     by true f g rest = absurd (cc)
     by false f g rest = behind f (rest g) j l t
 
+-- ---- the least that is found at several boxes
+
+-- of two numbers the lesser is answered
+lesser_left : (i : ℕ) (p : Option ℕ) → (k : ℕ) × (lesser_of (Some i) p ≡ Some k) × (k ≤ i)
+lesser_left i None = (i, refl, omega arith)
+lesser_left i (Some k) = by (nat_lt k i) refl
+  where
+    by : (b : Bool) → nat_lt k i ≡ b → (j : ℕ) × (lesser_of (Some i) (Some k) ≡ Some j) × (j ≤ i)
+    by true e = (k, ap (λ (b : Bool). cond b (Some k) (Some i)) e, grind (arith, nat_tests))
+    by false e = (i, ap (λ (b : Bool). cond b (Some k) (Some i)) e, omega arith)
+
+lesser_right : (o : Option ℕ) (k : ℕ) → (j : ℕ) × (lesser_of o (Some k) ≡ Some j) × (j ≤ k)
+lesser_right None k = (k, refl, omega arith)
+lesser_right (Some i) k = by (nat_lt k i) refl
+  where
+    by : (b : Bool) → nat_lt k i ≡ b → (j : ℕ) × (lesser_of (Some i) (Some k) ≡ Some j) × (j ≤ k)
+    by true e = (k, ap (λ (b : Bool). cond b (Some k) (Some i)) e, omega arith)
+    by false e = (i, ap (λ (b : Bool). cond b (Some k) (Some i)) e, grind (arith, nat_tests))
+
+-- what is answered is one of them
+lesser_one : (o p : Option ℕ) (k : ℕ) → lesser_of o p ≡ Some k → (o ≡ Some k) ⊎ (p ≡ Some k)
+lesser_one None p k e = inr e
+lesser_one (Some i) None k e = inl e
+lesser_one (Some i) (Some j) k e = by (nat_lt j i) e
+  where
+    by : (b : Bool) → cond b (Some j) (Some i) ≡ Some k → (Some i ≡ Some k) ⊎ (Some j ≡ Some k)
+    by true e = inr e
+    by false e = inl e
+
+module _ (test : ℕ → Bool) (boxes : Boxes) where
+  -- of one box the least is found
+  found_at : (b : IntegerBox) (j : ℕ) → Listed j (meeting_ids false b boxes) → test j ≡ true → (k : ℕ) × (first_that test (meeting_ids false b boxes) ≡ Some k) × (k ≤ j)
+  found_at b j l t = by (first_that test (meeting_ids false b boxes)) refl
+    where
+      by : (o : Option ℕ) → first_that test (meeting_ids false b boxes) ≡ o → (k : ℕ) × (first_that test (meeting_ids false b boxes) ≡ Some k) × (k ≤ j)
+      by None e = absurd (none_passes test (meeting_ids false b boxes) e j l t)
+      by (Some k) e = (k, e, (first_is test (meeting_ids false b boxes) (meeting_ids_rise_spec false b boxes) k e).least j l t)
+
+  -- a number that was there is not below what is found
+  start_above : (bs : List IntegerBox) (i : ℕ) → (k : ℕ) × (first_in test boxes bs (Some i) ≡ Some k) × (k ≤ i)
+  start_above [] i = (i, refl, omega arith)
+  start_above (b ∷ bs) i =
+      let one = lesser_left i (first_that test (meeting_ids false b boxes)) in
+      let rest = start_above bs one.0 in
+      let low = one.2 in
+      let lower = rest.2 in
+      (rest.0, ap (first_in test boxes bs) one.1 ∙ rest.1, omega (arith, low, lower))
+
+  -- nor is one that is found at a box
+  found_above : (bs : List IntegerBox) (o : Option ℕ) (b : IntegerBox) → Listed b bs → (j : ℕ) → Listed j (meeting_ids false b boxes) → test j ≡ true → (k : ℕ) × (first_in test boxes bs o ≡ Some k) × (k ≤ j)
+  found_above [] o b l j m t = elim l [ ]
+  found_above (c ∷ bs) o b first j m t =
+      let own = found_at b j m t in
+      let one = lesser_right o own.0 in
+      let rest = start_above bs one.0 in
+      let low = own.2 in
+      let lower = one.2 in
+      let lowest = rest.2 in
+      (rest.0, ap (λ (p : Option ℕ). first_in test boxes bs (lesser_of o p)) own.1 ∙ ap (first_in test boxes bs) one.1 ∙ rest.1, omega (arith, low, lower, lowest))
+  found_above (c ∷ bs) o b (later l) j m t = found_above bs (lesser_of o (first_that test (meeting_ids false c boxes))) b l j m t
+
+  -- what is found passes
+  found_passes : (bs : List IntegerBox) (o : Option ℕ) → ((k : ℕ) → o ≡ Some k → test k ≡ true) → (k : ℕ) → first_in test boxes bs o ≡ Some k → test k ≡ true
+  found_passes [] o h k e = h k e
+  found_passes (b ∷ bs) o h k e = found_passes bs (lesser_of o (first_that test (meeting_ids false b boxes))) each k e
+    where
+      each : (i : ℕ) → lesser_of o (first_that test (meeting_ids false b boxes)) ≡ Some i → test i ≡ true
+      each i f = ⊎_elim (h i) (λ g. (first_is test (meeting_ids false b boxes) (meeting_ids_rise_spec false b boxes) i g).passes) (lesser_one o (first_that test (meeting_ids false b boxes)) i f)
+
 -- ---- the owner among lots
 
 module _ (test : Lot (Unit {0}) → Bool) (y : Label) (p : RationalPoint) where
@@ -146,27 +218,43 @@ outside_parts : (ps : List Part) (p : RationalPoint) → is_cube_point p ≡ fal
 outside_parts [] p e = refl
 outside_parts (q ∷ ps) p e = false_unless (is_in_parts (q ∷ ps) p) (λ t. let o = some_passes (λ (r : Part). is_in_cell r.cell p) (q ∷ ps) t in false_not_true (is_cube_point p) (and_first (is_cube_point p) (all_hold o.0.cell p) o.2) e)
 
--- which lots an index has
-abbrev chosen_at : Moment → Lot (Unit {0}) → Bool
-chosen_at Now = is_live
-chosen_at (After n) = λ l. true
+-- an item stands in the list of images with its image
+listed_image : {A B : Type 0} (f : A → B) (x : A) (xs : List A) → Listed x xs → Listed (f x) (map f xs)
+listed_image f x [] l = elim l [ ]
+listed_image f x (y ∷ xs) first = first
+listed_image f x (y ∷ xs) (later l) = later (listed_image f x xs l)
 
--- the index of a moment has these
-index_at : (m : Moment) (lots : List (Lot (Unit {0}))) (live ever : Boxes) → IsIndexed lots live ever → IsIndexOf (chosen_at m) lots (boxes_at m live ever)
-index_at Now lots live ever h = h.live
-index_at (After n) lots live ever h = h.ever
+-- where a box around a lot stands, by its end
+abbrev box_until : Label → ℕ → IntegerBox → Option ℕ → IntegerBox
+box_until y born b o = elim o [ None ↦ moved y b | Some t ↦ moved_past y (stretch_of born t) b ]
 
--- a lot that is there is among them
-there_chosen : (m : Moment) (l : Lot (Unit {0})) → is_there m l ≡ true → chosen_at m l ≡ true
-there_chosen Now l e = e
-there_chosen (After n) l e = refl
+-- a box that is asked about meets that of a lot that is there at the moment
+record IsAsked (m : Moment) (y : Label) (unit hull : IntegerBox) (born : ℕ) (o : Option ℕ) : Type 0 where
+  box : IntegerBox
+  listed : Listed box (boxes_asked m y unit)
+  meets : do_meet false box (box_until y born hull o) ≡ true
+
+asked : (m : Moment) (y : Label) (unit hull : IntegerBox) (l : Lot (Unit {0})) → IsLine m → do_meet false unit hull ≡ true → is_there m l ≡ true → (o : Option ℕ) → l.ended ≡ o → IsAsked m y unit hull l.born o
+asked Now y unit hull l line h e None f = record { box = moved y unit; listed = first; meets = moved_to_meet false (cube_number y) unit hull h }
+asked Now y unit hull l line h e (Some t) f = absurd (let g : is_none (Some t) ≡ true = sym (ap (λ (o : Option ℕ). is_none o) f) ∙ e in cc (g))
+asked (After n) y unit hull l line h e None f = record { box = moved y unit; listed = first; meets = moved_to_meet false (cube_number y) unit hull h }
+asked (After n) y unit hull l line h e (Some t) f =
+    let s = stretch_of l.born t in
+    let low : l.born ≤ n = leb-true l.born n (and_first (nat_le l.born n) (ends_later n l.ended) e) in
+    let later_end : nat_lt n t ≡ true = sym (ap (λ (o : Option ℕ). ends_later n o) f) ∙ and_second (nat_le l.born n) (ends_later n l.ended) e in
+    let high : n < t = grind (arith, nat_tests) in
+    record {
+      box = moved_past y s unit;
+      listed = later (listed_image (λ (s : Stretch). moved_past y s unit) s (stretches_with n) (stretch_listed 31 0 (l.born / 2) (n / 2) (t / 2) (omega (arith, low)) (omega (arith, high)) (omega (arith, line))));
+      meets = moved_to_meet false (past_number y s) unit hull h;
+    }
 
 -- a lot is there without its parts as with them
 there_bare : (m : Moment) (l : Lot (Unit {0})) → is_there m (bare_lot l) ≡ is_there m l
 there_bare Now l = refl
 there_bare (After n) l = refl
 
-module _ (has : ℕ → Bool) (y : Label) (m : Moment) (p : RationalPoint) (history : List (Lot (Unit {0}))) (live ever : Boxes) where
+module _ (has : ℕ → Bool) (y : Label) (m : Moment) (p : RationalPoint) (history : List (Lot (Unit {0}))) (boxes : Boxes) where
   -- the lot at a place is there, of the layer, and has the point
   abbrev pub passes : ℕ → Bool
   passes k = is_there_at m y history k && has k
@@ -182,58 +270,76 @@ module _ (has : ℕ → Bool) (y : Label) (m : Moment) (p : RationalPoint) (hist
       test_of o = elim o [ None ↦ false | Some l ↦ is_there m l && label_eq l.layer y ]
 
   -- nobody has a point outside the cube
-  pub outside_owner : is_cube_point p ≡ false → IsOwner has y m p history live ever None
+  pub outside_owner : is_cube_point p ≡ false → IsOwner has y m p history boxes None
   outside_owner e lots bare indexed hold knows =
       sym (owner_none (is_there m) y p lots (λ k l at. false_unless (owns (is_there m) y p l) (λ t. false_not_true (is_in_parts l.parts p) (and_second (is_there m l && label_eq l.layer y) (is_in_parts l.parts p) t) (outside_parts l.parts p e))))
 
-  module _ (unit : IntegerBox) (meets : (b : IntegerBox) → IsInBox b p → do_meet false unit b ≡ true) where
-    -- the places that are answered
-    abbrev ids : List ℕ
-    ids = meeting_ids false (moved y unit) (boxes_at m live ever)
-
-    -- the place of a lot that owns the point is among them
-    owner_reached : (lots : List (Lot (Unit {0}))) → IsIndexed lots live ever → BoxesHold lots → (k : ℕ) (l : Lot (Unit {0})) → slice_get lots k ≡ Some l → owns (is_there m) y p l ≡ true → Listed k ids
+  module _ (unit : IntegerBox) (meets : (b : IntegerBox) → IsInBox b p → do_meet false unit b ≡ true) (line : IsLine m) where
+    -- a box that is asked about meets that of a lot that owns the point
+    owner_reached : (lots : List (Lot (Unit {0}))) → IsIndexOf lots boxes → BoxesHold lots → (k : ℕ) (l : Lot (Unit {0})) → slice_get lots k ≡ Some l → owns (is_there m) y p l ≡ true → (b : IntegerBox) × Listed b (boxes_asked m y unit) × Listed k (meeting_ids false b boxes)
     owner_reached lots indexed hold k l at t =
         let q = some_passes (λ (r : Part). is_in_cell r.cell p) l.parts (and_second (is_there m l && label_eq l.layer y) (is_in_parts l.parts p) t) in
         let here = and_first (is_there m l && label_eq l.layer y) (is_in_parts l.parts p) t in
         let there = and_first (is_there m l) (label_eq l.layer y) here in
         let own = label_is l.layer y (and_second (is_there m l) (label_eq l.layer y) here) in
         let held = all_of (λ (r : Part). BoxHoldsCell r.bounds r.cell) l.parts (all_at lots k l at hold) q.0 q.1 in
-        let box : box_at (boxes_at m live ever) k ≡ Some (box_of y l.parts) =
-        index_at m lots live ever indexed k ∙ ap (hull_if (chosen_at m)) at ∙ ap (λ (b : Bool). cond b (Some (box_of l.layer l.parts)) None) (there_chosen m l there)
-        ∙ ap (λ (x : Label). Some (box_of x l.parts)) own in
-        box_reached false (moved y unit) (box_of y l.parts) (boxes_at m live ever) k box
-        (moved_meet false y unit (hull_of_parts l.parts) (wider_meet false unit q.0.bounds unit (hull_of_parts l.parts) (box_itself unit) (part_within q.0 l.parts q.1) (meets q.0.bounds (held p q.2))))
+        let touch = wider_meet false unit q.0.bounds unit (hull_of_parts l.parts) (box_itself unit) (part_within q.0 l.parts q.1) (meets q.0.bounds (held p q.2)) in
+        let a = asked m y unit (hull_of_parts l.parts) l line touch there l.ended refl in
+        let box : box_at boxes k ≡ Some (box_until y l.born (hull_of_parts l.parts) l.ended) =
+        indexed k ∙ ap (option_map box_of_lot) at ∙ ap (λ (x : Label). Some (box_until x l.born (hull_of_parts l.parts) l.ended)) own in
+        (a.box, a.listed, box_reached false a.box (box_until y l.born (hull_of_parts l.parts) l.ended) boxes k box a.meets)
       where
         all_at : (ls : List (Lot (Unit {0}))) (k : ℕ) (l : Lot (Unit {0})) → slice_get ls k ≡ Some l → BoxesHold ls → AllByRecursion (λ (q : Part). BoxHoldsCell q.bounds q.cell) l.parts
         all_at [] k l e h = absurd (cc)
         all_at (n ∷ ls) zero l e h = let same : n ≡ l = cc in subst (λ (o : Lot (Unit {0})). AllByRecursion (λ (q : Part). BoxHoldsCell q.bounds q.cell) o.parts) same h.0
         all_at (n ∷ ls) (suc k) l e h = all_at ls k l e h.1
 
-    -- what is found is a place of the history
-    pub found_within : (k : ℕ) → first_that passes ids ≡ Some k → k < length history
-    found_within k e = by (slice_get history k) refl (and_first (is_there_at m y history k) (has k) (first_is passes ids (meeting_ids_rise_spec false (moved y unit) (boxes_at m live ever)) k e).passes)
+    -- what is found
+    abbrev found : Option ℕ
+    found = first_in passes boxes (boxes_asked m y unit) None
+
+    -- it passes
+    found_is : (k : ℕ) → found ≡ Some k → passes k ≡ true
+    found_is k e = found_passes passes boxes (boxes_asked m y unit) None (λ i f. absurd (cc)) k e
+
+    -- it is not behind a lot that owns the point
+    found_before : (lots : List (Lot (Unit {0}))) → history ≡ map bare_lot lots → IsIndexOf lots boxes → BoxesHold lots → KnowsOwners has lots p → (j : ℕ) (n : Lot (Unit {0})) → slice_get lots j ≡ Some n → owns (is_there m) y p n ≡ true → (k : ℕ) × (found ≡ Some k) × (k ≤ j)
+    found_before lots bare indexed hold knows j n at t =
+        let r = owner_reached lots indexed hold j n at t in
+        found_above passes boxes (boxes_asked m y unit) None r.0 r.1 j r.2 (passes_is lots bare knows j n at ∙ t)
+
+    -- it is a place of the history
+    pub found_within : (k : ℕ) → found ≡ Some k → k < length history
+    found_within k e = by (slice_get history k) refl (and_first (is_there_at m y history k) (has k) (found_is k e))
       where
         by : (o : Option (Lot (Unit {0}))) → slice_get history k ≡ o → is_there_at m y history k ≡ true → k < length history
         by None at t = absurd (false_not_true (is_there_at m y history k) t (ap (λ (o : Option (Lot (Unit {0}))). elim o as (λ _. Bool) [ None ↦ false | Some l ↦ is_there m l && label_eq l.layer y ]) at))
         by (Some l) at t = slice_get_within history k l at
 
-    -- where none of them passes, nobody has the point
-    pub owner_missing : first_that passes ids ≡ None → IsOwner has y m p history live ever None
+    -- where none is found, nobody has the point
+    pub owner_missing : found ≡ None → IsOwner has y m p history boxes None
     owner_missing e lots bare indexed hold knows =
-        sym (owner_none (is_there m) y p lots (λ k l at. false_unless (owns (is_there m) y p l) (λ t. none_passes passes ids e k (owner_reached lots indexed hold k l at t) (passes_is lots bare knows k l at ∙ t))))
+        sym (owner_none (is_there m) y p lots (λ k l at. false_unless (owns (is_there m) y p l) (λ t. let f = (found_before lots bare indexed hold knows k l at t).1 in absurd (cc (e, f)))))
 
-    -- the first of them that passes has it
-    pub owner_found : (k : ℕ) (line : Lot (Unit {0})) → first_that passes ids ≡ Some k → slice_get history k ≡ Some line → IsOwner has y m p history live ever (Some line.id)
+    -- one that is found has it
+    pub owner_found : (k : ℕ) (line : Lot (Unit {0})) → found ≡ Some k → slice_get history k ≡ Some line → IsOwner has y m p history boxes (Some line.id)
     owner_found k line e there lots bare indexed hold knows =
-        let least = first_is passes ids (meeting_ids_rise_spec false (moved y unit) (boxes_at m live ever)) k e in
-        by (slice_get lots k) refl (sym (slice_get-map bare_lot lots k) ∙ sym (ap (λ (ls : List (Lot (Unit {0}))). slice_get ls k) bare) ∙ there) least
+        by (slice_get lots k) refl (sym (slice_get-map bare_lot lots k) ∙ sym (ap (λ (ls : List (Lot (Unit {0}))). slice_get ls k) bare) ∙ there)
       where
-        by : (o : Option (Lot (Unit {0}))) → slice_get lots k ≡ o → option_map bare_lot (slice_get lots k) ≡ Some line → IsLeast passes ids k → owner_verdict (Some line.id) ≡ owner_among (is_there m) y p lots
-        by None at f least = absurd (let g : option_map bare_lot None ≡ Some line = sym (ap (option_map bare_lot) at) ∙ f in cc (g))
-        by (Some l) at f least =
+        -- no earlier one owns the point
+        earlier : (j : ℕ) (n : Lot (Unit {0})) → j < k → slice_get lots j ≡ Some n → owns (is_there m) y p n ≡ true → ⊥
+        earlier j n f g t =
+            let b = found_before lots bare indexed hold knows j n g t in
+            let own = b.1 in
+            let same : b.0 ≡ k = cc (e, own) in
+            let low = b.2 in
+            omega (arith, f, same, low)
+
+        by : (o : Option (Lot (Unit {0}))) → slice_get lots k ≡ o → option_map bare_lot (slice_get lots k) ≡ Some line → owner_verdict (Some line.id) ≡ owner_among (is_there m) y p lots
+        by None at f = absurd (let g : option_map bare_lot None ≡ Some line = sym (ap (option_map bare_lot) at) ∙ f in cc (g))
+        by (Some l) at f =
             let own : Some (bare_lot l) ≡ Some line = sym (ap (option_map bare_lot) at) ∙ f in
             let same : bare_lot l ≡ line = cc (own) in
             ap (λ (n : Lot (Unit {0})). Verdict.parcel n.id) (sym same)
-            ∙ sym (owner_at (is_there m) y p lots k l at (sym (passes_is lots bare knows k l at) ∙ least.passes)
-            (λ j n f g. false_unless (owns (is_there m) y p n) (λ t. absurd (let h = least.least j (owner_reached lots indexed hold j n g t) (passes_is lots bare knows j n g ∙ t) in omega (arith, f, h)))))
+            ∙ sym (owner_at (is_there m) y p lots k l at (sym (passes_is lots bare knows k l at) ∙ found_is k e)
+            (λ j n f g. false_unless (owns (is_there m) y p n) (λ t. absurd (earlier j n f g t))))

@@ -186,13 +186,13 @@ others_at y x lots history e (k ∷ places) w =
     by l at false rest = rest
 
 -- so the others among the places that are reached are those that are wanted, and such as may be answered besides
-pub others_near : (r : Reach) (hull : IntegerBox) (y x : Label) (from : ℕ) (history : List (Lot (Unit {0}))) (live : Boxes) → from ≤ length history → AreNear r hull y x from history live (other_places r hull y x from history live)
-others_near r hull y x from history live f lots ps kept own =
+pub others_near : (r : Reach) (hull : IntegerBox) (y x : Label) (from : ℕ) (history : List (Lot (Unit {0}))) (boxes : Boxes) → from ≤ length history → AreNear r hull y x from history boxes (other_places r hull y x from history boxes)
+others_near r hull y x from history boxes f lots ps kept own =
     let many : length history ≡ length lots = ap length kept.bare ∙ length-map lots bare_lot in
-    let all = places_near r ps y lots live from kept.indexed (none_behind_lots is_live lots live kept.indexed) in
-    ap (λ (b : IntegerBox). chosen r ps y x lots history (places_from from (meeting_ids (is_closed r) (moved y b) live))) own
-    ∙ ap (filter (is_near r ps)) (others_at y x lots history kept.bare (places_from from (meeting_ids (is_closed r) (box_of y ps) live)) all.within)
-    ∙ near_chosen r ps y x lots from (places_from from (meeting_ids (is_closed r) (box_of y ps) live)) (omega (arith, f, many)) all
+    let all = places_near r ps y lots boxes from kept.indexed (none_behind_lots lots boxes kept.indexed) in
+    ap (λ (b : IntegerBox). chosen r ps y x lots history (places_from from (meeting_ids (is_closed r) (moved y b) boxes))) own
+    ∙ ap (filter (is_near r ps)) (others_at y x lots history kept.bare (places_from from (meeting_ids (is_closed r) (box_of y ps) boxes)) all.within)
+    ∙ near_chosen r ps y x lots from (places_from from (meeting_ids (is_closed r) (box_of y ps) boxes)) (omega (arith, f, many)) all
   where
     chosen : Reach → List Part → Label → Label → List (Lot (Unit {0})) → List (Lot (Unit {0})) → List ℕ → List (Lot (Unit {0}))
     chosen r ps y x lots history ks = filter (is_near r ps) (lots_at lots (filter (is_other_at y x history) ks))
@@ -220,12 +220,12 @@ pub record ArePlaces {A : Type 0} (xs : List A) (places : List ℕ) : Type 0 whe
   pub few : length places ≤ length xs
 
 -- those of the others that are reached are such
-pub others_places : {S : Type 0} (r : Reach) (hull : IntegerBox) (y x : Label) (from : ℕ) (history : List (Lot S)) (live : Boxes) → NoneBehind live (length history) → ArePlaces history (other_places r hull y x from history live)
-others_places r hull y x from history live none =
+pub others_places : {S : Type 0} (r : Reach) (hull : IntegerBox) (y x : Label) (from : ℕ) (history : List (Lot S)) (boxes : Boxes) → NoneBehind boxes (length history) → ArePlaces history (other_places r hull y x from history boxes)
+others_places r hull y x from history boxes none =
     let test = is_other_at y x history in
     let box = moved y hull in
-    let reached = places_from from (meeting_ids (is_closed r) box live) in
-    let within = all_filter (λ (k : ℕ). k < length history) test reached (places_within (is_closed r) box live from history none) in
-    let rising = IsStrictlySortedBy-filter nat_cmp test reached (places_rise (is_closed r) box live from) in
+    let reached = places_from from (meeting_ids (is_closed r) box boxes) in
+    let within = all_filter (λ (k : ℕ). k < length history) test reached (places_within (is_closed r) box boxes from history none) in
+    let rising = IsStrictlySortedBy-filter nat_cmp test reached (places_rise (is_closed r) box boxes from) in
     let few = rising_few 0 (length history) (filter test reached) rising (above_none (filter test reached)) within (omega arith) in
     record { within = within; rising = rising; few = omega (arith, few) }

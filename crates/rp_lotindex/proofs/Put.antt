@@ -1,5 +1,5 @@
 -- What an index has at each place, while boxes are put in and taken out.
-use Rattle.std.proofs.Common.{◌≡◌, ◌≢◌, ℕ, zero, suc, ◌+◌, ◌-◌, ◌<◌, ◌≤◌, true, false, cond, List, [], ◌∷◌, ◌++◌, ◌⊎◌, ⊎_elim, length, Option, Some, None, is_some, slice_get, refl, sym, ap, ◌∙◌, subst, arith}
+use Rattle.std.proofs.Common.{◌≡◌, ◌≢◌, ℕ, zero, suc, ◌+◌, ◌-◌, ◌<◌, ◌≤◌, Bool, true, false, cond, List, [], ◌∷◌, ◌++◌, ◌⊎◌, ⊎_elim, length, Option, Some, None, is_some, slice_get, refl, sym, ap, ◌∙◌, subst, arith}
 use Rattle.std.specs.Prelude.{option_map}
 use Rattle.std.specs.FinMap.{get, contains_key, insert, remove, get-insert, get-remove}
 use Rattle.std.specs.Ordering.{nat_cmp, eq_by_cmp}
@@ -12,7 +12,7 @@ use Rattle.rp_geometry.specs.Geometry.{IntegerBox}
 use Rattle.rp_space.specs.declared.bounds.IntBox.{IntBox}
 use Rattle.rp_space.specs.Boxes.{integer_box}
 use Rattle.rp_boxindex.specs.Boxes.{Boxes}
-use Rattle.rp_lotindex.specs.Indexed.{box_at, NoneBehind, ArePut, StaySame}
+use Rattle.rp_lotindex.specs.Indexed.{box_at, NoneBehind, ArePut, StaySame, IsSettled}
 
 -- ---- one box put in or taken out
 
@@ -48,6 +48,25 @@ not_known m n h = none (get m n) h
     none : (o : Option IntBox) → option_map integer_box o ≡ None → is_some o ≡ false
     none None f = refl
     none (Some b) f = absurd (cc)
+
+-- a place with a box is known
+known : (m : Boxes) (n : ℕ) (c : IntegerBox) → box_at m n ≡ Some c → contains_key m n ≡ true
+known m n c h = some (get m n) h
+  where
+    some : (o : Option IntBox) → option_map integer_box o ≡ Some c → is_some o ≡ true
+    some None f = absurd (cc)
+    some (Some b) f = refl
+
+-- a box put in the place of another, where there is one
+pub put_instead : (old new : Boxes) (n : ℕ) (b : IntBox) (c : IntegerBox) (there : Bool) → there ≡ contains_key old n → (there ≡ true → new ≡ insert old n b) → (there ≡ false → new ≡ old) → integer_box b ≡ c → IsSettled old new n c
+put_instead old new n b c true e changed stays own = record {
+  here = λ d h. ap (λ (m : Boxes). box_at m n) (changed refl) ∙ put_here old n b ∙ ap (λ (x : IntegerBox). Some x) own;
+  rest = λ k f. ap (λ (m : Boxes). box_at m k) (changed refl) ∙ put_apart old n b k f;
+}
+put_instead old new n b c false e changed stays own = record {
+  here = λ d h. absurd (let f : false ≡ true = e ∙ known old n d h in cc (f));
+  rest = λ k f. ap (λ (m : Boxes). box_at m k) (stays refl);
+}
 
 -- ---- boxes put in, one behind the other
 

@@ -16,7 +16,6 @@ use Rattle.rp_geometry.specs.sets.Shape.{Part}
 use Rattle.rp_space.specs.declared.bounds.IntBox.{IntBox}
 use Rattle.rp_space.specs.Boxes.{integer_box}
 use Rattle.rp_language.specs.Name.{Label, label_eq}
-use Rattle.rp_states.proofs.Labels.{label_is}
 use Rattle.rp_model.specs.states.State.{Lot, is_live}
 use Rattle.rp_model.specs.commands.Row.{count_pairs}
 use Rattle.rp_boxindex.specs.Boxes.{Boxes}
@@ -25,10 +24,12 @@ use Rattle.rp_boxindex.specs.Meeting.{do_meet, meeting_ids}
 use Rattle.rp_boxindex.proofs.Exact.{meeting_ids_are_exact_spec, meeting_ids_rise_spec}
 use Rattle.rp_lotindex.specs.declared.near.Reach.{Reach}
 use Rattle.rp_lotindex.specs.declared.near.Reach.TheVariants.{Overlap, Touch}
-use Rattle.rp_lotindex.specs.Indexed.{hull_of_parts, box_of, box_at, NoneBehind, hull_if, IsIndexOf}
+use Rattle.rp_lotindex.specs.Indexed.{hull_of_parts, box_of, box_at, box_of_lot, NoneBehind, IsIndexOf}
+use Rattle.rp_lotindex.specs.Layers.{cube_number}
 use Rattle.rp_lotindex.specs.Near.{may_meet, is_near, is_closed, AreWithin}
 use Rattle.rp_lotindex.proofs.Hulls.{part_within, wider_meet}
-use Rattle.rp_lotindex.proofs.Layers.{moved_meet}
+use Rattle.rp_lotindex.proofs.Layers.{moved_to_meet}
+use Rattle.rp_lotindex.proofs.Boxed.{live_box}
 
 -- ---- what stands in a list
 
@@ -144,15 +145,15 @@ pub record AreAllNear (r : Reach) (ps : List Part) (y : Label) (lots : List (Lot
   pub all : (k : ℕ) (l : Lot (Unit {0})) → from ≤ k → slice_get lots k ≡ Some l → is_live l ≡ true → label_eq l.layer y ≡ true → is_near r ps l ≡ true → Listed k places
 
 -- the places around which the box meets that around the list are such
-pub places_near : (r : Reach) (ps : List Part) (y : Label) (lots : List (Lot (Unit {0}))) (live : Boxes) (from : ℕ) → IsIndexOf is_live lots live → NoneBehind live (length lots) → AreAllNear r ps y lots from (places_from from (meeting_ids (is_closed r) (box_of y ps) live))
-places_near r ps y lots live from h none = record {
-  rising = places_rise (is_closed r) (box_of y ps) live from;
+pub places_near : (r : Reach) (ps : List Part) (y : Label) (lots : List (Lot (Unit {0}))) (boxes : Boxes) (from : ℕ) → IsIndexOf lots boxes → NoneBehind boxes (length lots) → AreAllNear r ps y lots from (places_from from (meeting_ids (is_closed r) (box_of y ps) boxes))
+places_near r ps y lots boxes from h none = record {
+  rising = places_rise (is_closed r) (box_of y ps) boxes from;
   behind = of_all (λ (k : ℕ). from ≤ k) (places_from from ids) (λ k l. leb-true from k (stayed (λ c. leb from c) k ids l).1);
-  within = places_within (is_closed r) (box_of y ps) live from lots none;
+  within = places_within (is_closed r) (box_of y ps) boxes from lots none;
   all = λ k l f at lives own near.
-      let box : box_at live k ≡ Some (box_of y l.parts) = h k ∙ ap (hull_if is_live) at ∙ ap (λ (b : Bool). cond b (Some (box_of l.layer l.parts)) None) lives ∙ ap (λ (x : Label). Some (box_of x l.parts)) (label_is l.layer y own) in
-      keeps (λ c. leb from c) ids k (box_reached (is_closed r) (box_of y ps) (box_of y l.parts) live k box (moved_meet (is_closed r) y (hull_of_parts ps) (hull_of_parts l.parts) (hulls_meet r ps l near))) (le-leb from k f);
+      let box : box_at boxes k ≡ Some (box_of y l.parts) = h k ∙ ap (option_map box_of_lot) at ∙ ap (λ (b : IntegerBox). Some b) (live_box y l lives own) in
+      keeps (λ c. leb from c) ids k (box_reached (is_closed r) (box_of y ps) (box_of y l.parts) boxes k box (moved_to_meet (is_closed r) (cube_number y) (hull_of_parts ps) (hull_of_parts l.parts) (hulls_meet r ps l near))) (le-leb from k f);
 }
   where
     ids : List ℕ
-    ids = meeting_ids (is_closed r) (box_of y ps) live
+    ids = meeting_ids (is_closed r) (box_of y ps) boxes

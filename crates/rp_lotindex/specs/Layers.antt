@@ -1,7 +1,8 @@
--- Where the boxes of each layer stand: in a cube of its own, as far as its name tells.
+-- Where the boxes of each layer stand: those of live lots in a cube of its own, as far as its name tells, and those of lots that ended in others, by the stretches of lines in which they lived.
 use Rattle.std.specs.Prelude.{ℕ, ◌+◌, ◌*◌, ◌/◌, ◌%◌, Bool, cond, ◌&&◌, ℤ, pos, negsuc, ◌+ℤ◌, ◌-ℤ◌, ◌*ℤ◌, int_le, List, [], ◌∷◌}
 use Rattle.rp_geometry.specs.Geometry.{IntegerBox}
 use Rattle.rp_language.specs.Name.{Label}
+use Rattle.rp_lotindex.specs.declared.stretch.Stretch.{Stretch}
 
 -- a number below 64 * 64 * 64 that is made of bytes, after another number
 abbrev pub mixed : ℕ → List ℕ → ℕ
@@ -32,6 +33,18 @@ moved_high t v = cond (is_near_domain v) (t +ℤ v) (pos 2147483647)
 abbrev pub moved_by : ℤ → ℤ → ℤ → IntegerBox → IntegerBox
 moved_by x y z b = record { x1 = moved_low x b.x1; x2 = moved_high x b.x2; y1 = moved_low y b.y1; y2 = moved_high y b.y2; z1 = moved_low z b.z1; z2 = moved_high z b.z2 }
 
+-- a box, moved into the cube of a number
+unfoldable pub moved_to : ℕ → IntegerBox → IntegerBox
+moved_to n b = moved_by (step_of (n % 64)) (step_of (n / 64 % 64)) (step_of (n / 4096 % 64)) b
+
 -- a box, moved into the cube of a layer
-unfoldable pub moved : Label → IntegerBox → IntegerBox
-moved y b = let n = cube_number y in moved_by (step_of (n % 64)) (step_of (n / 64 % 64)) (step_of (n / 4096 % 64)) b
+abbrev pub moved : Label → IntegerBox → IntegerBox
+moved y b = moved_to (cube_number y) b
+
+-- the number of the cube of a layer for a stretch of lines
+abbrev pub past_number : Label → Stretch → ℕ
+past_number y s = cube_number y + s.level * 70001 + s.mark
+
+-- a box, moved into that cube
+abbrev pub moved_past : Label → Stretch → IntegerBox → IntegerBox
+moved_past y s b = moved_to (past_number y s) b

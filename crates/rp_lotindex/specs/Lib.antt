@@ -1,5 +1,5 @@
 pub mod Indexed
 pub mod Layers
+pub mod Stretches
 pub mod Near
 pub mod Owner
-pub mod Access

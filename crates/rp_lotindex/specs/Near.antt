@@ -56,9 +56,9 @@ is_closed Touch = true
 
 -- the places from one on of the live lots of the layer that have another id, whose boxes this one meets, moved into the cube of the layer
 abbrev pub other_places : {S : Type 0} → Reach → IntegerBox → Label → Label → ℕ → List (Lot S) → Boxes → List ℕ
-other_places r hull y x from history live = filter (is_other_at y x history) (filter (λ k. nat_le from k) (meeting_ids (is_closed r) (moved y hull) live))
+other_places r hull y x from history boxes = filter (is_other_at y x history) (filter (λ k. nat_le from k) (meeting_ids (is_closed r) (moved y hull) boxes))
 
 -- of all lots that are kept in the history and the index, those at the places have among them, in order, exactly the live lots of the layer, from a place on, that have another id and a part that may meet one of the parts within this hull
 abbrev pub AreNear : Reach → IntegerBox → Label → Label → ℕ → List (Lot (Unit {0})) → Boxes → List ℕ → Type 0
-AreNear r hull y x from history live places =
-    (lots : List (Lot (Unit {0}))) (ps : List Part) → AreKeptIn history live lots → hull ≡ hull_of_parts ps → filter (is_near r ps) (lots_at lots places) ≡ filter (is_near r ps) (others_in y x (drop from lots))
+AreNear r hull y x from history boxes places =
+    (lots : List (Lot (Unit {0}))) (ps : List Part) → AreKeptIn history boxes lots → hull ≡ hull_of_parts ps → filter (is_near r ps) (lots_at lots places) ≡ filter (is_near r ps) (others_in y x (drop from lots))

@@ -1,7 +1,7 @@
 -- Whose a point is.
-use Rattle.std.specs.Prelude.{◌≡◌, ℕ, Bool, false, ◌&&◌, List, map, filter, Option, Some, None, slice_get}
+use Rattle.std.specs.Prelude.{◌≡◌, ℕ, ◌<◌, ◌^◌, Bool, false, ◌&&◌, cond, nat_lt, List, [], ◌∷◌, map, filter, Option, Some, None, slice_get}
 use Rattle.std.specs.List.{AllByRecursion}
-use Rattle.rp_geometry.specs.Geometry.{RationalPoint}
+use Rattle.rp_geometry.specs.Geometry.{RationalPoint, IntegerBox}
 use Rattle.rp_geometry.specs.sets.Shape.{Part}
 use Rattle.rp_geometry.specs.parts.LeastBox.{BoxHoldsCell}
 use Rattle.rp_language.specs.Name.{Label, label_eq}
@@ -9,9 +9,13 @@ use Rattle.rp_model.specs.states.State.{Lot, is_live, is_alive_after, lots_of_la
 use Rattle.rp_model.specs.commands.Verdict.{Verdict}
 use Rattle.rp_model.specs.commands.Row.{is_in_parts, owner_line}
 use Rattle.rp_boxindex.specs.Boxes.{Boxes}
+use Rattle.rp_boxindex.specs.Meeting.{first_that, meeting_ids}
 use Rattle.rp_lotindex.specs.declared.moment.Moment.{Moment}
+use Rattle.rp_lotindex.specs.declared.stretch.Stretch.{Stretch}
 use Rattle.rp_lotindex.specs.declared.moment.Moment.TheVariants.{Now, After}
-use Rattle.rp_lotindex.specs.Indexed.{IsIndexed}
+use Rattle.rp_lotindex.specs.Indexed.{IsIndexOf}
+use Rattle.rp_lotindex.specs.Layers.{moved, moved_past}
+use Rattle.rp_lotindex.specs.Stretches.{stretches_with}
 
 -- a lot is there at a moment
 abbrev pub is_there : {S : Type 0} → Moment → Lot S → Bool
@@ -22,10 +26,30 @@ is_there (After n) = is_alive_after n
 abbrev pub is_there_at : {S : Type 0} → Moment → Label → List (Lot S) → ℕ → Bool
 is_there_at m y lots k = elim (slice_get lots k) [ None ↦ false | Some l ↦ is_there m l && label_eq l.layer y ]
 
--- the index in which the lots that are there at a moment are found
-abbrev pub boxes_at : Moment → Boxes → Boxes → Boxes
-boxes_at Now live ever = live
-boxes_at (After n) live ever = ever
+-- a box, moved into the cube of a layer for each of some stretches
+abbrev pub boxes_past : Label → IntegerBox → List Stretch → List IntegerBox
+boxes_past y unit stretches = map (λ s. moved_past y s unit) stretches
+
+-- where the lots of a layer that are there at a moment stand, if the box around them meets this one: after a line in the cubes of the stretches with the line, too
+abbrev pub boxes_asked : Moment → Label → IntegerBox → List IntegerBox
+boxes_asked Now y unit = moved y unit ∷ []
+boxes_asked (After n) y unit = moved y unit ∷ boxes_past y unit (stretches_with n)
+
+-- a moment is now, or after a line of a script
+abbrev pub IsLine : Moment → Type 0
+IsLine Now = Unit {0}
+IsLine (After n) = n < 2 ^ 32
+
+-- the lesser of two numbers, as far as they are there
+abbrev pub lesser_of : Option ℕ → Option ℕ → Option ℕ
+lesser_of None p = p
+lesser_of (Some i) None = Some i
+lesser_of (Some i) (Some k) = cond (nat_lt k i) (Some k) (Some i)
+
+-- the least of a number and of the ids of the boxes that meet one of some boxes and pass a test
+abbrev pub first_in : (ℕ → Bool) → Boxes → List IntegerBox → Option ℕ → Option ℕ
+first_in passes boxes [] o = o
+first_in passes boxes (b ∷ bs) o = first_in passes boxes bs (lesser_of o (first_that passes (meeting_ids false b boxes)))
 
 -- the verdict that tells an owner
 abbrev pub owner_verdict : Option Label → Verdict
@@ -40,7 +64,7 @@ KnowsOwners {S} has lots p = (k : ℕ) (l : Lot S) → slice_get lots k ≡ Some
 abbrev pub BoxesHold : {S : Type 0} → List (Lot S) → Type 0
 BoxesHold lots = AllByRecursion (λ l. AllByRecursion (λ (q : Part). BoxHoldsCell q.bounds q.cell) l.parts) lots
 
--- of all lots that are kept in the history and the indexes, the owner is the first one of the layer that is there at the moment and has the point
-abbrev pub IsOwner : (ℕ → Bool) → Label → Moment → RationalPoint → List (Lot (Unit {0})) → Boxes → Boxes → Option Label → Type 0
-IsOwner has y m p history live ever owner =
-    (lots : List (Lot (Unit {0}))) → history ≡ map bare_lot lots → IsIndexed lots live ever → BoxesHold lots → KnowsOwners has lots p → owner_verdict owner ≡ owner_line (lots_of_layer y (filter (is_there m) lots)) p
+-- of all lots that are kept in the history and the index, the owner is the first one of the layer that is there at the moment and has the point
+abbrev pub IsOwner : (ℕ → Bool) → Label → Moment → RationalPoint → List (Lot (Unit {0})) → Boxes → Option Label → Type 0
+IsOwner has y m p history boxes owner =
+    (lots : List (Lot (Unit {0}))) → history ≡ map bare_lot lots → IsIndexOf lots boxes → BoxesHold lots → KnowsOwners has lots p → owner_verdict owner ≡ owner_line (lots_of_layer y (filter (is_there m) lots)) p

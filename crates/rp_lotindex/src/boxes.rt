@@ -1,23 +1,26 @@
-//! A box around each lot, in the cube of its layer, in two indexes: of the live lots, and of all that ever were.
+//! A box around each lot in an index: of the live lots in the cube of their layer, and of those that ended in the cubes
+//! of the stretches in which they lived.
 ghost use Rattle.std.specs.Prelude.{◌≡◌, ◌+◌, ◌≤◌, [], false, length, OnOk, OnErr};
 ghost use Rattle.std.specs.FinMap as map;
-ghost use Rattle.rp_language.specs.Name.{label_eq, is_among};
 ghost use Rattle.rp_model.specs.states.State.{most_kept_parts};
 ghost use Rattle.rp_boxindex.specs.Fault.{is_known};
-ghost use Rattle.rp_lotindex.specs.Indexed.{boxes_in, NoneBehind, ArePut, StaySame, AreEmptied};
+ghost use Rattle.rp_history.specs.Lots.{lot_of};
+ghost use Rattle.rp_space.specs.Boxes.{integer_box};
+ghost use Rattle.rp_lotindex.specs.Indexed.{boxes_in, box_by, NoneBehind, ArePut, StaySame, IsSettled};
 
+use crate::layer::{moved, moved_past};
+use crate::stretch::Stretch;
 use rp_boxindex::{Index, IndexFault};
-use rp_history::History;
-use rp_space::{IntBox, Name};
+use rp_history::LotLine;
+use rp_space::IntBox;
 use std::alloc::{AllocError, Global};
 use std::fmt;
 
-/// A box around each lot, moved into the cube of its layer, under the place of the lot: of the live ones in one index,
-/// and of all that ever were in another.
+/// A box around each lot, under the place of the lot: of a live one moved into the cube of its layer, and of one that
+/// ended into that of the stretch in which it lived.
 #[derive(Drop)]
 pub struct LotBoxes {
-    pub(crate) live: Index,
-    pub(crate) ever: Index,
+    pub(crate) index: Index,
 }
 
 impl fmt::Debug for LotBoxes {
@@ -36,48 +39,13 @@ fn want_of_memory(fault: IndexFault) -> AllocError
     }
 }
 
-/// Puts the boxes of new lots into an index: of the lots from a place on, which have none yet.
-/// After `AllocError` all is as before.
-fn put_all(
-    index: &mut Index,
-    alloc: Global,
-    first: usize,
-    hulls: &[IntBox],
-) -> Result<(), AllocError>
-    requires small { first + length hulls.now ≤ most_kept_parts }
-    requires free { NoneBehind index.old first }
-    ensures ok { OnOk result (ArePut index.old index.new first (boxes_in hulls.now)) }
-    ensures err { OnErr result (StaySame index.old index.new) }
-{
-    for i in 0..hulls.len() {
-        if let Err(fault) = index.insert(alloc, (first + i) as u32, hulls[i]) {
-            take_all(index, first, i);
-            return Err(want_of_memory(fault));
-        }
-    }
-    Ok(())
-}
-
-/// Takes the boxes of so many lots from a place on out of an index, behind which there are none. Takes no memory.
-fn take_all(index: &mut Index, first: usize, count: usize)
-    requires small { first + count ≤ most_kept_parts }
-    requires behind { NoneBehind index.old (first + count) }
-    ensures { ArePut index.old index.new first [] }
-{
-    for place in first..first + count {
-        let _ = index.remove(place as u32);
-    }
-}
-
 impl LotBoxes {
     /// No boxes. Takes no memory.
     pub fn new(alloc: Global) -> LotBoxes
-        ensures live { result.live ≡ map.empty }
-        ensures ever { result.ever ≡ map.empty }
+        ensures { result.index ≡ map.empty }
     {
         LotBoxes {
-            live: Index::new(alloc),
-            ever: Index::new(alloc),
+            index: Index::new(alloc),
         }
     }
 
@@ -90,17 +58,15 @@ impl LotBoxes {
         hulls: &[IntBox],
     ) -> Result<(), AllocError>
         requires small { first + length hulls.now ≤ most_kept_parts }
-        requires live_free { NoneBehind self.old.live first }
-        requires ever_free { NoneBehind self.old.ever first }
-        ensures live { OnOk result (ArePut self.old.live self.new.live first (boxes_in hulls.now)) }
-        ensures ever { OnOk result (ArePut self.old.ever self.new.ever first (boxes_in hulls.now)) }
-        ensures live_stays { OnErr result (StaySame self.old.live self.new.live) }
-        ensures ever_stays { OnErr result (StaySame self.old.ever self.new.ever) }
+        requires free { NoneBehind self.old.index first }
+        ensures ok { OnOk result (ArePut self.old.index self.new.index first (boxes_in hulls.now)) }
+        ensures err { OnErr result (StaySame self.old.index self.new.index) }
     {
-        put_all(&mut self.live, alloc, first, hulls)?;
-        if let Err(error) = put_all(&mut self.ever, alloc, first, hulls) {
-            take_all(&mut self.live, first, hulls.len());
-            return Err(error);
+        for i in 0..hulls.len() {
+            if let Err(fault) = self.index.insert(alloc, (first + i) as u32, hulls[i]) {
+                self.remove_all(first, i);
+                return Err(want_of_memory(fault));
+            }
         }
         Ok(())
     }
@@ -109,36 +75,30 @@ impl LotBoxes {
     /// lots had never been. Takes no memory.
     pub fn remove_all(&mut self, first: usize, count: usize)
         requires small { first + count ≤ most_kept_parts }
-        requires live_behind { NoneBehind self.old.live (first + count) }
-        requires ever_behind { NoneBehind self.old.ever (first + count) }
-        ensures live { ArePut self.old.live self.new.live first [] }
-        ensures ever { ArePut self.old.ever self.new.ever first [] }
+        requires behind { NoneBehind self.old.index (first + count) }
+        ensures { ArePut self.old.index self.new.index first [] }
     {
-        take_all(&mut self.live, first, count);
-        take_all(&mut self.ever, first, count);
-    }
-
-    /// Lets the lots with `ids`, of the first `count` lots of `history`, be live no more. Takes no memory.
-    pub fn end_all(&mut self, history: &History, count: usize, ids: &[Name])
-        requires small { count ≤ most_kept_parts }
-        ensures live { AreEmptied history.now count (λ y. is_among y ids.now) self.old.live self.new.live }
-        ensures ever { self.new.ever ≡ self.old.ever }
-    {
-        for id in ids {
-            self.end(history, count, id);
+        for place in first..first + count {
+            let _ = self.index.remove(place as u32);
         }
     }
 
-    /// Lets the lot with the id, if it is one of the first lots of a history, be live no more. Takes no memory.
-    fn end(&mut self, history: &History, count: usize, id: &Name)
-        requires small { count ≤ most_kept_parts }
-        ensures live { AreEmptied history.now count (λ y. label_eq y id.now) self.old.live self.new.live }
-        ensures ever { self.new.ever ≡ self.old.ever }
+    /// Puts the box of the lot at `place`, which is `lot` in its history and has `hull` around it, where lots stand that
+    /// lived as long. Where it has no box, nothing changes. Takes no memory.
+    pub fn settle(&mut self, place: usize, lot: &LotLine, hull: &IntBox)
+        requires small { place ≤ most_kept_parts }
+        ensures { IsSettled self.old.index self.new.index place (box_by (lot_of lot.now) (integer_box hull.now)) }
     {
-        if let Some(place) = history.place_of(id) {
-            if place < count {
-                let _ = self.live.remove(place as u32);
-            }
-        }
+        let _ = self.index.change(place as u32, settled(lot, hull));
+    }
+}
+
+/// The box around a lot, moved to where lots stand that lived as long.
+fn settled(lot: &LotLine, hull: &IntBox) -> IntBox
+    ensures { integer_box result ≡ box_by (lot_of lot.now) (integer_box hull.now) }
+{
+    match lot.ended {
+        None => moved(&lot.layer, hull),
+        Some(line) => moved_past(&lot.layer, &Stretch::of(lot.born, line), hull),
     }
 }

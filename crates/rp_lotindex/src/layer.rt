@@ -1,11 +1,12 @@
-//! Where the boxes of each layer stand in the indexes: a layer has a cube of its own, in a grid of 64 by 64 by 64
-//! cubes, as far as its name tells. So what is asked of one layer does not meet the lots of the others that share its
-//! place.
+//! Where the boxes of each layer stand in the index: its live lots have a cube of their own, in a grid of 64 by 64 by 64
+//! cubes, as far as the name of the layer tells. So what is asked of one layer does not meet the lots of the others that
+//! share its place. Lots that ended have further cubes, one for each stretch of lines.
 ghost use Rattle.std.specs.Prelude.{◌≡◌, ◌<◌, ◌+◌, ◌%◌, ◌/◌, ◌+ℤ◌};
 ghost use Rattle.rp_algebra.specs.Within.{IsWithin};
 ghost use Rattle.rp_space.specs.Boxes.{integer_box};
-ghost use Rattle.rp_lotindex.specs.Layers.{cube_number, step_of, is_near_domain, moved_low, moved_high, moved};
+ghost use Rattle.rp_lotindex.specs.Layers.{cube_number, step_of, is_near_domain, moved_low, moved_high, moved_to, moved, moved_past};
 
+use crate::stretch::Stretch;
 use rp_space::{IntBox, Name};
 
 /// The edge of a cube of the grid, four times half the edge of the domain.
@@ -19,10 +20,28 @@ const FAR: i32 = 16_777_217;
 pub fn moved(layer: &Name, bounds: &IntBox) -> IntBox
     ensures { integer_box result ≡ moved layer.now (integer_box bounds.now) }
 {
-    let number = cube_number(layer);
-    let x = step_of(number % 64);
-    let y = step_of(number / 64 % 64);
-    let z = step_of(number / 4096 % 64);
+    moved_to(cube_number(layer) as u64, bounds)
+}
+
+/// The box, moved into the cube of a layer for the lots that ended and lived within a stretch of lines.
+pub(crate) fn moved_past(layer: &Name, stretch: &Stretch, bounds: &IntBox) -> IntBox
+    ensures { integer_box result ≡ moved_past layer.now stretch.now (integer_box bounds.now) }
+{
+    // The first stretches of a level come to other cubes than those of the next levels.
+    let level = stretch.level as u64 * 70_001;
+    moved_to(
+        cube_number(layer) as u64 + level + stretch.mark as u64,
+        bounds,
+    )
+}
+
+/// The box, moved into the cube of a number.
+fn moved_to(number: u64, bounds: &IntBox) -> IntBox
+    ensures { integer_box result ≡ moved_to number (integer_box bounds.now) }
+{
+    let x = step_of((number % 64) as u32);
+    let y = step_of((number / 64 % 64) as u32);
+    let z = step_of((number / 4096 % 64) as u32);
     let [x1, y1, z1] = bounds.lo;
     let [x2, y2, z2] = bounds.hi;
     IntBox {

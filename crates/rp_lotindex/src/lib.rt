@@ -1,29 +1,25 @@
 #![tactic(auto)]
-//! A box around each lot, in indexes that find the lots which may meet a shape, or have a point, without a look at
+//! A box around each lot, in an index that finds the lots which may meet a shape, or have a point, without a look at
 //! each.
 //!
-//! Each layer has a cube of its own, as far as its name tells, into which its boxes are moved ([`moved`]): so what is
-//! asked of a layer does not meet the lots of the others.
+//! The live lots of each layer have a cube of their own, as far as its name tells, into which their boxes are moved
+//! ([`moved`]), and those that ended have further ones, by the lines between which they lived: so what is asked of the
+//! lots of a layer, now or after a line, meets few others.
 //!
 //! The boxes are kept under the places of the lots: those of new lots are all taken in, or none where memory runs out,
-//! and lots that end leave the index of live ones without memory. [`LotBoxes::near`] answers the places of live lots of
-//! a layer, from a place on, with another id than one, around which the box meets a box: so of each that has a part
-//! which may meet a part within it, in rising order. [`LotBoxes::owner`] answers the first lot of a layer that has a
-//! point, now or after a line. The lemmas show that what the walks over all lots come to is what they come to over
-//! these, for every tester.
-//!
-//! Beside them stands what is told of lots in contact: [`Access::along`] answers a shortest chain from one to another,
-//! and levels, by the ids of lots. Calls that answer `AllocError` do so only for want of memory.
+//! and those of lots that end are moved without memory. [`LotBoxes::near`] answers the places of live lots of a layer,
+//! from a place on, with another id than one, around which the box meets a box: so of each that has a part which may
+//! meet a part within it, in rising order. [`LotBoxes::owner`] answers the first lot of a layer that has a point, now or
+//! after a line. The lemmas show that what the walks over all lots come to is what they come to over these, for every
+//! tester. Calls that answer `AllocError` do so only for want of memory.
 
-mod access;
 mod boxes;
 mod layer;
 mod moment;
 mod near;
-mod numbered;
 mod owner;
+mod stretch;
 
-pub use access::{Access, Levels};
 pub use boxes::LotBoxes;
 pub use layer::moved;
 pub use moment::{Moment, is_there};

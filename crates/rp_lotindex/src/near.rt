@@ -43,9 +43,9 @@ impl LotBoxes {
         reach: Reach,
     ) -> Result<Listed<usize>, AllocError>
         requires from { from ≤ length history.now }
-        requires behind { NoneBehind self.now.live (length history.now) }
-        ensures exact { IfOk result (λ places. places.items ≡ other_places reach (integer_box hull.now) layer.now id.now from history.now self.now.live) }
-        ensures near { IfOk result (λ places. AreNear reach (integer_box hull.now) layer.now id.now from history.now self.now.live places.items) }
+        requires behind { NoneBehind self.now.index (length history.now) }
+        ensures exact { IfOk result (λ places. places.items ≡ other_places reach (integer_box hull.now) layer.now id.now from history.now self.now.index) }
+        ensures near { IfOk result (λ places. AreNear reach (integer_box hull.now) layer.now id.now from history.now self.now.index places.items) }
         ensures within { IfOk result (λ places. AreWithin history.now places.items) }
         ensures rising { IfOk result (λ places. IsStrictlySortedBy nat_cmp places.items) }
         ensures few { IfOk result (λ places. length places.items ≤ length history.now) }
@@ -55,7 +55,7 @@ impl LotBoxes {
         others(alloc, history, &places, layer, id)
     }
 
-    /// The places from one on, in rising order, of the live lots around which the box meets a box.
+    /// The places from one on, in rising order, of the lots whose box meets a box.
     fn reached<W: Watch, L: Ledger>(
         &self,
         alloc: Global,
@@ -68,11 +68,11 @@ impl LotBoxes {
         requires name { blank.name ≡ L.name }
         requires parts { blank.parts ≡ L.parts }
         requires some { 0 < L.parts }
-        ensures { IfOk result (λ places. places.items ≡ filter (λ k. nat_le from k) (meeting_ids (is_closed reach) (integer_box hull.now) self.now.live)) }
+        ensures { IfOk result (λ places. places.items ≡ filter (λ k. nat_le from k) (meeting_ids (is_closed reach) (integer_box hull.now) self.now.index)) }
     {
         let closed = matches!(reach, Reach::Touch);
         let mut steps = Steps::<L>::new(blank);
-        let ids = self.live.meeting(alloc, hull, closed, watch, &mut steps)?;
+        let ids = self.index.meeting(alloc, hull, closed, watch, &mut steps)?;
         ids.iter()
             .map(|id| *id as usize)
             .filter(|place| from <= *place)

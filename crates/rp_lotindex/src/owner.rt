@@ -1,16 +1,18 @@
 //! The lot that has a point, found by the boxes around lots.
-ghost use Rattle.std.specs.Prelude.{◌≡◌, ◌<◌, ◌&&◌, true, false, ℕ, Bool, pos, ◌<ℤ◌};
+ghost use Rattle.std.specs.Prelude.{◌≡◌, ◌<◌, ◌^◌, ◌&&◌, true, false, ℕ, Bool, None, pos, ◌<ℤ◌};
 ghost use Rattle.rp_algebra.specs.Integer.{floor_of};
 ghost use Rattle.rp_algebra.specs.Within.{IsWithin};
 ghost use Rattle.rp_geometry.specs.Geometry.{IntegerBox, half_edge, is_cube_point, is_in_range};
 ghost use Rattle.rp_geometry.specs.parts.LeastBox.{IsInBox};
 ghost use Rattle.rp_space.specs.Boxes.{integer_box};
 ghost use Rattle.rp_boxindex.specs.Meeting.{do_meet, first_that, meeting_ids};
-ghost use Rattle.rp_lotindex.specs.Owner.{boxes_at, is_there_at, IsOwner};
+ghost use Rattle.rp_lotindex.specs.Owner.{boxes_asked, boxes_past, first_in, lesser_of, is_there_at, IsLine, IsOwner};
+ghost use Rattle.rp_lotindex.specs.Stretches.{stretches_with};
 
 use crate::boxes::LotBoxes;
-use crate::layer::moved;
+use crate::layer::{moved, moved_past};
 use crate::moment::{Moment, is_there};
+use crate::stretch::Stretch;
 use rp_boxindex::{Choice, Index, Quiet, Steps};
 use rp_history::History;
 use rp_space::{IntBox, Name, Point};
@@ -60,7 +62,7 @@ impl LotBoxes {
         p: &Point,
         holder: &H,
     ) -> Option<Name>
-        ensures { IsOwner (H.has holder.now) layer.now moment p.now history.now self.now.live self.now.ever result }
+        ensures { IsOwner (H.has holder.now) layer.now moment p.now history.now self.now.index result }
     {
         if !p.is_in_cube() {
             return None;
@@ -71,25 +73,67 @@ impl LotBoxes {
             moment,
             holder,
         };
-        let index = self.boxes_at(moment);
-        let unit = moved(layer, &unit_box(p));
-        let place = first::<_, Brand>(index, &unit, &owners, Blank::new(1))?;
+        let place = self.first(layer, moment, &unit_box(p), &owners)?;
         Some(history.lots()[place as usize].id)
     }
 
-    /// The boxes around the lots among which those that are there at a moment are found.
-    fn boxes_at(&self, moment: Moment) -> &Index
-        ensures { result.now ≡ boxes_at moment self.now.live self.now.ever }
+    /// The least place that passes a test, of the lots of a layer that may be there at a moment and whose box meets a
+    /// box.
+    fn first<C: Choice>(
+        &self,
+        layer: &Name,
+        moment: Moment,
+        unit: &IntBox,
+        choice: &C,
+    ) -> Option<u32>
+        ensures first { result ≡ first_in (C.passes choice.now) self.now.index (boxes_asked moment layer.now (integer_box unit.now)) None }
+        ensures small { IsLine moment }
     {
+        let live = first_that::<_, Brand>(&self.index, &moved(layer, unit), choice, Blank::new(1));
         match moment {
-            Moment::Now => &self.live,
-            Moment::After(_) => &self.ever,
+            Moment::Now => live,
+            Moment::After(line) => self.first_past(layer, line, unit, choice, live),
         }
+    }
+
+    /// The lesser of a place and the least one that passes a test, of the lots of a layer that ended, lived within a
+    /// stretch with a line, and whose box meets a box.
+    fn first_past<C: Choice>(
+        &self,
+        layer: &Name,
+        line: u32,
+        unit: &IntBox,
+        choice: &C,
+        live: Option<u32>,
+    ) -> Option<u32>
+        ensures first { result ≡ first_in (C.passes choice.now) self.now.index (boxes_past layer.now (integer_box unit.now) (stretches_with line)) live }
+        ensures small { line < 2 ^ 32 }
+    {
+        let mut first = live;
+        let mut mark = line / 2;
+        for level in 0..32 {
+            let past = moved_past(layer, &Stretch { level, mark }, unit);
+            let found = first_that::<_, Brand>(&self.index, &past, choice, Blank::new(1));
+            first = lesser(first, found);
+            mark /= 2;
+        }
+        first
+    }
+}
+
+/// The lesser of two places, as far as they are there.
+fn lesser(first: Option<u32>, second: Option<u32>) -> Option<u32>
+    ensures { result ≡ lesser_of first second }
+{
+    match (first, second) {
+        (None, other) => other,
+        (Some(place), None) => Some(place),
+        (Some(place), Some(other)) => Some(if other < place { other } else { place }),
     }
 }
 
 /// The least id that passes a test and whose box meets a box, with a count of its own.
-fn first<C: Choice, L: Ledger>(
+fn first_that<C: Choice, L: Ledger>(
     index: &Index,
     bounds: &IntBox,
     choice: &C,

@@ -2,7 +2,7 @@
 use Rattle.std.proofs.Common.{◌≡◌, ℕ, suc, ◌+◌, Bool, true, false, ◌&&◌, cond, List, [], ◌∷◌, ◌++◌, map, filter, length, drop, get_or, None, refl, sym, ap, ap₂, ◌∙◌}
 use Rattle.rp_algebra.proofs.Lists.{get_some}
 use Rattle.rp_geometry.specs.sets.Shape.{Part}
-use Rattle.rp_walks.specs.Walk.{taken_wrong, Outcome, done, stopped, Walk, Tester, pass, stop, after_first, ◌>>=◌, ◌>>◌}
+use Rattle.rp_walks.specs.Walk.{taken_wrong, Outcome, done, stopped, Walk, Tester, pass, stop, after_first, ◌>>◌}
 use Rattle.rp_walks.specs.Form.{near_pair, common_nearby}
 use Rattle.rp_model.specs.states.State.{Lot, PlainState, is_live, live_lots, lots_of_layer}
 use Rattle.rp_model.specs.commands.Verdict.{clear}

@@ -35,10 +35,6 @@ form_there parts_of lots forms k f e within is =
     ∙ slice_get-map parts_of forms k
     ∙ ap (option_map parts_of) (slice_get_read forms (length lots) k f many within is)
 
--- there are as many forms
-pub many_forms : {F : Type 0} (parts_of : F → List Part) (lots : List (Lot (Unit {0}))) (forms : List F) → map parts_of forms ≡ lot_parts lots → length forms ≡ length lots
-many_forms parts_of lots forms e = sym (length-map forms parts_of) ∙ ap length e ∙ length-map lots (λ (l : Lot (Unit {0})). l.parts)
-
 -- ---- several
 
 -- the lots at some places, with one more

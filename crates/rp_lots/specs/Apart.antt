@@ -1,5 +1,5 @@
 -- Pairs of lots that are shown to be apart, test by test.
-use Rattle.std.specs.Prelude.{◌≡◌, Bool, true, false, List, [], ◌∷◌, get_or, Result, Ok, Err}
+use Rattle.std.specs.Prelude.{◌≡◌, true, false, List, [], ◌∷◌, get_or, Result, Ok, Err}
 use Rattle.rp_geometry.specs.sets.Shape.{Part}
 use Rattle.rp_walks.specs.Walk.{taken_wrong, Outcome, Walk, Tester, pass, stop, after_first, ◌>>=◌}
 use Rattle.rp_walks.specs.Form.{common_nearby}

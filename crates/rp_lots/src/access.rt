@@ -6,7 +6,7 @@ ghost use Rattle.rp_model.specs.states.State.{ids_of, place_among, layer_with_id
 ghost use Rattle.rp_model.specs.commands.Checks.{check_access};
 ghost use Rattle.rp_model.specs.commands.Row.{access_by_links, row_access};
 ghost use Rattle.rp_history.specs.Lots.{lot_of};
-ghost use Rattle.rp_lotindex.specs.Access.{told_access};
+ghost use Rattle.rp_rows.specs.Access.{told_access};
 ghost use Rattle.rp_lotindex.specs.Near.{lots_at, AreWithin};
 ghost use Rattle.rp_lots.specs.Meets.{IsPairWithin};
 ghost use Rattle.rp_lots.specs.Numbers.{AreRising, IsPairOf, AreBelow, placed, links_met};
@@ -18,8 +18,8 @@ use crate::links::{AccessLeft, ids_at, met_pairs, numbered_pairs};
 use crate::near::count_tests;
 use crate::pair::Pair;
 use rp_history::LotLine;
-use rp_lotindex::{Access, Reach};
-use rp_rows::RowEnd;
+use rp_lotindex::Reach;
+use rp_rows::{Access, RowEnd};
 use rp_space::{Name, Names};
 use rp_tester::{Stopped, Tests};
 use std::alloc::{AllocError, Global};
@@ -43,7 +43,7 @@ pub fn access_left<T: Tests, K: Keeper<T>>(
 }
 
 /// `access` from `from` to `to`, as `access_left`, behind the checks on both ids: they are live lots of `layer`.
-pub fn layer_left<T: Tests, K: Keeper<T>>(
+fn layer_left<T: Tests, K: Keeper<T>>(
     alloc: Global,
     keeper: &K,
     layer: Name,

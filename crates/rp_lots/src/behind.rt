@@ -17,13 +17,13 @@ use std::alloc::{AllocError, Global};
 
 /// Pairs of lots, by their places, and how many pairs of their parts may meet.
 #[derive(Drop)]
-pub struct NearPairs {
+pub(crate) struct NearPairs {
     pub tests: u64,
     pub pairs: Vec<Pair>,
 }
 
 /// The places of the live lots among `lots`, in order: of those of `layer`, where one is given, and else of all.
-pub fn live_places(
+pub(crate) fn live_places(
     alloc: Global,
     lots: &[LotLine],
     layer: Option<Name>,
@@ -77,7 +77,7 @@ fn later_near<T: Tests, K: Keeper<T>>(
 /// The pairs of each lot at `places` with the live lots of its layer behind it that have a part which may meet one of
 /// its own, as `reach` says, in the order of the first and then of the second; and how many pairs of such parts there
 /// are. `Limit` exactly where these are more than a command may test.
-pub fn later_pairs<T: Tests, K: Keeper<T>>(
+pub(crate) fn later_pairs<T: Tests, K: Keeper<T>>(
     alloc: Global,
     keeper: &K,
     places: &[usize],

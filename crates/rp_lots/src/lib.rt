@@ -1,6 +1,6 @@
 #![tactic(auto)]
-//! The rows of the questions about lots in contact, written once over whatever answers their tests and whatever keeps
-//! the lots, and what the rows of changes need of lots.
+//! The rows of the questions about lots in contact and apart, written once over whatever answers their tests and
+//! whatever keeps the lots, and what the rows of changes need of lots.
 //!
 //! [`Keeper`] has the lots that were ever registered, with their forms. The row of a question comes to pairs of lots
 //! that are to be judged, or to the refusal or the stop that its definition has for it, and counts exactly the tests of
@@ -16,11 +16,10 @@ mod near;
 mod pair;
 mod touching;
 
-pub use access::{access_left, access_told, layer_left};
+pub use access::{access_left, access_told};
 pub use audit::{AuditLeft, audit_left};
-pub use behind::{NearPairs, later_pairs, live_places};
 pub use keeper::Keeper;
 pub use links::AccessLeft;
 pub use near::{count_pairs, count_tests, form_at, lots_near};
 pub use pair::Pair;
-pub use touching::{TouchLeft, contacts_left, ids_met, touch_left};
+pub use touching::{TouchLeft, ids_met, touch_left};

@@ -49,7 +49,7 @@ pub fn touch_left<T: Tests, K: Keeper<T>>(
 
 /// `neighbours` of the lot at `place`, as `touch_left`, behind the check on its id: the live lots of `layer` with
 /// another id than `id` that have a part which may touch one of its own.
-pub fn contacts_left<T: Tests, K: Keeper<T>>(
+fn contacts_left<T: Tests, K: Keeper<T>>(
     alloc: Global,
     keeper: &K,
     place: usize,

@@ -1,19 +1,18 @@
 -- The form of an expression: its members, and what its walk comes to on a work of its own.
-use Rattle.std.proofs.Common.{◌≡◌, ◌≤◌, List, length, Option, Some, None, IfSome, Result, Err, subst}
+use Rattle.std.proofs.Common.{◌≡◌, List, Result, Err, subst}
 use Rattle.rp_geometry.specs.sets.Shape.{Shape, Part, shape_of_parts}
 use Rattle.rp_geometry.specs.sets.Sets.{SameMembers}
-use Rattle.rp_geometry.specs.parts.Parts.{IsPart, AreOf, most_parts}
+use Rattle.rp_geometry.specs.parts.Parts.{IsPart, AreOf}
 use Rattle.rp_language.specs.Expression.{Expression, IsKeptExpression, Meaning, closed}
 use Rattle.rp_walks.specs.Walk.{Outcome, Work, done, first_tester}
 use Rattle.rp_walks.specs.Form.{form}
-use Rattle.rp_walks.specs.FormLaws.{IfDone, Agree, MeaningsAgree}
+use Rattle.rp_walks.specs.FormLaws.{IfDone, MeaningsAgree}
 use Rattle.rp_forms.proofs.First.{first_tester_is_right_spec}
 use Rattle.rp_forms.proofs.Forms.{form_is_right_spec}
 use Rattle.rp_accepted.proofs.Likeness.{PartsHave}
 use Rattle.rp_accepted.proofs.Commands.{Any}
 use Rattle.rp_tester.specs.declared.stopped.Stopped.{Stopped}
 use Rattle.rp_tester.specs.Comes.{Comes}
-use Rattle.rp_tester.specs.Short.{StandShort}
 use Rattle.rp_region.specs.declared.fault.OpFault.{OpFault}
 use Rattle.rp_region.specs.declared.fault.OpFault.TheVariants.{Limit, Memory}
 use Rattle.rp_region.specs.Makes.{Makes}

@@ -1,22 +1,17 @@
 -- What names and lots stand for in a sound state.
-use Rattle.std.proofs.Common.{ℕ, ◌≤◌, Bool, true, false, List, [], ◌∷◌, ◌++◌, map, length, Option, Some, None, refl, sym, ◌∙◌, subst}
-use Rattle.std.specs.Prelude.{IsTrue, IfSome, option_map}
+use Rattle.std.proofs.Common.{Bool, true, false, List, [], ◌∷◌, Option, Some, None}
+use Rattle.std.specs.Prelude.{IfSome, option_map}
 use Rattle.std.specs.List.{AllByRecursion}
-use Rattle.std.proofs.lemmas.List.{map-append, length_push, length-map}
-use Rattle.std.proofs.lemmas.List.Sums.{sum_by_push}
-use Rattle.rp_algebra.proofs.Listed.{all_append, all_map}
-use Rattle.rp_algebra.proofs.Lists.{all_filter, images_twice}
+use Rattle.rp_algebra.proofs.Listed.{all_map}
+use Rattle.rp_algebra.proofs.Lists.{all_filter}
 use Rattle.rp_geometry.specs.sets.Shape.{Shape, Part, shape_of_parts}
 use Rattle.rp_geometry.specs.parts.Parts.{IsPart, IsRegion, AreOf}
 use Rattle.rp_language.specs.Name.{Label, label_eq}
 use Rattle.rp_walks.specs.FormLaws.{Agree, MeaningsAgree}
-use Rattle.rp_model.specs.states.State.{Kept, Lot, PlainState, kept_of_parts, lot_of_parts, state_of_parts, parts_in, is_live, live_lots, live_lot, lot_with_id, kept_named, parts_of_kept, parts_of_lot, names_of, most_names, most_kept_parts}
-use Rattle.rp_model.specs.states.Sound.{are_distinct, IsSound}
+use Rattle.rp_model.specs.states.State.{Kept, Lot, PlainState, kept_of_parts, lot_of_parts, state_of_parts, parts_in, is_live, live_lots, live_lot, lot_with_id, kept_named, parts_of_kept, parts_of_lot}
+use Rattle.rp_model.specs.states.Sound.{IsSound}
 use Rattle.rp_model.specs.commands.Row.{shapes_of_parts}
-use Rattle.rp_states.proofs.Labels.{distinct_together}
 use Rattle.rp_states.proofs.Listing.{all_unmapped}
-use Rattle.rp_states.proofs.Plain.{image_sums}
-use Rattle.rp_store.specs.Kept.{kept_under, state_with, IsNewName}
 
 -- a region agrees with the shape of its parts
 region_agrees : (o : Option (List Part)) → IfSome o IsRegion → Agree IsPart o (option_map shape_of_parts o)

@@ -25,14 +25,10 @@ use Rattle.rp_accepted.proofs.Commands.{Any, AnyLabel, any_parts, any_labels, an
 use Rattle.rp_accepted.proofs.Rows.{register_alike, cut_alike, subdivide_alike, consolidate_alike, neighbours_alike, access_alike}
 use Rattle.rp_accepted.proofs.Likeness.{Anything, Related}
 use Rattle.rp_accepted.proofs.Forms.{after, common_nearby_alike}
-use Rattle.rp_queries.proofs.Appended.{behind, Again, Appended, appended, binds_appended, ends_behind, stops_behind}
+use Rattle.rp_queries.proofs.Appended.{behind, Again, Appended, appended, binds_appended, related_appended, ends_behind, stops_behind}
 use Rattle.rp_parcels.specs.Kept.{AreSound}
 use Rattle.rp_parcels.proofs.Alone.{ApartLots, live_apart}
 use Rattle.rp_parcels.proofs.Sizes.{live_regions}
-
--- TEMP
-related_appended : Related appended Any first_tester first_tester
-related_appended = ?
 
 -- a row that is like itself with lines in front
 row_behind : (row : Walk Work Reply) → Appended (ReplyHas Any AnyLabel) row row → ComesBehind row

@@ -1,7 +1,7 @@
 -- What access answers.
 use Rattle.rp_model.specs.commands.Row.{Reply, reply_lines}
-use Rattle.rp_lotindex.specs.declared.access.Access.{Access}
-use Rattle.rp_lotindex.specs.Access.{told_access}
+use Rattle.rp_rows.specs.declared.access.Access.{Access}
+use Rattle.rp_rows.specs.Access.{told_access}
 
 -- the reply
 abbrev pub access_reply : Access → Reply

@@ -79,7 +79,15 @@ impl Parcels {
         // Only so that it is known that the parts are those of a region.
         let _ = by.parts();
         let mut walked = work.fresh(alloc);
-        let came = cut(alloc, &self.keeper(&Visits::none()), id, by, first, second, &mut walked);
+        let came = cut(
+            alloc,
+            &self.keeper(&Visits::none()),
+            id,
+            by,
+            first,
+            second,
+            &mut walked,
+        );
         self.make(alloc, line, walked, came, work)
     }
 
@@ -107,7 +115,13 @@ impl Parcels {
     {
         let children = formed(alloc, children)?;
         let mut walked = work.fresh(alloc);
-        let came = subdivide(alloc, &self.keeper(&Visits::none()), id, children, &mut walked);
+        let came = subdivide(
+            alloc,
+            &self.keeper(&Visits::none()),
+            id,
+            children,
+            &mut walked,
+        );
         self.make(alloc, line, walked, came, work)
     }
 

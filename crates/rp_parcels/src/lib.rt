@@ -25,4 +25,4 @@ mod visits;
 pub use child::Child;
 pub use fault::ParcelFault;
 pub use parcels::Parcels;
-pub use rp_lotindex::{Access, Levels};
+pub use rp_rows::{Access, Levels};

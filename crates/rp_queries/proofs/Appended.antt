@@ -101,7 +101,7 @@ part_again cell = record { again = λ front w. by_member front w (has_member cel
     by_member front w false = told_again (MadeHas Any) front (strict_line cell ∷ []) w None tt
 
 -- the program's tester and itself
-related_appended : Related appended Any first_tester first_tester
+pub related_appended : Related appended Any first_tester first_tester
 unfolding appended
 related_appended = record {
   outside = λ h k. tt;

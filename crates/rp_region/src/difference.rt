@@ -9,9 +9,9 @@ ghost use Rattle.rp_region.specs.Makes.{Makes};
 use crate::fault::OpFault;
 use crate::front::Front;
 use crate::part::Part;
-use crate::region::MAX_PARTS;
 use crate::work::Work;
 use rp_space::{Half, Listed};
+use rp_tester::MAX_PARTS;
 use std::alloc::Global;
 
 /// The parts of a list without those of a second list, one after the other.

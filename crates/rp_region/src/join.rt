@@ -9,9 +9,9 @@ ghost use Rattle.rp_region.specs.Makes.{Makes};
 use crate::fault::OpFault;
 use crate::front::Front;
 use crate::part::Part;
-use crate::region::MAX_PARTS;
 use crate::work::Work;
 use rp_space::Listed;
+use rp_tester::MAX_PARTS;
 use std::alloc::Global;
 
 /// Each part of a list with each part of a second list: what they have in common comes behind the parts made already.

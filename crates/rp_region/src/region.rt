@@ -21,11 +21,9 @@ use crate::part::Part;
 use crate::witness::Witness;
 use crate::work::Work;
 use rp_space::{Half, Inside, Listed, Point};
+use rp_tester::MAX_PARTS;
 use std::alloc::{AllocError, Global};
 use std::marker::Model;
-
-/// The most parts of a region.
-pub(crate) const MAX_PARTS: usize = 1024;
 
 /// A region of space: a list of at most 1,024 parts, whose members are those of any part.
 #[derive(Drop)]

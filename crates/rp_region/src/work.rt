@@ -25,15 +25,9 @@ use rp_cell::{
 };
 use rp_cert::{Proof, Proofs};
 use rp_space::{Half, Inside, Point, joined};
-use rp_tester::Stopped;
+use rp_tester::{MAX_HALVES, MAX_TESTS, Stopped};
 use std::alloc::{AllocError, Global};
 use std::marker::Model;
-
-/// The most tests that a command may count.
-const MAX_TESTS: u32 = 65536;
-
-/// The most half-spaces of a part.
-const MAX_HALVES: usize = 32;
 
 /// The number of tests that a command has counted, at most 65,536, and the proof lines of its tests so far.
 /// After `Limit` or want of memory the lines are those before with a front of the new ones, and it isn't used further.

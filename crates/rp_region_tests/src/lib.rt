@@ -6,10 +6,10 @@
 #[cfg(test)]
 mod boxes;
 #[cfg(test)]
-mod groups;
-#[cfg(test)]
 mod region;
 #[cfg(test)]
 mod relate;
 #[cfg(test)]
 mod section;
+#[cfg(test)]
+mod unionfind;

@@ -4,15 +4,15 @@ ghost use Rattle.rp_walks.specs.Walk.{first_tester};
 ghost use Rattle.rp_model.specs.states.State.{most_kept_parts};
 ghost use Rattle.rp_model.specs.commands.Verdict.{neighbour_lines};
 ghost use Rattle.rp_model.specs.commands.Row.{reply_lines, row_access, row_neighbours};
-ghost use Rattle.rp_lotindex.specs.Access.{told_access};
+ghost use Rattle.rp_rows.specs.Access.{told_access};
 ghost use Rattle.rp_lots.specs.Asked.{Answers};
 
 use crate::halves::meet_in_halves;
 use rp_boxindex::Watch;
-use rp_lotindex::{Access, Reach};
+use rp_lotindex::Reach;
 use rp_lots::{Keeper, access_left, access_told, ids_met, touch_left};
 use rp_region::Work;
-use rp_rows::RowEnd;
+use rp_rows::{Access, RowEnd};
 use rp_space::{Name, Names};
 use std::alloc::Global;
 use std::thread::Threads;

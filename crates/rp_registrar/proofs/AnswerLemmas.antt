@@ -14,7 +14,8 @@ use Rattle.rp_scripts.specs.Output.{PutsOutput}
 use Rattle.rp_scripts.proofs.RefusalLemmas.{list_any-append}
 use Rattle.rp_scripts.proofs.RunLemmas.{IsTrue-both}
 use Rattle.rp_scripts.proofs.SinkLemmas.{Appends-append, Appends-nothing}
-use Rattle.rp_registrar.specs.Added.{HasEnd, HasRefusal, PutsBehind}
+use Rattle.rp_book.specs.Lines.{HasEnd}
+use Rattle.rp_registrar.specs.Added.{HasRefusal, PutsBehind}
 use Rattle.rp_registrar.specs.Answered.{Answers, AnswersBehind, lines_by}
 use Rattle.rp_registrar.proofs.ScriptLemmas.{IsReport-computed, IsReport-nothing, report-behind, report-refused}
 

@@ -1,2 +1,3 @@
-pub mod ScriptLemmas
 pub mod AnswerLemmas
+pub mod CauseLemmas
+pub mod ScriptLemmas

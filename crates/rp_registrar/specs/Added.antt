@@ -1,10 +1,12 @@
 -- What is added to a book, and what the report says of it.
-use Rattle.std.specs.Prelude.{◌≡◌, ◌↔◌, ◌<◌, ℕ, ◌-◌, ◌==◌, Bool, true, false, IsTrue, List, [], ◌∷◌, ◌++◌, length, slice_index, Option}
+use Rattle.std.specs.Prelude.{◌≡◌, ◌↔◌, ℕ, ◌-◌, ◌==◌, Bool, true, false, IsTrue, List, [], ◌∷◌, ◌++◌, length, slice_index, Option}
 use Rattle.std.specs.List.{list_any}
 use Rattle.rp_io.specs.Bytes.{Appends}
 use Rattle.rp_language.specs.Expression.{Command, register, cut, subdivide, consolidate, retire}
 use Rattle.rp_language.specs.Grammar.{Version, Reading, command, reading}
 use Rattle.rp_reports.specs.Text.{line_end, text_of_lines}
+use Rattle.rp_registrar.specs.declared.add.Outcome.{Outcome}
+use Rattle.rp_registrar.specs.declared.add.Outcome.TheVariants.{Refused}
 use Rattle.rp_reports.specs.Report.{IsReport, script_lines}
 use Rattle.rp_reports.specs.Output.{is_refused_line}
 
@@ -12,10 +14,6 @@ use Rattle.rp_reports.specs.Output.{is_refused_line}
 abbrev pub ended : List ℕ → List ℕ
 ended [] = []
 ended (b ∷ bs) = elim (slice_index (b ∷ bs) (length (b ∷ bs) - 1) == line_end) [ true ↦ b ∷ bs | false ↦ (b ∷ bs) ++ line_end ∷ [] ]
-
--- the last byte ends a line
-abbrev pub HasEnd : List ℕ → Type 0
-HasEnd text = (0 < length text) × (slice_index text (length text - 1) ≡ line_end)
 
 -- a line of the report of a script is a refusal exactly where the mark says so
 pub record HasRefusal (script : List ℕ) (mark : Bool) : Type 0 where
@@ -31,6 +29,11 @@ pub record PutsBehind (script lines : List ℕ) (old new : Option (List ℕ)) (m
   pub report : IsReport (script ++ lines) (before ++ told)
   pub text : Appends old new (text_of_lines told)
   pub marks : IsTrue mark ↔ IsTrue (list_any is_refused_line (before ++ told))
+
+-- a line that was to be added is refused
+abbrev pub is_refused : Outcome → Bool
+is_refused Refused = true
+is_refused _ = false
 
 -- the command changes which lots there are
 abbrev pub is_change : Command → Bool

@@ -1,2 +1,4 @@
+pub mod Acts
 pub mod Added
 pub mod Answered
+pub mod Cause

@@ -1,16 +1,32 @@
 //! Lines that are added to a book.
-ghost use Rattle.std.specs.Prelude.{◌≡◌, ◌++◌, false, true, IsTrue, IfOk, IfSome, OnErr, OnOk};
+ghost use Rattle.std.specs.Prelude.{◌≡◌, ◌+◌, ◌≤◌, ◌++◌, false, length, true, IfErr, IfOk, IfSome, OnErr, OnOk};
 ghost use Rattle.rp_io.specs.Bytes.{Appends};
-ghost use Rattle.rp_book.specs.Kept.{FindsAllOrNone, Stays};
-ghost use Rattle.rp_registrar.specs.Added.{HasRefusal, PutsBehind, ended};
+ghost use Rattle.rp_book.specs.Kept.{FindsAllOrNone, HasBookCause, Stays};
+ghost use Rattle.rp_book.specs.Lines.{IsEnded};
+ghost use Rattle.rp_reports.specs.Output.{most_script_bytes};
+ghost use Rattle.rp_registrar.specs.Added.{HasRefusal, PutsBehind, ended, is_refused};
+ghost use Rattle.rp_registrar.specs.Cause.{HasStopCause};
 
 use crate::answers::put_behind;
+use crate::layers::first_chosen;
 use crate::lines::read_lines;
 use crate::stop::Stop;
 use rp_book::{Book, BookFault, Entry};
 use rp_io::{Sink, Source};
+use rp_space::Name;
 use std::alloc::Global;
 use std::thread::Threads;
+
+/// What came of lines that were to be added.
+#[derive(Drop)]
+pub enum Outcome {
+    /// A line is refused, and nothing was added.
+    Refused,
+    /// There were no lines, and nothing was added.
+    Empty,
+    /// The lines were added. They chose these layers, which no line before them does.
+    Added(Vec<Name>),
+}
 
 /// Adds lines to a book, and nothing where there are none.
 fn keep<B: Book>(
@@ -19,8 +35,12 @@ fn keep<B: Book>(
     lines: &[u8],
     entry: Entry<'_>,
 ) -> Result<(), BookFault>
+    requires end { IsEnded lines.now }
+    requires short { IfSome (B.script book.old) (λ kept. length kept + length lines.now ≤ most_script_bytes) }
+    ensures counts { B.faults book.old ≤ B.faults book.new }
     ensures ok { OnOk result (Appends (B.script book.old) (B.script book.new) lines.now) }
     ensures err { OnErr result (Stays (B.script book.old) (B.script book.new)) }
+    ensures cause { IfErr result (HasBookCause (B.faults book.old) (B.faults book.new)) }
     ensures crash { FindsAllOrNone (B.finds book.old) (B.finds book.new) (B.script book.old) lines.now }
 {
     if lines.is_empty() {
@@ -29,9 +49,19 @@ fn keep<B: Book>(
     book.add(alloc, lines, entry)
 }
 
+/// What is said of lines that were kept.
+fn outcome_of(lines: &[u8], layers: Vec<Name>) -> Outcome
+    ensures { is_refused result ≡ false }
+{
+    if lines.is_empty() {
+        Outcome::Empty
+    } else {
+        Outcome::Added(layers)
+    }
+}
+
 /// Adds the lines of `source` to `book`, under `entry`, where none of them is refused, and puts their answers into `sink`.
-/// Answers whether a line is refused; then nothing is added, and nothing where the call stops. Of no lines nothing comes to
-/// the book.
+/// Nothing is added where a line is refused, and where the call stops. Of no lines nothing comes to the book.
 pub fn add<R: Threads + Sync, B: Book, S: Source, K: Sink>(
     rt: &R,
     alloc: Global,
@@ -39,24 +69,29 @@ pub fn add<R: Threads + Sync, B: Book, S: Source, K: Sink>(
     entry: Entry<'_>,
     source: &mut S,
     sink: &mut K,
-) -> Result<bool, Stop>
-    ensures added { IfOk result (λ refused. refused ≡ false → IfSome (S.left source.old) (λ lines.
+) -> Result<Outcome, Stop>
+    ensures counts { (S.faults source.old ≤ S.faults source.new) × (K.faults sink.old ≤ K.faults sink.new) × (B.faults book.old ≤ B.faults book.new) }
+    ensures added { IfOk result (λ done. is_refused done ≡ false → IfSome (S.left source.old) (λ lines.
         Appends (B.script book.old) (B.script book.new) (ended lines))) }
-    ensures good { IfOk result (λ refused. refused ≡ false → IfSome (B.script book.new) (λ script. HasRefusal script false)) }
-    ensures bad { IfOk result (λ refused. IsTrue refused → IfSome (S.left source.old) (λ lines. IfSome (B.script book.new) (λ script.
+    ensures good { IfOk result (λ done. is_refused done ≡ false → IfSome (B.script book.new) (λ script. HasRefusal script false)) }
+    ensures bad { IfOk result (λ done. is_refused done ≡ true → IfSome (S.left source.old) (λ lines. IfSome (B.script book.new) (λ script.
         HasRefusal (script ++ ended lines) true))) }
-    ensures answers { IfOk result (λ refused. IfSome (S.left source.old) (λ lines. IfSome (B.script book.new) (λ _. IfSome (B.script book.old) (λ script.
-        PutsBehind script (ended lines) (K.said sink.old) (K.said sink.new) refused)))) }
-    ensures refused { IfOk result (λ refused. IsTrue refused → Stays (B.script book.old) (B.script book.new)) }
+    ensures answers { IfOk result (λ done. IfSome (S.left source.old) (λ lines. IfSome (B.script book.new) (λ _. IfSome (B.script book.old) (λ script.
+        PutsBehind script (ended lines) (K.said sink.old) (K.said sink.new) (is_refused done))))) }
+    ensures refused { IfOk result (λ done. is_refused done ≡ true → Stays (B.script book.old) (B.script book.new)) }
     ensures stopped { OnErr result (Stays (B.script book.old) (B.script book.new)) }
+    ensures cause { IfErr result (HasStopCause
+        (record { reads = S.faults source.old; puts = K.faults sink.old; book = B.faults book.old })
+        (record { reads = S.faults source.new; puts = K.faults sink.new; book = B.faults book.new }) (B.script book.old) (S.left source.old)) }
     ensures crash { IfSome (S.left source.old) (λ lines.
         FindsAllOrNone (B.finds book.old) (B.finds book.new) (B.script book.old) (ended lines)) }
 {
-    let script = book.read(alloc)?;
-    let lines = read_lines(alloc, &script, source)?;
-    if put_behind(rt, alloc, &script, &lines, sink)? {
-        return Ok(true);
+    let script = book.text();
+    let lines = read_lines(alloc, script, source)?;
+    if put_behind(rt, alloc, script, &lines, sink)? {
+        return Ok(Outcome::Refused);
     }
+    let layers = first_chosen(alloc, script, &lines)?;
     keep(alloc, book, &lines, entry)?;
-    Ok(false)
+    Ok(outcome_of(&lines, layers))
 }

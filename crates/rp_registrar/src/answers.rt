@@ -1,5 +1,5 @@
 //! The answers to lines behind those of a script.
-ghost use Rattle.std.specs.Prelude.{◌≡◌, ◌+◌, ◌≤◌, [], false, length, IfOk, IsTrue, OnOk};
+ghost use Rattle.std.specs.Prelude.{◌≡◌, ◌+◌, ◌≤◌, [], false, length, IfErr, IfOk, OnOk};
 ghost use Rattle.std.specs.List.{list_any};
 ghost use Rattle.rp_io.specs.Bytes.{Appends};
 ghost use Rattle.rp_model.specs.states.State.{opening, state_of_parts};
@@ -8,11 +8,11 @@ ghost use Rattle.rp_command.specs.Versions.{version_of};
 ghost use Rattle.rp_reports.specs.Machine.{after_line, step_answer};
 ghost use Rattle.rp_reports.specs.Output.{is_refused_line, most_script_bytes};
 ghost use Rattle.rp_reports.specs.Text.{answer_lines, text_of_lines};
-ghost use Rattle.rp_registrar.specs.Added.{HasEnd, PutsBehind};
+ghost use Rattle.rp_scripts.specs.Output.{HasOutputCause};
+ghost use Rattle.rp_book.specs.Lines.{IsEnded};
+ghost use Rattle.rp_registrar.specs.Added.{PutsBehind};
 ghost use Rattle.rp_registrar.specs.Answered.{Answers, AnswersBehind};
 
-use crate::stop::Stop;
-use rp_book::BookFault;
 use rp_io::{QuietSink, Sink};
 use rp_machine::Machine;
 use rp_runner::run::run;
@@ -33,11 +33,13 @@ fn answer_line<R: Threads + Sync, K: Sink>(
     sink: &mut K,
 ) -> Result<bool, OutputFault>
     requires { IsLaterThan number (state_of_parts machine.old.state) }
+    ensures counts { K.faults sink.old ≤ K.faults sink.new }
     ensures put { OnOk result (Appends (K.said sink.old) (K.said sink.new)
         (text_of_lines (answer_lines brief (step_answer machine.old.version machine.old.state number line.now)))) }
     ensures mark { IfOk result (λ refused. refused ≡ list_any is_refused_line (answer_lines false (step_answer machine.old.version machine.old.state number line.now))) }
     ensures state { OnOk result (machine.new ≡ after_line machine.old number line.now) }
     ensures later { OnOk result (IsLaterThan (number + 1) (state_of_parts machine.new.state)) }
+    ensures cause { IfErr result (HasOutputCause (K.faults sink.old) (K.faults sink.new)) }
 {
     let answer = machine.step(rt, alloc, number, line)?;
     put_answer(&answer, brief, text, sink)
@@ -56,10 +58,12 @@ fn answer_lines<R: Threads + Sync, K: Sink>(
 ) -> Result<(u32, bool), OutputFault>
     requires few { number + length lines.now ≤ most_script_bytes + 1 }
     requires later { IsLaterThan number (state_of_parts machine.old.state) }
+    ensures counts { K.faults sink.old ≤ K.faults sink.new }
     ensures few { IfOk result (λ done. done.0 ≤ number + length lines.now) }
     ensures later { IfOk result (λ done. IsLaterThan done.0 (state_of_parts machine.new.state)) }
     ensures answers { IfOk result (λ done.
         Answers brief machine.old number lines.now machine.new done.0 (K.said sink.old) (K.said sink.new) done.1) }
+    ensures cause { IfErr result (HasOutputCause (K.faults sink.old) (K.faults sink.new)) }
 {
     let mut text = Vec::new(alloc);
     let mut rest = lines;
@@ -85,8 +89,10 @@ fn answer_both<R: Threads + Sync, K: Sink>(
 ) -> Result<bool, OutputFault>
     requires few { length body.now + length lines.now ≤ most_script_bytes }
     requires opened { machine.old.state ≡ opening }
-    ensures { IfOk result (λ refused.
+    ensures counts { K.faults sink.old ≤ K.faults sink.new }
+    ensures answers { IfOk result (λ refused.
         AnswersBehind machine.old.version body.now lines.now (K.said sink.old) (K.said sink.new) refused) }
+    ensures cause { IfErr result (HasOutputCause (K.faults sink.old) (K.faults sink.new)) }
 {
     let mut nowhere = QuietSink::new(alloc, 0)?;
     let (number, before) = answer_lines(rt, alloc, machine, 1, body, true, &mut nowhere)?;
@@ -94,35 +100,27 @@ fn answer_both<R: Threads + Sync, K: Sink>(
     Ok(before | refused)
 }
 
-/// Whether a text has a line end at its end.
-pub fn has_end(text: &[u8]) -> bool
-    ensures { IsTrue result → HasEnd text.now }
-{
-    matches!(text, [.., b'\n'])
-}
-
 /// Puts into `sink` what the report of `script` with `lines` behind it has behind the report of `script`. Answers whether a
-/// line of that report is a refusal. A script whose last line has no end stands in no book: it is a fault of the disk.
+/// line of that report is a refusal.
 pub fn put_behind<R: Threads + Sync, K: Sink>(
     rt: &R,
     alloc: Global,
     script: &[u8],
     lines: &[u8],
     sink: &mut K,
-) -> Result<bool, Stop>
-    requires { length script.now + length lines.now ≤ most_script_bytes }
-    ensures { IfOk result (λ refused. PutsBehind script.now lines.now (K.said sink.old) (K.said sink.new) refused) }
+) -> Result<bool, OutputFault>
+    requires end { IsEnded script.now }
+    requires short { length script.now + length lines.now ≤ most_script_bytes }
+    ensures counts { K.faults sink.old ≤ K.faults sink.new }
+    ensures answers { IfOk result (λ refused. PutsBehind script.now lines.now (K.said sink.old) (K.said sink.new) refused) }
+    ensures cause { IfErr result (HasOutputCause (K.faults sink.old) (K.faults sink.new)) }
 {
     if script.is_empty() {
         return put_first(rt, alloc, lines, sink);
     }
-    if !has_end(script) {
-        return Err(Stop::Book(BookFault::Disk));
-    }
     let (version, body) = split_mark(script);
     let mut machine = Machine::new(alloc, version)?;
-    let refused = answer_both(rt, alloc, &mut machine, body, lines, sink)?;
-    Ok(refused)
+    answer_both(rt, alloc, &mut machine, body, lines, sink)
 }
 
 /// Puts the report of lines behind an empty script.
@@ -131,10 +129,11 @@ fn put_first<R: Threads + Sync, K: Sink>(
     alloc: Global,
     lines: &[u8],
     sink: &mut K,
-) -> Result<bool, Stop>
+) -> Result<bool, OutputFault>
     requires { length lines.now ≤ most_script_bytes }
-    ensures { IfOk result (λ refused. PutsBehind [] lines.now (K.said sink.old) (K.said sink.new) refused) }
+    ensures counts { K.faults sink.old ≤ K.faults sink.new }
+    ensures answers { IfOk result (λ refused. PutsBehind [] lines.now (K.said sink.old) (K.said sink.new) refused) }
+    ensures cause { IfErr result (HasOutputCause (K.faults sink.old) (K.faults sink.new)) }
 {
-    let refused = run(rt, alloc, lines, false, sink)?;
-    Ok(refused)
+    run(rt, alloc, lines, false, sink)
 }

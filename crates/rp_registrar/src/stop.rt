@@ -1,11 +1,21 @@
 //! Why a call stopped before it was done.
 ghost use Rattle.std.specs.Prelude.{◌≡◌};
-ghost use Rattle.rp_registrar.specs.declared.stop.Stop.TheVariants.{Memory};
+ghost use Rattle.rp_registrar.specs.Cause.{stop_of_output};
+ghost use Rattle.rp_registrar.specs.declared.stop.Stop.TheVariants.{Book, Memory, Put};
 
 use rp_book::BookFault;
-use rp_io::{Failed, IntakeFault};
+use rp_io::Failed;
 use rp_scripts::OutputFault;
 use std::alloc::AllocError;
+
+/// How many bytes a script would have.
+#[derive(Clone, Copy, Debug, PartialEq, Eq)]
+pub enum Length {
+    /// So many.
+    Exactly(usize),
+    /// More than so many: the input was not read to its end.
+    MoreThan(usize),
+}
 
 /// Why a call stopped before it was done. Nothing was added.
 #[derive(Clone, Copy, Debug, PartialEq, Eq)]
@@ -16,8 +26,8 @@ pub enum Stop {
     Put,
     /// Memory ran out.
     Memory(AllocError),
-    /// The script of the book, with the lines of the input, has more than 16,777,216 bytes.
-    TooLong,
+    /// The script of the book, with the lines of the input, would have more than 16,777,216 bytes.
+    TooLong(Length),
     /// The lines of the input change the register, and questions are wanted.
     Change,
     /// The book failed.
@@ -32,17 +42,9 @@ impl From<AllocError> for Stop {
     }
 }
 
-impl From<IntakeFault> for Stop {
-    fn from(fault: IntakeFault) -> Self {
-        match fault {
-            IntakeFault::Failed => Stop::Read,
-            IntakeFault::TooLong => Stop::TooLong,
-            IntakeFault::Memory(error) => Stop::Memory(error),
-        }
-    }
-}
-
 impl From<OutputFault> for Stop {
+    ghost from_gives = { λ d e. e ≡ stop_of_output d };
+
     fn from(fault: OutputFault) -> Self {
         match fault {
             OutputFault::Put => Stop::Put,
@@ -52,16 +54,17 @@ impl From<OutputFault> for Stop {
 }
 
 impl From<Failed> for Stop {
+    ghost from_gives = { λ _ e. e ≡ Put };
+
     fn from(_failed: Failed) -> Self {
         Stop::Put
     }
 }
 
 impl From<BookFault> for Stop {
+    ghost from_gives = { λ d e. e ≡ Book d };
+
     fn from(fault: BookFault) -> Self {
-        match fault {
-            BookFault::Memory(error) => Stop::Memory(error),
-            other => Stop::Book(other),
-        }
+        Stop::Book(fault)
     }
 }

@@ -2,6 +2,7 @@
 use Rattle.std.proofs.Common.{◌≡◌, ℕ, zero, suc, Bool, true, false, ◌==◌, List, [], ◌∷◌, ◌++◌, length, refl, sym, ap, ◌∙◌, subst, arith}
 use Rattle.std.specs.Prelude.{IsTrue}
 use Rattle.std.specs.List.{flat_map}
+use Rattle.rp_geometry.specs.parts.Parts.{IsCheckedPart}
 use Rattle.rp_language.specs.Name.{label_eq}
 use Rattle.rp_language.specs.Grammar.{Version, one, two}
 use Rattle.rp_walks.specs.Walk.{Outcome, done, stopped}
@@ -10,6 +11,7 @@ use Rattle.rp_reports.specs.Check.{Trail, Progress, follow_answer, Finding, all_
 use Rattle.rp_reports.specs.Report.{report_mark, version_by, body_of, marked}
 use Rattle.rp_reports.specs.TrueReport.{ToldAnswer, told_lines, after_told, AreTrueAnswers}
 use Rattle.rp_reports.specs.laws.CheckLaws.{FollowedRowTellsTruth, AcceptedIsTrue}
+use Rattle.rp_states.proofs.Computed.{opening_sound_with}
 use Rattle.rp_states.proofs.Labels.{label_is}
 use Rattle.rp_run_laws.proofs.Rows.{followed_row_tells_truth_spec}
 use Rattle.rp_run_laws.proofs.Followed.{Comes}
@@ -56,22 +58,9 @@ module _ (v : Version) (truth : FollowedRowTellsTruth) where
       by next false e k = outcome next (follow_answer v q t) (answer_told v truth s q agrees t) k
 
 -- nothing is kept yet
-opening_agrees : Agrees opening (record { last = 0; state = opening })
+pub opening_agrees : Agrees opening (record { last = 0; state = opening })
 opening_agrees = record {
-  sound = record {
-    names_keep_parts = tt;
-    lots_keep_parts = tt;
-    names_distinct = refl;
-    ids_distinct = refl;
-    live_lots_apart = tt;
-    lots_nonempty = tt;
-    few_names = omega arith;
-    few_parts_under_names = omega arith;
-    few_parts_under_lots = omega arith;
-    ends_after_birth = tt;
-    origins_before = tt;
-    origins_of_layer = tt;
-  };
+  sound = opening_sound_with IsCheckedPart;
   late = record { births = tt; ends = tt };
   plain = refl;
 }

@@ -105,26 +105,7 @@ verdict_refused (refused r) = refl
 -- no verdict line is a proof line
 verdict_not_proof : (v : Verdict) → is_proof_line (verdict_text v) ≡ false
 verdict_not_proof says_yes = refl
-verdict_not_proof says_no = refl
-verdict_not_proof says_ok = refl
-verdict_not_proof (Verdict.relation r) = refl
-verdict_not_proof (Verdict.pieces k) = refl
-verdict_not_proof (Verdict.piece ks) = refl
-verdict_not_proof (Verdict.parts k) = refl
-verdict_not_proof (Verdict.part hs) = refl
-verdict_not_proof (Verdict.parcel x) = refl
-verdict_not_proof Verdict.nobody = refl
-verdict_not_proof (Verdict.neighbours k) = refl
-verdict_not_proof (Verdict.clear k) = refl
-verdict_not_proof (Verdict.parcels k) = refl
-verdict_not_proof (Verdict.lots k) = refl
-verdict_not_proof (Verdict.lot l) = refl
-verdict_not_proof (Verdict.sections k) = refl
-verdict_not_proof (Verdict.slice s) = refl
-verdict_not_proof (Verdict.access k) = refl
-verdict_not_proof Verdict.no_access = refl
-verdict_not_proof (Verdict.level k x) = refl
-verdict_not_proof (refused r) = refl
+verdict_not_proof v = refl
 
 -- the refusals among verdict lines
 verdicts_refused : (vs : List Verdict) → count_by is_refused_line (map verdict_text vs) ≡ count_by is_refusal vs

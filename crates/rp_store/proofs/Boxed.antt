@@ -1,4 +1,4 @@
--- The indexes of the boxes around lots, through a change.
+-- The index of the boxes around lots, through a change.
 use Rattle.std.proofs.Common.{◌≡◌, ℕ, ◌+◌, ◌≤◌, List, [], ◌∷◌, ◌++◌, map, length, drop, slice_index_or, refl, sym, ap, ap₂, ◌∙◌, subst, append-nil, append_assoc, arith}
 use Rattle.std.specs.FinMap.{empty}
 use Rattle.std.proofs.lemmas.List.{length-append, length-map, map-append}
@@ -8,14 +8,15 @@ use Rattle.rp_geometry.specs.sets.Shape.{Part}
 use Rattle.rp_space.specs.declared.bounds.IntBox.{IntBox}
 use Rattle.rp_space.specs.Boxes.{integer_box}
 use Rattle.rp_language.specs.Name.{Label, is_among}
-use Rattle.rp_model.specs.states.State.{Lot, NewLot, bare_lot, ended_at, born_at, lots_replaced, most_kept_parts}
+use Rattle.rp_model.specs.states.State.{Lot, NewLot, ended_at, born_at, lots_replaced, most_kept_parts}
 use Rattle.rp_history.specs.declared.lot.Birth.{Birth}
-use Rattle.rp_history.specs.Lots.{new_lot_of, lots_after}
+use Rattle.rp_history.specs.Lots.{lots_after}
 use Rattle.rp_history.specs.Parts.{lots_with_parts, new_lots}
-use Rattle.rp_history.proofs.Together.{bare-with_parts, length-with_parts}
+use Rattle.rp_history.proofs.Together.{length-with_parts}
 use Rattle.rp_boxindex.specs.Boxes.{Boxes}
-use Rattle.rp_lotindex.specs.Indexed.{boxes_in, joined, hull_of_parts, box_of, NoneBehind, ArePut, StaySame, IsIndexed, AreEmptied}
-use Rattle.rp_lotindex.proofs.Boxed.{indexed_after, indexed_again, indexed_back, indexed_ended, indexed_none, none_behind_live, none_behind_ever}
+use Rattle.rp_lotindex.specs.Indexed.{boxes_in, joined, hull_of_parts, box_of, NoneBehind, ArePut, StaySame, AreSettled, IsIndexOf}
+use Rattle.rp_lotindex.proofs.Boxed.{indexed_after, indexed_again, indexed_back, indexed_none, none_behind_lots}
+use Rattle.rp_lotindex.proofs.Put.{put_first}
 use Rattle.rp_store.specs.Kept.{AreFew, AreLots}
 
 -- the parts of new lots are those of their lists
@@ -54,10 +55,10 @@ hull_by_first seen [] x h e = absurd (omega (arith, h))
 hull_by_first seen (y ∷ ys) x h e = ap₂ joined (ap (λ p. (seen p).bounds) e) (sym (images_twice seen (λ (p : Part). p.bounds) ys))
 
 -- no lots at all
-pub no_lots : AreLots [] [] 0 empty empty
+pub no_lots : AreLots [] [] 0 empty
 no_lots = record { each = refl; bare = refl; distinct = refl; count = refl; few = record { few_lots = omega arith; few_parts = omega arith }; indexed = indexed_none }
 
-module _ (history : List (Lot (Unit {0}))) (lists : List (List Part)) (parts : ℕ) (live ever : Boxes) (h : AreLots history lists parts live ever) (count : ℕ) (e : count ≡ length lists) where
+module _ (history : List (Lot (Unit {0}))) (lists : List (List Part)) (parts : ℕ) (boxes : Boxes) (h : AreLots history lists parts boxes) (count : ℕ) (e : count ≡ length lists) where
   -- its lots
   abbrev lots : List (Lot (Unit {0}))
   lots = lots_with_parts history lists
@@ -65,10 +66,6 @@ module _ (history : List (Lot (Unit {0}))) (lists : List (List Part)) (parts : �
   -- as many as lists
   counted : count ≡ length lots
   counted = e ∙ sym (length-with_parts history lists h.each)
-
-  -- its history has them without their parts
-  bare : history ≡ map bare_lot lots
-  bare = sym h.bare ∙ sym (bare-with_parts history lists h.each)
 
   -- there is room for new ones
   pub room_for : (n : ℕ) (ids : List Label) (births : List Birth) (more : List (List Part)) → length births ≡ length more → AreFew (lots_after n lots (lots_replaced ids (new_lots births more))) → count + length more ≤ most_kept_parts
@@ -81,34 +78,27 @@ module _ (history : List (Lot (Unit {0}))) (lists : List (List Part)) (parts : �
       let own = counted in
       omega (arith, all, old, born, new, most, own)
 
-  -- behind the lots neither index has boxes
-  pub free_live : NoneBehind live count
-  free_live = subst (NoneBehind live) (sym counted) (none_behind_live lots live ever h.indexed)
+  -- behind the lots the index has no boxes
+  pub free_behind : NoneBehind boxes count
+  free_behind = subst (NoneBehind boxes) (sym counted) (none_behind_lots lots boxes h.indexed)
 
-  pub free_ever : NoneBehind ever count
-  free_ever = subst (NoneBehind ever) (sym counted) (none_behind_ever lots live ever h.indexed)
-
-  -- lots are kept over other indexes that are about them
-  kept_over : (live2 ever2 : Boxes) → IsIndexed lots live2 ever2 → AreLots history lists parts live2 ever2
-  kept_over live2 ever2 indexed = record { each = h.each; bare = h.bare; distinct = h.distinct; count = h.count; few = h.few; indexed = indexed }
+  -- lots are kept over another index that is about them
+  kept_over : (new : Boxes) → IsIndexOf lots new → AreLots history lists parts new
+  kept_over new indexed = record { each = h.each; bare = h.bare; distinct = h.distinct; count = h.count; few = h.few; indexed = indexed }
 
   -- where every place has what it had, all is as before
-  pub lots_stay : (live2 ever2 : Boxes) → StaySame live live2 → StaySame ever ever2 → AreLots history lists parts live2 ever2
-  lots_stay live2 ever2 s t = kept_over live2 ever2 (indexed_again lots live ever h.indexed live2 ever2 s t)
+  pub lots_stay : (new : Boxes) → StaySame boxes new → AreLots history lists parts new
+  lots_stay new s = kept_over new (indexed_again lots boxes h.indexed new s)
 
   -- so it is where boxes were put in behind the lots and are taken out again
-  pub lots_restored : (bs : List IntegerBox) (m k live2 ever2 : Boxes) → ArePut live m count bs → ArePut ever k count bs → ArePut m live2 count [] → ArePut k ever2 count [] → AreLots history lists parts live2 ever2
-  lots_restored bs m k live2 ever2 p q s t = kept_over live2 ever2 (indexed_back lots live ever h.indexed count bs bs m k live2 ever2 counted p q s t)
+  pub lots_restored : (bs : List IntegerBox) (m new : Boxes) → ArePut boxes m count bs → ArePut m new count [] → AreLots history lists parts new
+  lots_restored bs m new p s = kept_over new (indexed_back lots boxes h.indexed count bs m new counted p s)
 
-  module _ (n : ℕ) (ids : List Label) (after : List (Lot (Unit {0}))) where
-    -- boxes were put in behind the lots, and those of the lots that end were taken out of the first index
-    pub indexed_replaced : (births : List Birth) (more : List (List Part)) (hulls : List IntegerBox) (m live2 ever2 : Boxes) → length births ≡ length more → after ≡ lots_after n history (lots_replaced ids (map new_lot_of births)) → hulls ≡ boxes_of_new births more
-        → ArePut live m count hulls → ArePut ever ever2 count hulls → AreEmptied after count (λ y. is_among y ids) m live2 → IsIndexed (lots_after n lots (lots_replaced ids (new_lots births more))) live2 ever2
-    indexed_replaced births more hulls m live2 ever2 f is own put also emptied =
-        let tail = map (born_at n) (map new_lot_of births) in
-        indexed_after n ids lots (new_lots births more) hulls (sym own) count counted after tail
-        (is ∙ ap (λ (ls : List (Lot (Unit {0}))). map (ended_at n ids) ls ++ tail) bare) live ever h.indexed m live2 ever2 put also emptied
+  -- boxes were put in behind the lots, and those of the lots that end were moved
+  pub indexed_replaced : (n : ℕ) (ids : List Label) (births : List Birth) (more : List (List Part)) (hulls : List IntegerBox) (m new : Boxes) → hulls ≡ boxes_of_new births more → ArePut boxes m count hulls → AreSettled (lots_after n lots (lots_replaced ids (new_lots births more))) (λ y. is_among y ids) m new
+      → IsIndexOf (lots_after n lots (lots_replaced ids (new_lots births more))) new
+  indexed_replaced n ids births more hulls m new own put settled = indexed_after n ids lots (new_lots births more) hulls (sym own) count counted boxes m new h.indexed put settled
 
-    -- boxes of the lots that end were taken out of it
-    pub indexed_retired : (live2 : Boxes) → after ≡ map (ended_at n ids) history → AreEmptied after count (λ y. is_among y ids) live live2 → IsIndexed (lots_after n lots (lots_replaced ids [])) live2 ever
-    indexed_retired live2 is emptied = indexed_ended n ids lots after count live ever live2 counted h.indexed (is ∙ ap (map (ended_at n ids)) bare) emptied
+  -- none were put in, and those of the lots that end were moved
+  pub indexed_retired : (n : ℕ) (ids : List Label) (new : Boxes) → AreSettled (lots_after n lots (lots_replaced ids [])) (λ y. is_among y ids) boxes new → IsIndexOf (lots_after n lots (lots_replaced ids [])) new
+  indexed_retired n ids new settled = indexed_after n ids lots [] [] refl count counted boxes boxes new h.indexed (put_first boxes count free_behind) settled

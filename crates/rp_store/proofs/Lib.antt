@@ -1,4 +1,5 @@
 pub mod Together
 pub mod Boxed
+pub mod Settled
 pub mod KeptNames
 pub mod Defined

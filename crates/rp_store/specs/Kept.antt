@@ -8,7 +8,7 @@ use Rattle.rp_model.specs.states.Sound.{are_distinct}
 use Rattle.rp_model.specs.commands.Row.{is_in_parts}
 use Rattle.rp_history.specs.Parts.{lots_with_parts}
 use Rattle.rp_boxindex.specs.Boxes.{Boxes}
-use Rattle.rp_lotindex.specs.Indexed.{IsIndexed}
+use Rattle.rp_lotindex.specs.Indexed.{IsIndexOf}
 
 -- ---- names
 
@@ -35,14 +35,14 @@ pub record AreFew (lots : List (Lot (Unit {0}))) : Type 0 where
   pub few_lots : length lots ≤ most_kept_parts
   pub few_parts : parts_under_lots lots ≤ most_kept_parts
 
--- a history and lists of parts make few lots with distinct ids, whose parts are counted, and around each of which there is a box, in one index where it is live, and in another one in any case
-pub record AreLots (history : List (Lot (Unit {0}))) (lists : List (List Part)) (parts : ℕ) (live ever : Boxes) : Type 0 where
+-- a history and lists of parts make few lots with distinct ids, whose parts are counted, and around each of which there is a box in an index
+pub record AreLots (history : List (Lot (Unit {0}))) (lists : List (List Part)) (parts : ℕ) (boxes : Boxes) : Type 0 where
   pub each : length history ≡ length lists
   pub bare : map bare_lot history ≡ history
   pub distinct : IsTrue (are_distinct (ids_of history))
   pub count : parts ≡ parts_under_lots (lots_with_parts history lists)
   pub few : AreFew (lots_with_parts history lists)
-  pub indexed : IsIndexed (lots_with_parts history lists) live ever
+  pub indexed : IsIndexOf (lots_with_parts history lists) boxes
 
 -- the list at a place, if there is one, has the point
 abbrev pub has_point : List (List Part) → RationalPoint → ℕ → Bool

@@ -8,9 +8,12 @@
 
 mod forms;
 mod hulls;
+mod limits;
 mod lots;
 mod names;
+mod settle;
 
 pub use forms::Forms;
+pub use limits::MAX_KEPT_PARTS;
 pub use lots::Lots;
 pub use names::NamedForms;

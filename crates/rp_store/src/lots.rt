@@ -11,6 +11,8 @@ ghost use Rattle.rp_store.specs.Kept.{AreFew, has_point};
 
 use crate::forms::Forms;
 use crate::hulls::{boxes_of, hull_of};
+use crate::limits::MAX_KEPT_PARTS;
+use crate::settle::settle_all;
 use rp_boxindex::Watch;
 use rp_history::{Birth, History};
 use rp_lotindex::{Holder, LotBoxes, Moment, Reach};
@@ -18,9 +20,6 @@ use rp_space::{Listed, Name, Point};
 use std::alloc::{AllocError, Global};
 use std::fmt;
 use std::marker::Model;
-
-/// The most parts under all lots together.
-const MAX_PARTS: usize = 65536;
 
 /// All lots that were ever registered, in the order of registration, with their forms: at most 65,536 lots, with at
 /// most 65,536 parts together. Their ids are distinct, and around each there is a box in an index.
@@ -51,7 +50,7 @@ impl<F: Forms> Model for Lots<F> {
 
     ghost view = { λ a. lots_with_parts a.history (map F.parts_of a.forms.items) };
 
-    ghost invariant = { λ a. AreLots a.history (map F.parts_of a.forms.items) a.parts a.boxes.live a.boxes.ever };
+    ghost invariant = { λ a. AreLots a.history (map F.parts_of a.forms.items) a.parts a.boxes.index };
 }
 
 impl<F: Forms> Lots<F> {
@@ -149,7 +148,7 @@ impl<F: Forms> Lots<F> {
     pub fn have_room_for(&self, parts: usize) -> bool
         ensures { result ≡ nat_le (parts_under_lots self.now + parts) most_kept_parts }
     {
-        parts <= MAX_PARTS - self.parts
+        parts <= MAX_KEPT_PARTS - self.parts
     }
 
     /// Ends the lots of the ids `ends` at the line, as far as they are live, and lets others be born in their place,
@@ -180,9 +179,9 @@ impl<F: Forms> Lots<F> {
             self.boxes.remove_all(first, added.len());
             return Err(error);
         }
-        self.boxes.end_all(&self.history, first, ends);
         self.forms.append(forms).unwrap();
         self.parts += parts;
+        settle_all::<F>(&mut self.boxes, &self.history, self.forms.items(), ends);
         Ok(())
     }
 
@@ -192,8 +191,7 @@ impl<F: Forms> Lots<F> {
         ensures { self.new ≡ lots_after line self.old (lots_replaced (id ∷ []) []) }
     {
         self.history.end(line, id);
-        let count = self.forms.items().len();
-        self.boxes.end_all(&self.history, count, &[id]);
+        settle_all::<F>(&mut self.boxes, &self.history, self.forms.items(), &[id]);
     }
 }
 

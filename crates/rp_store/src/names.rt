@@ -4,17 +4,12 @@ ghost use Rattle.rp_model.specs.states.State.{kept_named, parts_of_kept, parts_u
 ghost use Rattle.rp_store.specs.Kept.{kept_under, IsNewName};
 
 use crate::forms::Forms;
+use crate::limits::{MAX_KEPT_PARTS, MAX_NAMES};
 use indexmap::IndexMap;
 use rp_space::Name;
 use std::alloc::{AllocError, Global};
 use std::fmt;
 use std::marker::Model;
-
-/// The most names.
-const MAX_NAMES: usize = 65536;
-
-/// The most parts under all names together.
-const MAX_PARTS: usize = 65536;
 
 /// The forms that names stand for, in the order of their definition: at most 65,536 names, with at most 65,536 parts
 /// under all of them together.
@@ -65,7 +60,7 @@ impl<F: Forms> NamedForms<F> {
     pub fn have_room_for(&self, form: &F::Form) -> bool
         ensures { result ≡ (nat_le (length self.now + 1) most_names && nat_le (parts_under_names self.now + length (F.parts_of form.now)) most_kept_parts) }
     {
-        self.forms.len() < MAX_NAMES && F::parts(form).len() <= MAX_PARTS - self.parts
+        self.forms.len() < MAX_NAMES && F::parts(form).len() <= MAX_KEPT_PARTS - self.parts
     }
 
     /// Keeps `form` under the new `name`, for which there is room. After `AllocError` all is as before.

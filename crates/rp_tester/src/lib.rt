@@ -6,10 +6,12 @@
 //! walk comes to the result of the walk, or is [`Stopped`] where that is. Calls that answer `AllocError` do so only for
 //! want of memory.
 
+mod limits;
 mod named;
 mod stopped;
 mod tests;
 
+pub use limits::{MAX_HALVES, MAX_PARTS, MAX_TESTS};
 pub use named::Named;
 pub use stopped::Stopped;
 pub use tests::Tests;

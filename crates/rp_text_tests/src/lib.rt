@@ -6,8 +6,8 @@
 #[cfg(test)]
 mod io;
 #[cfg(test)]
-mod report;
-#[cfg(test)]
 mod scripts;
 #[cfg(test)]
 mod syntax;
+#[cfg(test)]
+mod text;

@@ -6,14 +6,14 @@ ghost use Rattle.rp_geometry.specs.parts.PartTest.{whole_part};
 ghost use Rattle.rp_reports.specs.Check.{line_tester};
 
 use crate::difference::subtract;
-use crate::form::{Form, MAX_PARTS, common, copy, differed, joined, touching};
+use crate::form::{Form, common, copy, differed, joined, touching};
 use crate::kept::Kept;
 use crate::member::passes_form;
 use crate::part::made;
 use crate::prism::prismed;
 use crate::trail::Trail;
 use rp_space::{Corner, Half, Halves, IntBox, Point};
-use rp_tester::{Stopped, Tests};
+use rp_tester::{MAX_PARTS, Stopped, Tests};
 use std::alloc::{AllocError, Global};
 
 impl<'a> Tests for Trail<'a> {

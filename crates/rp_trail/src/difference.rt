@@ -5,13 +5,13 @@ ghost use Rattle.rp_reports.specs.Check.{follow_count, line_tester};
 ghost use Rattle.rp_walks.specs.Form.{carve_one, carve, subtract_pair, subtract_part, subtract};
 ghost use Rattle.rp_tester.specs.Comes.{Comes};
 
-use crate::form::{Form, MAX_PARTS, put};
+use crate::form::{Form, put};
 use crate::kept::Kept;
 use crate::meeting::Meeting;
 use crate::part::made;
 use crate::trail::Trail;
 use rp_space::{Half, joined};
-use rp_tester::Stopped;
+use rp_tester::{MAX_PARTS, Stopped};
 use std::alloc::Global;
 
 /// The parts of a list without those of a second list, one after the other.

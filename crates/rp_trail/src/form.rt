@@ -20,9 +20,6 @@ use rp_space::Listed;
 use rp_tester::Stopped;
 use std::alloc::{AllocError, Global};
 
-/// The most parts of a form that is made.
-pub(crate) const MAX_PARTS: usize = 1024;
-
 /// A list of parts. Its members are those of any part.
 pub type Form = Listed<Kept>;
 

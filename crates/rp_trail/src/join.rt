@@ -3,12 +3,12 @@ ghost use Rattle.rp_reports.specs.Check.{line_tester};
 ghost use Rattle.rp_walks.specs.Form.{join_pair, join_with_part, join_each};
 ghost use Rattle.rp_tester.specs.Comes.{Comes};
 
-use crate::form::{Form, MAX_PARTS, put};
+use crate::form::{Form, put};
 use crate::kept::Kept;
 use crate::part::made;
 use crate::trail::Trail;
 use rp_space::joined;
-use rp_tester::Stopped;
+use rp_tester::{MAX_PARTS, Stopped};
 use std::alloc::Global;
 
 /// Each part of a list with each part of a second list: what they have in common comes behind the parts made already.

@@ -11,11 +11,8 @@ use crate::kept::{Kept, keep_halves};
 use crate::sides::{follow_box, follow_sides};
 use crate::trail::Trail;
 use rp_space::{Half, Halves, joined};
-use rp_tester::Stopped;
+use rp_tester::{MAX_HALVES, Stopped};
 use std::alloc::Global;
-
-/// The most half-spaces of a part.
-const MAX_HALVES: usize = 32;
 
 /// A part test of `cell`, of at most 64 half-spaces, on the next lines of `trail`: the part that they make of it, and
 /// `None` where the strict test shows that the cell has no point. Lines may drop half-spaces that add nothing; then a

@@ -8,12 +8,12 @@ ghost use Rattle.rp_reports.specs.Check.{line_tester};
 ghost use Rattle.rp_walks.specs.Form.{prism_form, exchange_cell, exchange_lists};
 ghost use Rattle.rp_tester.specs.Comes.{Comes};
 
-use crate::form::{Form, MAX_PARTS, differed};
+use crate::form::{Form, differed};
 use crate::part::made;
 use crate::trail::Trail;
 use rp_footprint::trapezoid;
 use rp_space::{Corner, Half};
-use rp_tester::Stopped;
+use rp_tester::{MAX_PARTS, Stopped};
 use std::alloc::Global;
 
 /// The form of the polygon over `corners` raised from `z1` to below `z2`, on the next lines of `trail`: a part test of

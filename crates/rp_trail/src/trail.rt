@@ -19,12 +19,9 @@ use crate::kept::keep_halves;
 use crate::lines::split_line;
 use rp_cert::{Proof, Slice, check_inside, check_outside, check_weak};
 use rp_space::{Half, joined};
-use rp_tester::Stopped;
+use rp_tester::{MAX_TESTS, Stopped};
 use rp_text::{read_proof, read_slice};
 use std::marker::Model;
-
-/// The most tests that a command may count.
-const MAX_TESTS: u32 = 65536;
 
 /// The line that a report has in place of what is due where a limit was met.
 const LIMIT_LINE: &[u8] = b"= refused limit";

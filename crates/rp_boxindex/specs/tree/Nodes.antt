@@ -13,6 +13,11 @@ use Rattle.rp_boxindex.specs.tree.Views.{TreeView, empty_tree}
 abbrev pub entries_of : Node → List Entry
 entries_of n = n.left.entries ++ n.entry ∷ n.right.entries
 
+-- the entry of a node, if there is one
+abbrev pub entry_of : Option (Box Node Global) → Option Entry
+entry_of None = None
+entry_of (Some n) = Some n.value.entry
+
 -- what a tree with this root is seen as
 abbrev pub view_of : Option (Box Node Global) → TreeView
 view_of None = empty_tree

@@ -3,7 +3,7 @@ ghost use Rattle.std.specs.Prelude.{◌≡◌, ◌+◌, ◌≤◌, max, ◌∷�
 ghost use Rattle.std.specs.Option.{option_to_list};
 ghost use Rattle.rp_boxindex.specs.Boxes.{Entry};
 ghost use Rattle.rp_boxindex.specs.Counts.{count, SameCounts};
-ghost use Rattle.rp_boxindex.specs.tree.Nodes.{DifferByAtMost, IsSplit};
+ghost use Rattle.rp_boxindex.specs.tree.Nodes.{DifferByAtMost, IsSplit, entry_of};
 ghost use Rattle.rp_boxindex.specs.tree.Order.{place_of, is_at_place, IsBetween};
 ghost use Rattle.rp_boxindex.specs.tree.Views.{empty_tree};
 
@@ -31,6 +31,13 @@ impl Node {
         )?;
         Ok(node)
     }
+
+    /// Lets the node have another entry; its height, top and hull are set where it is put into a tree.
+    pub(crate) fn hold(&mut self, entry: Entry)
+        ensures { self.new.entry ≡ entry }
+    {
+        self.entry = entry;
+    }
 }
 
 impl Tree {
@@ -54,11 +61,11 @@ impl Tree {
         }
     }
 
-    /// The tree without the entry at a place, and that entry, if there is one. Takes no memory.
-    pub(crate) fn without(self, place: &Place) -> (Tree, Option<Entry>)
+    /// The tree without the entry at a place, and the node of that entry, if there is one. Takes no memory.
+    pub(crate) fn without(self, place: &Place) -> (Tree, Option<Box<Node>>)
         requires fits { self.height ≤ 198 }
-        ensures entries { SameCounts self.entries (option_to_list result.1 ++ result.0.entries) }
-        ensures gone { MatchOption result.1 (count (is_at_place place.now) self.entries ≡ 0) (λ e. is_at_place place.now e ≡ true) }
+        ensures entries { SameCounts self.entries (option_to_list (entry_of result.1) ++ result.0.entries) }
+        ensures gone { MatchOption (entry_of result.1) (count (is_at_place place.now) self.entries ≡ 0) (λ e. is_at_place place.now e ≡ true) }
         ensures not_higher { result.0.height ≤ self.height }
         ensures at_most_one_lower { self.height ≤ result.0.height + 1 }
     {
@@ -73,7 +80,7 @@ impl Tree {
             let (right, gone) = right.without(place);
             (balance(left, node, right), gone)
         } else {
-            (concat(left, right), Some(node.entry))
+            (concat(left, right), Some(node))
         }
     }
 

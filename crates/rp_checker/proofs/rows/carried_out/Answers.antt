@@ -1,8 +1,7 @@
-use Rattle.std.proofs.Common.{◌≡◌, List, Result, Ok, Err, rules, w32, FitsSigned, ap, sym, ◌∙◌, subst}
+use Rattle.std.proofs.Common.{◌≡◌, Result, Ok, Err, rules, w32, FitsSigned, ap, sym, ◌∙◌, subst}
 use Rattle.std.proofs.lemmas.Int.{to_z-of_z}
 use Rattle.rp_geometry.specs.sections.Trace.{IsHeight}
 use Rattle.std.proofs.lemmas.Result.{err_from_is_err_and}
-use Rattle.rp_geometry.specs.sections.Trace.{IsHeight}
 use Rattle.rp_geometry.specs.sets.Shape.{Part}
 use Rattle.rp_space.specs.Listed.{Listed}
 use Rattle.rp_command.specs.Views.{command_of}

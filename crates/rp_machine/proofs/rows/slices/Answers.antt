@@ -1,4 +1,4 @@
-use Rattle.std.proofs.Common.{rules, FitsSigned, w32, List, length, map, sym, ap, ◌∙◌, arith}
+use Rattle.std.proofs.Common.{rules, FitsSigned, w32, List, sym, ap, ◌∙◌}
 use Rattle.std.proofs.lemmas.Int.{to_z-of_z}
 use Rattle.rp_geometry.specs.sections.Slice.{Slice}
 use Rattle.rp_walks.specs.Walk.{done}

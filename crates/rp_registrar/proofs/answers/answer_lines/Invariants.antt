@@ -8,6 +8,7 @@ use Rattle.rp_registrar.proofs.answers.answer_lines.Given as goal
 abbrev pub invariant-loop-line : goal.invariant-loop-line
 invariant-loop-line g l =
     record {
+      counts : g.K.Sink.faults l.fn.sink ≤ g.K.Sink.faults l.sink;
       number : l.next + length l.rest ≤ l.number + length l.lines;
       later : IsLaterThan l.next (state_of_parts l.machine.state);
       told : HasAnswered l.brief l.fn.machine l.machine l.number l.next (script_lines l.lines) (script_lines l.rest) (g.K.Sink.said l.fn.sink) (g.K.Sink.said l.sink) l.refused;

@@ -1,12 +1,12 @@
-use Rattle.std.proofs.Common.{Result, Ok, Err, IfOk, ap, sym, ◌∙◌}
+use Rattle.std.proofs.Common.{sym, ap, ◌∙◌}
+use Rattle.std.proofs.lemmas.Result.{err_from_is_err_and}
+use Rattle.rp_algebra.proofs.Results.{on_ok}
 use Rattle.rp_registrar.specs.Added.{has_change}
+use Rattle.rp_registrar.proofs.CauseLemmas.{answer_cause}
 use Rattle.rp_registrar.proofs.ask.answer_questions.Goals as goal
 
--- what holds holds where a call succeeded
-IfOk-holds : {X E P : Type 0} (r : Result X E) → P → IfOk r (λ _. P)
-IfOk-holds (Ok x) h = h
-IfOk-holds (Err e) h = tt
-
-pub returns-clause-questions : goal.returns-clause-questions
-returns-clause-questions g c =
-    IfOk-holds c.put_behind.result (ap (λ v. has_change v c.args.lines.now) (sym c.in_ok-version.ensures) ∙ sym c.in_ok-has_change.ensures ∙ c.if-branch.false)
+pub returns-in_err-refused-clause-cause : goal.returns-in_err-refused-clause-cause
+returns-in_err-refused-clause-cause g c =
+    let p = err_from_is_err_and c.from_residual-in_err-refused.result c.from_residual-in_err-refused.ensures.1 in
+    rw (p.1, p.2)
+    (answer_cause (g.K.Sink.faults c.args.sink.now) (g.K.Sink.faults c.put_behind.new.sink) c.args.script.now c.args.lines.now _ c.in_err-refused.ensures.cause)

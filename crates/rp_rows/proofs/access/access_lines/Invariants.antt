@@ -1,5 +1,5 @@
 use Rattle.std.proofs.Common.{◌≡◌, ◌++◌, map, drop}
-use Rattle.rp_lotindex.specs.Access.{told_access, told_levels}
+use Rattle.rp_rows.specs.Access.{told_access, told_levels}
 use Rattle.rp_text.specs.Views.{verdict_of}
 use Rattle.rp_rows.proofs.access.access_lines.Given as goal
 

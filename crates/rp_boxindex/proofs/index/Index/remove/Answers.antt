@@ -8,6 +8,7 @@ use Rattle.rp_boxindex.specs.Counts.{count, SameCounts}
 use Rattle.rp_boxindex.specs.declared.place.Corner.{Corner}
 use Rattle.rp_boxindex.specs.declared.place.Place.{Place}
 use Rattle.rp_boxindex.specs.Boxes.{Boxes, Entry}
+use Rattle.rp_boxindex.specs.tree.Nodes.{entry_of}
 use Rattle.rp_boxindex.specs.tree.Order.{is_at_place}
 use Rattle.rp_boxindex.proofs.Few.{not_too_high}
 use Rattle.rp_boxindex.proofs.Maps.{contains_is, ids_unique, same_ids_there, map_removed, map_without, IsTakenOut, IsTaken, taken}
@@ -24,7 +25,7 @@ entry_taken c =
     let k : ℕ = c.args.id in
     let low : Corner = c.in-Some.low in
     let t : List Entry = c.self.inside.tree.entries in
-    let gone : Option Entry = c.without-rest.result.1 in
+    let gone : Option Entry = entry_of c.without-rest.result.1 in
     let rest : List Entry = c.without-rest.result.0.entries in
     let there : lookup (is_at (nat_cmp k)) c.self.inside.lows.map.entries ≡ Some low = sym c.remove.ensures.value ∙ c.in-Some.is in
     let shrunk_given = c.without-rest.ensures.entries in

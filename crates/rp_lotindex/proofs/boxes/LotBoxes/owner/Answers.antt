@@ -2,50 +2,35 @@ use Rattle.std.proofs.Common.{◌≡◌, ◌<◌, ℕ, false, List, map, length,
 use Rattle.std.specs.Prelude.{option_map}
 use Rattle.std.proofs.lemmas.List.{length-map}
 use Rattle.std.proofs.lemmas.Option.{slice_get-map, slice_get-get_or}
-use Rattle.rp_geometry.specs.Geometry.{IntegerBox}
 use Rattle.rp_model.specs.states.State.{Lot}
 use Rattle.rp_space.specs.Boxes.{integer_box}
 use Rattle.rp_history.specs.declared.lot.LotLine.{LotLine}
 use Rattle.rp_history.specs.Lots.{lot_of}
-use Rattle.rp_boxindex.specs.Boxes.{Boxes}
-use Rattle.rp_boxindex.specs.Meeting.{first_that, meeting_ids}
-use Rattle.rp_lotindex.specs.Layers.{moved}
-use Rattle.rp_lotindex.specs.Owner.{boxes_at, IsOwner}
-use Rattle.rp_lotindex.proofs.Owned.{passes, outside_owner, found_within, owner_missing, owner_found}
+use Rattle.rp_lotindex.specs.Owner.{IsOwner}
+use Rattle.rp_lotindex.proofs.Owned.{outside_owner, found_within, owner_missing, owner_found}
 use Rattle.rp_lotindex.proofs.boxes.LotBoxes.owner.Goals as goal
 
 -- the line of a place of a history
 line_at : (lines : List LotLine) (history : List (Lot (Unit {0}))) (k : ℕ) (d : LotLine) → map lot_of lines ≡ history → k < length lines → slice_get history k ≡ Some (lot_of (get_or lines k d))
 line_at lines history k d e within = ap (λ (ls : List (Lot (Unit {0}))). slice_get ls k) (sym e) ∙ slice_get-map lot_of lines k ∙ ap (option_map lot_of) (slice_get-get_or lines k d within)
 
--- what was found among the boxes of a moment
-found_among : (test : ℕ → Bool) (moved_unit unit : IntegerBox) (index boxes : Boxes) (found o : Option ℕ) → found ≡ o → found ≡ first_that test (meeting_ids false moved_unit index) → moved_unit ≡ unit → index ≡ boxes → first_that test (meeting_ids false unit boxes) ≡ o
-found_among test moved_unit unit index boxes found o was e f same = sym (λ i. first_that test (meeting_ids false (f i) (same i))) ∙ sym e ∙ was
-
 pub returns-then-not-is_in_cube : goal.returns-then-not-is_in_cube
 returns-then-not-is_in_cube g c =
     let a = c.args in
-    outside_owner (g.H.Holder.has a.holder.now) a.layer.now a.moment a.p.now a.history.now a.self.now.live a.self.now.ever (sym c.is_in_cube.ensures ∙ c.if-not-is_in_cube.true)
+    outside_owner (g.H.Holder.has a.holder.now) a.layer.now a.moment a.p.now a.history.now a.self.now.index (sym c.is_in_cube.ensures ∙ c.if-not-is_in_cube.true)
 
 pub returns-in_err-place : goal.returns-in_err-place
 returns-in_err-place g c =
     let a = c.args in
     let has = g.H.Holder.has a.holder.now in
-    let test = passes has a.layer.now a.moment a.p.now a.history.now a.self.now.live a.self.now.ever in
-    let unit = integer_box c.unit_box.result in
-    let found = found_among test (integer_box c.moved-unit.result) (moved a.layer.now unit) c.boxes_at-index.result.now (boxes_at a.moment a.self.now.live a.self.now.ever) c.first.result None c.in_err-place.was c.first.ensures c.moved-unit.ensures c.boxes_at-index.ensures in
-    subst (IsOwner has a.layer.now a.moment a.p.now a.history.now a.self.now.live a.self.now.ever) (sym c.from_residual.ensures)
-    (owner_missing has a.layer.now a.moment a.p.now a.history.now a.self.now.live a.self.now.ever unit c.unit_box.ensures found)
+    subst (IsOwner has a.layer.now a.moment a.p.now a.history.now a.self.now.index) (sym c.from_residual.ensures)
+    (owner_missing has a.layer.now a.moment a.p.now a.history.now a.self.now.index (integer_box c.unit_box.result) c.unit_box.ensures c.first.ensures.small (sym c.first.ensures.first ∙ c.in_err-place.was))
 
 pub bounds-lots-place : goal.bounds-lots-place
 bounds-lots-place g c =
     let a = c.args in
     let has = g.H.Holder.has a.holder.now in
-    let test = passes has a.layer.now a.moment a.p.now a.history.now a.self.now.live a.self.now.ever in
-    let unit = integer_box c.unit_box.result in
-    let k = c.in_ok-place.place in
-    let found = found_among test (integer_box c.moved-unit.result) (moved a.layer.now unit) c.boxes_at-index.result.now (boxes_at a.moment a.self.now.live a.self.now.ever) c.first.result (Some k) c.in_ok-place.was c.first.ensures c.moved-unit.ensures c.boxes_at-index.ensures in
-    let within = found_within has a.layer.now a.moment a.p.now a.history.now a.self.now.live a.self.now.ever unit c.unit_box.ensures k found in
+    let within = found_within has a.layer.now a.moment a.p.now a.history.now a.self.now.index (integer_box c.unit_box.result) c.unit_box.ensures c.first.ensures.small c.in_ok-place.place (sym c.first.ensures.first ∙ c.in_ok-place.was) in
     let many = sym (ap length c.lots.ensures.value) ∙ length-map c.lots.result.now lot_of in
     omega (arith, within, many)
 
@@ -56,13 +41,12 @@ pub returns : goal.returns
 returns g c =
     let a = c.args in
     let has = g.H.Holder.has a.holder.now in
-    let test = passes has a.layer.now a.moment a.p.now a.history.now a.self.now.live a.self.now.ever in
     let unit = integer_box c.unit_box.result in
     let k = c.in_ok-place.place in
-    let found = found_among test (integer_box c.moved-unit.result) (moved a.layer.now unit) c.boxes_at-index.result.now (boxes_at a.moment a.self.now.live a.self.now.ever) c.first.result (Some k) c.in_ok-place.was c.first.ensures c.moved-unit.ensures c.boxes_at-index.ensures in
-    let within = found_within has a.layer.now a.moment a.p.now a.history.now a.self.now.live a.self.now.ever unit c.unit_box.ensures k found in
+    let found = sym c.first.ensures.first ∙ c.in_ok-place.was in
+    let within = found_within has a.layer.now a.moment a.p.now a.history.now a.self.now.index unit c.unit_box.ensures c.first.ensures.small k found in
     let many = sym (ap length c.lots.ensures.value) ∙ length-map c.lots.result.now lot_of in
     let here : k < length c.lots.result.now = omega (arith, within, many) in
-    owner_found has a.layer.now a.moment a.p.now a.history.now a.self.now.live a.self.now.ever unit c.unit_box.ensures k
+    owner_found has a.layer.now a.moment a.p.now a.history.now a.self.now.index unit c.unit_box.ensures c.first.ensures.small k
     (lot_of (get_or c.lots.result.now k c.index-lots-place.result)) found
     (line_at c.lots.result.now a.history.now k c.index-lots-place.result c.lots.ensures.value here)

@@ -1,8 +1,7 @@
 use Rattle.std.proofs.Common.{sym, subst}
-use Rattle.rp_geometry.specs.parts.Parts.{IsPart, IsCheckedPart}
+use Rattle.rp_geometry.specs.parts.Parts.{IsPart}
 use Rattle.rp_geometry.proofs.Kept.{part_is_checked}
-use Rattle.rp_model.specs.states.State.{PlainState, changed, state_of_parts}
-use Rattle.rp_model.specs.states.Sound.{IsSound, IsLaterThan}
+use Rattle.rp_model.specs.states.State.{PlainState}
 use Rattle.rp_ledger.specs.Taken.{IsTaken}
 use Rattle.rp_ledger.proofs.States.{taken_where_checked}
 use Rattle.rp_machine.specs.Replies.{made}

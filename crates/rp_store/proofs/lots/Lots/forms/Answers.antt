@@ -5,4 +5,4 @@ use Rattle.rp_store.proofs.lots.Lots.forms.Goals as goal
 pub returns : goal.returns
 returns g c =
     let i = c.self.inside in
-    ap (map g.F.Forms.parts_of) c.items.ensures ∙ sym (lots_lists i.history (map g.F.Forms.parts_of i.forms.items) i.parts i.boxes.live i.boxes.ever c.args.self.now c.self.invariant c.self.view_is)
+    ap (map g.F.Forms.parts_of) c.items.ensures ∙ sym (lots_lists i.history (map g.F.Forms.parts_of i.forms.items) i.parts i.boxes.index c.args.self.now c.self.invariant c.self.view_is)

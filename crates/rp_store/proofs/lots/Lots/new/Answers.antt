@@ -9,7 +9,6 @@ use Rattle.rp_store.proofs.lots.Lots.new.Goals as goal
 pub invariant_of-result : goal.invariant_of-result
 invariant_of-result g c =
     let parts = g.F.Forms.parts_of in
-    subst (λ (m : Boxes). AreLots c.new.result (map parts c.new-2.result.items) 0 m c.new-3.result.ever) (sym c.new-3.ensures.live)
-    (subst (λ (m : Boxes). AreLots c.new.result (map parts c.new-2.result.items) 0 empty m) (sym c.new-3.ensures.ever)
-    (subst (λ (forms : List _). AreLots c.new.result (map parts forms) 0 empty empty) (sym c.new-2.ensures)
-    (subst (λ (history : List (Lot (Unit {0}))). AreLots history [] 0 empty empty) (sym c.new.ensures) no_lots)))
+    subst (λ (m : Boxes). AreLots c.new.result (map parts c.new-2.result.items) 0 m) (sym c.new-3.ensures)
+    (subst (λ (forms : List _). AreLots c.new.result (map parts forms) 0 empty) (sym c.new-2.ensures)
+    (subst (λ (history : List (Lot (Unit {0}))). AreLots history [] 0 empty) (sym c.new.ensures) no_lots))

@@ -1,6 +1,0 @@
-use Rattle.std.proofs.Common.{[], arith}
-use Rattle.rp_lotindex.proofs.Put.{none_behind_put}
-use Rattle.rp_lot_tests.proofs.nearby.boxes_behind_a_place_are_taken_out.Goals as goal
-
-pub count_near-near-requires : goal.count_near-near-requires
-count_near-near-requires g c k f = none_behind_put c.box_of_plot-boxes.result.live c.remove_all.new.self.live 0 0 [] c.remove_all.ensures.live (omega arith) k (omega arith)

@@ -1,0 +1,117 @@
+ghost use Rattle.std.specs.Prelude.{◌≡◌, length, true};
+ghost use Rattle.rp_lotindex.specs.Indexed.{NoneBehind};
+
+use crate::history::with_plot;
+use crate::names::name;
+use rp_boxindex::Quiet;
+use rp_history::History;
+use rp_lotindex::{Holder, LotBoxes, Moment, Reach, moved};
+use rp_rows::Access;
+use rp_space::{IntBox, Point};
+use std::alloc::Global;
+use std::process::Abort;
+
+/// The box from x, 0, 0 to x + 10, 10, 10.
+fn bounds(x: i16) -> IntBox {
+    let x = x as i32;
+    IntBox {
+        lo: [x, 0, 0],
+        hi: [x + 10, 10, 10],
+    }
+}
+
+/// The box around two parts, side by side.
+fn plot() -> IntBox {
+    bounds(0).union(&bounds(10))
+}
+
+/// The box of one lot of the layer `land` with these parts.
+fn box_of_plot(rt: &impl Abort, alloc: Global) -> LotBoxes
+    ensures { NoneBehind result.index 1 }
+{
+    let hull = moved(&name(b"land"), &plot());
+    let mut boxes = LotBoxes::new(alloc);
+    boxes.add_all(alloc, 0, &[hull]).expect(rt, "no memory");
+    boxes
+}
+
+/// How many lots of the layer `land` touch the box from 20 on.
+fn count_near(rt: &impl Abort, alloc: Global, history: &History, boxes: &LotBoxes) -> usize
+    requires { NoneBehind boxes.now.index (length history.now) }
+{
+    let (layer, id) = (name(b"land"), name(b"other"));
+    let hull = bounds(20);
+    let places = boxes.near(alloc, &Quiet, history, &hull, &layer, &id, 0, Reach::Touch);
+    places.expect(rt, "no memory").items().len()
+}
+
+#[test]
+fn lots_are_found_by_the_boxes_around_them(rt: HostRuntime) {
+    let history = with_plot(&rt, rt.alloc());
+    let boxes = box_of_plot(&rt, rt.alloc());
+    assert_eq!(rt; count_near(&rt, rt.alloc(), &history, &boxes), 1);
+}
+
+#[test]
+fn boxes_of_two_layers_do_not_touch(rt: HostRuntime) {
+    let plot = moved(&name(b"land"), &bounds(0));
+    assert!(rt; plot.meets(&moved(&name(b"land"), &bounds(9))));
+    assert!(rt; !plot.meets_closed(&moved(&name(b"air"), &bounds(0))));
+}
+
+/// Every lot has the point.
+struct Everyone;
+
+impl Holder for Everyone {
+    ghost has = { λ _ _. true };
+
+    fn has(&self, _place: usize) -> bool {
+        true
+    }
+}
+
+/// Whether the one lot of the layer `land` has the point 39/2, 1/2, 1/2, as far as its box tells.
+fn is_owned(rt: &impl Abort, history: &History, boxes: &LotBoxes, moment: Moment) -> bool {
+    let layer = name(b"land");
+    let p = Point::new(39, 1, 1, 2).expect(rt, "no point");
+    let owner = boxes.owner(history, &layer, moment, &p, &Everyone);
+    owner == Some(name(b"plot"))
+}
+
+#[test]
+fn a_lot_that_ends_has_its_points_of_before(rt: HostRuntime) {
+    let alloc = rt.alloc();
+    let mut history = with_plot(&rt, alloc);
+    let mut boxes = box_of_plot(&rt, alloc);
+    assert!(rt; is_owned(&rt, &history, &boxes, Moment::Now));
+    history.end(2, name(b"plot"));
+    assert_eq!(rt; history.lots().len(), 1);
+    boxes.settle(0, &history.lots()[0], &plot());
+    assert!(rt; !is_owned(&rt, &history, &boxes, Moment::Now));
+    assert!(rt; is_owned(&rt, &history, &boxes, Moment::After(1)));
+    assert!(rt; !is_owned(&rt, &history, &boxes, Moment::After(2)));
+    let near = count_near(&rt, alloc, &history, &boxes);
+    assert_eq!(rt; near, 0);
+}
+
+#[test]
+fn boxes_behind_a_place_are_taken_out(rt: HostRuntime) {
+    let alloc = rt.alloc();
+    let history = with_plot(&rt, alloc);
+    let mut boxes = box_of_plot(&rt, alloc);
+    boxes.remove_all(0, 1);
+    let near = count_near(&rt, alloc, &history, &boxes);
+    assert_eq!(rt; near, 0);
+}
+
+#[test]
+fn access_is_told_along_pairs(rt: HostRuntime) {
+    let alloc = rt.alloc();
+    let first = name(b"a");
+    let second = name(b"b");
+    let access = Access::along(alloc, &[first, second], &[(0, 1)], &first, &second);
+    let access = access.expect(&rt, "no memory");
+    let chain = access.chain.as_ref().expect(&rt, "no chain");
+    assert_eq!(rt; chain.items(), [first, second].as_slice());
+    assert_eq!(rt; access.levels.items(), [(1, first), (0, second)].as_slice());
+}

@@ -1,0 +1,85 @@
+-- Lots have their boxes moved, id by id.
+use Rattle.std.proofs.Common.{◌≡◌, ℕ, zero, suc, ◌<◌, ◌≤◌, Bool, true, false, ◌||◌, List, [], ◌∷◌, ◌++◌, length, Some, None, slice_get, refl, sym, ap, ◌∙◌, subst, arith}
+use Rattle.std.specs.Prelude.{IsTrue}
+use Rattle.std.proofs.lemmas.Option.{slice_get_within}
+use Rattle.rp_algebra.proofs.Tests.{false_not_true, false_unless}
+use Rattle.rp_language.specs.Name.{Label, label_eq, is_among}
+use Rattle.rp_model.specs.states.State.{Lot, lot_with_id, ids_of}
+use Rattle.rp_model.specs.states.Sound.{are_distinct}
+use Rattle.rp_states.proofs.Labels.{label_is, label_is_not, among_left, among_right, among_neither}
+use Rattle.rp_history.proofs.Found.{first_alone, rest_distinct, found_has_id, there, own_place}
+use Rattle.rp_geometry.specs.Geometry.{IntegerBox}
+use Rattle.rp_boxindex.specs.Boxes.{Boxes}
+use Rattle.rp_lotindex.specs.Indexed.{box_at, box_of_lot, IsSettled, AreSettled}
+
+-- two lots with one id stand at one place
+one_place : {S : Type 0} (ls : List (Lot S)) → IsTrue (are_distinct (ids_of ls)) → (i k : ℕ) (l m : Lot S) → slice_get ls i ≡ Some l → slice_get ls k ≡ Some m → l.id ≡ m.id → i ≡ k
+one_place [] d i k l m e f same = absurd (cc)
+one_place (h ∷ ls) d zero zero l m e f same = refl
+one_place (h ∷ ls) d zero (suc k) l m e f same =
+    let own : h ≡ l = cc in
+    absurd (false_not_true (is_among h.id (ids_of ls)) (subst (λ (x : Label). is_among x (ids_of ls) ≡ true) (sym (ap (λ (a : Lot _). a.id) own ∙ same)) (there ls k m f)) (first_alone h ls d))
+one_place (h ∷ ls) d (suc i) zero l m e f same =
+    let own : h ≡ m = cc in
+    absurd (false_not_true (is_among h.id (ids_of ls)) (subst (λ (x : Label). is_among x (ids_of ls) ≡ true) (sym (ap (λ (a : Lot _). a.id) own ∙ sym same)) (there ls i l e)) (first_alone h ls d))
+one_place (h ∷ ls) d (suc i) (suc k) l m e f same = let rest = one_place ls (rest_distinct h ls d) i k l m e f same in omega (arith, rest)
+
+-- ---- one id
+
+module _ (lots : List (Lot (Unit {0}))) (x : Label) (distinct : IsTrue (are_distinct (ids_of lots))) where
+  -- the lot with the id is found at its place
+  own_lot : (k : ℕ) (l : Lot (Unit {0})) → slice_get lots k ≡ Some l → label_eq l.id x ≡ true → lot_with_id x lots ≡ Some l
+  own_lot k l at e = subst (λ (y : Label). lot_with_id y lots ≡ Some l) (label_is l.id x e) (own_place lots distinct k l at)
+
+  -- the box at its place is moved
+  pub place_settled : (p : ℕ) (m : Lot (Unit {0})) (old new : Boxes) → slice_get lots p ≡ Some m → label_eq m.id x ≡ true → IsSettled old new p (box_of_lot m) → AreSettled lots (λ y. label_eq y x) old new
+  place_settled p m old new there its h = let found = own_lot p m there its in record {
+    settled = λ k l c at e has.
+        let own : m ≡ l = (let f = own_lot k l at e in cc (found, f)) in
+        let same : p ≡ k = one_place lots distinct p k m l there at (ap (λ (n : Lot (Unit {0})). n.id) own) in
+        subst (λ (i : ℕ). box_at new i ≡ Some (box_of_lot l)) same
+        (h.here c (subst (λ (i : ℕ). box_at old i ≡ Some c) (sym same) has) ∙ ap (λ (n : Lot (Unit {0})). Some (box_of_lot n)) own);
+    kept = λ k l at e. h.rest k (λ same. label_is_not l.id x e (sym (label_is x l.id (found_has_id x lots l (found ∙ sym there ∙ subst (λ (i : ℕ). slice_get lots i ≡ Some l) same at)))));
+    rest = λ k f. h.rest k (λ same. absurd (let within = slice_get_within lots p m there in omega (arith, f, within, same)));
+  }
+
+  -- there is no lot with the id
+  pub none_settled : (m : Boxes) → lot_with_id x lots ≡ None → AreSettled lots (λ y. label_eq y x) m m
+  none_settled m none = record {
+    settled = λ k l c at e has. absurd (let found = own_lot k l at e in cc (none, found));
+    kept = λ k l at e. refl;
+    rest = λ k f. refl;
+  }
+
+-- ---- several ids
+
+-- one id more
+pub settled_next : (lots : List (Lot (Unit {0}))) (xs ys : List Label) (x : Label) (old m new : Boxes) → ys ≡ xs ++ x ∷ [] → AreSettled lots (λ y. is_among y xs) old m → AreSettled lots (λ y. label_eq y x) m new → AreSettled lots (λ y. is_among y ys) old new
+settled_next lots xs ys x old m new same h one = record {
+  settled = λ k l c at e has. by k l c at (subst (λ (zs : List Label). is_among l.id zs ≡ true) same e) has (label_eq l.id x) refl;
+  kept = λ k l at e. let g = subst (λ (zs : List Label). is_among l.id zs ≡ false) same e in one.kept k l at (not_last l.id g) ∙ h.kept k l at (not_left l.id g);
+  rest = λ k f. one.rest k f ∙ h.rest k f;
+}
+  where
+    or_false : (b : Bool) → (b || false) ≡ b
+    or_false true = refl
+    or_false false = refl
+
+    not_left : (y : Label) → is_among y (xs ++ x ∷ []) ≡ false → is_among y xs ≡ false
+    not_left y e = false_unless (is_among y xs) (λ f. false_not_true (is_among y (xs ++ x ∷ [])) (among_left y xs (x ∷ []) f) e)
+
+    not_last : (y : Label) → is_among y (xs ++ x ∷ []) ≡ false → label_eq y x ≡ false
+    not_last y e = false_unless (label_eq y x) (λ f. false_not_true (is_among y (xs ++ x ∷ [])) (among_right y xs (x ∷ []) (or_false (label_eq y x) ∙ f)) e)
+
+    -- a lot has a box in between, too
+    between : (k : ℕ) (l : Lot (Unit {0})) (c : IntegerBox) → slice_get lots k ≡ Some l → box_at old k ≡ Some c → (b : Bool) → is_among l.id xs ≡ b → (d : IntegerBox) × (box_at m k ≡ Some d)
+    between k l c at has true f = (box_of_lot l, h.settled k l c at f has)
+    between k l c at has false f = (c, h.kept k l at f ∙ has)
+
+    by : (k : ℕ) (l : Lot (Unit {0})) (c : IntegerBox) → slice_get lots k ≡ Some l → is_among l.id (xs ++ x ∷ []) ≡ true → box_at old k ≡ Some c → (b : Bool) → label_eq l.id x ≡ b → box_at new k ≡ Some (box_of_lot l)
+    by k l c at e has true g = let d = between k l c at has (is_among l.id xs) refl in one.settled k l d.0 at g d.1
+    by k l c at e has false g = one.kept k l at g ∙ h.settled k l c at (earlier (is_among l.id xs) refl) has
+      where
+        earlier : (b : Bool) → is_among l.id xs ≡ b → is_among l.id xs ≡ true
+        earlier true i = i
+        earlier false i = absurd (false_not_true (is_among l.id (xs ++ x ∷ [])) e (among_neither l.id xs (x ∷ []) i (or_false (label_eq l.id x) ∙ g)))

@@ -1,0 +1,5 @@
+use Rattle.rp_lotindex.proofs.boxes.LotBoxes.first.Given as goal
+
+-- the ledger of the count of steps
+abbrev pub ghosts-first_that : goal.ghosts-first_that
+ghosts-first_that g a = record { name = a.blank.name; parts = a.blank.parts }

@@ -1,6 +1,0 @@
-use Rattle.rp_lotindex.proofs.Put.{AreTaken}
-use Rattle.rp_lotindex.proofs.boxes.take_all.Given as goal
-
--- the boxes so far were taken out
-abbrev pub invariant-loop-place : goal.invariant-loop-place
-invariant-loop-place l = AreTaken l.fn.index l.index l.first l.place

@@ -1,0 +1,68 @@
+-- Why a call stopped.
+use Rattle.std.specs.Prelude.{◌≡◌, ◌<◌, ◌+◌, ◌++◌, ℕ, true, List, length, Option, IfSome}
+use Rattle.rp_io.specs.Faults.{HasRisen}
+use Rattle.rp_io.specs.declared.intake.IntakeFault.{IntakeFault}
+use Rattle.rp_io.specs.declared.intake.IntakeFault.TheVariants as input
+use Rattle.rp_book.specs.Kept.{HasBookCause}
+use Rattle.rp_reports.specs.Output.{most_script_bytes}
+use Rattle.rp_reports.specs.Report.{script_version}
+use Rattle.rp_scripts.specs.declared.fault.OutputFault.{OutputFault}
+use Rattle.rp_scripts.specs.declared.fault.OutputFault.TheVariants as output
+use Rattle.rp_registrar.specs.declared.stop.Length.{Length}
+use Rattle.rp_registrar.specs.declared.stop.Length.TheVariants.{Exactly, MoreThan}
+use Rattle.rp_registrar.specs.declared.stop.Stop.{Stop}
+use Rattle.rp_registrar.specs.declared.stop.Stop.TheVariants.{Read, Put, Memory, TooLong, Change, Book}
+use Rattle.rp_registrar.specs.Added.{ended, has_change}
+
+-- what the fault of an output becomes
+abbrev pub stop_of_output : OutputFault → Stop
+stop_of_output output.Put = Put
+stop_of_output (output.Memory e) = Memory e
+
+-- a script with the lines of an input would have so many bytes
+abbrev pub HasLength : List ℕ → List ℕ → Length → Type 0
+HasLength script input (Exactly n) = (n ≡ length script + length (ended input)) × (most_script_bytes < n)
+HasLength script input (MoreThan n) = (n ≡ length script + most_script_bytes) × (n < length script + length input)
+
+-- what the fault of an input becomes, which is to stand behind a script of so many bytes
+abbrev pub stop_of_intake : ℕ → IntakeFault → Stop
+stop_of_intake bytes input.Failed = Read
+stop_of_intake bytes input.TooLong = TooLong (MoreThan (bytes + most_script_bytes))
+stop_of_intake bytes (input.Memory e) = Memory e
+
+-- why lines were not read that are to stand behind a script: a read failed, or there are too many bytes; nothing is claimed where memory ran out
+abbrev pub HasInputCause : ℕ → ℕ → List ℕ → Option (List ℕ) → Stop → Type 0
+HasInputCause before after script left Read = HasRisen before after
+HasInputCause before after script left (Memory e) = Unit {0}
+HasInputCause before after script left (TooLong n) = IfSome left (λ input. HasLength script input n)
+HasInputCause before after script left Put = ⊥
+HasInputCause before after script left Change = ⊥
+HasInputCause before after script left (Book f) = ⊥
+
+-- why answers were not put: a put failed; nothing is claimed where memory ran out
+abbrev pub HasPutCause : ℕ → ℕ → Stop → Type 0
+HasPutCause before after Put = HasRisen before after
+HasPutCause before after (Memory e) = Unit {0}
+HasPutCause before after _ = ⊥
+
+-- why questions that stand behind a script were not answered: a put failed, or a line changes the register
+abbrev pub HasAnswerCause : ℕ → ℕ → List ℕ → List ℕ → Stop → Type 0
+HasAnswerCause before after script lines Put = HasRisen before after
+HasAnswerCause before after script lines (Memory e) = Unit {0}
+HasAnswerCause before after script lines Change = has_change (script_version (script ++ lines)) lines ≡ true
+HasAnswerCause before after script lines _ = ⊥
+
+-- counts of the faults of a source, a sink and a book
+pub record Counts : Type 0 where
+  pub reads : ℕ
+  pub puts : ℕ
+  pub book : ℕ
+
+-- why a call stopped, in which the counts rose so, the book's script was this, and the source had these bytes: what is named failed in the call; nothing is claimed where memory ran out
+abbrev pub HasStopCause : Counts → Counts → Option (List ℕ) → Option (List ℕ) → Stop → Type 0
+HasStopCause before after told left Read = HasRisen before.reads after.reads
+HasStopCause before after told left Put = HasRisen before.puts after.puts
+HasStopCause before after told left (Memory e) = Unit {0}
+HasStopCause before after told left (TooLong n) = IfSome told (λ script. IfSome left (λ input. HasLength script input n))
+HasStopCause before after told left Change = IfSome told (λ script. IfSome left (λ input. has_change (script_version (script ++ ended input)) (ended input) ≡ true))
+HasStopCause before after told left (Book f) = HasBookCause before.book after.book f

@@ -1,0 +1,77 @@
+//! What is asked as of a date.
+ghost use Rattle.std.specs.Prelude.{◌≡◌, IfOk, List, IfSome, map, string_bytes};
+ghost use Rattle.rp_book.specs.Act.{HasActs, Told, act_of};
+ghost use Rattle.rp_registrar.specs.Acts.{as_of_text, is_by, last_by};
+ghost use Rattle.rp_registrar.specs.Added.{PutsBehind};
+
+use crate::ask::answer;
+use crate::stop::Stop;
+use itoa::Buffer;
+use rp_book::{Act, Book};
+use rp_io::Sink;
+use std::alloc::{AllocError, Global};
+use std::thread::Threads;
+
+/// How many bytes of a time are its date.
+const DATE_LENGTH: usize = 10;
+
+/// Whether what was added at a time was added on a date or before.
+fn is_by(date: &str, time: &str) -> bool
+    ensures { result ≡ is_by date.now time.now }
+{
+    let time = time.as_bytes();
+    let day = &time[..time.len().min(DATE_LENGTH)];
+    day.cmp(date.as_bytes()).is_le()
+}
+
+/// The number of the last line that was added on `date`, as 2026-11-30, or before; 0 if there is none. The times of `acts` are
+/// those of UTC, and so is the date.
+pub fn last_line_by(acts: &[Act], date: &str) -> u32
+    ensures { result ≡ last_by date.now (map act_of acts.now) }
+{
+    let mut last = 0;
+    let mut rest = acts;
+    while let Some((act, more)) = rest.split_first() {
+        if is_by(date, act.added.as_str()) {
+            last = act.last.max(last);
+        }
+        rest = more;
+    }
+    last
+}
+
+/// The text of a question as of a line.
+fn question(alloc: Global, line: u32, words: &[String]) -> Result<Vec<u8>, AllocError>
+    ensures { IfOk result (λ text. text.items ≡ as_of_text line (map string_bytes words.now)) }
+{
+    let mut text = Vec::new(alloc);
+    let mut buffer = Buffer::new();
+    text.extend_from_slice(b"asof ")?;
+    text.extend_from_slice(buffer.format(line).as_bytes())?;
+    let mut rest = words;
+    while let Some((word, more)) = rest.split_first() {
+        text.push(b' ')?;
+        text.extend_from_slice(word.as_bytes())?;
+        rest = more;
+    }
+    text.push(b'\n')?;
+    Ok(text)
+}
+
+/// Puts into `sink` the answer to `asof` for the point that `words` spell, as of the last line that was added on `date`, as
+/// 2026-11-30, or before: whose the place was then. Answers whether the question is refused.
+pub fn as_of<R: Threads + Sync, B: Book, K: Sink>(
+    rt: &R,
+    alloc: Global,
+    book: &B,
+    date: &str,
+    words: &[String],
+    sink: &mut K,
+) -> Result<bool, Stop>
+    ensures answer { IfOk result (λ refused. IfSome (B.script book.now) (λ script. (acts : List Told) × HasActs script acts
+        × PutsBehind script (as_of_text (last_by date.now acts) (map string_bytes words.now)) (K.said sink.old) (K.said sink.new) refused)) }
+{
+    let line = last_line_by(book.acts(), date);
+    let question = question(alloc, line, words)?;
+    answer(rt, alloc, book.text(), &question, sink)
+}

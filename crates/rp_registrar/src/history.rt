@@ -1,0 +1,162 @@
+//! What became of a lot, with the acts in which it and its kin were born and ended.
+ghost use Rattle.std.specs.Prelude.{◌≤◌, [], Some, length, IfOk, IfSome};
+ghost use Rattle.rp_book.specs.Lines.{IsEnded};
+ghost use Rattle.rp_reports.specs.Output.{most_script_bytes};
+ghost use Rattle.rp_registrar.specs.Acts.{PutsFirst};
+ghost use Rattle.rp_registrar.specs.Added.{PutsBehind};
+
+use crate::ask::answer;
+use crate::stop::Stop;
+use rp_book::{Act, Book};
+use rp_io::{Failed, Sink};
+use rp_scripts::put_lines;
+use std::alloc::{AllocError, Global};
+use std::marker::Model;
+use std::thread::Threads;
+
+/// A sink that keeps all that it is given.
+#[derive(Drop)]
+struct TextSink {
+    text: Vec<u8>,
+    faults: u64,
+}
+
+impl Sink for TextSink {
+    ghost said = { λ s. Some s.text.items };
+
+    ghost faults = { λ s. s.faults };
+
+    /// Fails for want of memory alone.
+    fn put(&mut self, piece: &[u8]) -> Result<(), Failed> {
+        if self.text.extend_from_slice(piece).is_err() {
+            self.faults = self.faults.saturating_add(1);
+            return Err(Failed);
+        }
+        Ok(())
+    }
+}
+
+/// A lot of a history, and the numbers of the lines in which it was born and ended.
+struct Lot<'a> {
+    id: &'a str,
+    born: u32,
+    ended: Option<u32>,
+}
+
+/// The first word of a text.
+fn first_word(text: &str) -> &str {
+    match text.split_once(' ') {
+        Some((word, _)) => word,
+        None => text,
+    }
+}
+
+/// The lot of a line of a report, if it tells of one.
+fn lot_of(line: &str) -> Option<Lot<'_>> {
+    let told = line.strip_prefix("= lot ")?;
+    let (id, told) = told.split_once(" born ")?;
+    let born = first_word(told).parse().ok()?;
+    let ended = match told.split_once(" ended ") {
+        Some((_, told)) => Some(first_word(told).parse().ok()?),
+        None => None,
+    };
+    Some(Lot { id, born, ended })
+}
+
+/// The act that has a line.
+fn act_of_line(acts: &[Act], line: u32) -> Option<&Act>
+    ensures { IfSome result (λ act. (act.now.first ≤ line) × (line ≤ act.now.last)) }
+{
+    acts.iter()
+        .find(|act| act.first <= line && line <= act.last)
+}
+
+/// Writes in which act a line came, of which a lot was born or ended.
+fn write_event(
+    id: &str,
+    event: &str,
+    line: u32,
+    acts: &[Act],
+    text: &mut String,
+) -> Result<(), AllocError> {
+    let Some(act) = act_of_line(acts, line) else {
+        return Ok(());
+    };
+    let added = act.added.as_str();
+    write!(text, "  {id} {event} {line}: added {added}")?;
+    if let Some(who) = &act.who {
+        write!(text, " by {who}")?;
+    }
+    if let Some(deed) = &act.deed {
+        write!(text, " under {deed}")?;
+    }
+    text.push('\n')
+}
+
+/// Writes the acts in which the lots of a history were born and ended.
+fn events(alloc: Global, told: &str, acts: &[Act]) -> Result<String, AllocError> {
+    let mut text = String::new(alloc);
+    for line in told.lines() {
+        let Some(lot) = lot_of(line) else {
+            continue;
+        };
+        write_event(lot.id, "born", lot.born, acts, &mut text)?;
+        if let Some(ended) = lot.ended {
+            write_event(lot.id, "ended", ended, acts, &mut text)?;
+        }
+    }
+    Ok(text)
+}
+
+/// The text of a question about a lot.
+fn question(alloc: Global, id: &str) -> Result<Vec<u8>, AllocError> {
+    let mut text = Vec::new(alloc);
+    text.extend_from_slice(b"history ")?;
+    text.extend_from_slice(id.as_bytes())?;
+    text.push(b'\n')?;
+    Ok(text)
+}
+
+/// The answers to lines that stand behind a script, and whether one is refused.
+fn answer_text<R: Threads + Sync>(
+    rt: &R,
+    alloc: Global,
+    script: &[u8],
+    lines: &[u8],
+) -> Result<(Vec<u8>, bool), Stop>
+    requires end { IsEnded script.now }
+    requires short { length script.now ≤ most_script_bytes }
+    ensures { IfOk result (λ done. PutsBehind script.now lines.now (Some []) (Some done.0.items) done.1) }
+{
+    let mut sink = TextSink {
+        text: Vec::new(alloc),
+        faults: 0,
+    };
+    let refused = match answer(rt, alloc, script, lines, &mut sink) {
+        Ok(refused) => refused,
+        Err(Stop::Put) => return Err(Stop::Memory(AllocError)),
+        Err(stop) => return Err(stop),
+    };
+    Ok((sink.text, refused))
+}
+
+/// Puts into `sink` the answer to `history` for the lot `id`, as if it stood behind the lines of `book`, and behind it for each
+/// lot that it tells of the acts in which it was born and ended: when that was, by whom and under which deed. Answers whether
+/// the question is refused.
+pub fn history<R: Threads + Sync, B: Book, K: Sink>(
+    rt: &R,
+    alloc: Global,
+    book: &B,
+    id: &str,
+    sink: &mut K,
+) -> Result<bool, Stop>
+    ensures counts { K.faults sink.old ≤ K.faults sink.new }
+    ensures answer { IfOk result (λ refused. IfSome (B.script book.now) (λ script. PutsFirst script refused (K.said sink.old) (K.said sink.new))) }
+{
+    let question = question(alloc, id)?;
+    let (told, refused) = answer_text(rt, alloc, book.text(), &question)?;
+    put_lines(sink, &told)?;
+    let events = events(alloc, &String::from_utf8_lossy(alloc, &told)?, book.acts())?;
+    put_lines(sink, events.as_bytes())?;
+    Ok(refused)
+}
