@@ -110,29 +110,33 @@ taken_fits n lots (Ok q) r e h =
 taken_fits n lots (Err (Refused q)) r e h = absurd (cc)
 taken_fits n lots (Err (StoppedEnd s)) r e h = absurd (cc)
 
-module _ (row : Walk Work Reply) (old begun walked new : Work) (is_fresh : begun ≡ fresh old) (came : Result (Replaced (List Part)) RowEnd) (comes : RowChanges (replaced_of (λ form. form)) came walked (row begun)) where
+module _ (row : List (Lot (Unit {0})) → Walk Work Reply) (seen lots : List (Lot (Unit {0}))) (same : seen ≡ lots) (old begun walked new : Work) (is_fresh : begun ≡ fresh old) (came : Result (Replaced (List Part)) RowEnd) (comes : RowChanges (replaced_of (λ form. form)) came walked (row seen begun)) where
+  -- the row of the lots
+  change_comes : RowChanges (replaced_of (λ form. form)) came walked (row lots begun)
+  change_comes = subst (λ (ls : List (Lot (Unit {0}))). RowChanges (replaced_of (λ form. form)) came walked (row ls begun)) same comes
+
   -- as the answer of a question
-  change_comes : RowAnswers (λ r. accepted (replaced_of (λ form. form) r)) came walked (row begun)
-  change_comes = change_answers (replaced_of (λ form. form)) came walked (row begun) comes
+  change_answered : RowAnswers (λ r. accepted (replaced_of (λ form. form) r)) came walked (row lots begun)
+  change_answered = change_answers (replaced_of (λ form. form)) came walked (row lots begun) change_comes
 
   -- the lots may take the change
-  pub change_fits : (n : ℕ) (lots : List (Lot (Unit {0}))) → Fits lots n row → IsFitFor n lots came
-  change_fits n lots law = by came comes
+  pub change_fits : (n : ℕ) → Fits lots n (row lots) → IsFitFor n lots came
+  change_fits n law = by came change_comes
     where
-      by : (c : Result (Replaced (List Part)) RowEnd) → RowChanges (replaced_of (λ form. form)) c walked (row begun) → IsFitFor n lots c
+      by : (c : Result (Replaced (List Part)) RowEnd) → RowChanges (replaced_of (λ form. form)) c walked (row lots begun) → IsFitFor n lots c
       by (Ok r) e = subst (λ (lists : List (List Part)). IsFitChange n lots r.ends.items (new_lots r.births.items lists)) (map-id r.forms.items) (law r.ends.items (new_lots r.births.items (map (λ form. form) r.forms.items)) begun walked e)
       by (Err e) h = tt
 
   -- its refusal is shown
-  pub change_shown : ((w : Work) → Ends RowShown (row w)) → EndIsShown walked.proofs came
-  change_shown law = end_shown (λ r. accepted (replaced_of (λ form. form) r)) came walked (row begun) (law begun) change_comes
+  pub change_shown : ((w : Work) → Ends RowShown (row lots w)) → EndIsShown walked.proofs came
+  change_shown law = end_shown (λ r. accepted (replaced_of (λ form. form) r)) came walked (row lots begun) (law begun) change_answered
 
   -- once it is made it is that of the row
-  pub row_changed : ComesBehind row → (result : Result (Unit {0}) ParcelFault) (n : ℕ) (before after : List (Lot (Unit {0}))) → IsMade came n walked result old new before after → Changes result n old new before after row
-  row_changed law (Ok x) n before after (r, t, e) = record {
+  pub row_changed : ComesBehind (row lots) → (result : Result (Unit {0}) ParcelFault) (n : ℕ) (after : List (Lot (Unit {0}))) → IsMade came n walked result old new lots after → Changes result n old new lots after (row lots)
+  row_changed law (Ok x) n after (r, t, e) = record {
     ids = r.ends.items;
     new = new_lots r.births.items (map (λ form. form) r.forms.items);
-    says = row_made (λ r. accepted (replaced_of (λ form. form) r)) row law old begun walked new is_fresh came change_comes (Ok (Ok r)) t;
+    says = row_made (λ r. accepted (replaced_of (λ form. form) r)) (row lots) law old begun walked new is_fresh came change_answered (Ok (Ok r)) t;
     lots = e;
   }
-  row_changed law (Err f) n before after (h, e) = (row_ends (λ r. accepted (replaced_of (λ form. form) r)) row law old begun walked new is_fresh came change_comes (cause_of f) h, e)
+  row_changed law (Err f) n after (h, e) = (row_ends (λ r. accepted (replaced_of (λ form. form) r)) (row lots) law old begun walked new is_fresh came change_answered (cause_of f) h, e)

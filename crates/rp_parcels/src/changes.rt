@@ -180,7 +180,7 @@ impl Parcels {
 /// Children with copies of their regions, in order.
 fn formed(alloc: Global, children: &[Child]) -> Result<Listed<FormedChild<Region>>, AllocError>
     ensures each { IfOk result (λ made. formed_children (λ form. form) made ≡ map child_of children.now) }
-    ensures regions { IfOk result (λ _. AllByRecursion (λ c. IsRegion c.parts) (map child_of children.now)) }
+    ensures regions { IfOk result (λ made. AllByRecursion (λ c. IsRegion c.form) made.items) }
 {
     let mut made = Listed::new(alloc);
     for child in children {

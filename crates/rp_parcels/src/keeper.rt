@@ -51,7 +51,7 @@ impl Keeper<Work> for ParcelKeeper<'_> {
     }
 
     fn forms(&self) -> &[Region]
-        ensures { result.now ≡ lot_parts self.now.parcels.now }
+        ensures { map (λ form. form) result.now ≡ lot_parts self.now.parcels.now }
     {
         self.parcels.lots().forms()
     }
