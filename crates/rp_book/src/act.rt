@@ -35,12 +35,7 @@ fn own(alloc: Global, text: Option<&str>) -> Result<Option<String>, AllocError>
 
 impl Act {
     /// The act of lines from `first` to `last`.
-    pub fn new(
-        alloc: Global,
-        first: u32,
-        last: u32,
-        entry: Entry<'_>,
-    ) -> Result<Act, AllocError>
+    pub fn new(alloc: Global, first: u32, last: u32, entry: Entry<'_>) -> Result<Act, AllocError>
         ensures { IfOk result (λ act. act_of act ≡ act_at first last entry.entry) }
     {
         let added = String::from_str(alloc, entry.added)?;
