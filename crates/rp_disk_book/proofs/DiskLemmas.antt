@@ -1,5 +1,5 @@
 -- An entry that comes to a book.
-use Rattle.std.proofs.Common.{◌≡◌, inl, inr, ℕ, ◌+◌, ◌≤◌, Bool, true, false, not, ◌||◌, IsTrue, List, [], ◌∷◌, ◌++◌, length, map, refl, sym, ap, subst, ◌∙◌, arith, append_assoc, Ordering, Less, Equal, Greater, is_eq}
+use Rattle.std.proofs.Common.{◌≡◌, inl, inr, ℕ, ◌+◌, ◌≤◌, Bool, true, false, not, ◌||◌, IsTrue, List, [], ◌∷◌, ◌++◌, length, map, Option, refl, sym, ap, subst, ◌∙◌, arith, append_assoc, Ordering, Less, Equal, Greater, is_eq}
 use Rattle.std.specs.List.Sorted.{IsPermutation}
 use Rattle.std.specs.Ordering.{match_ordering}
 use Rattle.std.proofs.lemmas.List.{append-nil, map-append}
@@ -12,7 +12,7 @@ use Rattle.sqlite.specs.State.{State, HasCleanDisk, IsUnchanged, Survives}
 use Rattle.rp_book.specs.Act.{Told, HasNumbers}
 use Rattle.rp_book.specs.Lines.{HasEnd}
 use Rattle.rp_entries.specs.Entry.{AddsEntry, Fields, GainsEntry, ListsEntries, MakesTable, book_schema, entries_in, entry_values, fields_of, shown_entry}
-use Rattle.rp_disk_book.specs.Kept.{Kept, with_act}
+use Rattle.rp_disk_book.specs.Kept.{Kept}
 use Rattle.rp_disk_book.specs.Disk.{AreEntries, GainsRow, HasRead, HoldsScript, IsBook, IsEntry, FindsInDatabase}
 use Rattle.rp_disk_book.proofs.EntryLemmas.{AreEntries-push}
 
@@ -30,6 +30,11 @@ put_permutes row (r ∷ rows) free = go (value_cmp (rowid r) (rowid row)) free (
 -- what an entry of an act says
 abbrev pub fields_at : ℕ → Told → List ℕ → Fields
 fields_at number act lines = fields_of number act.first act.last act.added act.who act.deed lines
+
+-- so it is where the act is made of these
+pub fields_are : (number n first last : ℕ) (added : List ℕ) (who deed : Option (List ℕ)) (act : Told) (lines : List ℕ) → number ≡ n
+    → act ≡ record { first = first; last = last; added = added; who = who; deed = deed } → fields_of number first last added who deed lines ≡ fields_at n act lines
+fields_are number n first last added who deed act lines e h = rw (e, h) refl
 
 -- a row that says it is that entry
 is_entry : (number : ℕ) (before lines : List ℕ) (row : Row) (act : Told) → row ≡ entry_values (fields_at number act lines) → HasEnd lines → HasNumbers before lines act → IsEntry number before lines row act
@@ -120,8 +125,8 @@ is_made old new m auto =
     }
 
 -- one more row was read
-pub HasRead-more : (rows front : List Row) (row : Row) (more : List Row) (old new : Kept) → HasRead rows (row ∷ more) old → GainsRow row old new → HasRead rows more new
-HasRead-more rows front row more old new h g =
+pub HasRead-more : (rows : List Row) (row : Row) (more : List Row) (old new : Kept) → HasRead rows (row ∷ more) old → GainsRow row old new → HasRead rows more new
+HasRead-more rows row more old new h g =
     let next : length old.acts + 1 ≡ 1 + length old.acts = omega arith in
     subst (HasRead rows more) (sym g.read)
     (record {

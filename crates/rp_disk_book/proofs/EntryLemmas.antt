@@ -1,12 +1,10 @@
 -- Entries in the order of their numbers.
-use Rattle.std.proofs.Common.{◌≡◌, ℕ, ◌+◌, List, [], ◌∷◌, ◌++◌, length, map, pos, refl, sym, ap, subst, ◌∙◌, arith, append_assoc}
+use Rattle.std.proofs.Common.{◌≡◌, ℕ, ◌+◌, List, [], ◌∷◌, ◌++◌, length, sym, ap, subst, ◌∙◌, arith, append_assoc}
 use Rattle.std.specs.List.{flat_map}
 use Rattle.std.proofs.lemmas.List.{append-nil}
 use Rattle.sqlite.specs.Order.{Row, column, bytes}
 use Rattle.rp_book.specs.Act.{Told}
-use Rattle.rp_book.specs.Lines.{HasEnd}
-use Rattle.rp_entries.specs.Entry.{Fields, entry_values}
-use Rattle.rp_disk_book.specs.Disk.{AreEntries, IsEntry, ShowsAct}
+use Rattle.rp_disk_book.specs.Disk.{AreEntries, IsEntry}
 
 -- one more entry
 pub AreEntries-push : (number : ℕ) (before : List ℕ) (rows : List Row) (acts : List Told) (script : List ℕ) (row : Row) (act : Told) (lines : List ℕ) → AreEntries number before rows acts script

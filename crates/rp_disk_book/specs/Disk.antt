@@ -13,8 +13,8 @@ use Rattle.rp_entries.specs.Entry.{book_schema, entries_in, shown_entry, told}
 use Rattle.rp_disk_book.specs.Kept.{Kept, with_act}
 
 -- a row that a query shows is the entry with the number, of this act
-pub record ShowsAct (number : ℕ) (row : Row) (act : Told) : Type 0 where
-  pub number : column row 0 ≡ Int (pos number)
+pub record ShowsAct (n : ℕ) (row : Row) (act : Told) : Type 0 where
+  pub number : column row 0 ≡ Int (pos n)
   pub first : column row 1 ≡ Int (pos act.first)
   pub last : column row 2 ≡ Int (pos act.last)
   pub added : column row 3 ≡ Text act.added
@@ -22,11 +22,11 @@ pub record ShowsAct (number : ℕ) (row : Row) (act : Told) : Type 0 where
   pub deed : column row 5 ≡ told act.deed
 
 -- it has these lines, which come behind the lines before, and the act has their numbers
-pub record IsEntry (number : ℕ) (before lines : List ℕ) (row : Row) (act : Told) : Type 0 where
-  pub shows : ShowsAct number row act
-  pub lines : column row 6 ≡ Text lines
-  pub end : HasEnd lines
-  pub numbers : HasNumbers before lines act
+pub record IsEntry (n : ℕ) (before added : List ℕ) (row : Row) (act : Told) : Type 0 where
+  pub shows : ShowsAct n row act
+  pub lines : column row 6 ≡ Text added
+  pub end : HasEnd added
+  pub numbers : HasNumbers before added act
 
 -- rows that a query shows are the entries of these acts, the first of which has the number; behind the lines before, their lines are the script
 abbrev pub AreEntries : ℕ → List ℕ → List Row → List Told → List ℕ → Type 0

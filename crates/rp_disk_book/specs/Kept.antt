@@ -19,6 +19,7 @@ pub record IsKept (k : Kept) : Type 0 where
   pub end : IsEnded k.script
   pub short : length k.script ≤ most_script_bytes
   pub last : k.lines ≡ last_number k.script
+  pub fits : k.lines ≤ length k.script
   pub acts : HasActs k.script k.acts
   pub few : length k.acts ≤ length k.script
 

@@ -1,5 +1,5 @@
 //! What a book has in memory.
-ghost use Rattle.std.specs.Prelude.{◌≡◌, ◌+◌, ◌≤◌, length, IfOk, OnOk, vec_len, vec_capacity};
+ghost use Rattle.std.specs.Prelude.{◌≡◌, ◌+◌, ◌≤◌, ◌∷◌, ◌++◌, [], length, IfOk, OnOk, vec_len, vec_capacity};
 ghost use Rattle.rp_reports.specs.Output.{most_script_bytes};
 ghost use Rattle.rp_book.specs.Act.{HasNumbers, act_at, act_of};
 ghost use Rattle.rp_book.specs.Lines.{HasEnd};
@@ -62,6 +62,7 @@ impl Contents {
         ensures room { OnOk result (HasRoom self.new lines.now) }
         ensures act { IfOk result (λ act. act_of act ≡ act_at act.first act.last entry.entry) }
         ensures numbers { IfOk result (λ act. HasNumbers self.old.script.items lines.now (act_of act)) }
+        ensures fits { IfOk result (λ act. act.last ≤ length self.old.script.items + length lines.now) }
     {
         self.script.reserve(lines.len())?;
         self.acts.reserve(1)?;

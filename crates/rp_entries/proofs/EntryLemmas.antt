@@ -1,22 +1,19 @@
 -- What the statements on entries do.
-use Rattle.std.proofs.Common.{◌≡◌, ◌⊎◌, inl, inr, ℕ, ℤ, pos, negsuc, List, [], ◌∷◌, ◌++◌, map, codes, slice_get, Bool, true, false, not, ◌&&◌, cond, Option, option_map, Some, None, Ok, Err, Result, IfOk, OnOk, OnErr, refl, sym, ap, subst, subst₂, ◌∙◌}
+use Rattle.std.proofs.Common.{◌≡◌, ◌⊎◌, inl, inr, ℕ, ℤ, pos, negsuc, List, [], ◌∷◌, map, codes, Bool, true, false, not, ◌&&◌, cond, Option, option_map, Some, None, Ok, Err, Result, IfOk, OnOk, OnErr, refl, sym, ap, subst, subst₂, ◌∙◌}
 use Rattle.std.specs.List.{flat_map}
-use Rattle.std.specs.List.Sorted.{IsPermutation}
 use Rattle.sqlite.specs.declared.types.Value.{Value}
 use Rattle.sqlite.specs.declared.types.Value.TheVariants.{Null, Int, Text}
-use Rattle.sqlite.specs.Order.{Row, column}
+use Rattle.sqlite.specs.Order.{Row}
 use Rattle.sqlite.specs.Term.{Term, Env, lit, col}
 use Rattle.sqlite.specs.Ops.{unary}
 use Rattle.sqlite.specs.Values.{bound_value, or_null}
 use Rattle.sqlite.specs.Query.{Query, inner, end, IsAnswer, output, page, Output}
 use Rattle.sqlite.specs.Program.{overlay}
-use Rattle.sqlite.specs.Table.{Table}
-use Rattle.sqlite.specs.Schema.{Schema}
 use Rattle.sqlite.specs.Kind.TheVariants.{Integer, Text as Wording}
 use Rattle.sqlite.specs.Source.TheVariants.{Values}
 use Rattle.sqlite.specs.Command.TheVariants.{Insert, Select, CreateTable}
 use Rattle.sqlite.specs.Compile.{table_defined_by}
-use Rattle.sqlite.specs.Edit.{Edit, Applies, edit_of, with_rowid, is_taken}
+use Rattle.sqlite.specs.Edit.{Edit, Applies, edit_of, with_rowid}
 use Rattle.sqlite.specs.Cast.{cast, cast_row}
 use Rattle.sqlite.specs.Rowids.TheVariants.{Chosen}
 use Rattle.sqlite.specs.Does.{Tally, Does, lacks_sequence}
@@ -29,7 +26,7 @@ use Rattle.sqlite_tied.specs.Compute.{everything}
 use Rattle.sqlite.specs.declared.error.Error.{Error}
 use Rattle.sqlite.specs.Listing.{understood, reads_listing}
 use Rattle.sqlite.specs.Effect.{Database}
-use Rattle.sqlite.specs.State.{State, mode_of, Executes, ExecutesIn, Shown, ShowsRows, IsUnchanged, IsRolledBack, IsNotRun, Fails, RunsCommand, CommitsBy, MayCommit, shows_rows, Writes}
+use Rattle.sqlite.specs.State.{State, mode_of, Executes, ExecutesIn, Shown, ShowsRows, IsUnchanged, IsRolledBack, IsNotRun, Fails, CommitsBy, MayCommit, shows_rows, Writes}
 use Rattle.sqlite.proofs.Callers.{IsPlain, command_of, statement_of, runs_as, reads_as, one_step}
 use Rattle.sqlite_schema.specs.declared.schema.Keys.TheVariants.{Enforced}
 use Rattle.sqlite_value.specs.declared.keys.Key.{Key}

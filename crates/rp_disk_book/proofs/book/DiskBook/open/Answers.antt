@@ -1,7 +1,7 @@
 use Rattle.std.proofs.Common.{[], sym, subst, ap, ◌∙◌}
 use Rattle.sqlite.specs.Held.{state}
 use Rattle.rp_disk_book.specs.Kept.{contents_of}
-use Rattle.rp_disk_book.specs.Disk.{HasRead, IsBook}
+use Rattle.rp_disk_book.specs.Disk.{HasRead}
 use Rattle.rp_disk_book.proofs.DiskLemmas.{is_read, autocommit_is}
 use Rattle.rp_disk_book.proofs.UniqueLemmas.{is_found}
 use Rattle.rp_disk_book.proofs.book.DiskBook.open.Goals as goal

@@ -1,7 +1,14 @@
-use Rattle.std.proofs.Common.{◌≡◌, ◌+◌, ◌++◌, IsTrue, ap, sym, subst, ◌∙◌}
+use Rattle.std.proofs.Common.{◌≡◌, ◌+◌, ◌≤◌, ◌++◌, IsTrue, length, map, option_map, ap, sym, subst, arith, ◌∙◌}
+use Rattle.std.proofs.lemmas.List.{length-map}
 use Rattle.sqlite.specs.Held.{state}
+use Rattle.sqlite.specs.State.{Survives}
+use Rattle.rp_reports.specs.Output.{most_script_bytes}
+use Rattle.rp_book.specs.Act.{act_of}
+use Rattle.rp_entries.specs.Entry.{AddsEntry, Fields, GainsEntry, book_schema, entries_in}
+use Rattle.rp_disk_book.specs.Kept.{Kept, IsKept, contents_of, with_act}
 use Rattle.rp_disk_book.specs.Disk.{FindsInDatabase, IsBook, Opened}
-use Rattle.rp_disk_book.proofs.DiskLemmas.{finds_more, is_longer}
+use Rattle.rp_disk_book.proofs.DiskLemmas.{fields_are, finds_more, is_longer}
+use Rattle.rp_disk_book.proofs.KeptLemmas.{IsKept-push}
 use Rattle.rp_disk_book.proofs.book.DiskBookBook.add.Goals as goal
 
 pub returns-in-Err-clause-crash : goal.returns-in-Err-clause-crash
@@ -9,27 +16,54 @@ returns-in-Err-clause-crash g c = λ test finds passes.
     let book = c.self.inside in
     let old = state g.S.Store book.conn in
     let new = state g.S.Store c.insert.new.conn in
-    finds_more old new book.entries book.script.items c.args.lines.now (c.self.invariant c.if-self.false) c.insert.ensures.clean
-    c.insert.ensures.survives
+    let acts = map act_of book.contents.acts.items in
+    let a = c.in_ok-act.act in
+    let e = c.args.entry in
+    let lines = c.args.lines.now in
+    let none : book.faults ≡ 0 = omega (arith, c.if-self-gt0.false) in
+    let kept = c.prepare.new.self.acts in
+    let number : c.len.result + 1 ≡ length acts + 1 = omega (arith, c.len.ensures, kept.ok.0, length-map kept.items act_of, ap (λ (k : Kept). length k.acts) c.in_ok-act.ensures.same) in
+    let fields = fields_are (c.len.result + 1) (length acts + 1) a.first a.last e.added.now (option_map (λ t. t.now) e.who) (option_map (λ t. t.now) e.deed) (act_of a) lines number c.in_ok-act.ensures.act in
+    finds_more old new acts (act_of a) book.contents.script.items lines c.requires.end c.in_ok-act.ensures.numbers (c.self.invariant.1 none) c.insert.ensures.clean
+    (subst (λ (f : Fields). old.now.schema ≡ book_schema → Survives old new (λ db. GainsEntry (entries_in old.now.trees) (entries_in db) f)) fields c.insert.ensures.survives)
     test (subst (λ (o : Opened g.row.S.Denot). FindsInDatabase (state g.S.Store o.conn) test) (sym c.self.view_is) finds)
-    (subst (λ (o : Opened g.row.S.Denot). IsTrue (test (o.script ++ c.args.lines.now))) (sym c.self.view_is) passes)
+    (subst (λ (o : Opened g.row.S.Denot). IsTrue (test (o.script ++ lines))) (sym c.self.view_is) passes)
 
 pub returns-clause-crash : goal.returns-clause-crash
 returns-clause-crash g c = λ test finds passes.
     let book = c.self.inside in
     let old = state g.S.Store book.conn in
     let new = state g.S.Store c.insert.new.conn in
-    finds_more old new book.entries book.script.items c.args.lines.now (c.self.invariant c.if-self.false) c.insert.ensures.clean
-    c.insert.ensures.survives
+    let acts = map act_of book.contents.acts.items in
+    let a = c.in_ok-act.act in
+    let e = c.args.entry in
+    let lines = c.args.lines.now in
+    let none : book.faults ≡ 0 = omega (arith, c.if-self-gt0.false) in
+    let kept = c.prepare.new.self.acts in
+    let number : c.len.result + 1 ≡ length acts + 1 = omega (arith, c.len.ensures, kept.ok.0, length-map kept.items act_of, ap (λ (k : Kept). length k.acts) c.in_ok-act.ensures.same) in
+    let fields = fields_are (c.len.result + 1) (length acts + 1) a.first a.last e.added.now (option_map (λ t. t.now) e.who) (option_map (λ t. t.now) e.deed) (act_of a) lines number c.in_ok-act.ensures.act in
+    finds_more old new acts (act_of a) book.contents.script.items lines c.requires.end c.in_ok-act.ensures.numbers (c.self.invariant.1 none) c.insert.ensures.clean
+    (subst (λ (f : Fields). old.now.schema ≡ book_schema → Survives old new (λ db. GainsEntry (entries_in old.now.trees) (entries_in db) f)) fields c.insert.ensures.survives)
     test (subst (λ (o : Opened g.row.S.Denot). FindsInDatabase (state g.S.Store o.conn) test) (sym c.self.view_is) finds)
-    (subst (λ (o : Opened g.row.S.Denot). IsTrue (test (o.script ++ c.args.lines.now))) (sym c.self.view_is) passes)
+    (subst (λ (o : Opened g.row.S.Denot). IsTrue (test (o.script ++ lines))) (sym c.self.view_is) passes)
 
 pub invariant_of-self-2 : goal.invariant_of-self-2
-invariant_of-self-2 g c = λ well clean.
+invariant_of-self-2 g c =
     let book = c.self.inside in
     let old = state g.S.Store book.conn in
     let new = state g.S.Store c.insert.new.conn in
-    let longer = is_longer old new book.entries book.script.items c.args.lines.now (c.self.invariant c.if-self.false) c.insert.ensures.clean
-    c.in_default.ensures.adds clean in
-    let script : c.append.new.bytes.items ≡ book.script.items ++ c.args.lines.now = c.append.ensures ∙ ap (λ s. s ++ c.args.lines.now) c.reserve.ensures.items in
-    subst (λ s. IsBook new (book.entries + 1) s) (sym script) longer
+    let acts = map act_of book.contents.acts.items in
+    let a = c.in_ok-act.act in
+    let e = c.args.entry in
+    let lines = c.args.lines.now in
+    let short = subst (λ (o : Opened g.row.S.Denot). length o.script + length lines ≤ most_script_bytes) (sym c.self.view_is) c.requires.short in
+    let kept = c.prepare.new.self.acts in
+    let number : c.len.result + 1 ≡ length acts + 1 = omega (arith, c.len.ensures, kept.ok.0, length-map kept.items act_of, ap (λ (k : Kept). length k.acts) c.in_ok-act.ensures.same) in
+    let fields = fields_are (c.len.result + 1) (length acts + 1) a.first a.last e.added.now (option_map (λ t. t.now) e.who) (option_map (λ t. t.now) e.deed) (act_of a) lines number c.in_ok-act.ensures.act in
+    let pushed : contents_of c.push.new.self ≡ with_act (contents_of book.contents) (act_of a) lines = c.push.ensures ∙ ap (λ (k : Kept). with_act k (act_of a) lines) c.in_ok-act.ensures.same in (
+      subst IsKept (sym pushed) (IsKept-push (contents_of book.contents) (act_of a) lines c.self.invariant.0 c.requires.end short c.in_ok-act.ensures.numbers c.in_ok-act.ensures.fits),
+      λ none clean.
+          subst (λ (k : Kept). IsBook new k.acts k.script) (sym pushed)
+          (is_longer old new acts (act_of a) book.contents.script.items lines c.requires.end c.in_ok-act.ensures.numbers (c.self.invariant.1 none) c.insert.ensures.clean
+          (λ now schema. subst (λ (f : Fields). AddsEntry old new f) fields (c.in_default.ensures.adds now schema)) clean),
+    )
