@@ -48,7 +48,7 @@ impl Contents {
         }
     }
 
-    /// The act of lines that are to come, for which there is room then.
+    /// The act of `lines` that are to come under `entry`; there is room for both then.
     pub fn prepare(
         &mut self,
         alloc: Global,
@@ -70,7 +70,7 @@ impl Contents {
         Act::new(alloc, first, last, entry)
     }
 
-    /// Takes an act with its lines, for which there is room.
+    /// Takes `act` with its `lines`, for which there is room.
     pub fn push(&mut self, act: Act, lines: &[u8])
         requires room { HasRoom self.old lines.now }
         ensures { contents_of self.new ≡ with_act (contents_of self.old) (act_of act) lines.now }

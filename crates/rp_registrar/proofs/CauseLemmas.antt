@@ -17,11 +17,6 @@ use Rattle.rp_registrar.specs.declared.stop.Stop.TheVariants as stop
 use Rattle.rp_registrar.specs.Added.{ended, has_change}
 use Rattle.rp_registrar.specs.Cause.{Counts, HasAnswerCause, HasInputCause, HasLength, HasPutCause, HasStopCause, stop_of_intake, stop_of_output}
 
--- a fault since a later count is one since an earlier count
-pub earlier_cause : (k m n : ℕ) (e : OutputFault) → k ≤ m → HasOutputCause m n e → HasOutputCause k n e
-earlier_cause k m n Put f h = omega (arith, f, h)
-earlier_cause k m n (Memory e) f h = tt
-
 -- an output that was not put
 pub answer_cause : (k n : ℕ) (script lines : List ℕ) (f : OutputFault) → HasOutputCause k n f → HasAnswerCause k n script lines (stop_of_output f)
 answer_cause k n script lines Put h = h

@@ -1,7 +1,7 @@
 use Rattle.std.proofs.Common.{arith}
 use Rattle.std.proofs.lemmas.Result.{err_from_is_err_and}
 use Rattle.rp_reports.specs.Report.{script_lines}
-use Rattle.rp_registrar.proofs.CauseLemmas.{earlier_cause}
+use Rattle.rp_runner.proofs.Causes.{earlier_cause}
 use Rattle.rp_registrar.proofs.AnswerLemmas.{HasAnswered-start, HasAnswered-more, Answers-end}
 use Rattle.rp_registrar.proofs.answers.answer_lines.Goals as goal
 

@@ -1,14 +1,12 @@
-use Rattle.std.proofs.Common.{ℕ, ◌≤◌, refl, ap, ◌∙◌, arith, sym, subst}
+use Rattle.std.proofs.Common.{refl, ap, ◌∙◌, arith, sym, subst}
 use Rattle.std.proofs.lemmas.Result.{err_from_is_err_and}
 use Rattle.rp_model.specs.states.State.{opening, state_of_parts}
 use Rattle.rp_model.specs.states.Sound.{IsLaterThan}
 use Rattle.rp_reports.specs.Machine.{Running}
 use Rattle.rp_command.specs.Versions.{version_of}
-use Rattle.rp_scripts.specs.declared.fault.OutputFault.{OutputFault}
-use Rattle.rp_scripts.specs.declared.fault.OutputFault.TheVariants.{Put, Memory}
-use Rattle.rp_scripts.specs.Output.{HasOutputCause}
 use Rattle.rp_scripts.proofs.SinkLemmas.{OnErr-holds}
 use Rattle.rp_scripts.proofs.RunLemmas.{HasTold-start, HasTold-more, PutsFront-mark, PutsFront-run, PutsOutput-run}
+use Rattle.rp_runner.proofs.Causes.{earlier_cause}
 use Rattle.rp_runner.proofs.run.put_report.Goals as goal
 
 pub loop-line-init : goal.loop-line-init
@@ -53,11 +51,6 @@ returns-in_err-refused-clause-front g c =
     (PutsFront-run c.args.brief c.args.script.now (g.K.Sink.said c.args.sink.now) (g.K.Sink.said c.loop-line.sink) (g.K.Sink.said c.run_line.new.sink)
     c.loop-line.machine c.loop-line.number c.loop-line.rest.now c.in-Some.line.now c.in-Some.behind.now c.loop-line.refused c.loop-line.invariant.told
     c.in-Some.ensures.next c.in_err-refused.ensures.front)
-
--- a fault since a later count is one since an earlier count
-earlier_cause : (k m n : ℕ) (e : OutputFault) → k ≤ m → HasOutputCause m n e → HasOutputCause k n e
-earlier_cause k m n Put f h = omega (arith, f, h)
-earlier_cause k m n (Memory e) f h = tt
 
 pub returns-in_err-refused-clause-cause : goal.returns-in_err-refused-clause-cause
 returns-in_err-refused-clause-cause g c =
