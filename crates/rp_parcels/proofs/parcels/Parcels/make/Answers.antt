@@ -20,9 +20,11 @@ replace-requires-clause-fit c =
 pub returns-clause-made : goal.returns-clause-made
 returns-clause-made c =
     let r = c.in_ok-ends.field-0 in
-    let after = λ (ids : List Label) (bs : List Birth) (fs : List (List Part)). lots_after c.args.line c.args.self.now (lots_replaced ids (new_lots bs fs)) in
-    (r, c.in_ok-ends.ensures.taken,
-    c.in_ok-replace.ensures.ok
-    ∙ ap (λ (ids : List Label). after ids c.items-2.result.now r.forms.items) c.items.ensures
-    ∙ ap (λ (bs : List Birth). after r.ends.items bs r.forms.items) c.items-2.ensures
-    ∙ ap (λ (fs : List (List Part)). after r.ends.items r.births.items fs) (sym (map-id r.forms.items)))
+    let after = λ (ids : List Label) (bs : List Birth) (fs : List (List Part)). lots_after c.args.line c.args.self.now (lots_replaced ids (new_lots bs fs)) in (
+      r,
+      c.in_ok-ends.ensures.taken,
+      c.in_ok-replace.ensures.ok
+          ∙ ap (λ (ids : List Label). after ids c.items-2.result.now r.forms.items) c.items.ensures
+          ∙ ap (λ (bs : List Birth). after r.ends.items bs r.forms.items) c.items-2.ensures
+          ∙ ap (λ (fs : List (List Part)). after r.ends.items r.births.items fs) (sym (map-id r.forms.items)),
+    )
