@@ -15,7 +15,10 @@ pub enum Act<'a> {
     /// Writes what became of a lot, with the acts.
     History(&'a str),
     /// Writes whose a place was on a date.
-    AsOf { date: &'a str, place: &'a [String] },
+    AsOf {
+        date: &'a str,
+        place: &'a [String],
+    },
     /// Writes its script.
     Script,
     /// Writes its report.

@@ -36,7 +36,9 @@ fn tell_added(rt: &impl Eprint, outcome: &Outcome) -> io::Result<()> {
         Outcome::Added(layers) => {
             for layer in layers {
                 let name = str::from_utf8(layer.bytes()).unwrap_or("");
-                eprintln!(rt; "rpstore-book: layer {name} is named here for the first time; a mistyped one would be new too")?;
+                eprintln!(rt;
+                    "rpstore-book: layer {name} is named here for the first time; a mistyped one would be new too"
+                )?;
             }
             Ok(())
         }
@@ -54,8 +56,14 @@ fn status(outcome: &Result<Done, Fault>) -> u8 {
 
 fn main(rt: HostRuntime) -> ExitCode {
     let outcome = match words_of(&rt) {
-        Ok(words) if !has_control(&words) => work(&rt, &rt, &words),
-        _ => Err(Fault::Words),
+        Ok(words) => {
+            if has_control(&words) {
+                Err(Fault::Words)
+            } else {
+                work(&rt, &rt, &words)
+            }
+        }
+        Err(_) => Err(Fault::Words),
     };
     let _ = match &outcome {
         Ok(Done::Written(_)) => Ok(()),

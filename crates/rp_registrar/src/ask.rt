@@ -119,9 +119,7 @@ pub(crate) fn answer<R: Threads + Sync, K: Sink>(
     ensures answers { IfOk result (λ refused. PutsBehind script.now lines.now (K.said sink.old) (K.said sink.new) refused) }
 {
     if lines.len() > MOST_BYTES - script.len() {
-        return Err(Stop::TooLong(Length::Exactly(
-            script.len().saturating_add(lines.len()),
-        )));
+        return Err(Stop::TooLong(Length::Exactly(script.len().saturating_add(lines.len()))));
     }
     let refused = put_behind(rt, alloc, script, lines, sink)?;
     Ok(refused)

@@ -52,9 +52,7 @@ pub fn read_lines<S: Source>(alloc: Global, script: &[u8], source: &mut S) -> Re
     };
     let lines = end_lines(input)?;
     if lines.len() > MOST_BYTES - script.len() {
-        return Err(Stop::TooLong(Length::Exactly(
-            script.len() + lines.len(),
-        )));
+        return Err(Stop::TooLong(Length::Exactly(script.len() + lines.len())));
     }
     Ok(lines)
 }

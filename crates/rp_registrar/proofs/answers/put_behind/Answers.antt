@@ -17,7 +17,7 @@ returns-clause-answers g c =
     IfOk-weaker c.answer_both.result
     (λ refused. AnswersBehind c.in_ok-machine.machine.version body c.args.lines.now old new refused) (λ refused. PutsBehind c.args.script.now c.args.lines.now old new refused)
     (λ refused h.
-        PutsBehind-answered c.args.script.now body c.args.lines.now (version_of c.split_mark-version.result.0) old new refused
-        (some, c.requires.end some) c.split_mark-version.ensures.version c.split_mark-version.ensures.body
-        (subst (λ (v : Version). AnswersBehind v body c.args.lines.now old new refused) (ap (λ m. m.version) c.in_ok-machine.ensures) h))
+    PutsBehind-answered c.args.script.now body c.args.lines.now (version_of c.split_mark-version.result.0) old new refused
+    (some, c.requires.end some) c.split_mark-version.ensures.version c.split_mark-version.ensures.body
+    (subst (λ (v : Version). AnswersBehind v body c.args.lines.now old new refused) (ap (λ m. m.version) c.in_ok-machine.ensures) h))
     c.answer_both.ensures.answers
