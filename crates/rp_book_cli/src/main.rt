@@ -56,8 +56,14 @@ fn status(outcome: &Result<Done, Fault>) -> u8 {
 
 fn main(rt: HostRuntime) -> ExitCode {
     let outcome = match words_of(&rt) {
-        Ok(words) if !has_control(&words) => work(&rt, &rt, &words),
-        _ => Err(Fault::Words),
+        Ok(words) => {
+            if has_control(&words) {
+                Err(Fault::Words)
+            } else {
+                work(&rt, &rt, &words)
+            }
+        }
+        Err(_) => Err(Fault::Words),
     };
     let _ = match &outcome {
         Ok(Done::Written(_)) => Ok(()),

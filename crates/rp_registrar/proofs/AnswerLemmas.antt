@@ -1,5 +1,5 @@
 -- A machine on its way through the lines of a text, and what was put behind a script.
-use Rattle.std.proofs.Common.{◌≡◌, ℕ, ◌+◌, Bool, true, false, ◌||◌, List, [], ◌∷◌, ◌++◌, Option, refl, sym, ap, ◌∙◌, subst, append_assoc, add-one}
+use Rattle.std.proofs.Common.{◌≡◌, ℕ, ◌+◌, Bool, true, false, ◌||◌, List, [], ◌∷◌, ◌++◌, Option, None, Some, Result, Ok, Err, IfOk, IfSome, refl, sym, ap, ◌∙◌, subst, append_assoc, add-one}
 use Rattle.std.specs.List.{list_any}
 use Rattle.std.proofs.lemmas.List.{append-nil}
 use Rattle.std.proofs.lemmas.List.Concat.{flat_map-append}
@@ -16,6 +16,7 @@ use Rattle.rp_scripts.proofs.RunLemmas.{IsTrue-both}
 use Rattle.rp_scripts.proofs.SinkLemmas.{Appends-append, Appends-nothing}
 use Rattle.rp_book.specs.Lines.{HasEnd}
 use Rattle.rp_registrar.specs.Added.{HasRefusal, PutsBehind}
+use Rattle.rp_registrar.specs.Acts.{PutsAnswers, PutsFirst}
 use Rattle.rp_registrar.specs.Answered.{Answers, AnswersBehind, lines_by}
 use Rattle.rp_registrar.proofs.ScriptLemmas.{IsReport-computed, IsReport-nothing, report-behind, report-refused}
 
@@ -124,3 +125,30 @@ PutsBehind-nothing lines old new mark h =
 -- so a line of the report of all is a refusal where the mark says so
 pub HasRefusal-behind : (script lines : List ℕ) (old new : Option (List ℕ)) (mark : Bool) → PutsBehind script lines old new mark → HasRefusal (script ++ lines) mark
 HasRefusal-behind script lines old new mark h = record { told = h.before ++ h.told; report = h.report; marks = h.marks }
+
+-- answers behind a script that a book tells
+pub told_answers : {E : Type 0} (r : Result Bool E) (told : Option (List ℕ)) (text lines : List ℕ) (old new : Option (List ℕ)) → IfSome told (λ kept. text ≡ kept) → IfOk r (λ mark. PutsBehind text lines old new mark)
+    → IfOk r (λ mark. IfSome told (λ script. PutsAnswers script old new mark))
+told_answers (Err e) told text lines old new same h = tt
+told_answers (Ok mark) None text lines old new same h = tt
+told_answers (Ok mark) (Some kept) text lines old new same h = record { lines = lines; answers = subst (λ s. PutsBehind s lines old new mark) same h }
+
+-- what was kept of answers, put elsewhere
+put_elsewhere : (script lines said : List ℕ) (old new : Option (List ℕ)) (mark : Bool) → PutsBehind script lines (Some []) (Some said) mark → Appends old new said → PutsBehind script lines old new mark
+put_elsewhere script lines said old new mark h put =
+    let none : h.text.0 ≡ [] = let e = h.text.1 in cc in
+    let whole : said ≡ text_of_lines h.told = h.text.2 ∙ ap (λ before. before ++ text_of_lines h.told) none in
+    record { before = h.before; told = h.told; report_before = h.report_before; report = h.report; text = subst (Appends old new) whole put; marks = h.marks }
+
+-- answers that were kept, and something behind them
+pub first_put : (told : Option (List ℕ)) (text lines said more : List ℕ) (old between new : Option (List ℕ)) (mark : Bool) → IfSome told (λ kept. text ≡ kept) → PutsBehind text lines (Some []) (Some said) mark
+    → Appends old between said → Appends between new more → IfSome told (λ script. PutsFirst script mark old new)
+first_put None text lines said more old between new mark same h first second = tt
+first_put (Some kept) text lines said more old between new mark same h first second =
+    record {
+      lines = lines;
+      between = between;
+      behind = more;
+      answers = subst (λ s. PutsBehind s lines old between mark) same (put_elsewhere text lines said old between mark h first);
+      others = second;
+    }

@@ -1,5 +1,5 @@
 -- The report of a script with lines behind it.
-use Rattle.std.proofs.Common.{◌≡◌, ℕ, Bool, List, [], ◌∷◌, ◌++◌, refl, sym, ap, ◌∙◌}
+use Rattle.std.proofs.Common.{◌≡◌, ℕ, false, List, [], ◌++◌, refl, sym, ap, ◌∙◌}
 use Rattle.std.specs.List.{list_any}
 use Rattle.rp_language.specs.Grammar.{Version, one, two}
 use Rattle.rp_model.specs.states.State.{opening}

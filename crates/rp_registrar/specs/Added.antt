@@ -1,5 +1,5 @@
 -- What is added to a book, and what the report says of it.
-use Rattle.std.specs.Prelude.{◌≡◌, ◌↔◌, ℕ, ◌-◌, ◌==◌, Bool, true, false, IsTrue, List, [], ◌∷◌, ◌++◌, length, slice_index, Option}
+use Rattle.std.specs.Prelude.{◌↔◌, ℕ, ◌-◌, ◌==◌, Bool, true, false, IsTrue, List, [], ◌∷◌, ◌++◌, length, slice_index, Option}
 use Rattle.std.specs.List.{list_any}
 use Rattle.rp_io.specs.Bytes.{Appends}
 use Rattle.rp_language.specs.Expression.{Command, register, cut, subdivide, consolidate, retire}

@@ -1,8 +1,7 @@
 //! What is asked as of a date.
-ghost use Rattle.std.specs.Prelude.{◌≡◌, IfOk, List, IfSome, map, string_bytes};
-ghost use Rattle.rp_book.specs.Act.{HasActs, Told, act_of};
-ghost use Rattle.rp_registrar.specs.Acts.{as_of_text, is_by, last_by};
-ghost use Rattle.rp_registrar.specs.Added.{PutsBehind};
+ghost use Rattle.std.specs.Prelude.{◌≡◌, ◌≤◌, IfOk, IfSome, map, max};
+ghost use Rattle.rp_book.specs.Act.{act_of};
+ghost use Rattle.rp_registrar.specs.Acts.{PutsAnswers, is_by, last_by, line_by};
 
 use crate::ask::answer;
 use crate::stop::Stop;
@@ -24,6 +23,24 @@ fn is_by(date: &str, time: &str) -> bool
     day.cmp(date.as_bytes()).is_le()
 }
 
+/// The number of the last line of an act that was added on a date or before, else 0.
+fn line_by(date: &str, act: &Act) -> u32
+    ensures { result ≡ line_by date.now (act_of act.now) }
+{
+    if is_by(date, act.added.as_str()) {
+        act.last
+    } else {
+        0
+    }
+}
+
+/// The greater of two numbers.
+fn greater(a: u32, b: u32) -> u32
+    ensures { result ≡ max a b }
+{
+    if a < b { b } else { a }
+}
+
 /// The number of the last line that was added on `date`, as 2026-11-30, or before; 0 if there is none. The times of `acts` are
 /// those of UTC, and so is the date.
 pub fn last_line_by(acts: &[Act], date: &str) -> u32
@@ -32,18 +49,14 @@ pub fn last_line_by(acts: &[Act], date: &str) -> u32
     let mut last = 0;
     let mut rest = acts;
     while let Some((act, more)) = rest.split_first() {
-        if is_by(date, act.added.as_str()) {
-            last = act.last.max(last);
-        }
+        last = greater(last, line_by(date, act));
         rest = more;
     }
     last
 }
 
 /// The text of a question as of a line.
-fn question(alloc: Global, line: u32, words: &[String]) -> Result<Vec<u8>, AllocError>
-    ensures { IfOk result (λ text. text.items ≡ as_of_text line (map string_bytes words.now)) }
-{
+fn question(alloc: Global, line: u32, words: &[String]) -> Result<Vec<u8>, AllocError> {
     let mut text = Vec::new(alloc);
     let mut buffer = Buffer::new();
     text.extend_from_slice(b"asof ")?;
@@ -68,8 +81,8 @@ pub fn as_of<R: Threads + Sync, B: Book, K: Sink>(
     words: &[String],
     sink: &mut K,
 ) -> Result<bool, Stop>
-    ensures answer { IfOk result (λ refused. IfSome (B.script book.now) (λ script. (acts : List Told) × HasActs script acts
-        × PutsBehind script (as_of_text (last_by date.now acts) (map string_bytes words.now)) (K.said sink.old) (K.said sink.new) refused)) }
+    ensures counts { K.faults sink.old ≤ K.faults sink.new }
+    ensures answer { IfOk result (λ refused. IfSome (B.script book.now) (λ script. PutsAnswers script (K.said sink.old) (K.said sink.new) refused)) }
 {
     let line = last_line_by(book.acts(), date);
     let question = question(alloc, line, words)?;

@@ -28,8 +28,9 @@ impl Sink for TextSink {
 
     /// Fails for want of memory alone.
     fn put(&mut self, piece: &[u8]) -> Result<(), Failed> {
+        let faults = self.faults;
         if self.text.extend_from_slice(piece).is_err() {
-            self.faults = self.faults.saturating_add(1);
+            self.faults = faults.saturating_add(1);
             return Err(Failed);
         }
         Ok(())
@@ -37,6 +38,7 @@ impl Sink for TextSink {
 }
 
 /// A lot of a history, and the numbers of the lines in which it was born and ended.
+#[derive(Clone, Copy)]
 struct Lot<'a> {
     id: &'a str,
     born: u32,

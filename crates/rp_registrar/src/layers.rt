@@ -18,12 +18,12 @@ fn is_among(layer: &Name, layers: &[Name]) -> bool {
     layers.iter().any(|other| other.bytes() == layer.bytes())
 }
 
-/// Adds the layers that lines choose to others, each once.
-fn gather(lines: &[u8], layers: &mut Vec<Name>) -> Result<(), AllocError> {
+/// Adds the layers that lines choose to others, each once, but for those that are known.
+fn gather(lines: &[u8], known: &[Name], layers: &mut Vec<Name>) -> Result<(), AllocError> {
     let mut rest = lines;
     while let Some((line, behind)) = next_line(rest) {
         if let Some(layer) = chosen(line) {
-            if !is_among(&layer, layers) {
+            if !is_among(&layer, known) && !is_among(&layer, layers) {
                 layers.push(layer)?;
             }
         }
@@ -34,13 +34,12 @@ fn gather(lines: &[u8], layers: &mut Vec<Name>) -> Result<(), AllocError> {
 
 /// The layers that `lines` choose and no line of `script` does. A script begins in `base`.
 pub fn first_chosen(alloc: Global, script: &[u8], lines: &[u8]) -> Result<Vec<Name>, AllocError> {
-    let mut layers = Vec::new(alloc);
+    let mut known = Vec::new(alloc);
     if let Some(base) = Name::new(b"base") {
-        layers.push(base)?;
+        known.push(base)?;
     }
-    gather(script, &mut layers)?;
-    let known = layers.len();
-    gather(lines, &mut layers)?;
-    layers.drain(..known);
+    gather(script, &[], &mut known)?;
+    let mut layers = Vec::new(alloc);
+    gather(lines, &known, &mut layers)?;
     Ok(layers)
 }

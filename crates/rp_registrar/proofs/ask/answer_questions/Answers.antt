@@ -1,7 +1,4 @@
-use Rattle.std.proofs.Common.{sym, ap, ◌∙◌}
 use Rattle.std.proofs.lemmas.Result.{err_from_is_err_and}
-use Rattle.rp_algebra.proofs.Results.{on_ok}
-use Rattle.rp_registrar.specs.Added.{has_change}
 use Rattle.rp_registrar.proofs.CauseLemmas.{answer_cause}
 use Rattle.rp_registrar.proofs.ask.answer_questions.Goals as goal
 
