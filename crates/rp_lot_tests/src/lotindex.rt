@@ -85,8 +85,9 @@ fn a_lot_that_ends_has_its_points_of_before(rt: HostRuntime) {
     let mut boxes = box_of_plot(&rt, alloc);
     assert!(rt; is_owned(&rt, &history, &boxes, Moment::Now));
     history.end(2, name(b"plot"));
-    assert_eq!(rt; history.lots().len(), 1);
-    boxes.settle(0, &history.lots()[0], &plot());
+    let lots = history.lots();
+    assert_eq!(rt; lots.len(), 1);
+    boxes.settle(0, &lots[0], &plot());
     assert!(rt; !is_owned(&rt, &history, &boxes, Moment::Now));
     assert!(rt; is_owned(&rt, &history, &boxes, Moment::After(1)));
     assert!(rt; !is_owned(&rt, &history, &boxes, Moment::After(2)));
