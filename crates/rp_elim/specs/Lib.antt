@@ -6,3 +6,4 @@ pub mod TripleSigns
 pub mod CoupleSign
 pub mod HeldFast
 pub mod FewTerms
+pub mod Written

@@ -4,6 +4,7 @@ ghost use Rattle.rp_geometry.specs.searches.Elimination.{refutation_of_three};
 ghost use Rattle.rp_space.specs.TwoHalfSpaces.{two_of};
 ghost use Rattle.rp_elim.specs.Axes.{axes_of, minor_on};
 ghost use Rattle.rp_elim.specs.Sides.{has_sign};
+ghost use Rattle.rp_elim.specs.Written.{if_found};
 
 use crate::cross::Cross;
 use crate::minors::{Axis, axes_of, minor, minors_on_axes};
@@ -16,14 +17,14 @@ const LAST_WORD: i128 = 0xffff_ffff_ffff_ffff;
 
 /// Two half-spaces with independent normals. A contract sees the two.
 #[derive(Drop)]
-pub struct Couple {
-    cross: Cross,
+pub struct Couple<'a> {
+    cross: Cross<'a>,
     u: Axis,
     v: Axis,
     positive: bool,
 }
 
-impl Model for Couple {
+impl<'a> Model for Couple<'a> {
     ghost use Rattle.rp_space.specs.TwoHalfSpaces.{TwoHalfSpaces};
 
     ghost Value = { TwoHalfSpaces };
@@ -35,9 +36,9 @@ impl Model for Couple {
     ghost invariant = { IsPrepared };
 }
 
-impl Couple {
+impl<'a> Couple<'a> {
     /// The couple of `f` and `g`. `None` exactly where their normals are dependent.
-    pub fn new(f: &Half, g: &Half) -> Option<Couple>
+    pub fn new(f: &'a Half, g: &'a Half) -> Option<Couple<'a>>
         ensures { MatchOption result (minor_on (axes_of f.now g.now) f.now g.now ≡ pos 0) (λ p. p ≡ two_of f.now g.now) }
     {
         let (u, v) = axes_of(f, g);
@@ -60,22 +61,22 @@ impl Couple {
         self.cross.weight(h) & LAST_WORD != 0
     }
 
-    /// The refutation by the two half-spaces and `h`, if they refute that all three are positive (`strict`), or that
-    /// none is negative. Only three with dependent normals have multiples that cancel, so the determinant is tried
-    /// first, and then the signs.
-    pub fn refutation(&self, strict: bool, h: &Half) -> Option<Outside>
-        ensures { result ≡ refutation_of_three strict self.now.first self.now.second h.now }
+    /// Writes to `found` the refutation by the two half-spaces and `h`, if they refute that all three are positive
+    /// (`strict`), or that none is negative. Only three with dependent normals have multiples that cancel, so the
+    /// determinant is tried first, and then the signs.
+    pub fn refutation(&self, strict: bool, h: &Half, found: &mut Outside) -> bool
+        ensures { if_found result found.new ≡ refutation_of_three strict self.now.first self.now.second h.now }
     {
         if self.cross.weight(h) != 0 {
-            return None;
+            return false;
         }
         let f = self.cross.first();
         let g = self.cross.second();
         if !have_one_sign(self.positive, f, g, h, self.u, self.v) {
-            return None;
+            return false;
         }
         let minors = minors_on_axes(f, g, h, self.u, self.v);
-        refutation(strict, &minors)
+        refutation(strict, &minors, found)
     }
 }
 

@@ -10,36 +10,36 @@ use std::marker::Model;
 
 /// The cross product of the normals of two half-spaces, as 2 by 2 minors. A contract sees the two half-spaces.
 #[derive(Drop)]
-pub struct Cross {
-    first: Half,
-    second: Half,
+pub struct Cross<'a> {
+    first: &'a Half,
+    second: &'a Half,
     bc: i64,
     ac: i64,
     ab: i64,
 }
 
-impl Model for Cross {
+impl<'a> Model for Cross<'a> {
     ghost use Rattle.rp_space.specs.TwoHalfSpaces.{TwoHalfSpaces, two_of};
 
     ghost Value = { TwoHalfSpaces };
 
     ghost use Rattle.rp_elim.specs.CrossMinors.{HasMinors};
 
-    ghost view = { λ p. two_of p.first p.second };
+    ghost view = { λ p. two_of p.first.now p.second.now };
 
     ghost invariant = { HasMinors };
 }
 
-impl Cross {
+impl<'a> Cross<'a> {
     /// The cross product of the normals of `f` and `g`.
-    pub fn new(f: &Half, g: &Half) -> Cross
+    pub fn new(f: &'a Half, g: &'a Half) -> Cross<'a>
         ensures { result ≡ two_of f.now g.now }
     {
         let (fa, fb, fc, _) = f.numbers();
         let (ga, gb, gc, _) = g.numbers();
         Cross {
-            first: *f,
-            second: *g,
+            first: f,
+            second: g,
             bc: fb * gc - fc * gb,
             ac: fa * gc - fc * ga,
             ab: fa * gb - fb * ga,
@@ -47,21 +47,21 @@ impl Cross {
     }
 
     /// The first half-space.
-    pub fn first(&self) -> &Half
+    pub fn first(&self) -> &'a Half
         ensures { result.now ≡ self.now.first }
     {
-        &self.first
+        self.first
     }
 
     /// The second half-space.
-    pub fn second(&self) -> &Half
+    pub fn second(&self) -> &'a Half
         ensures { result.now ≡ self.now.second }
     {
-        &self.second
+        self.second
     }
 
     /// A copy of the cross product.
-    pub fn copy(&self) -> Cross
+    pub fn copy(&self) -> Cross<'a>
         ensures { result ≡ self.now }
     {
         Cross {

@@ -4,41 +4,50 @@ ghost use Rattle.std.specs.List.{list_all};
 ghost use Rattle.rp_geometry.specs.searches.Certificate.{is_balanced, is_contradiction, is_multiplier};
 ghost use Rattle.rp_geometry.specs.searches.Elimination.{terms_if, reduced_terms, normal_terms, negated_terms};
 ghost use Rattle.rp_elim.specs.Factors.{AreFactorsSmall};
+ghost use Rattle.rp_elim.specs.Written.{if_found};
 
 use crate::lowest::lowest_terms;
 use rp_space::{Outside, Term, is_balanced, is_contradiction, is_multiplier};
 
-/// The `terms` with positive multipliers in lowest terms, if they refute that all their half-spaces are positive
-/// (`strict`), or that none is negative; the multipliers may have either sign. `None` where two multipliers have
-/// different signs or one is 0: then no positive multiples of them all cancel, or a term can be dropped, and a smaller
-/// set would come first.
-pub fn refutation(strict: bool, terms: &[Term]) -> Option<Outside>
+/// Writes to `found` the `terms` with positive multipliers in lowest terms, if they refute that all their half-spaces
+/// are positive (`strict`), or that none is negative; the multipliers may have either sign. False where two multipliers
+/// have different signs or one is 0: then no positive multiples of them all cancel, or a term can be dropped, and a
+/// smaller set would come first.
+pub fn refutation(strict: bool, terms: &[Term], found: &mut Outside) -> bool
     requires some { 0 < length terms.now }
     requires few { length terms.now ≤ 4 }
     requires small { AreFactorsSmall terms.now }
-    ensures { result ≡ terms_if strict (normal_terms terms.now) }
+    ensures { if_found result found.new ≡ terms_if strict (normal_terms terms.now) }
 {
     if are_multipliers(terms) {
-        return positive_refutation(strict, terms);
+        return positive_refutation(strict, terms, found);
     }
     if are_negated_multipliers(terms) {
-        return positive_refutation(strict, negated(terms).items());
+        return positive_refutation(strict, negated(terms).items(), found);
     }
-    None
+    false
 }
 
-/// The `terms` in lowest terms, if they refute that all their half-spaces are positive (`strict`), or that none is
-/// negative; all multipliers are positive.
-pub fn positive_refutation(strict: bool, terms: &[Term]) -> Option<Outside>
+/// Writes to `found` the `terms` in lowest terms, if they refute that all their half-spaces are positive (`strict`), or
+/// that none is negative; all multipliers are positive.
+pub fn positive_refutation(strict: bool, terms: &[Term], found: &mut Outside) -> bool
     requires some { 0 < length terms.now }
     requires few { length terms.now ≤ 4 }
     requires multipliers { list_all (λ t. is_multiplier t.factor) terms.now ≡ true }
-    ensures { result ≡ terms_if strict (reduced_terms terms.now) }
+    ensures { if_found result found.new ≡ terms_if strict (reduced_terms terms.now) }
 {
     if !cancel(strict, terms) {
-        return None;
+        return false;
     }
-    Some(lowest_terms(terms))
+    *found = lowest_terms(terms);
+    true
+}
+
+/// The terms that a search has written down, if it has found some.
+pub fn if_found(is_found: bool, terms: Outside) -> Option<Outside>
+    ensures { result ≡ if_found is_found terms }
+{
+    if is_found { Some(terms) } else { None }
 }
 
 /// Whether positive multiples contradict and cancel. Most that are tried cancel, so the contradiction comes first.

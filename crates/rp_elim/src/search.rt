@@ -1,4 +1,5 @@
-//! Searches over one, two, three and four half-spaces, in the order of their places.
+//! Searches over one, two, three and four half-spaces, in the order of their places. Each function that searches writes
+//! the refutation that it finds to `found`, and answers whether there is one: so no list of terms is moved on the way.
 ghost use Rattle.std.specs.Prelude.{◌≡◌, ◌↔◌, ◌≤◌, ◌++◌, Bool, true, length, None, Some, IsNone, IfSome, IsTrue};
 ghost use Rattle.rp_geometry.specs.Geometry.{RationalPoint, with_cube};
 ghost use Rattle.rp_geometry.specs.laws.CellLaws.{IsSolution};
@@ -6,11 +7,12 @@ ghost use Rattle.rp_geometry.specs.searches.Certificate.{is_outside_certificate}
 ghost use Rattle.rp_geometry.specs.searches.Search.{first_of, first_of_pairs, first_of_triples, first_of_quadruples};
 ghost use Rattle.rp_geometry.specs.searches.Elimination.{refutation_of_one, refutation_of_two, refutation_of_three, refutation_of_four, first_refutation, first_outside};
 ghost use Rattle.rp_elim.specs.FewTerms.{first_of_two};
+ghost use Rattle.rp_elim.specs.Written.{if_found};
 
 use crate::couple::Couple;
 use crate::cross::Cross;
 use crate::minors::{are_parallel, is_without_normal, may_cancel, minors_of_two};
-use crate::refutation::{positive_refutation, refutation};
+use crate::refutation::{if_found, positive_refutation, refutation};
 use crate::triple::Triple;
 use rp_space::{Half, Outside, Term, keep_bounds, with_cube};
 
@@ -26,7 +28,9 @@ pub fn first_outside(cell: &[Half], strict: bool) -> Option<Outside>
     ensures none { IsNone result ↔ ((p : RationalPoint) × IsSolution strict cell.now p) }
 {
     let system = with_cube(cell);
-    first_refutation(strict, system.as_slice())
+    let mut found = Outside::new();
+    let is_found = first_refutation(strict, system.as_slice(), &mut found);
+    if_found(is_found, found)
 }
 
 /// The first outside certificate of `cell`, `strict` or not, as `first_outside` finds it, if it has at most two terms:
@@ -41,7 +45,9 @@ pub fn first_outside_of_two(cell: &[Half], strict: bool) -> Option<Outside>
     ensures none { IfSome result (λ terms. (p : RationalPoint) → ¬ IsSolution strict cell.now p) }
 {
     let system = with_cube(cell);
-    first_of_two(strict, system.as_slice())
+    let mut found = Outside::new();
+    let is_found = first_of_two(strict, system.as_slice(), &mut found);
+    if_found(is_found, found)
 }
 
 /// The first outside certificate of `first` and `second` together, for strict or weak sides, if it has at most two
@@ -58,64 +64,66 @@ pub fn first_outside_between(first: &[Half], second: &[Half], strict: bool) -> O
     // Only so that it is known of all half-spaces that they keep their bounds.
     keep_bounds(first);
     keep_bounds(second);
-    first_between(strict, first, second)
+    let mut found = Outside::new();
+    let is_found = first_between(strict, first, second, &mut found);
+    if_found(is_found, found)
 }
 
 /// The first refutation by one half-space of a list and one of a second list.
-fn first_between(strict: bool, gs: &[Half], hs: &[Half]) -> Option<Outside>
-    ensures { result ≡ first_of (λ g. first_of (refutation_of_two strict g) hs.now) gs.now }
+fn first_between(strict: bool, gs: &[Half], hs: &[Half], found: &mut Outside) -> bool
+    ensures { if_found result found.new ≡ first_of (λ g. first_of (refutation_of_two strict g) hs.now) gs.now }
 {
     for g in gs {
-        if let Some(terms) = first_two_with(strict, g, hs) {
-            return Some(terms);
+        if first_two_with(strict, g, hs, found) {
+            return true;
         }
     }
-    None
+    false
 }
 
 /// The first refutation among the half-spaces of a list, by number of terms and then by places.
-fn first_refutation(strict: bool, halves: &[Half]) -> Option<Outside>
-    ensures { result ≡ first_refutation strict halves.now }
+fn first_refutation(strict: bool, halves: &[Half], found: &mut Outside) -> bool
+    ensures { if_found result found.new ≡ first_refutation strict halves.now }
 {
-    if let Some(terms) = first_of_two(strict, halves) {
-        return Some(terms);
+    if first_of_two(strict, halves, found) {
+        return true;
     }
-    if let Some(terms) = first_three(strict, halves) {
-        return Some(terms);
+    if first_three(strict, halves, found) {
+        return true;
     }
-    first_four(strict, halves)
+    first_four(strict, halves, found)
 }
 
 /// The first refutation by one half-space of a list, or else by two.
-fn first_of_two(strict: bool, halves: &[Half]) -> Option<Outside>
-    ensures { result ≡ first_of_two strict halves.now }
+fn first_of_two(strict: bool, halves: &[Half], found: &mut Outside) -> bool
+    ensures { if_found result found.new ≡ first_of_two strict halves.now }
 {
-    if let Some(terms) = first_one(strict, halves) {
-        return Some(terms);
+    if first_one(strict, halves, found) {
+        return true;
     }
-    first_two(strict, halves)
+    first_two(strict, halves, found)
 }
 
 /// The refutation by `h` alone, if it refutes that it is positive (`strict`), or that it is not negative. Only one
 /// without a normal can cancel.
-pub fn refutation_of_one(strict: bool, h: &Half) -> Option<Outside>
-    ensures { result ≡ refutation_of_one strict h.now }
+pub fn refutation_of_one(strict: bool, h: &Half, found: &mut Outside) -> bool
+    ensures { if_found result found.new ≡ refutation_of_one strict h.now }
 {
     if !is_without_normal(h) {
-        return None;
+        return false;
     }
-    positive_refutation(strict, &[Term { by: 1, half: *h }])
+    positive_refutation(strict, &[Term { by: 1, half: *h }], found)
 }
 
 /// The refutation by `g` and `h`, if they refute that both are positive (`strict`), or that none is negative. Only two
 /// with dependent normals can cancel.
-pub fn refutation_of_two(strict: bool, g: &Half, h: &Half) -> Option<Outside>
-    ensures { result ≡ refutation_of_two strict g.now h.now }
+pub fn refutation_of_two(strict: bool, g: &Half, h: &Half, found: &mut Outside) -> bool
+    ensures { if_found result found.new ≡ refutation_of_two strict g.now h.now }
 {
     if !are_parallel(g, h) {
-        return None;
+        return false;
     }
-    refutation(strict, &minors_of_two(g, h))
+    refutation(strict, &minors_of_two(g, h), found)
 }
 
 /// Whether the signs of the coefficients tell that two half-spaces do not refute. Most pairs are passed over so,
@@ -127,151 +135,157 @@ pub fn are_passed_over(g: &Half, h: &Half) -> bool
 }
 
 /// The first refutation by one of several.
-fn first_one(strict: bool, hs: &[Half]) -> Option<Outside>
-    ensures { result ≡ first_of (refutation_of_one strict) hs.now }
+fn first_one(strict: bool, hs: &[Half], found: &mut Outside) -> bool
+    ensures { if_found result found.new ≡ first_of (refutation_of_one strict) hs.now }
 {
     for h in hs {
-        if let Some(terms) = refutation_of_one(strict, h) {
-            return Some(terms);
+        if refutation_of_one(strict, h, found) {
+            return true;
         }
     }
-    None
+    false
 }
 
 /// The first refutation by two of several.
-fn first_two(strict: bool, gs: &[Half]) -> Option<Outside>
-    ensures { result ≡ first_of_pairs (refutation_of_two strict) gs.now }
+fn first_two(strict: bool, gs: &[Half], found: &mut Outside) -> bool
+    ensures { if_found result found.new ≡ first_of_pairs (refutation_of_two strict) gs.now }
 {
     for i in 0..gs.len() {
-        if let Some(terms) = first_two_with(strict, &gs[i], &gs[i + 1..]) {
-            return Some(terms);
+        if first_two_with(strict, &gs[i], &gs[i + 1..], found) {
+            return true;
         }
     }
-    None
+    false
 }
 
 /// The first refutation by one half-space and one of several.
-fn first_two_with(strict: bool, g: &Half, hs: &[Half]) -> Option<Outside>
-    ensures { result ≡ first_of (refutation_of_two strict g.now) hs.now }
+fn first_two_with(strict: bool, g: &Half, hs: &[Half], found: &mut Outside) -> bool
+    ensures { if_found result found.new ≡ first_of (refutation_of_two strict g.now) hs.now }
 {
     for h in hs {
         if are_passed_over(g, h) {
             continue;
         }
-        if let Some(terms) = refutation_of_two(strict, g, h) {
-            return Some(terms);
+        if refutation_of_two(strict, g, h, found) {
+            return true;
         }
     }
-    None
+    false
 }
 
 /// The first refutation by three of several.
-fn first_three(strict: bool, fs: &[Half]) -> Option<Outside>
-    ensures { result ≡ first_of_triples (refutation_of_three strict) fs.now }
+fn first_three(strict: bool, fs: &[Half], found: &mut Outside) -> bool
+    ensures { if_found result found.new ≡ first_of_triples (refutation_of_three strict) fs.now }
 {
     for i in 0..fs.len() {
-        if let Some(terms) = first_three_with(strict, &fs[i], &fs[i + 1..]) {
-            return Some(terms);
+        if first_three_with(strict, &fs[i], &fs[i + 1..], found) {
+            return true;
         }
     }
-    None
+    false
 }
 
 /// The first refutation by one half-space and two of several.
-fn first_three_with(strict: bool, f: &Half, gs: &[Half]) -> Option<Outside>
-    ensures { result ≡ first_of_pairs (refutation_of_three strict f.now) gs.now }
+fn first_three_with(strict: bool, f: &Half, gs: &[Half], found: &mut Outside) -> bool
+    ensures { if_found result found.new ≡ first_of_pairs (refutation_of_three strict f.now) gs.now }
 {
     for i in 0..gs.len() {
-        if let Some(terms) = first_three_with_two(strict, f, &gs[i], &gs[i + 1..]) {
-            return Some(terms);
+        if first_three_with_two(strict, f, &gs[i], &gs[i + 1..], found) {
+            return true;
         }
     }
-    None
+    false
 }
 
 /// The first refutation by two half-spaces and one of several. Where the normals of the two are dependent, the
 /// multipliers of three are not determined up to a factor: a term can be dropped, so a smaller set would come first.
-fn first_three_with_two(strict: bool, f: &Half, g: &Half, hs: &[Half]) -> Option<Outside>
-    ensures { result ≡ first_of (refutation_of_three strict f.now g.now) hs.now }
+fn first_three_with_two(strict: bool, f: &Half, g: &Half, hs: &[Half], found: &mut Outside) -> bool
+    ensures { if_found result found.new ≡ first_of (refutation_of_three strict f.now g.now) hs.now }
 {
     match Couple::new(f, g) {
-        None => None,
-        Some(couple) => first_three_with_couple(strict, &couple, hs),
+        None => false,
+        Some(couple) => first_three_with_couple(strict, &couple, hs, found),
     }
 }
 
 /// The first refutation by a couple and one of several.
-fn first_three_with_couple(strict: bool, couple: &Couple, hs: &[Half]) -> Option<Outside>
-    ensures { result ≡ first_of (refutation_of_three strict couple.now.first couple.now.second) hs.now }
+fn first_three_with_couple(strict: bool, couple: &Couple, hs: &[Half], found: &mut Outside) -> bool
+    ensures { if_found result found.new ≡ first_of (refutation_of_three strict couple.now.first couple.now.second) hs.now }
 {
     for h in hs {
         if couple.is_passed_over(h) {
             continue;
         }
-        if let Some(terms) = couple.refutation(strict, h) {
-            return Some(terms);
+        if couple.refutation(strict, h, found) {
+            return true;
         }
     }
-    None
+    false
 }
 
 /// The first refutation by four of several.
-fn first_four(strict: bool, es: &[Half]) -> Option<Outside>
-    ensures { result ≡ first_of_quadruples (refutation_of_four strict) es.now }
+fn first_four(strict: bool, es: &[Half], found: &mut Outside) -> bool
+    ensures { if_found result found.new ≡ first_of_quadruples (refutation_of_four strict) es.now }
 {
     for i in 0..es.len() {
-        if let Some(terms) = first_four_with(strict, &es[i], &es[i + 1..]) {
-            return Some(terms);
+        if first_four_with(strict, &es[i], &es[i + 1..], found) {
+            return true;
         }
     }
-    None
+    false
 }
 
 /// The first refutation by one half-space and three of several.
-fn first_four_with(strict: bool, e: &Half, fs: &[Half]) -> Option<Outside>
-    ensures { result ≡ first_of_triples (refutation_of_four strict e.now) fs.now }
+fn first_four_with(strict: bool, e: &Half, fs: &[Half], found: &mut Outside) -> bool
+    ensures { if_found result found.new ≡ first_of_triples (refutation_of_four strict e.now) fs.now }
 {
     for i in 0..fs.len() {
-        if let Some(terms) = first_four_with_two(strict, e, &fs[i], &fs[i + 1..]) {
-            return Some(terms);
+        if first_four_with_two(strict, e, &fs[i], &fs[i + 1..], found) {
+            return true;
         }
     }
-    None
+    false
 }
 
 /// The first refutation by two half-spaces and two of several.
-fn first_four_with_two(strict: bool, e: &Half, f: &Half, gs: &[Half]) -> Option<Outside>
-    ensures { result ≡ first_of_pairs (refutation_of_four strict e.now f.now) gs.now }
+fn first_four_with_two(strict: bool, e: &Half, f: &Half, gs: &[Half], found: &mut Outside) -> bool
+    ensures { if_found result found.new ≡ first_of_pairs (refutation_of_four strict e.now f.now) gs.now }
 {
     let ef = Cross::new(e, f);
     for i in 0..gs.len() {
-        if let Some(terms) = first_four_with_three(strict, &ef, &gs[i], &gs[i + 1..]) {
-            return Some(terms);
+        if first_four_with_three(strict, &ef, &gs[i], &gs[i + 1..], found) {
+            return true;
         }
     }
-    None
+    false
 }
 
 /// The first refutation by two half-spaces, a third one and one of several. Where the normals of the three are
 /// dependent, the multipliers of four are not determined up to a factor: a term can be dropped, so a smaller set would
 /// come first.
-fn first_four_with_three(strict: bool, ef: &Cross, g: &Half, hs: &[Half]) -> Option<Outside>
-    ensures { result ≡ first_of (refutation_of_four strict ef.now.first ef.now.second g.now) hs.now }
+fn first_four_with_three(
+    strict: bool,
+    ef: &Cross,
+    g: &Half,
+    hs: &[Half],
+    found: &mut Outside,
+) -> bool
+    ensures { if_found result found.new ≡ first_of (refutation_of_four strict ef.now.first ef.now.second g.now) hs.now }
 {
     match Triple::new(ef, g) {
-        None => None,
-        Some(triple) => first_four_with_triple(strict, &triple, hs),
+        None => false,
+        Some(triple) => first_four_with_triple(strict, &triple, hs, found),
     }
 }
 
 /// The first refutation by a triple and one of several.
-fn first_four_with_triple(strict: bool, triple: &Triple, hs: &[Half]) -> Option<Outside>
-    ensures { result ≡ first_of (refutation_of_four strict triple.now.first triple.now.second triple.now.third) hs.now }
+fn first_four_with_triple(strict: bool, triple: &Triple, hs: &[Half], found: &mut Outside) -> bool
+    ensures { if_found result found.new ≡ first_of (refutation_of_four strict triple.now.first triple.now.second triple.now.third) hs.now }
 {
     for h in hs {
-        if let Some(terms) = triple.refutation(strict, h) {
-            return Some(terms);
+        if triple.refutation(strict, h, found) {
+            return true;
         }
     }
-    None
+    false
 }

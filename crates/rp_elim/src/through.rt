@@ -1,4 +1,5 @@
-//! The search for the first refutation where one half-space is known to be in each.
+//! The search for the first refutation where one half-space is known to be in each. Each function writes it to `found`,
+//! and answers whether there is one.
 ghost use Rattle.std.specs.Prelude.{◌≡◌, ◌↔◌, ◌+◌, ◌<◌, ◌≤◌, ◌∷◌, ◌++◌, Bool, true, pos, neg_ℤ, length, None, IsNone, IfSome, IsTrue};
 ghost use Rattle.rp_geometry.specs.Geometry.{RationalPoint, with_cube};
 ghost use Rattle.rp_geometry.specs.laws.CellLaws.{IsSolution};
@@ -8,13 +9,14 @@ ghost use Rattle.rp_geometry.specs.searches.Vertex.{meeting_weight};
 ghost use Rattle.rp_geometry.specs.searches.Elimination.{refutation_of_two, refutation_of_three, refutation_of_four, first_outside};
 ghost use Rattle.rp_space.specs.TwoHalfSpaces.{two_of};
 ghost use Rattle.rp_elim.specs.Sides.{three_of};
+ghost use Rattle.rp_elim.specs.Written.{if_found};
 ghost use Rattle.rp_elim.specs.HeldFast.{placed_list, two_in_order, three_in_order, four_in_order, first_through};
 
 use crate::couple::Couple;
 use crate::cross::Cross;
 use crate::minors::minors_of_four;
 use crate::placed::{Placed, place};
-use crate::refutation::refutation;
+use crate::refutation::{if_found, refutation};
 use crate::search::{are_passed_over, refutation_of_one, refutation_of_two};
 use crate::triple::Triple;
 use arrayvec::ArrayVec;
@@ -50,71 +52,91 @@ pub fn first_outside_through(
     keep_bounds(before);
     let _ = half.numbers();
     keep_bounds(after);
-    first_beside(strict, before, half, after)
+    let mut found = Outside::new();
+    let is_found = first_beside(strict, before, half, after, &mut found);
+    if_found(is_found, found)
 }
 
 /// The first refutation by a half-space and others, of which most cells have so few that a short list has room for
 /// them.
-fn first_beside(strict: bool, before: &[Half], half: &Half, after: &[Half]) -> Option<Outside>
+fn first_beside(
+    strict: bool,
+    before: &[Half],
+    half: &Half,
+    after: &[Half],
+    found: &mut Outside,
+) -> bool
     requires { length before.now + length after.now < 64 }
-    ensures { result ≡ first_through strict half.now (placed_list before.now (with_cube after.now)) }
+    ensures { if_found result found.new ≡ first_through strict half.now (placed_list before.now (with_cube after.now)) }
 {
     if before.len() + after.len() <= FEW {
-        return first_beside_few(strict, before, half, after);
+        return first_beside_few(strict, before, half, after, found);
     }
-    first_beside_many(strict, before, half, after)
+    first_beside_many(strict, before, half, after, found)
 }
 
 /// The first refutation by `half` and the others, which stand in a short list. It is apart so that nobody else makes
 /// room for it.
-fn first_beside_few(strict: bool, before: &[Half], half: &Half, after: &[Half]) -> Option<Outside>
+fn first_beside_few(
+    strict: bool,
+    before: &[Half],
+    half: &Half,
+    after: &[Half],
+    found: &mut Outside,
+) -> bool
     requires { length before.now + length after.now ≤ 14 }
-    ensures { result ≡ first_through strict half.now (placed_list before.now (with_cube after.now)) }
+    ensures { if_found result found.new ≡ first_through strict half.now (placed_list before.now (with_cube after.now)) }
 {
     let mut others = ArrayVec::<Placed, FEW_PLACES>::new();
     place(&mut others, before, after);
-    first_through(strict, half, others.as_slice())
+    first_through(strict, half, others.as_slice(), found)
 }
 
 /// The first refutation by `half` and the others, which stand in a long list.
-fn first_beside_many(strict: bool, before: &[Half], half: &Half, after: &[Half]) -> Option<Outside>
+fn first_beside_many(
+    strict: bool,
+    before: &[Half],
+    half: &Half,
+    after: &[Half],
+    found: &mut Outside,
+) -> bool
     requires { length before.now + length after.now < 64 }
-    ensures { result ≡ first_through strict half.now (placed_list before.now (with_cube after.now)) }
+    ensures { if_found result found.new ≡ first_through strict half.now (placed_list before.now (with_cube after.now)) }
 {
     let mut others = ArrayVec::<Placed, MOST_PLACES>::new();
     place(&mut others, before, after);
-    first_through(strict, half, others.as_slice())
+    first_through(strict, half, others.as_slice(), found)
 }
 
 /// The first refutation by a half-space and others, by number of terms and then by places.
-fn first_through(strict: bool, k: &Half, others: &[Placed]) -> Option<Outside>
-    ensures { result ≡ first_through strict k.now others.now }
+fn first_through(strict: bool, k: &Half, others: &[Placed], found: &mut Outside) -> bool
+    ensures { if_found result found.new ≡ first_through strict k.now others.now }
 {
-    if let Some(terms) = refutation_of_one(strict, k) {
-        return Some(terms);
+    if refutation_of_one(strict, k, found) {
+        return true;
     }
-    if let Some(terms) = first_two(strict, k, others) {
-        return Some(terms);
+    if first_two(strict, k, others, found) {
+        return true;
     }
-    if let Some(terms) = first_three(strict, k, others) {
-        return Some(terms);
+    if first_three(strict, k, others, found) {
+        return true;
     }
-    first_four(strict, k, others)
+    first_four(strict, k, others, found)
 }
 
 /// The first refutation by a half-space and one of several.
-fn first_two(strict: bool, k: &Half, ps: &[Placed]) -> Option<Outside>
-    ensures { result ≡ first_of (two_in_order (refutation_of_two strict) k.now) ps.now }
+fn first_two(strict: bool, k: &Half, ps: &[Placed], found: &mut Outside) -> bool
+    ensures { if_found result found.new ≡ first_of (two_in_order (refutation_of_two strict) k.now) ps.now }
 {
     for p in ps {
         if is_passed_over(k, p) {
             continue;
         }
-        if let Some(terms) = two_in_order(strict, k, p) {
-            return Some(terms);
+        if two_in_order(strict, k, p, found) {
+            return true;
         }
     }
-    None
+    false
 }
 
 /// Whether the signs of the coefficients tell that a half-space and another one do not refute, in the order of their
@@ -129,98 +151,105 @@ fn is_passed_over(k: &Half, p: &Placed) -> bool
 }
 
 /// The refutation by a half-space and another one, in the order of their places, if they refute.
-fn two_in_order(strict: bool, k: &Half, p: &Placed) -> Option<Outside>
-    ensures { result ≡ two_in_order (refutation_of_two strict) k.now p.now }
+fn two_in_order(strict: bool, k: &Half, p: &Placed, found: &mut Outside) -> bool
+    ensures { if_found result found.new ≡ two_in_order (refutation_of_two strict) k.now p.now }
 {
     if p.before {
-        return refutation_of_two(strict, &p.half, k);
+        return refutation_of_two(strict, &p.half, k, found);
     }
-    refutation_of_two(strict, k, &p.half)
+    refutation_of_two(strict, k, &p.half, found)
 }
 
 /// The first refutation by a half-space and two of several.
-fn first_three(strict: bool, k: &Half, ps: &[Placed]) -> Option<Outside>
-    ensures { result ≡ first_of_pairs (three_in_order (refutation_of_three strict) k.now) ps.now }
+fn first_three(strict: bool, k: &Half, ps: &[Placed], found: &mut Outside) -> bool
+    ensures { if_found result found.new ≡ first_of_pairs (three_in_order (refutation_of_three strict) k.now) ps.now }
 {
     for i in 0..ps.len() {
-        if let Some(terms) = first_three_with(strict, k, &ps[i], &ps[i + 1..]) {
-            return Some(terms);
+        if first_three_with(strict, k, &ps[i], &ps[i + 1..], found) {
+            return true;
         }
     }
-    None
+    false
 }
 
 /// The first refutation by a half-space, a second one and one of several.
-fn first_three_with(strict: bool, k: &Half, p: &Placed, qs: &[Placed]) -> Option<Outside>
-    ensures { result ≡ first_of (three_in_order (refutation_of_three strict) k.now p.now) qs.now }
+fn first_three_with(strict: bool, k: &Half, p: &Placed, qs: &[Placed], found: &mut Outside) -> bool
+    ensures { if_found result found.new ≡ first_of (three_in_order (refutation_of_three strict) k.now p.now) qs.now }
 {
     let kp = Cross::new(k, &p.half);
     for i in 0..qs.len() {
-        if let Some(terms) = three_if_dependent(strict, &kp, k, p, &qs[i]) {
-            return Some(terms);
+        if three_if_dependent(strict, &kp, k, p, &qs[i], found) {
+            return true;
         }
     }
-    None
+    false
 }
 
 /// The refutation by a half-space and two others, in the order of their places, if they refute.
 /// Only three with dependent normals have multiples that cancel, so the determinant is tried first.
-fn three_if_dependent(strict: bool, kp: &Cross, k: &Half, p: &Placed, q: &Placed) -> Option<Outside>
+fn three_if_dependent(
+    strict: bool,
+    kp: &Cross,
+    k: &Half,
+    p: &Placed,
+    q: &Placed,
+    found: &mut Outside,
+) -> bool
     requires { kp.now ≡ two_of k.now p.now.half }
-    ensures { result ≡ three_in_order (refutation_of_three strict) k.now p.now q.now }
+    ensures { if_found result found.new ≡ three_in_order (refutation_of_three strict) k.now p.now q.now }
 {
     if kp.weight(&q.half) != 0 {
-        return None;
+        return false;
     }
-    three_in_order(strict, k, p, q)
+    three_in_order(strict, k, p, q, found)
 }
 
 /// The refutation by a half-space and two others, in the order of their places, if they refute.
-fn three_in_order(strict: bool, k: &Half, p: &Placed, q: &Placed) -> Option<Outside>
-    ensures { result ≡ three_in_order (refutation_of_three strict) k.now p.now q.now }
+fn three_in_order(strict: bool, k: &Half, p: &Placed, q: &Placed, found: &mut Outside) -> bool
+    ensures { if_found result found.new ≡ three_in_order (refutation_of_three strict) k.now p.now q.now }
 {
     if !p.before {
-        return refutation_of_three(strict, k, &p.half, &q.half);
+        return refutation_of_three(strict, k, &p.half, &q.half, found);
     }
     if !q.before {
-        return refutation_of_three(strict, &p.half, k, &q.half);
+        return refutation_of_three(strict, &p.half, k, &q.half, found);
     }
-    refutation_of_three(strict, &p.half, &q.half, k)
+    refutation_of_three(strict, &p.half, &q.half, k, found)
 }
 
 /// The refutation by three half-spaces, if they refute. Where the normals of the first two are dependent they do not.
-fn refutation_of_three(strict: bool, f: &Half, g: &Half, h: &Half) -> Option<Outside>
-    ensures { result ≡ refutation_of_three strict f.now g.now h.now }
+fn refutation_of_three(strict: bool, f: &Half, g: &Half, h: &Half, found: &mut Outside) -> bool
+    ensures { if_found result found.new ≡ refutation_of_three strict f.now g.now h.now }
 {
     match Couple::new(f, g) {
-        None => None,
-        Some(couple) => couple.refutation(strict, h),
+        None => false,
+        Some(couple) => couple.refutation(strict, h, found),
     }
 }
 
 /// The first refutation by a half-space and three of several.
-fn first_four(strict: bool, k: &Half, ps: &[Placed]) -> Option<Outside>
-    ensures { result ≡ first_of_triples (four_in_order (refutation_of_four strict) k.now) ps.now }
+fn first_four(strict: bool, k: &Half, ps: &[Placed], found: &mut Outside) -> bool
+    ensures { if_found result found.new ≡ first_of_triples (four_in_order (refutation_of_four strict) k.now) ps.now }
 {
     for i in 0..ps.len() {
-        if let Some(terms) = first_four_with(strict, k, &ps[i], &ps[i + 1..]) {
-            return Some(terms);
+        if first_four_with(strict, k, &ps[i], &ps[i + 1..], found) {
+            return true;
         }
     }
-    None
+    false
 }
 
 /// The first refutation by a half-space, a second one and two of several.
-fn first_four_with(strict: bool, k: &Half, p: &Placed, qs: &[Placed]) -> Option<Outside>
-    ensures { result ≡ first_of_pairs (four_in_order (refutation_of_four strict) k.now p.now) qs.now }
+fn first_four_with(strict: bool, k: &Half, p: &Placed, qs: &[Placed], found: &mut Outside) -> bool
+    ensures { if_found result found.new ≡ first_of_pairs (four_in_order (refutation_of_four strict) k.now p.now) qs.now }
 {
     let kp = Cross::new(k, &p.half);
     for i in 0..qs.len() {
-        if let Some(terms) = first_four_with_two(strict, &kp, k, p, &qs[i], &qs[i + 1..]) {
-            return Some(terms);
+        if first_four_with_two(strict, &kp, k, p, &qs[i], &qs[i + 1..], found) {
+            return true;
         }
     }
-    None
+    false
 }
 
 /// The first refutation by a half-space, two more and one of several. The determinant of the three is the multiplier of
@@ -232,13 +261,14 @@ fn first_four_with_two(
     p: &Placed,
     q: &Placed,
     rs: &[Placed],
-) -> Option<Outside>
+    found: &mut Outside,
+) -> bool
     requires { kp.now ≡ two_of k.now p.now.half }
-    ensures { result ≡ first_of (four_in_order (refutation_of_four strict) k.now p.now q.now) rs.now }
+    ensures { if_found result found.new ≡ first_of (four_in_order (refutation_of_four strict) k.now p.now q.now) rs.now }
 {
     match Triple::new(kp, &q.half) {
-        None => None,
-        Some(triple) => first_four_with_triple(strict, &triple, k, p, q, rs),
+        None => false,
+        Some(triple) => first_four_with_triple(strict, &triple, k, p, q, rs, found),
     }
 }
 
@@ -250,16 +280,17 @@ fn first_four_with_triple(
     p: &Placed,
     q: &Placed,
     rs: &[Placed],
-) -> Option<Outside>
+    found: &mut Outside,
+) -> bool
     requires { triple.now ≡ three_of k.now p.now.half q.now.half }
-    ensures { result ≡ first_of (four_in_order (refutation_of_four strict) k.now p.now q.now) rs.now }
+    ensures { if_found result found.new ≡ first_of (four_in_order (refutation_of_four strict) k.now p.now q.now) rs.now }
 {
     for i in 0..rs.len() {
-        if let Some(terms) = four_if_one_sign(strict, triple, k, p, q, &rs[i]) {
-            return Some(terms);
+        if four_if_one_sign(strict, triple, k, p, q, &rs[i], found) {
+            return true;
         }
     }
-    None
+    false
 }
 
 /// The refutation by a half-space and three others, in the order of their places, if they refute.
@@ -271,35 +302,50 @@ fn four_if_one_sign(
     p: &Placed,
     q: &Placed,
     r: &Placed,
-) -> Option<Outside>
+    found: &mut Outside,
+) -> bool
     requires { triple.now ≡ three_of k.now p.now.half q.now.half }
-    ensures { result ≡ four_in_order (refutation_of_four strict) k.now p.now q.now r.now }
+    ensures { if_found result found.new ≡ four_in_order (refutation_of_four strict) k.now p.now q.now r.now }
 {
     if !triple.has_one_sign(&r.half) {
-        return None;
+        return false;
     }
-    four_in_order(strict, k, p, q, r)
+    four_in_order(strict, k, p, q, r, found)
 }
 
 /// The refutation by a half-space and three others, in the order of their places, if they refute.
-fn four_in_order(strict: bool, k: &Half, p: &Placed, q: &Placed, r: &Placed) -> Option<Outside>
-    ensures { result ≡ four_in_order (refutation_of_four strict) k.now p.now q.now r.now }
+fn four_in_order(
+    strict: bool,
+    k: &Half,
+    p: &Placed,
+    q: &Placed,
+    r: &Placed,
+    found: &mut Outside,
+) -> bool
+    ensures { if_found result found.new ≡ four_in_order (refutation_of_four strict) k.now p.now q.now r.now }
 {
     if !p.before {
-        return refutation_of_four(strict, k, &p.half, &q.half, &r.half);
+        return refutation_of_four(strict, k, &p.half, &q.half, &r.half, found);
     }
     if !q.before {
-        return refutation_of_four(strict, &p.half, k, &q.half, &r.half);
+        return refutation_of_four(strict, &p.half, k, &q.half, &r.half, found);
     }
     if !r.before {
-        return refutation_of_four(strict, &p.half, &q.half, k, &r.half);
+        return refutation_of_four(strict, &p.half, &q.half, k, &r.half, found);
     }
-    refutation_of_four(strict, &p.half, &q.half, &r.half, k)
+    refutation_of_four(strict, &p.half, &q.half, &r.half, k, found)
 }
 
 /// The refutation by four half-spaces, if they refute.
-fn refutation_of_four(strict: bool, e: &Half, f: &Half, g: &Half, h: &Half) -> Option<Outside>
-    ensures { result ≡ refutation_of_four strict e.now f.now g.now h.now }
+fn refutation_of_four(
+    strict: bool,
+    e: &Half,
+    f: &Half,
+    g: &Half,
+    h: &Half,
+    found: &mut Outside,
+) -> bool
+    ensures { if_found result found.new ≡ refutation_of_four strict e.now f.now g.now h.now }
 {
-    refutation(strict, &minors_of_four(e, f, g, h))
+    refutation(strict, &minors_of_four(e, f, g, h), found)
 }

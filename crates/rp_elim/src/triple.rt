@@ -4,6 +4,7 @@ ghost use Rattle.rp_geometry.specs.searches.Vertex.{meeting_weight};
 ghost use Rattle.rp_geometry.specs.searches.Elimination.{minors_of_four, refutation_of_four};
 ghost use Rattle.rp_elim.specs.Factors.{AreFactorsSmall};
 ghost use Rattle.rp_elim.specs.Sides.{has_sign, three_of, HaveMixedMinors};
+ghost use Rattle.rp_elim.specs.Written.{if_found};
 
 use crate::cross::Cross;
 use crate::minors::minors_of_four;
@@ -13,14 +14,14 @@ use std::marker::Model;
 
 /// Three half-spaces with independent normals. A contract sees the three.
 #[derive(Drop)]
-pub struct Triple {
-    ef: Cross,
-    eg: Cross,
-    fg: Cross,
+pub struct Triple<'a> {
+    ef: Cross<'a>,
+    eg: Cross<'a>,
+    fg: Cross<'a>,
     positive: bool,
 }
 
-impl Model for Triple {
+impl<'a> Model for Triple<'a> {
     ghost use Rattle.rp_elim.specs.Sides.{ThreeHalfSpaces, three_of};
 
     ghost Value = { ThreeHalfSpaces };
@@ -32,9 +33,9 @@ impl Model for Triple {
     ghost invariant = { IsPrepared };
 }
 
-impl Triple {
+impl<'a> Triple<'a> {
     /// The triple of the two half-spaces of `ef` and `g`. `None` exactly where their normals are dependent.
-    pub fn new(ef: &Cross, g: &Half) -> Option<Triple>
+    pub fn new(ef: &Cross<'a>, g: &'a Half) -> Option<Triple<'a>>
         ensures { MatchOption result (meeting_weight ef.now.first ef.now.second g.now ≡ pos 0) (λ t. t ≡ three_of ef.now.first ef.now.second g.now) }
     {
         match ef.opposite_sign(g) {
@@ -56,15 +57,15 @@ impl Triple {
         have_one_sign(self.positive, &self.ef, &self.eg, &self.fg, h)
     }
 
-    /// The refutation by the three half-spaces and `h`, if they refute that all four are positive (`strict`), or that
-    /// none is negative. The signs are tried first: where two differ the minors need not be taken.
-    pub fn refutation(&self, strict: bool, h: &Half) -> Option<Outside>
-        ensures { result ≡ refutation_of_four strict self.now.first self.now.second self.now.third h.now }
+    /// Writes to `found` the refutation by the three half-spaces and `h`, if they refute that all four are positive
+    /// (`strict`), or that none is negative. The signs are tried first: where two differ the minors need not be taken.
+    pub fn refutation(&self, strict: bool, h: &Half, found: &mut Outside) -> bool
+        ensures { if_found result found.new ≡ refutation_of_four strict self.now.first self.now.second self.now.third h.now }
     {
         if !self.has_one_sign(h) {
-            return None;
+            return false;
         }
-        refutation(strict, &minors_of_crosses(&self.ef, &self.eg, h))
+        refutation(strict, &minors_of_crosses(&self.ef, &self.eg, h), found)
     }
 }
 

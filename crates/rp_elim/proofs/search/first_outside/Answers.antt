@@ -7,10 +7,10 @@ use Rattle.rp_elim.proofs.search.first_outside.Goals as goal
 pub returns-clause-first : goal.returns-clause-first
 unfolding first_outside
 returns-clause-first c =
-    c.first_refutation.ensures ∙ ap (λ (hs : List HalfSpace). first_refutation c.args.strict hs) (c.as_slice.ensures.value ∙ c.with_cube-system.ensures.items)
+    c.if_found.ensures ∙ c.first_refutation-is_found.ensures ∙ ap (λ (hs : List HalfSpace). first_refutation c.args.strict hs) (c.as_slice.ensures.value ∙ c.with_cube-system.ensures.items)
 
 pub returns-clause-passes : goal.returns-clause-passes
-returns-clause-passes c = found_passes c.args.strict c.args.cell.now c.with_cube-system.ensures.bounds c.first_refutation.result (returns-clause-first c)
+returns-clause-passes c = found_passes c.args.strict c.args.cell.now c.with_cube-system.ensures.bounds c.if_found.result (returns-clause-first c)
 
 pub returns-clause-none : goal.returns-clause-none
-returns-clause-none c = none_where_solution c.args.strict c.args.cell.now c.with_cube-system.ensures.bounds c.first_refutation.result (returns-clause-first c)
+returns-clause-none c = none_where_solution c.args.strict c.args.cell.now c.with_cube-system.ensures.bounds c.if_found.result (returns-clause-first c)

@@ -11,23 +11,23 @@ use Rattle.rp_elim.proofs.search.first_outside_of_two.Goals as goal
 
 pub returns-clause-found : goal.returns-clause-found
 returns-clause-found c =
-    c.first_of_two.ensures ∙ ap (λ (hs : List HalfSpace). first_of_two c.args.strict hs) (c.as_slice.ensures.value ∙ c.with_cube-system.ensures.items)
+    c.if_found.ensures ∙ c.first_of_two-is_found.ensures ∙ ap (λ (hs : List HalfSpace). first_of_two c.args.strict hs) (c.as_slice.ensures.value ∙ c.with_cube-system.ensures.items)
 
 -- it is the first of all
-first : (c : goal.After-first_of_two) (terms : List Multiple) → c.first_of_two.result ≡ Some terms → first_outside c.args.strict c.args.cell.now ≡ Some terms
+first : (c : goal.After-if_found) (terms : List Multiple) → c.if_found.result ≡ Some terms → first_outside c.args.strict c.args.cell.now ≡ Some terms
 first c terms e = few_are_first c.args.strict c.args.cell.now terms (sym (returns-clause-found c) ∙ e)
 
 pub returns-clause-first : goal.returns-clause-first
-returns-clause-first c = if_some (λ terms. first_outside c.args.strict c.args.cell.now ≡ Some terms) c.first_of_two.result (first c)
+returns-clause-first c = if_some (λ terms. first_outside c.args.strict c.args.cell.now ≡ Some terms) c.if_found.result (first c)
 
 pub returns-clause-passes : goal.returns-clause-passes
 returns-clause-passes c =
-    if_some (λ terms. IsTrue (is_outside_certificate c.args.strict c.args.cell.now terms)) c.first_of_two.result (
+    if_some (λ terms. IsTrue (is_outside_certificate c.args.strict c.args.cell.now terms)) c.if_found.result (
     λ terms e. few_pass c.args.strict c.args.cell.now c.with_cube-system.ensures.bounds terms (first c terms e)
     )
 
 pub returns-clause-none : goal.returns-clause-none
 returns-clause-none c =
-    if_some (λ terms. (p : RationalPoint) → ¬ IsSolution c.args.strict c.args.cell.now p) c.first_of_two.result (
+    if_some (λ terms. (p : RationalPoint) → ¬ IsSolution c.args.strict c.args.cell.now p) c.if_found.result (
     λ terms e. few_leave_none c.args.strict c.args.cell.now c.with_cube-system.ensures.bounds terms (first c terms e)
     )

@@ -9,7 +9,7 @@ pub returns-clause-first : goal.returns-clause-first
 returns-clause-first c =
     let before = c.args.before.now in
     let after = c.args.after.now in
-    c.first_beside.ensures
+    c.if_found.ensures ∙ c.first_beside-is_found.ensures
     ∙ sym (first_with_others c.args.strict before c.args.half.now after (all_append IsHalfSpace before after c.keep_bounds.ensures c.keep_bounds-2.ensures) c.requires.others)
 
 pub returns-clause-passes : goal.returns-clause-passes
@@ -17,11 +17,11 @@ returns-clause-passes c =
     let before = c.args.before.now in
     let rest = c.args.half.now ∷ c.args.after.now in
     let bounds = all_append IsHalfSpace before rest c.keep_bounds.ensures (subst (λ (h : HalfSpace). IsHalfSpace h) c.numbers.ensures.numbers c.numbers.ensures.small, c.keep_bounds-2.ensures) in
-    found_passes c.args.strict (before ++ rest) bounds c.first_beside.result (returns-clause-first c)
+    found_passes c.args.strict (before ++ rest) bounds c.if_found.result (returns-clause-first c)
 
 pub returns-clause-none : goal.returns-clause-none
 returns-clause-none c =
     let before = c.args.before.now in
     let rest = c.args.half.now ∷ c.args.after.now in
     let bounds = all_append IsHalfSpace before rest c.keep_bounds.ensures (subst (λ (h : HalfSpace). IsHalfSpace h) c.numbers.ensures.numbers c.numbers.ensures.small, c.keep_bounds-2.ensures) in
-    none_where_solution c.args.strict (before ++ rest) bounds c.first_beside.result (returns-clause-first c)
+    none_where_solution c.args.strict (before ++ rest) bounds c.if_found.result (returns-clause-first c)

@@ -26,7 +26,7 @@ returns-clause-value c =
     let m = c.self.invariant in
     let n = c.numbers-a.result in
     is_by (search code depth 30 fits 100000) tt ∙ (λ i. n.0 *ℤ m.bc i -ℤ n.1 *ℤ m.ac i +ℤ n.2 *ℤ m.ab i)
-    ∙ weight_along_third p.first p.second (half_space_of n.0 n.1 n.2 n.3)
+    ∙ weight_along_third p.first.now p.second.now (half_space_of n.0 n.1 n.2 n.3)
     ∙ (λ i. meeting_weight (c.self.view_is i).first (c.self.view_is i).second (c.numbers-a.ensures.numbers i))
 
 pub returns-clause-small : goal.returns-clause-small
