@@ -13,7 +13,7 @@ ghost use Rattle.rp_clip.specs.Faces.{HasSide};
 ghost use Rattle.rp_clip.specs.Tables.{counting, IsTable, AreVertices, HasMoreVertices};
 
 use crate::corners::fill_cube;
-use crate::cross::cross_over;
+use crate::cross::{Notes, cross_over};
 use crate::faces::common_places;
 use crate::inside::{first_point, first_points};
 use crate::planes::Planes;
@@ -34,6 +34,7 @@ pub struct Clip<const MOST: usize> {
     first: Table<MOST>,
     second: Table<MOST>,
     is_second: bool,
+    notes: Notes<MOST>,
 }
 
 impl<const MOST: usize> Model for Clip<MOST> {
@@ -59,6 +60,7 @@ impl<const MOST: usize> Clip<MOST> {
             first: Table::new(),
             second: Table::new(),
             is_second: false,
+            notes: Notes::new(),
         };
         fill_cube(&mut clip.first);
         clip
@@ -92,6 +94,7 @@ impl<const MOST: usize> Clip<MOST> {
             self.is_second,
             &mut self.first,
             &mut self.second,
+            &mut self.notes,
         ) {
             return false;
         }
@@ -176,6 +179,7 @@ impl<const MOST: usize> Clip<MOST> {
             first,
             second: Table::new(),
             is_second: false,
+            notes: Notes::new(),
         }
     }
 
@@ -209,6 +213,7 @@ pub(crate) fn refill<const MOST: usize>(
     is_second: bool,
     first: &mut Table<MOST>,
     second: &mut Table<MOST>,
+    notes: &mut Notes<MOST>,
 ) -> bool
     requires table { IsTable MOST planes.now (counting is_second first.old second.old) }
     requires room { length planes.now < 64 }
@@ -216,9 +221,9 @@ pub(crate) fn refill<const MOST: usize>(
     ensures refilled { IsRefilled MOST planes.now h.now (counting is_second first.old second.old) (counting (not is_second) first.new second.new) result }
 {
     if is_second {
-        cross_over(planes, h, second, first)
+        cross_over(planes, h, second, notes, first)
     } else {
-        cross_over(planes, h, first, second)
+        cross_over(planes, h, first, notes, second)
     }
 }
 

@@ -32,23 +32,41 @@ impl Default for Side {
     }
 }
 
+/// Room for what is noted of a table while a half-space is added: on which side of its plane each of the points lies,
+/// and the planes through those that lie below. It is made once and cleared, and not filled with nothing each time.
+#[derive(Drop)]
+pub(crate) struct Notes<const MOST: usize> {
+    sides: ArrayVec<Side, MOST>,
+    below: ArrayVec<u128, MOST>,
+}
+
+impl<const MOST: usize> Notes<MOST> {
+    /// Nothing noted.
+    pub(crate) fn new() -> Notes<MOST> {
+        Notes {
+            sides: ArrayVec::new(),
+            below: ArrayVec::new(),
+        }
+    }
+}
+
 /// Fills a further table with the vertices that a cell of fewer than 64 half-spaces has with one more: those of the
 /// cell that are not below its plane, and then the points at which edges cross it. False where it has no room for them.
 pub(crate) fn cross_over<const MOST: usize>(
     planes: &Planes,
     h: &Half,
     table: &Table<MOST>,
+    notes: &mut Notes<MOST>,
     more: &mut Table<MOST>,
 ) -> bool
     requires table { IsTable MOST planes.now table.now }
     requires room { length planes.now < 64 }
     ensures { IsRefilled MOST planes.now h.now table.now more.new result }
 {
-    let sides = sides_of::<MOST>(h, table.corners());
-    let sides = sides.as_slice();
-    let mut below = ArrayVec::new();
-    split(planes, h, table, sides, more, &mut below);
-    cross_all(planes, h, table, sides, below.as_slice(), more)
+    note_sides(h, table.corners(), &mut notes.sides);
+    let sides = notes.sides.as_slice();
+    split(planes, h, table, sides, more, &mut notes.below);
+    cross_all(planes, h, table, sides, notes.below.as_slice(), more)
 }
 
 /// On which side of the plane of a half-space the point lies.
@@ -67,20 +85,19 @@ fn side_of(h: &Half, p: &Meeting) -> Side
     Side::Below
 }
 
-/// On which side of the plane of a half-space each of the points lies.
-fn sides_of<const MOST: usize>(h: &Half, corners: &[Meeting]) -> ArrayVec<Side, MOST>
+/// Notes on which side of the plane of a half-space each of the points lies.
+fn note_sides<const MOST: usize>(h: &Half, corners: &[Meeting], sides: &mut ArrayVec<Side, MOST>)
     requires { length corners.now ≤ MOST }
-    ensures { result.items ≡ map (side_of h.now) (map reduced_point corners.now) }
+    ensures { sides.new.items ≡ map (side_of h.now) (map reduced_point corners.now) }
 {
-    let mut sides = ArrayVec::new();
+    sides.clear();
     for corner in corners {
         sides.push(side_of(h, corner));
     }
-    sides
 }
 
-/// Fills a table with the points of another that are not below the plane, those on it with the new place, and an empty
-/// list with the places of those that are.
+/// Fills a table with the points of another that are not below the plane, those on it with the new place, and a list
+/// with the places of those that are.
 fn split<const MOST: usize>(
     planes: &Planes,
     h: &Half,
@@ -89,8 +106,7 @@ fn split<const MOST: usize>(
     kept: &mut Table<MOST>,
     below: &mut ArrayVec<u128, MOST>,
 )
-    requires sides { HasSides MOST planes.now h.now table.now sides.now }
-    requires empty { below.old.items ≡ [] }
+    requires { HasSides MOST planes.now h.now table.now sides.now }
     ensures kept { IsKeptTable MOST planes.now h.now table.now kept.new }
     ensures below { AreAllBelow planes.now h.now table.now below.new.items }
 {
@@ -98,6 +114,7 @@ fn split<const MOST: usize>(
     let corners = table.corners();
     let sets = table.planes();
     kept.clear();
+    below.clear();
     for i in 0..sides.len() {
         split_one(sides[i], corners[i], sets[i], place, kept, below);
     }

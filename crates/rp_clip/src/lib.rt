@@ -12,7 +12,8 @@
 //! point. Two vertices have an edge where their sets share two planes that meet. A vertex stands in the search over
 //! triples of planes where the first three planes of its set that meet in it stand, so the first certificates are read
 //! from the sets (`first.rt`). Vertices are not in lowest terms: no divisor is sought until a point is told. There are
-//! two tables, of which one counts, so that no table is moved; a clip takes no memory.
+//! two tables, of which one counts, so that no table is moved, and lists of what is noted of it while a half-space is
+//! added; a clip takes no memory.
 //!
 //! For the first certificates of a cell the vertices on one plane after the other do ([`inside_on_polygons`],
 //! [`weak_on_polygon`]). The vertices on one plane are a table with one promise fewer: it need not have those off the

@@ -5,7 +5,7 @@ ghost use Rattle.rp_clip.specs.Polygons.{AreOnPlane, Covers, IsPolygon, IsPositi
 
 use crate::clip::refill;
 use crate::corners::fill_cube;
-use crate::cross::cross_over;
+use crate::cross::{Notes, cross_over};
 use crate::order::{covers, near_first};
 use crate::places::lowest_from;
 use crate::planes::Planes;
@@ -24,6 +24,7 @@ pub(crate) struct Polygon {
     first: Table<16>,
     second: Table<16>,
     is_second: bool,
+    notes: Notes<16>,
 }
 
 impl Model for Polygon {
@@ -50,6 +51,7 @@ impl Polygon {
             first: Table::new(),
             second: Table::new(),
             is_second: false,
+            notes: Notes::new(),
         }
     }
 
@@ -80,7 +82,13 @@ impl Polygon {
         self.planes.clear();
         self.first.clear();
         self.is_second = false;
-        if !cross_over(&self.planes, &h, &self.cube, &mut self.second) {
+        if !cross_over(
+            &self.planes,
+            &h,
+            &self.cube,
+            &mut self.notes,
+            &mut self.second,
+        ) {
             return false;
         }
         self.planes.push(h);
@@ -106,6 +114,7 @@ impl Polygon {
             self.is_second,
             &mut self.first,
             &mut self.second,
+            &mut self.notes,
         ) {
             return false;
         }

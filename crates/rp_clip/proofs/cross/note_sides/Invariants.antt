@@ -1,7 +1,7 @@
 use Rattle.std.proofs.Common.{◌≡◌, ◌≤◌, take, length, map}
 use Rattle.rp_geometry.specs.Geometry.{reduced_point}
 use Rattle.rp_clip.specs.Sides.{side_of}
-use Rattle.rp_clip.proofs.cross.sides_of.Given as goal
+use Rattle.rp_clip.proofs.cross.note_sides.Given as goal
 
 -- the sides so far
 abbrev pub invariant-loop-corner : goal.invariant-loop-corner

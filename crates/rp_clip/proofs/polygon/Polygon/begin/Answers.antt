@@ -8,8 +8,11 @@ pub cross_over-requires : goal.cross_over-requires
 cross_over-requires c = (
   omega arith,
   (
-    subst (λ (hs : List HalfSpace). IsTable 16 hs c.self.inside.cube) (sym c.clear.ensures) c.self.invariant.0.table,
-    subst (λ (hs : List HalfSpace). length hs < 64) (sym c.clear.ensures) (omega arith),
+    omega arith,
+    (
+      subst (λ (hs : List HalfSpace). IsTable 16 hs c.self.inside.cube) (sym c.clear.ensures) c.self.invariant.0.table,
+      subst (λ (hs : List HalfSpace). length hs < 64) (sym c.clear.ensures) (omega arith),
+    ),
   ),
 )
 
