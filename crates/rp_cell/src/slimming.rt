@@ -1,6 +1,7 @@
 //! Slim cells: half-spaces that add nothing are dropped.
-ghost use Rattle.std.specs.Prelude.{◌≡◌, ◌≤◌, IfOk, length, map};
-ghost use Rattle.rp_geometry.specs.Geometry.{IsKeptHalfSpace};
+ghost use Rattle.std.specs.Prelude.{◌≡◌, ◌+◌, ◌<◌, ◌≤◌, ◌++◌, true, IfOk, length, map};
+ghost use Rattle.rp_geometry.specs.Geometry.{RationalPoint, IsKeptHalfSpace};
+ghost use Rattle.rp_geometry.specs.laws.CellLaws.{IsSolution, AreHalfSpaces};
 ghost use Rattle.rp_geometry.specs.sets.Shape.{shape_of_cell};
 ghost use Rattle.rp_geometry.specs.sets.Sets.{IsNonempty, SameMembers};
 ghost use Rattle.rp_geometry.specs.parts.Parts.{IsPart, most_half_spaces};
@@ -99,12 +100,31 @@ impl Held {
             return None;
         }
         if self.has_point() {
-            let others = joined(kept, rest);
-            return first_outside_through(others.as_slice(), &half.not(), &[], true);
+            return through_complement(half, kept, rest);
         }
-        match decide_strict(outside_of(half, kept, rest).as_slice()) {
-            Strict::Inside(_) => None,
-            Strict::Outside(terms) => Some(terms),
-        }
+        with_complement(half, kept, rest)
+    }
+}
+
+/// What shows that no member of others, which have a point, lies outside a half-space, and `None` exactly where one
+/// does. It is apart, as the next is, so that nobody else makes room for the list.
+fn through_complement(half: &Half, kept: &[Half], rest: &[Half]) -> Option<Outside>
+    requires few { length kept.now + length rest.now < 64 }
+    requires bounds { AreHalfSpaces (tested kept.now half.now rest.now) }
+    requires others { (p : RationalPoint) × IsSolution true (kept.now ++ rest.now) p }
+    ensures { IsDropProof (tested kept.now half.now rest.now) result }
+{
+    let others = joined(kept, rest);
+    first_outside_through(others.as_slice(), &half.not(), &[], true)
+}
+
+/// The same of others that may have no point.
+fn with_complement(half: &Half, kept: &[Half], rest: &[Half]) -> Option<Outside>
+    requires { length kept.now + length rest.now < 64 }
+    ensures { IsDropProof (tested kept.now half.now rest.now) result }
+{
+    match decide_strict(outside_of(half, kept, rest).as_slice()) {
+        Strict::Inside(_) => None,
+        Strict::Outside(terms) => Some(terms),
     }
 }
