@@ -1,11 +1,11 @@
 -- Lots without their parts, as a history keeps them: they are found by their ids as the lots are.
-use Rattle.std.proofs.Common.{◌≡◌, ℕ, ◌<◌, Bool, true, false, List, ◌∷◌, [], map, length, get_or, Option, Some, None, slice_get, refl, sym, ap, ◌∙◌, subst}
+use Rattle.std.proofs.Common.{◌≡◌, ℕ, ◌<◌, Bool, true, List, [], map, length, get_or, Option, Some, None, slice_get, refl, sym, ap, ◌∙◌, subst}
 use Rattle.std.specs.Prelude.{IsTrue, option_map}
 use Rattle.std.proofs.lemmas.List.{length-map}
 use Rattle.std.proofs.lemmas.Option.{slice_get-map, slice_get_read}
 use Rattle.rp_algebra.proofs.Lists.{get_some, images_twice}
 use Rattle.rp_geometry.specs.sets.Shape.{Part}
-use Rattle.rp_language.specs.Name.{Label, label_eq}
+use Rattle.rp_language.specs.Name.{Label}
 use Rattle.rp_model.specs.states.State.{Lot, is_live, live_lots, live_lot, lot_with_id, ids_of, bare_lot, parts_of_lot}
 use Rattle.rp_model.specs.states.Sound.{are_distinct}
 use Rattle.rp_states.proofs.Picked.{pick}

@@ -12,7 +12,7 @@ use Rattle.rp_history.specs.declared.lot.LotLine.{LotLine}
 use Rattle.rp_history.specs.Lots.{lot_of, lots_in}
 use Rattle.rp_history.specs.Checks.{InEach, refusal_of_names, FailsNames}
 use Rattle.rp_history.proofs.Found.{there_if_found, not_there}
-use Rattle.rp_history.proofs.Bare.{bare_ids, bare_live, history_ids, none_here, none_live_here, live_here, within_lots}
+use Rattle.rp_history.proofs.Bare.{history_ids, none_here, none_live_here, live_here, within_lots}
 
 -- ---- one check and then more
 
@@ -94,13 +94,6 @@ none_is_live x history lines seen h none =
     let f : check_live (lots_in [] history) x ≡ None = h (lots_in [] history) itself in
     let g = is_not_live x (lots_in [] history) history itself none in
     absurd (cc)
-
--- an id that is live in one of them is live in each
-pub live_in_each : (x : Label) (s : PlainState) (history : List (Lot (Unit {0}))) → history ≡ map bare_lot s.lots → check_live s x ≡ None → InEach history (λ t. check_live t x ≡ None)
-live_in_each x s history e live t f = ap (λ (xs : List Label). refuse_if (not (is_among x xs)) (unknown x)) (sym (live_ids t f) ∙ live_ids s e) ∙ live
-  where
-    live_ids : (t : PlainState) → history ≡ map bare_lot t.lots → ids_of (live_lots history) ≡ ids_of (live_lots t.lots)
-    live_ids t f = ap (λ (ls : List (Lot (Unit {0}))). ids_of (live_lots ls)) f ∙ ap ids_of (bare_live t.lots) ∙ bare_ids (live_lots t.lots)
 
 -- ---- each of a list
 

@@ -174,3 +174,19 @@ own_place (h ∷ ls) d (suc k) l e = by (label_eq l.id h.id) refl (own_place ls 
         let alone = first_alone h ls d in
         absurd (cc)
     by false f later t = later
+
+-- the first lot does not stand again behind itself
+not_again : {S : Type 0} (h : Lot S) (ls : List (Lot S)) → IsTrue (are_distinct (ids_of (h ∷ ls))) → (k : ℕ) (l : Lot S) → Some h ≡ Some l → slice_get ls k ≡ Some l → ⊥
+not_again {S = S} h ls d k l e f =
+    let same : h ≡ l = cc in
+    let alone = first_alone h ls d in
+    let twice : is_among h.id (ids_of ls) ≡ true = subst (λ (m : Lot S). is_among m.id (ids_of ls) ≡ true) (sym same) (there ls k l f) in
+    cc (alone, twice)
+
+-- a lot has one place
+pub one_place : {S : Type 0} (lots : List (Lot S)) → IsTrue (are_distinct (ids_of lots)) → (j k : ℕ) (l : Lot S) → slice_get lots j ≡ Some l → slice_get lots k ≡ Some l → j ≡ k
+one_place [] d j k l e f = absurd (cc)
+one_place (h ∷ ls) d zero zero l e f = refl
+one_place (h ∷ ls) d zero (suc k) l e f = absurd (not_again h ls d k l e f)
+one_place (h ∷ ls) d (suc j) zero l e f = absurd (not_again h ls d j l f e)
+one_place (h ∷ ls) d (suc j) (suc k) l e f = ap suc (one_place ls (rest_distinct h ls d) j k l e f)

@@ -3,7 +3,8 @@ pub mod Ended
 pub mod Placed
 pub mod Appended
 pub mod KeptWell
-pub mod Marked
+pub mod Places
+pub mod Descended
 -- checks on names
 pub mod Checked
 pub mod Repeated

@@ -1,6 +1,6 @@
 -- The items of a list of lots, at their places.
-use Rattle.std.proofs.Common.{◌≡◌, ℕ, ◌<◌, Bool, false, ◌||◌, if◌then◌else◌, List, [], ◌∷◌, ◌++◌, map, length, get_or, Some, None, slice_get, slice_set, refl, sym, ap, ◌∙◌, subst}
-use Rattle.std.specs.Prelude.{IsTrue, option_map}
+use Rattle.std.proofs.Common.{◌≡◌, ℕ, ◌+◌, ◌<◌, Bool, false, ◌||◌, if◌then◌else◌, List, [], ◌∷◌, ◌++◌, map, length, get_or, Some, None, slice_get, slice_set, refl, sym, ap, ◌∙◌, subst, arith}
+use Rattle.std.specs.Prelude.{IsTrue, option_map, remove}
 use Rattle.std.specs.List.{list_any}
 use Rattle.std.proofs.lemmas.List.{length-map, map-append, map-set}
 use Rattle.std.proofs.lemmas.Option.{slice_get_read, slice_get-map}
@@ -14,6 +14,8 @@ use Rattle.rp_history.specs.declared.lot.LotLine.{LotLine}
 use Rattle.rp_history.specs.Lots.{lot_of}
 use Rattle.rp_history.specs.Kept.{Roomy, AreIdsOf}
 use Rattle.rp_history.proofs.Found.{live_at_place}
+use Rattle.rp_history.specs.Places.{live_places, AreWithout}
+use Rattle.rp_history.proofs.Places.{one_gone}
 use Rattle.rp_history.proofs.Ended.{ended_there}
 
 -- an item at its place, as a lot
@@ -38,6 +40,18 @@ end_at_item items lots keys ids seen n x k item h e same =
     map-set lot_of items k (record item { ended = Some n })
     ∙ ap (λ (ls : List (Lot (Unit {0}))). slice_set ls k (lot_of (record item { ended = Some n }))) seen
     ∙ ended_there n x lots (subst (λ (ls : List (Lot (Unit {0}))). IsTrue (are_distinct (ids_of ls))) seen ids.distinct) k (lot_of item) (lot_at items lots seen k item h e) same
+
+-- its place is no longer one of a live lot
+pub end_place : (items : List LotLine) (lots : List (Lot (Unit {0}))) → map lot_of items ≡ lots → (ks js : List ℕ) → ks ≡ live_places None 0 (map lot_of items) → (n k : ℕ) (item : LotLine) → k < length lots → item ≡ get_or items k item → AreWithout ks js k →
+    js ≡ live_places None 0 (map lot_of (slice_set items k (record item { ended = Some n })))
+end_place items lots seen ks js is n k item h e gone =
+    let at = lot_at items (map lot_of items) refl k item (subst (λ (ls : List (Lot (Unit {0}))). k < length ls) (sym seen) h) e in
+    let i = gone.one.number in
+    let same : k ≡ 0 + k = omega arith in
+    gone.rest
+    ∙ ap (λ (xs : List ℕ). remove xs i) is
+    ∙ one_gone n 0 (map lot_of items) k (lot_of item) i at (subst (λ (xs : List ℕ). i < length xs) is gone.one.below) (ap (λ (xs : List ℕ). get_or xs i 0) (sym is) ∙ gone.one.is ∙ same)
+    ∙ ap (live_places None 0) (sym (map-set lot_of items k (record item { ended = Some n })))
 
 -- lots that have the ids of others have their keys
 pub same_ids : (ls ms : List (Lot (Unit {0}))) (keys : List Label) → ids_of ms ≡ ids_of ls → AreIdsOf ls keys → AreIdsOf ms keys

@@ -1,5 +1,6 @@
 pub mod Lots
+pub mod Places
+pub mod Pending
 pub mod Kept
-pub mod Marks
 pub mod Checks
 pub mod Parts

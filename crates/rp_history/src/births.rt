@@ -1,5 +1,5 @@
 //! Lots that are born, and lots that end.
-ghost use Rattle.std.specs.Prelude.{◌≡◌, ◌≤◌, ◌++◌, false, IsTrue, map, length, IfOk};
+ghost use Rattle.std.specs.Prelude.{◌≡◌, ◌≤◌, ◌++◌, false, None, IsTrue, map, length, IfOk};
 ghost use Rattle.std.specs.List.{AllByRecursion};
 ghost use Rattle.rp_language.specs.Name.{is_among};
 ghost use Rattle.rp_model.specs.states.State.{ids_of, born_at, ended_at};
@@ -42,16 +42,17 @@ fn lot_born(alloc: Global, line: u32, birth: &Birth) -> Result<LotLine, AllocErr
 /// Ends the lots of these ids at the line, as far as they are live. The room stays.
 pub(crate) fn end_all(list: &mut LotList, line: u32, ids: &[Name])
     ensures lots { list.new.lots ≡ map (ended_at line ids.now) list.old.lots }
-    ensures spare { list.new.spare ≡ list.old.spare }
+    ensures spare { list.old.spare ≤ list.new.spare }
 {
     for id in ids {
         list.end(line, id);
     }
 }
 
-/// Puts lots with new ids last, in order. There is room for them.
+/// Puts live lots with new ids last, in order. There is room for them.
 pub(crate) fn append(list: &mut LotList, born: Listed<LotLine>)
     requires room { length born.items ≤ list.old.spare }
+    requires live { AllByRecursion (λ l. l.ended ≡ None) (map lot_of born.items) }
     requires fresh { AllByRecursion (λ l. is_among l.id (ids_of list.old.lots) ≡ false) (map lot_of born.items) }
     requires distinct { IsTrue (are_distinct (ids_of (map lot_of born.items))) }
     ensures { list.new.lots ≡ list.old.lots ++ map lot_of born.items }

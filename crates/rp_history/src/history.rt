@@ -1,13 +1,14 @@
 //! The history of lots, and what is asked of it.
-ghost use Rattle.std.specs.Prelude.{◌≡◌, ◌<◌, [], ◌∷◌, map, length, slice_get, IsTrue, IfSome, IfOk, OnOk, OnErr};
+ghost use Rattle.std.specs.Prelude.{◌≡◌, ◌<◌, ◌≤◌, [], ◌∷◌, None, map, length, slice_get, IsTrue, IfSome, IfOk, OnOk, OnErr};
 ghost use Rattle.std.specs.Option.{option_and_then};
 ghost use Rattle.rp_language.specs.Name.{is_among};
-ghost use Rattle.rp_model.specs.states.State.{lot_with_id, live_lot, alive_after, ids_of, lineage, lots_replaced, ended_at};
+ghost use Rattle.rp_model.specs.states.State.{lot_with_id, live_lot, live_lots, alive_after, ids_of, lineage, lots_replaced, ended_at};
 ghost use Rattle.rp_model.specs.states.Sound.{are_distinct};
 ghost use Rattle.rp_history.specs.Lots.{lot_of, new_lot_of, lots_after, AreBornBefore, AreKeptWell, AreNew};
+ghost use Rattle.rp_history.specs.Places.{live_places};
 
 use crate::births::{append, end_all, lots_born};
-use crate::lineage::{marked, marked_ids};
+use crate::lineage::lineage_ids;
 use crate::list::LotList;
 use crate::lot::{Birth, LotLine};
 use rp_space::{Name, Names};
@@ -82,6 +83,21 @@ impl History {
         self.list.lots()
     }
 
+    /// The places of the live lots among all lots, in rising order, found without a walk over the others.
+    pub fn live(&self) -> &[usize]
+        ensures { result.now ≡ live_places None 0 self.now }
+    {
+        self.list.live()
+    }
+
+    /// How many lots are live.
+    pub fn live_count(&self) -> usize
+        ensures value { result ≡ length (live_lots self.now) }
+        ensures few { result ≤ length self.now }
+    {
+        self.live().len()
+    }
+
     /// The place of the lot `id` among all lots, found without a walk over them. `None` exactly where it was never
     /// registered.
     pub fn place_of(&self, id: &Name) -> Option<usize>
@@ -113,11 +129,10 @@ impl History {
     }
 
     /// The ids of the lot `id` and of all lots from which it descends through origins, in the order of their births;
-    /// none where `id` was never registered.
+    /// none where `id` was never registered. Other lots are not looked at.
     pub fn lineage(&self, alloc: Global, id: Name) -> Result<Names, AllocError>
         ensures { IfOk result (λ ids. ids.items ≡ ids_of (lineage id self.now)) }
     {
-        let marks = marked(alloc, self, &id)?;
-        marked_ids(alloc, self.list.lots(), &marks)
+        lineage_ids(alloc, self, &id)
     }
 }

@@ -1,10 +1,11 @@
 //! Lists of lots in which an id is found at once, and whose room contracts see.
-ghost use Rattle.std.specs.Prelude.{◌≡◌, ◌+◌, ◌<◌, ◌≤◌, [], ◌∷◌, ◌++◌, false, map, length, slice_get, IfSome, OnOk};
+ghost use Rattle.std.specs.Prelude.{◌≡◌, ◌+◌, ◌-◌, ◌<◌, ◌≤◌, [], ◌∷◌, ◌++◌, false, None, map, length, slice_get, vec_len, vec_capacity, IfSome, OnOk};
 ghost use Rattle.std.specs.List.{AllByRecursion};
 ghost use Rattle.std.specs.Option.{option_and_then};
 ghost use Rattle.rp_language.specs.Name.{is_among};
 ghost use Rattle.rp_model.specs.states.State.{lot_with_id, live_lot, ids_of, ended_at};
 ghost use Rattle.rp_history.specs.Lots.{lot_of};
+ghost use Rattle.rp_history.specs.Places.{live_places, AreRising, AreWithout, IsOneOf};
 
 use crate::lot::LotLine;
 use indexmap::IndexSet;
@@ -19,19 +20,21 @@ pub(crate) struct LotList {
     lots: Vec<LotLine>,
     // The ids in the same order, so that the place of an id is the place of its lot.
     places: IndexSet<Name>,
+    // The places of the live lots, in rising order.
+    live: Vec<usize>,
 }
 
 impl Model for LotList {
     ghost use Rattle.std.specs.Prelude.{◌-◌, map, min, vec_len, vec_capacity};
     ghost use Rattle.indexmap.specs.IndexSet.{spare};
     ghost use Rattle.rp_history.specs.Lots.{lot_of};
-    ghost use Rattle.rp_history.specs.Kept.{Roomy, AreIdsOf};
+    ghost use Rattle.rp_history.specs.Kept.{Roomy, AreFound};
 
     ghost Value = { Roomy };
 
-    ghost view = { λ a. record { lots = map lot_of a.lots.items; spare = min (vec_capacity a.lots - vec_len a.lots) (spare a.places) } };
+    ghost view = { λ a. record { lots = map lot_of a.lots.items; spare = min (min (vec_capacity a.lots - vec_len a.lots) (spare a.places)) (vec_capacity a.live - vec_len a.live) } };
 
-    ghost invariant = { λ a. AreIdsOf (map lot_of a.lots.items) a.places.keys };
+    ghost invariant = { λ a. AreFound (map lot_of a.lots.items) a.places.keys a.live.items };
 }
 
 impl LotList {
@@ -42,6 +45,7 @@ impl LotList {
         LotList {
             lots: Vec::new(alloc),
             places: IndexSet::new(alloc),
+            live: Vec::new(alloc),
         }
     }
 
@@ -51,16 +55,19 @@ impl LotList {
         ensures ok { OnOk result (n ≤ self.new.spare) }
     {
         self.lots.reserve(n)?;
-        self.places.reserve(n)
+        self.places.reserve(n)?;
+        self.live.reserve(n)
     }
 
-    /// Puts a lot with a new id last. There is room for it.
+    /// Puts a live lot with a new id last. There is room for it.
     pub(crate) fn push(&mut self, lot: LotLine)
         requires room { 0 < self.old.spare }
+        requires live { lot.ended ≡ None }
         requires fresh { is_among lot.id (ids_of self.old.lots) ≡ false }
         ensures lots { self.new.lots ≡ self.old.lots ++ lot_of lot ∷ [] }
         ensures spare { self.old.spare ≤ self.new.spare + 1 }
     {
+        self.live.push(self.lots.len()).unwrap();
         self.places.insert(lot.id).unwrap();
         self.lots.push(lot).unwrap();
     }
@@ -68,10 +75,11 @@ impl LotList {
     /// Ends a lot at the line, where it is live. The room stays.
     pub(crate) fn end(&mut self, line: u32, id: &Name)
         ensures lots { self.new.lots ≡ map (ended_at line (id.now ∷ [])) self.old.lots }
-        ensures spare { self.new.spare ≡ self.old.spare }
+        ensures spare { self.old.spare ≤ self.new.spare }
     {
         if let Some(place) = self.live_place(id) {
             self.lots[place].ended = Some(line);
+            take_out(&mut self.live, place);
         }
     }
 
@@ -80,6 +88,13 @@ impl LotList {
         ensures { map lot_of result.now ≡ self.now.lots }
     {
         &self.lots
+    }
+
+    /// The places of the live lots, in rising order.
+    pub(crate) fn live(&self) -> &[usize]
+        ensures { result.now ≡ live_places None 0 self.now.lots }
+    {
+        &self.live
     }
 
     /// The place of a lot. `None` exactly where there is no lot with the id.
@@ -101,5 +116,20 @@ impl LotList {
         } else {
             None
         }
+    }
+}
+
+/// Takes a place out of rising places, of which it is one. The room stays.
+fn take_out(places: &mut Vec<usize>, place: usize)
+    requires rising { AreRising places.old.items }
+    requires there { IsOneOf places.old.items place }
+    ensures rest { AreWithout places.old.items places.new.items place }
+    ensures room { vec_capacity places.old - vec_len places.old ≤ vec_capacity places.new - vec_len places.new }
+{
+    match places.binary_search(&place) {
+        Ok(number) => {
+            places.remove(number);
+        }
+        Err(_) => unreachable!(),
     }
 }

@@ -20,9 +20,11 @@ use Rattle.rp_tester.proofs.Left.{IsLeft, next_left, stop_left}
 use Rattle.rp_lots.specs.declared.pair.Pair.{Pair}
 use Rattle.rp_lots.specs.Meets.{meet_each}
 use Rattle.rp_lots.specs.Numbers.{lists_at, places_among, AreBelow, placed, links_met}
-use Rattle.rp_lots.specs.Behind.{live_places, tests_behind, ArePairsBehind}
+use Rattle.rp_lots.specs.Behind.{tests_behind, ArePairsBehind}
 use Rattle.rp_lots.proofs.Linked.{lists_of_lots, numbers_are, links_found}
-use Rattle.rp_lots.proofs.Paired.{places_within, all_rise, layer_there, layer_counted, layer_paired}
+use Rattle.rp_lots.proofs.Paired.{places_within, layer_there, layer_counted, layer_paired}
+use Rattle.rp_history.specs.Places.{live_places}
+use Rattle.rp_history.proofs.Places.{all_rise}
 
 module _ {W : Type 0} (tester : Tester W) (s : PlainState) (x z : Label) where
   -- the end of the row, for some lots

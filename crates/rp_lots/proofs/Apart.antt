@@ -1,5 +1,5 @@
 -- The row of an audit: what is counted and shown of all live lots is what is counted and shown of the pairs behind each.
-use Rattle.std.proofs.Common.{◌≡◌, ℕ, suc, ◌+◌, Bool, true, false, ◌&&◌, cond, List, [], ◌∷◌, ◌++◌, map, filter, length, drop, get_or, None, refl, sym, ap, ap₂, ◌∙◌}
+use Rattle.std.proofs.Common.{◌≡◌, ℕ, ◌+◌, Bool, true, false, ◌&&◌, cond, List, [], ◌∷◌, ◌++◌, map, filter, length, drop, get_or, None, refl, sym, ap, ap₂, ◌∙◌}
 use Rattle.rp_algebra.proofs.Lists.{get_some}
 use Rattle.rp_geometry.specs.sets.Shape.{Part}
 use Rattle.rp_walks.specs.Walk.{taken_wrong, Outcome, done, stopped, Walk, Tester, pass, stop, after_first, ◌>>◌}
@@ -15,10 +15,12 @@ use Rattle.rp_lotindex.specs.Near.{pairs_with, is_near, lots_at, AreWithin}
 use Rattle.rp_lotindex.proofs.Skipped.{apart_on, apart_near}
 use Rattle.rp_lots.specs.declared.pair.Pair.{Pair}
 use Rattle.rp_lots.specs.Meets.{pair_of, parts_at, meet_each}
-use Rattle.rp_lots.specs.Behind.{live_places, lots_behind, tests_behind, ArePairsBehind}
+use Rattle.rp_lots.specs.Behind.{lots_behind, tests_behind, ArePairsBehind}
 use Rattle.rp_lots.specs.Apart.{apart_each}
 use Rattle.rp_lots.proofs.Items.{parts_there, first_there}
-use Rattle.rp_lots.proofs.Paired.{left_further, behind_first, own_parts}
+use Rattle.rp_lots.proofs.Paired.{behind_first, own_parts}
+use Rattle.rp_history.specs.Places.{live_places}
+use Rattle.rp_history.proofs.Places.{left_further, live_counted}
 
 -- ---- counts
 
@@ -32,18 +34,6 @@ all_counted lots k (l ∷ ls) e = by (is_live l) (all_counted lots (k + 1) ls (l
 
     by : (b : Bool) → tests_behind Overlap lots places ≡ count_in_layers near_pair (live_lots ls) → tests_behind Overlap lots (cond (b && true) (k ∷ places) places) ≡ count_in_layers near_pair (cond b (l ∷ live_lots ls) (live_lots ls))
     by true later = ap₂ ◌+◌ (ap₂ (λ ps (ms : List (Lot (Unit {0}))). pairs_with Overlap ps ms) (own_parts lots k l ls e) (behind_first lots k l ls e)) later
-    by false later = later
-
--- there are as many places as live lots
-pub live_counted : (k : ℕ) (ls : List (Lot (Unit {0}))) → length (live_places None k ls) ≡ length (live_lots ls)
-live_counted k [] = refl
-live_counted k (l ∷ ls) = by (is_live l) (live_counted (k + 1) ls)
-  where
-    places : List ℕ
-    places = live_places None (k + 1) ls
-
-    by : (b : Bool) → length places ≡ length (live_lots ls) → length (cond (b && true) (k ∷ places) places) ≡ length (cond b (l ∷ live_lots ls) (live_lots ls))
-    by true later = ap suc later
     by false later = later
 
 -- ---- walks

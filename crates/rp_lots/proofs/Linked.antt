@@ -1,12 +1,7 @@
 -- The pairs of a layer's lots that have parts that may touch, by their numbers and by their places: the walk over each two lots finds the links of those that meet.
 use Rattle.std.proofs.Common.{◌≡◌, ℕ, zero, suc, ◌+◌, ◌<◌, ◌≤◌, Bool, true, false, not, cond, ◌==◌, List, [], ◌∷◌, ◌++◌, map, length, drop, get_or, ⊎_elim, refl, sym, ap, ap₂, ◌∙◌, subst, arith, append_assoc, append-nil}
 use Rattle.std.specs.List.{AllByRecursion}
-use Rattle.std.specs.Prelude.{Result, Ok, Err}
-use Rattle.std.specs.Result.{MatchResult}
-use Rattle.std.specs.Ordering.{nat_cmp}
-use Rattle.std.specs.List.Sorted.{IsBinarySearchResult}
 use Rattle.std.proofs.lemmas.Bool.{cases_lt, eqb-true}
-use Rattle.std.proofs.lemmas.List.Sorted.{searched}
 use Rattle.std.proofs.lemmas.List.{length-map, map-append}
 use Rattle.rp_algebra.proofs.Listed.{all_append}
 use Rattle.rp_algebra.proofs.Lists.{get_some}
@@ -20,9 +15,10 @@ use Rattle.rp_lotindex.specs.Near.{lots_at, AreWithin}
 use Rattle.rp_lotindex.proofs.Skipped.{none_of_pairs}
 use Rattle.rp_lots.specs.declared.pair.Pair.{Pair}
 use Rattle.rp_lots.specs.Meets.{pair_of, meet_each, parts_at, id_at}
-use Rattle.rp_lots.specs.Numbers.{lists_at, is_touching, places_with, places_among, AreRising, IsOneOf, IsPairOf, AreBelow, placed, links_met}
+use Rattle.rp_lots.specs.Numbers.{lists_at, is_touching, places_with, places_among, IsPairOf, AreBelow, placed, links_met}
 use Rattle.rp_lots.proofs.Items.{parts_there, id_there, first_there}
 use Rattle.rp_lots.proofs.Meeting.{test_of, answers, from_none}
+use Rattle.rp_history.specs.Places.{AreRising}
 
 -- ---- the lots at places
 
@@ -240,17 +236,6 @@ numbers_once ks r (p ∷ ps) (q ∷ qs) g h e =
     let head : placed ks p ≡ placed ks q = cc in
     let tail : map (placed ks) ps ≡ map (placed ks) qs = cc in
     ap₂ ◌∷◌ (ap₂ pair_of (one_number ks r p.first q.first g.0.0 h.0.0 (ap (λ (x : Pair). x.first) head)) (one_number ks r p.second q.second g.0.1 h.0.1 (ap (λ (x : Pair). x.second) head))) (numbers_once ks r ps qs g.1 h.1 tail)
-
--- the number that a search has found
-pub number_found : (ks : List ℕ) (k : ℕ) (r : Result ℕ ℕ) → AreRising ks → IsOneOf ks k → IsBinarySearchResult (λ y. nat_cmp y k) ks r → MatchResult r (λ i. (i < length ks) × (get_or ks i 0 ≡ k)) (λ i. ⊥)
-number_found ks k r up one found = by r (searched ks k r found level)
-  where
-    level : (i j : ℕ) → i ≤ j → j < length ks → get_or ks i 0 ≤ get_or ks j 0
-    level i j h g = ⊎_elim (λ f. let above = up i j f g in omega (arith, above)) (λ f. let e : i ≡ j = omega (arith, f, h) in let same = ap (λ n. get_or ks n 0) e in omega (arith, same)) (cases_lt i j)
-
-    by : (r : Result ℕ ℕ) → MatchResult r (λ i. (i < length ks) × (get_or ks i 0 ≡ k)) (λ i. (i ≤ length ks) × ((j : ℕ) → j < i → get_or ks j 0 < k) × ((j : ℕ) → i ≤ j → j < length ks → k < get_or ks j 0)) → MatchResult r (λ i. (i < length ks) × (get_or ks i 0 ≡ k)) (λ i. ⊥)
-    by (Ok i) h = h
-    by (Err i) h = ⊎_elim (λ f. let low = h.1 one.number f in let is = one.is in absurd (omega (arith, low, is))) (λ f. let high = h.2 one.number f one.below in let is = one.is in absurd (omega (arith, high, is))) (cases_lt one.number i)
 
 -- ---- the pairs of a layer
 

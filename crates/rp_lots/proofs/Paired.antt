@@ -1,13 +1,13 @@
 -- The places of live lots: they rise, and behind each stand the lots of its layer; what is counted of the pairs behind each is what the walk over each two lots of a layer counts.
-use Rattle.std.proofs.Common.{◌≡◌, ℕ, zero, suc, ◌+◌, ◌<◌, ◌≤◌, Bool, true, false, ◌&&◌, cond, List, [], ◌∷◌, ◌++◌, map, filter, length, drop, get_or, slice_get, Option, Some, None, refl, sym, ap, ap₂, ◌∙◌, subst, arith, append_assoc, append-nil}
+use Rattle.std.proofs.Common.{◌≡◌, ℕ, ◌+◌, ◌<◌, Bool, true, false, ◌&&◌, cond, List, [], ◌∷◌, ◌++◌, map, filter, length, drop, get_or, slice_get, Option, Some, None, refl, sym, ap, ap₂, ◌∙◌, subst, arith, append_assoc}
 use Rattle.std.specs.Prelude.{IsTrue, IfOk, Result, Ok, Err, option_map}
 use Rattle.std.specs.List.{AllByRecursion}
-use Rattle.std.proofs.lemmas.List.{drop_more, drop_all, length-drop}
+use Rattle.std.proofs.lemmas.List.{drop_more, length-drop}
 use Rattle.std.proofs.lemmas.Option.{slice_get-map, slice_get_read}
 use Rattle.rp_algebra.proofs.Listed.{all_append}
 use Rattle.rp_algebra.proofs.Lists.{get_some, all_filter}
 use Rattle.rp_geometry.specs.sets.Shape.{Part}
-use Rattle.rp_language.specs.Name.{Label, label_eq, is_among}
+use Rattle.rp_language.specs.Name.{Label, label_eq}
 use Rattle.rp_walks.specs.Form.{touching_pair}
 use Rattle.rp_model.specs.states.State.{Lot, bare_lot, is_live, live_lots, lots_of_layer, ids_of}
 use Rattle.rp_model.specs.states.Sound.{are_distinct}
@@ -16,7 +16,9 @@ use Rattle.rp_states.proofs.Labels.{label_is}
 use Rattle.rp_history.specs.declared.lot.LotLine.{LotLine}
 use Rattle.rp_history.specs.Lots.{lot_of}
 use Rattle.rp_history.proofs.Bare.{line_at, history_ids}
-use Rattle.rp_history.proofs.Found.{first_alone, rest_distinct, there}
+use Rattle.rp_history.proofs.Found.{there, one_place}
+use Rattle.rp_history.proofs.Places.{left_further, places_below}
+use Rattle.rp_history.specs.Places.{is_asked, is_live_in, live_places}
 use Rattle.rp_tester.specs.declared.stopped.Stopped.{Stopped}
 use Rattle.rp_lotindex.specs.declared.near.Reach.{Reach}
 use Rattle.rp_lotindex.specs.declared.near.Reach.TheVariants.{Touch}
@@ -25,29 +27,13 @@ use Rattle.rp_lotindex.proofs.Behind.{others_behind}
 use Rattle.rp_lots.specs.declared.near.Near.{Near}
 use Rattle.rp_lots.specs.declared.pair.Pair.{Pair}
 use Rattle.rp_lots.specs.Meets.{pair_of, parts_at, IsPairWithin}
-use Rattle.rp_lots.specs.Numbers.{lists_at, is_touching, places_with, places_among, AreRising}
-use Rattle.rp_lots.specs.Behind.{is_live_in, live_places, lots_behind, tests_behind, AreNearBehind, ArePairsBehind}
+use Rattle.rp_lots.specs.Numbers.{lists_at, is_touching, places_with, places_among}
+use Rattle.rp_lots.specs.Behind.{lots_behind, tests_behind, AreNearBehind, ArePairsBehind}
 use Rattle.rp_lots.proofs.Items.{parts_there, first_there}
 use Rattle.rp_lots.proofs.Linked.{lists_of_lots}
 use Rattle.rp_lots.proofs.Meeting.{pairs_within}
 
 -- ---- one place for each lot
-
--- the first lot does not stand again behind itself
-not_again : (h : Lot (Unit {0})) (ls : List (Lot (Unit {0}))) → IsTrue (are_distinct (ids_of (h ∷ ls))) → (k : ℕ) (l : Lot (Unit {0})) → Some h ≡ Some l → slice_get ls k ≡ Some l → ⊥
-not_again h ls d k l e f =
-    let same : h ≡ l = cc in
-    let alone = first_alone h ls d in
-    let twice : is_among h.id (ids_of ls) ≡ true = subst (λ (m : Lot (Unit {0})). is_among m.id (ids_of ls) ≡ true) (sym same) (there ls k l f) in
-    cc (alone, twice)
-
--- a lot has one place
-one_place : (lots : List (Lot (Unit {0}))) → IsTrue (are_distinct (ids_of lots)) → (j k : ℕ) (l : Lot (Unit {0})) → slice_get lots j ≡ Some l → slice_get lots k ≡ Some l → j ≡ k
-one_place [] d j k l e f = absurd (cc)
-one_place (h ∷ ls) d zero zero l e f = refl
-one_place (h ∷ ls) d zero (suc k) l e f = absurd (not_again h ls d k l e f)
-one_place (h ∷ ls) d (suc j) zero l e f = absurd (not_again h ls d j l f e)
-one_place (h ∷ ls) d (suc j) (suc k) l e f = ap suc (one_place ls (rest_distinct h ls d) j k l e f)
 
 -- the places of lots are known by the lots
 places_once : (lots : List (Lot (Unit {0}))) → IsTrue (are_distinct (ids_of lots)) → (js ks : List ℕ) → AreWithin lots js → AreWithin lots ks → lots_at lots js ≡ lots_at lots ks → js ≡ ks
@@ -68,62 +54,11 @@ places_once lots d (j ∷ js) (k ∷ ks) g h e =
     let rest : lots_at lots js ≡ lots_at lots ks = cc in
     ap₂ ◌∷◌ (one_place lots d j k first.0 first.1 (second.1 ∙ ap Some (sym same))) (places_once lots d js ks g.1 h.1 rest)
 
--- what is left of a list, one item further
-pub left_further : {A : Type 0} (xs : List A) (k : ℕ) (x : A) (ys : List A) → drop k xs ≡ x ∷ ys → (slice_get xs k ≡ Some x) × (drop (k + 1) xs ≡ ys)
-left_further [] zero x ys e = absurd (cc)
-left_further [] (suc k) x ys e = absurd (cc)
-left_further (z ∷ xs) zero x ys e = let head : z ≡ x = cc in let tail : xs ≡ ys = cc in (ap Some head, tail)
-left_further (z ∷ xs) (suc k) x ys e =
-    let r = left_further xs k x ys e in
-    let f : suc k + 1 ≡ suc (k + 1) = omega arith in
-    (r.0, ap (λ (n : ℕ). drop n (z ∷ xs)) f ∙ r.1)
-
 -- ---- the places of live lots
-
--- none stands before the first
-none_before : (o : Option Label) (k : ℕ) (ls : List (Lot (Unit {0}))) (m : ℕ) → m ≤ k → AllByRecursion (λ j. m ≤ j) (live_places o k ls)
-none_before o k [] m h = tt
-none_before o k (l ∷ ls) m h = by (is_live_in o l) (none_before o (k + 1) ls m (omega (arith, h)))
-  where
-    by : (b : Bool) → AllByRecursion (λ j. m ≤ j) (live_places o (k + 1) ls) → AllByRecursion (λ j. m ≤ j) (cond b (k ∷ live_places o (k + 1) ls) (live_places o (k + 1) ls))
-    by true later = (h, later)
-    by false later = later
-
--- all are below the end
-places_below : (n : ℕ) (o : Option Label) (k : ℕ) (ls : List (Lot (Unit {0}))) → k + length ls ≤ n → AllByRecursion (λ j. j < n) (live_places o k ls)
-places_below n o k [] h = tt
-places_below n o k (l ∷ ls) h = by (is_live_in o l) (places_below n o (k + 1) ls (omega (arith, h)))
-  where
-    by : (b : Bool) → AllByRecursion (λ j. j < n) (live_places o (k + 1) ls) → AllByRecursion (λ j. j < n) (cond b (k ∷ live_places o (k + 1) ls) (live_places o (k + 1) ls))
-    by true later = (omega (arith, h), later)
-    by false later = later
 
 -- all are within
 pub places_within : (lots : List (Lot (Unit {0}))) (o : Option Label) → AreWithin lots (live_places o 0 lots)
 places_within lots o = places_below (length lots) o 0 lots (omega arith)
-
--- they rise
-places_rise : (o : Option Label) (k : ℕ) (ls : List (Lot (Unit {0}))) (i j : ℕ) → i < j → j < length (live_places o k ls) → get_or (live_places o k ls) i 0 < get_or (live_places o k ls) j 0
-places_rise o k [] i j h g = absurd (omega (arith, g))
-places_rise o k (l ∷ ls) i j h g = by (is_live_in o l) i j h (places_rise o (k + 1) ls) (none_before o (k + 1) ls (k + 1) (omega arith)) g
-  where
-    places : List ℕ
-    places = live_places o (k + 1) ls
-
-    above : (ks : List ℕ) → AllByRecursion (λ m. k + 1 ≤ m) ks → (n : ℕ) → n < length ks → k < get_or ks n 0
-    above [] h n g = absurd (omega (arith, g))
-    above (m ∷ ks) h zero g = let f = h.0 in omega (arith, f)
-    above (m ∷ ks) h (suc n) g = above ks h.1 n (omega (arith, g))
-
-    by : (b : Bool) (i j : ℕ) → i < j → ((i j : ℕ) → i < j → j < length places → get_or places i 0 < get_or places j 0) → AllByRecursion (λ m. k + 1 ≤ m) places → j < length (cond b (k ∷ places) places) → get_or (cond b (k ∷ places) places) i 0 < get_or (cond b (k ∷ places) places) j 0
-    by true i zero h later all g = absurd (omega (arith, h))
-    by true zero (suc j) h later all g = above places all j (omega (arith, g))
-    by true (suc i) (suc j) h later all g = later i j (omega (arith, h)) (omega (arith, g))
-    by false i j h later all g = later i j h g
-
--- all of them rise
-pub all_rise : (lots : List (Lot (Unit {0}))) (o : Option Label) → AreRising (live_places o 0 lots)
-all_rise lots o = places_rise o 0 lots
 
 -- the lots at those of a layer
 pub layer_there : (lots : List (Lot (Unit {0}))) (y : Label) (k : ℕ) (ls : List (Lot (Unit {0}))) → drop k lots ≡ ls → lots_at lots (live_places (Some y) k ls) ≡ lots_of_layer y (live_lots ls)
@@ -152,27 +87,30 @@ bare_places o k (l ∷ ls) = ap (λ (ks : List ℕ). cond (is_live_in o l) (k �
 pub line_there : (lines : List LotLine) (k : ℕ) (line : LotLine) → k < length lines → line ≡ get_or lines k line → slice_get (map lot_of lines) k ≡ Some (lot_of line)
 line_there lines k line within is = slice_get-map lot_of lines k ∙ ap (option_map lot_of) (slice_get_read lines (length lines) k line refl within is)
 
--- one more place is taken
-pub place_taken : (lots : List (Lot (Unit {0}))) (o : Option Label) (k : ℕ) (l : Lot (Unit {0})) (places new all : List ℕ) → drop k lots ≡ l ∷ drop (k + 1) lots → is_live_in o l ≡ true → places ++ live_places o k (drop k lots) ≡ all → new ≡ places ++ k ∷ [] →
-    new ++ live_places o (k + 1) (drop (k + 1) lots) ≡ all
-place_taken lots o k l places new all left live so_far e =
-    let rest = live_places o (k + 1) (drop (k + 1) lots) in
-    ap (λ (ks : List ℕ). ks ++ rest) e
-    ∙ append_assoc places (k ∷ []) rest
-    ∙ sym (ap (λ (b : Bool). places ++ cond b (k ∷ rest) rest) live)
-    ∙ sym (ap (λ (ls : List (Lot (Unit {0}))). places ++ live_places o k ls) left)
-    ∙ so_far
+-- the lot at a place is of the layer that is asked for
+abbrev pub is_asked_at : Option Label → List (Lot (Unit {0})) → ℕ → Bool
+is_asked_at o lots k = elim (slice_get lots k) [ None ↦ false | Some l ↦ is_asked o l.layer ]
 
--- or passed over
-pub place_passed : (lots : List (Lot (Unit {0}))) (o : Option Label) (k : ℕ) (l : Lot (Unit {0})) (places all : List ℕ) → drop k lots ≡ l ∷ drop (k + 1) lots → is_live_in o l ≡ false → places ++ live_places o k (drop k lots) ≡ all →
-    places ++ live_places o (k + 1) (drop (k + 1) lots) ≡ all
-place_passed lots o k l places all left ended so_far =
-    let rest = live_places o (k + 1) (drop (k + 1) lots) in
-    sym (ap (λ (b : Bool). places ++ cond b (k ∷ rest) rest) ended) ∙ sym (ap (λ (ls : List (Lot (Unit {0}))). places ++ live_places o k ls) left) ∙ so_far
+-- so is a lot that is known
+pub asked_line : (o : Option Label) (lots : List (Lot (Unit {0}))) (k : ℕ) (l : Lot (Unit {0})) → slice_get lots k ≡ Some l → is_asked_at o lots k ≡ is_asked o l.layer
+asked_line o lots k l at = ap (λ (m : Option (Lot (Unit {0}))). elim m as (λ _. Bool) [ None ↦ false | Some n ↦ is_asked o n.layer ]) at
 
--- none is left behind the last
-pub places_ended : (lots : List (Lot (Unit {0}))) (o : Option Label) (k : ℕ) (places all : List ℕ) → length lots ≤ k → places ++ live_places o k (drop k lots) ≡ all → places ≡ all
-places_ended lots o k places all past so_far = sym (append-nil places) ∙ sym (ap (λ (ls : List (Lot (Unit {0}))). places ++ live_places o k ls) (drop_all k lots past)) ∙ so_far
+-- the places of all live lots, of which those of the layer are asked for
+pub asked_there : (lots : List (Lot (Unit {0}))) (o : Option Label) (k : ℕ) (ls : List (Lot (Unit {0}))) → drop k lots ≡ ls → filter (is_asked_at o lots) (live_places None k ls) ≡ live_places o k ls
+asked_there lots o k [] e = refl
+asked_there lots o k (l ∷ ls) e =
+    let left = left_further lots k l ls e in
+    by (is_live l) (asked_line o lots k l left.0) (asked_there lots o (k + 1) ls left.1)
+  where
+    all : List ℕ
+    all = live_places None (k + 1) ls
+
+    places : List ℕ
+    places = live_places o (k + 1) ls
+
+    by : (b : Bool) → is_asked_at o lots k ≡ is_asked o l.layer → filter (is_asked_at o lots) all ≡ places → filter (is_asked_at o lots) (cond (b && true) (k ∷ all) all) ≡ cond (b && is_asked o l.layer) (k ∷ places) places
+    by true at later = ap₂ (λ (c : Bool) (ks : List ℕ). cond c (k ∷ ks) ks) at later
+    by false at later = later
 
 -- ---- the lots behind a place
 

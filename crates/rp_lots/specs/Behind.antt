@@ -1,25 +1,10 @@
 -- Live lots by their places, and those behind each, in its layer, that may meet it.
-use Rattle.std.specs.Prelude.{◌≡◌, ℕ, ◌+◌, Bool, true, ◌&&◌, cond, List, [], ◌∷◌, ◌++◌, map, filter, drop, Option, Some, None, slice_get}
-use Rattle.rp_language.specs.Name.{Label, label_eq}
-use Rattle.rp_model.specs.states.State.{Lot, is_live, live_lots, lots_of_layer}
+use Rattle.std.specs.Prelude.{◌≡◌, ℕ, ◌+◌, List, [], ◌∷◌, ◌++◌, map, filter, drop, Some, None, slice_get}
+use Rattle.rp_model.specs.states.State.{Lot, live_lots, lots_of_layer}
 use Rattle.rp_lotindex.specs.declared.near.Reach.{Reach}
 use Rattle.rp_lotindex.specs.Near.{pairs_with, is_near, lots_at, AreWithin}
 use Rattle.rp_lots.specs.declared.pair.Pair.{Pair}
 use Rattle.rp_lots.specs.Meets.{pair_of, parts_at}
-
--- a layer is the one that is asked for, if one is
-abbrev pub is_asked : Option Label → Label → Bool
-is_asked None z = true
-is_asked (Some y) z = label_eq z y
-
--- the lot is live, and of the layer that is asked for
-abbrev pub is_live_in : {S : Type 0} → Option Label → Lot S → Bool
-is_live_in o l = is_live l && is_asked o l.layer
-
--- the places of such lots, where the first of all has the place k
-abbrev pub live_places : {S : Type 0} → Option Label → ℕ → List (Lot S) → List ℕ
-live_places o k [] = []
-live_places o k (l ∷ ls) = cond (is_live_in o l) (k ∷ live_places o (k + 1) ls) (live_places o (k + 1) ls)
 
 -- the live lots behind a place, of the layer of the lot at it
 abbrev pub lots_behind : {S : Type 0} → List (Lot S) → ℕ → List (Lot S)

@@ -1,9 +1,10 @@
 -- Pairs of some lots, by their places and by the numbers of their places.
-use Rattle.std.specs.Prelude.{◌≡◌, ℕ, ◌<◌, Bool, not, ◌==◌, List, [], ◌∷◌, ◌++◌, map, length, get_or, cond}
+use Rattle.std.specs.Prelude.{ℕ, ◌<◌, Bool, not, ◌==◌, List, [], ◌∷◌, ◌++◌, map, get_or, cond}
 use Rattle.rp_geometry.specs.sets.Shape.{Part}
 use Rattle.rp_walks.specs.Form.{touching_pair}
 use Rattle.rp_model.specs.states.State.{Lot}
 use Rattle.rp_model.specs.commands.Row.{count_pairs}
+use Rattle.rp_history.specs.Places.{IsOneOf}
 use Rattle.rp_lots.specs.declared.pair.Pair.{Pair}
 use Rattle.rp_lots.specs.Meets.{pair_of, parts_at}
 
@@ -24,16 +25,6 @@ places_with lots j (k ∷ ks) = cond (is_touching (parts_at lots j) (parts_at lo
 abbrev pub places_among : {S : Type 0} → List (Lot S) → List ℕ → List Pair
 places_among lots [] = []
 places_among lots (j ∷ ks) = places_with lots j ks ++ places_among lots ks
-
--- the places rise
-abbrev pub AreRising : List ℕ → Type 0
-AreRising ks = (i j : ℕ) → i < j → j < length ks → get_or ks i 0 < get_or ks j 0
-
--- a place is one of these, by a number
-pub record IsOneOf (ks : List ℕ) (k : ℕ) : Type 0 where
-  pub number : ℕ
-  pub below : number < length ks
-  pub is : get_or ks number 0 ≡ k
 
 -- both places of a pair are
 abbrev pub IsPairOf : List ℕ → Pair → Type 0

@@ -6,10 +6,11 @@ ghost use Rattle.rp_model.specs.states.State.{ids_of, place_among, layer_with_id
 ghost use Rattle.rp_model.specs.commands.Checks.{check_access};
 ghost use Rattle.rp_model.specs.commands.Row.{access_by_links, row_access};
 ghost use Rattle.rp_history.specs.Lots.{lot_of};
+ghost use Rattle.rp_history.specs.Places.{AreRising};
 ghost use Rattle.rp_rows.specs.Access.{told_access};
 ghost use Rattle.rp_lotindex.specs.Near.{lots_at, AreWithin};
 ghost use Rattle.rp_lots.specs.Meets.{IsPairWithin};
-ghost use Rattle.rp_lots.specs.Numbers.{AreRising, IsPairOf, AreBelow, placed, links_met};
+ghost use Rattle.rp_lots.specs.Numbers.{IsPairOf, AreBelow, placed, links_met};
 ghost use Rattle.rp_lots.specs.Asked.{IsReady, LeavesAccess, LeavesLinks};
 
 use crate::behind::{later_pairs, live_places};
@@ -58,10 +59,11 @@ fn layer_left<T: Tests, K: Keeper<T>>(
     ensures left { LeavesAccess result (K.state keeper.now).lots T.tester tests.new (row_access T.tester (K.state keeper.now) from to tests.old) }
 {
     keeper.keep_limit();
-    let lots = keeper.history().lots();
-    let places = live_places(alloc, lots, Some(layer))?;
+    let history = keeper.history();
+    let places = live_places(alloc, history, Some(layer))?;
     let near = later_pairs::<T, K>(alloc, keeper, &places, Reach::Touch)?;
     count_tests(tests, near.tests)?;
+    let lots = history.lots();
     Ok(links_left(alloc, lots, &places, near.pairs, from, to)?)
 }
 

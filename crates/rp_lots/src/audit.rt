@@ -32,8 +32,7 @@ pub fn audit_left<T: Tests, K: Keeper<T>>(
     ensures left { LeavesAudit result (K.state keeper.now).lots T.tester tests.new (row_audit T.tester (K.state keeper.now) tests.old) }
 {
     keeper.keep_limit();
-    let lots = keeper.history().lots();
-    let places = live_places(alloc, lots, None)?;
+    let places = live_places(alloc, keeper.history(), None)?;
     let near = later_pairs::<T, K>(alloc, keeper, &places, Reach::Overlap)?;
     count_tests(tests, near.tests)?;
     let live = places.len() as u32;

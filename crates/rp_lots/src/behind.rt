@@ -1,15 +1,16 @@
 //! Live lots by their places, and the pairs of each with those behind it, in its layer, that may meet it.
 ghost use Rattle.std.specs.Prelude.{◌≡◌, ◌&&◌, ◌<◌, ◌≤◌, ◌++◌, length, map, IfOk, OnOk};
 ghost use Rattle.rp_history.specs.Lots.{lot_of};
+ghost use Rattle.rp_history.specs.Places.{is_asked, live_places};
 ghost use Rattle.rp_lotindex.specs.Near.{pairs_with, AreWithin};
 ghost use Rattle.rp_lots.specs.Meets.{pair_of, parts_at};
 ghost use Rattle.rp_lots.specs.Counted.{CountsUpTo};
-ghost use Rattle.rp_lots.specs.Behind.{is_asked, is_live_in, live_places, lots_behind, tests_behind, AreNearBehind, ArePairsBehind};
+ghost use Rattle.rp_lots.specs.Behind.{lots_behind, tests_behind, AreNearBehind, ArePairsBehind};
 
 use crate::keeper::Keeper;
 use crate::near::{MAX_TESTS, Near, form_at, lots_near};
 use crate::pair::Pair;
-use rp_history::LotLine;
+use rp_history::History;
 use rp_lotindex::Reach;
 use rp_space::Name;
 use rp_tester::{Stopped, Tests};
@@ -22,29 +23,23 @@ pub(crate) struct NearPairs {
     pub pairs: Vec<Pair>,
 }
 
-/// The places of the live lots among `lots`, in order: of those of `layer`, where one is given, and else of all.
+/// The places of the live lots of `history`, in order: of those of `layer`, where one is given, and else of all.
 pub(crate) fn live_places(
     alloc: Global,
-    lots: &[LotLine],
+    history: &History,
     layer: Option<Name>,
 ) -> Result<Vec<usize>, AllocError>
-    ensures places { IfOk result (λ places. places.items ≡ live_places layer 0 (map lot_of lots.now)) }
-    ensures few { IfOk result (λ places. length places.items ≤ length lots.now) }
+    ensures places { IfOk result (λ places. places.items ≡ live_places layer 0 history.now) }
+    ensures few { IfOk result (λ places. length places.items ≤ length history.now) }
 {
+    let lots = history.lots();
     let mut places = Vec::new(alloc);
-    for place in 0..lots.len() {
-        if is_live_in(&lots[place], &layer) {
-            places.push(place)?;
+    for place in history.live() {
+        if is_asked(&lots[*place].layer, &layer) {
+            places.push(*place)?;
         }
     }
     Ok(places)
-}
-
-/// Whether a lot is live, and of the layer that is asked for.
-fn is_live_in(lot: &LotLine, layer: &Option<Name>) -> bool
-    ensures { result ≡ is_live_in layer.now (lot_of lot.now) }
-{
-    lot.ended.is_none() && is_asked(&lot.layer, layer)
 }
 
 /// Whether a layer is the one that is asked for, if one is.

@@ -3,8 +3,9 @@ ghost use Rattle.std.specs.Prelude.{◌≡◌, ◌<◌, get_or, length, map, IfO
 ghost use Rattle.std.specs.List.{AllByRecursion};
 ghost use Rattle.rp_model.specs.states.State.{ids_of, most_kept_parts};
 ghost use Rattle.rp_history.specs.Lots.{lot_of};
+ghost use Rattle.rp_history.specs.Places.{AreRising, IsOneOf};
 ghost use Rattle.rp_lotindex.specs.Near.{lots_at, AreWithin};
-ghost use Rattle.rp_lots.specs.Numbers.{AreRising, IsOneOf, IsPairOf, AreBelow, placed, links_met};
+ghost use Rattle.rp_lots.specs.Numbers.{IsPairOf, AreBelow, placed, links_met};
 
 use crate::pair::Pair;
 use rp_history::LotLine;

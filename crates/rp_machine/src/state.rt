@@ -12,7 +12,6 @@ use rp_changes::Change;
 use rp_ledger::Ledger;
 use rp_region::Region;
 use rp_regionlots::Regions;
-use rp_rows::live_count;
 use std::alloc::{AllocError, Global};
 use std::marker::Model;
 
@@ -64,7 +63,7 @@ impl State {
     pub(crate) fn count_live(&self) -> u32
         ensures { result ≡ length (live_lots self.now.lots) }
     {
-        live_count(self.ledger.history().lots()) as u32
+        self.ledger.history().live_count() as u32
     }
 
     /// Makes `change` at line `n`, which is above every birth and every end; a sound state comes of it. After

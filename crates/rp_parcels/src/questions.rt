@@ -16,7 +16,7 @@ use crate::visits::Visits;
 use rp_boxindex::Watch;
 use rp_region::Work;
 use rp_regionlots::{access, audit, neighbours};
-use rp_rows::{Access, live_count};
+use rp_rows::Access;
 use rp_space::{Name, Names};
 use std::alloc::Global;
 use std::thread::Threads;
@@ -101,6 +101,6 @@ impl Parcels {
     pub fn count_live(&self) -> u32
         ensures { result ≡ length (live_lots self.now) }
     {
-        live_count(self.history().lots()) as u32
+        self.history().live_count() as u32
     }
 }

@@ -1,11 +1,11 @@
 //! The rows of the questions that a history of lots answers. They make no test.
-ghost use Rattle.std.specs.Prelude.{◌≡◌, ◌≤◌, IfOk, length, map};
-ghost use Rattle.rp_model.specs.states.State.{most_kept_parts};
+ghost use Rattle.std.specs.Prelude.{◌≡◌, ◌≤◌, ◌++◌, IfOk, OnOk, length, map};
+ghost use Rattle.rp_model.specs.states.State.{most_kept_parts, live_lots};
+ghost use Rattle.rp_model.specs.commands.Verdict.{lot_lines};
 ghost use Rattle.rp_text.specs.Views.{verdict_of};
 ghost use Rattle.rp_rows.specs.Lots.{list_lines, TellsHistory};
 
-use crate::live::{add_live, live_count};
-use crate::lot_lines::add_each;
+use crate::lot_lines::{add_each, lot_line};
 use crate::reply::{RowEnd, one_line};
 use rp_history::History;
 use rp_space::Name;
@@ -31,8 +31,18 @@ pub fn list(alloc: Global, history: &History) -> Result<Verdicts, AllocError>
     requires { length history.now ≤ most_kept_parts }
     ensures { IfOk result (λ lines. map verdict_of lines.items ≡ list_lines history.now) }
 {
-    let lots = history.lots();
-    let mut lines = one_line(alloc, Verdict::Parcels(live_count(lots) as u32))?;
-    add_live(alloc, lots, &mut lines)?;
+    let mut lines = one_line(alloc, Verdict::Parcels(history.live_count() as u32))?;
+    add_live(alloc, history, &mut lines)?;
     Ok(lines)
+}
+
+/// Appends the lines of the live lots of `history`.
+fn add_live(alloc: Global, history: &History, lines: &mut Verdicts) -> Result<(), AllocError>
+    ensures { OnOk result (map verdict_of lines.new.items ≡ map verdict_of lines.old.items ++ lot_lines (live_lots history.now)) }
+{
+    let lots = history.lots();
+    for place in history.live() {
+        lines.push(lot_line(alloc, &lots[*place])?)?;
+    }
+    Ok(())
 }

@@ -9,12 +9,16 @@ use Rattle.rp_history.proofs.births.append.Goals as goal
 pub loop-lot-init : goal.loop-lot-init
 loop-lot-init c =
     subst (λ (ls : List LotLine). AreToCome c.args.list.now.lots c.args.list.now.spare ls (c.args.list.now.lots ++ map lot_of c.args.born.items)) (sym (c.into_iter-lot-iterator.ensures.into_iter_gives.0 ∙ c.into_items-lot-items.ensures))
-    (record { together = refl; room = c.requires.room; fresh = c.requires.fresh; distinct = c.requires.distinct })
+    (record { together = refl; room = c.requires.room; live = c.requires.live; fresh = c.requires.fresh; distinct = c.requires.distinct })
 
 pub push-requires-clause-room : goal.push-requires-clause-room
 push-requires-clause-room c =
     let h = subst (λ (ls : List LotLine). AreToCome c.loop-lot.list.lots c.loop-lot.list.spare ls (c.args.list.now.lots ++ map lot_of c.args.born.items)) c.in-Some.ensures.steps.0 c.loop-lot.invariant in
     let room = h.room in omega (arith, room)
+
+pub push-requires-clause-live : goal.push-requires-clause-live
+push-requires-clause-live c =
+    (subst (λ (ls : List LotLine). AreToCome c.loop-lot.list.lots c.loop-lot.list.spare ls (c.args.list.now.lots ++ map lot_of c.args.born.items)) c.in-Some.ensures.steps.0 c.loop-lot.invariant).live.0
 
 pub push-requires-clause-fresh : goal.push-requires-clause-fresh
 push-requires-clause-fresh c =

@@ -1,4 +1,4 @@
-use Rattle.std.proofs.Common.{◌+◌, ◌∙◌, List, map, drop, ap, sym}
+use Rattle.std.proofs.Common.{◌+◌, ◌∙◌, List, map, drop, ap, sym, arith}
 use Rattle.std.proofs.lemmas.List.{drop_all}
 use Rattle.rp_algebra.proofs.Lists.{drop_item}
 use Rattle.rp_language.specs.Name.{Label}
@@ -15,7 +15,7 @@ loop-id-preserved c =
           ∙ ends_first c.args.line x rest c.loop-id.list.lots
           ∙ ap (λ (xs : List Label). map (ended_at c.args.line xs) c.loop-id.list.lots) (sym (drop_item c.args.ids.now i x c.loop-id-test.true c.id-item.is))
           ∙ c.loop-id.invariant.0,
-      c.end.ensures.spare ∙ c.loop-id.invariant.1,
+      (let more = c.end.ensures.spare in let before = c.loop-id.invariant.1 in omega (arith, more, before)),
     )
 
 pub returns-clause-lots : goal.returns-clause-lots

@@ -1,46 +1,67 @@
-use Rattle.std.proofs.Common.{◌<◌, ◌≤◌, ◌+◌, ◌∷◌, [], ◌++◌, map, drop, length, sym, ap, ◌∙◌, arith}
-use Rattle.std.proofs.lemmas.List.{length-map, length-append}
+use Rattle.std.proofs.Common.{rules, Bool, List, ℕ, [], ◌∷◌, ◌++◌, cond, take, filter, length, get_or, None, refl, ap, sym, ◌∙◌, subst, append-nil, arith}
+use Rattle.std.proofs.lemmas.List.{length-map, take_all}
+use Rattle.std.proofs.lemmas.List.Elements.{filter_more}
+use Rattle.rp_history.specs.declared.lot.LotLine.{LotLine}
 use Rattle.rp_history.specs.Lots.{lot_of}
-use Rattle.rp_lotindex.proofs.Behind.{left_at}
-use Rattle.rp_lots.specs.Behind.{live_places}
-use Rattle.rp_lots.proofs.Paired.{line_there, place_taken, place_passed, places_ended}
+use Rattle.rp_history.specs.Places.{is_asked}
+use Rattle.rp_history.proofs.Placed.{lot_at}
+use Rattle.rp_history.proofs.Places.{places_below, places_few}
+use Rattle.rp_lotindex.specs.Near.{AreWithin}
+use Rattle.rp_lotindex.proofs.Places.{place_within}
+use Rattle.rp_lots.proofs.Paired.{is_asked_at, asked_line, asked_there}
 use Rattle.rp_lots.proofs.behind.live_places.Goals as goal
-use Rattle.rp_lots.proofs.behind.live_places.Goals.{then-is_live_in+in_ok-push, else-is_live_in}
+use Rattle.rp_lots.proofs.behind.live_places.Goals.{then-is_asked+in_ok-push, else-is_asked}
+
+pub bounds-lots-place : goal.bounds-lots-place
+bounds-lots-place c =
+    let history = c.args.history.now in
+    let live = c.live-place-items.result.now in
+    let all = subst (AreWithin history) (sym c.live-place-items.ensures) (places_below (length history) None 0 history (omega arith)) in
+    let within = place_within history live all c.loop-place.place-index (get_or live c.loop-place.place-index 0) c.loop-place-test.true refl in
+    let many = length-map c.lots-lots.result.now lot_of in
+    let same = ap length c.lots-lots.ensures.value in
+    omega (arith, within, many, same)
+
+pub offset_bounds-lots-place : goal.offset_bounds-lots-place
+offset_bounds-lots-place c = search (rules, bounds-lots-place c)
 
 pub loop-place-preserved : goal.loop-place-preserved
 loop-place-preserved c =
-    let lines = c.args.lots.now in
-    let lots = map lot_of lines in
-    let o = c.args.layer in
-    let k = c.loop-place.place in
-    let ks = c.loop-place.places.items in
-    let all = live_places o 0 lots in
-    let l = lot_of c.index-lots-place.result in
-    let here : k < length lines = c.loop-place-test.true in
-    let many = length-map lines lot_of in
-    let within : k < length lots = omega (arith, many, here) in
-    let left = left_at lots k l within (line_there lines k c.index-lots-place.result here c.index-lots-place.is) in
-    let test = sym c.is_live_in.ensures in
-    let few = c.loop-place.invariant.few in
-    elim c.if-is_live_in.branch [
-      | then-is_live_in+in_ok-push w ↦
-          let more = ap (λ v. v.items) w.places-is ∙ w.in_ok-push.ensures.items in
-          let longer = ap length more ∙ length-append ks (k ∷ []) in
-          record { left = place_taken lots o k l ks _ all left (test ∙ w.if-is_live_in.true) c.loop-place.invariant.left more; few = omega (arith, few, longer) }
-      | else-is_live_in w ↦
-          let same = ap (λ v. v.items) w.places-is in
-          let as_long = ap length same in
-          record {
-            left = ap (λ xs. xs ++ live_places o (k + 1) (drop (k + 1) lots)) same ∙ place_passed lots o k l ks all left (test ∙ w.if-is_live_in.false) c.loop-place.invariant.left;
-            few = omega (arith, few, as_long);
-          }
+    let history = c.args.history.now in
+    let test = is_asked_at c.args.layer history in
+    let live = c.live-place-items.result.now in
+    let i = c.loop-place.place-index in
+    let k = get_or live i 0 in
+    let here = c.loop-place-test.true in
+    let all = subst (AreWithin history) (sym c.live-place-items.ensures) (places_below (length history) None 0 history (omega arith)) in
+    let at = lot_at c.lots-lots.result.now history c.lots-lots.ensures.value k c.index-lots-place.result (place_within history live all i k here refl) c.index-lots-place.is in
+    let tested = asked_line c.args.layer history k (lot_of c.index-lots-place.result) at in
+    let asked = c.is_asked.ensures ∙ ap (λ (line : LotLine). is_asked c.args.layer line.layer) (sym c.index-lots-place.is) in
+    let more = filter_more test live i 0 here in
+    elim c.if-is_asked.branch [
+      | then-is_asked+in_ok-push w ↦
+          ap (λ v. v.items) w.places-is ∙ w.in_ok-push.ensures.items ∙ ap (λ (ks : List ℕ). ks ++ k ∷ []) c.loop-place.invariant
+          ∙ ap (λ (b : Bool). filter test (take i live) ++ cond b (k ∷ []) []) (sym w.if-is_asked.true ∙ asked ∙ sym tested) ∙ sym more
+      | else-is_asked w ↦
+          ap (λ v. v.items) w.places-is ∙ c.loop-place.invariant ∙ sym (append-nil (filter test (take i live)))
+          ∙ ap (λ (b : Bool). filter test (take i live) ++ cond b (k ∷ []) []) (sym w.if-is_asked.false ∙ asked ∙ sym tested) ∙ sym more
     ]
 
 pub returns-clause-places : goal.returns-clause-places
 returns-clause-places c =
-    let lines = c.args.lots.now in
-    let lots = map lot_of lines in
-    let many = length-map lines lot_of in
-    let past = c.loop-place-test.false in
-    let end : length lots ≤ c.loop-place.place = omega (arith, many, past) in
-    places_ended lots c.args.layer c.loop-place.place c.loop-place.places.items (live_places c.args.layer 0 lots) end c.loop-place.invariant.left
+    let history = c.args.history.now in
+    let live = c.live-place-items.result.now in
+    c.loop-place.invariant
+    ∙ ap (filter (is_asked_at c.args.layer history)) (take_all c.loop-place.place-index live c.loop-place-test.false ∙ c.live-place-items.ensures)
+    ∙ asked_there history c.args.layer 0 history refl
+
+pub returns-clause-few : goal.returns-clause-few
+returns-clause-few c =
+    let history = c.args.history.now in
+    let live = c.live-place-items.result.now in
+    let same = ap length
+    (c.loop-place.invariant
+    ∙ ap (filter (is_asked_at c.args.layer history)) (take_all c.loop-place.place-index live c.loop-place-test.false ∙ c.live-place-items.ensures)
+    ∙ asked_there history c.args.layer 0 history refl) in
+    let few = places_few c.args.layer 0 history in
+    omega (arith, same, few)

@@ -1,7 +1,7 @@
 use Rattle.std.proofs.Common.{◌≡◌, ◌<◌, length, get_or, subst}
 use Rattle.std.specs.Result.{MatchResult}
-use Rattle.rp_lots.proofs.Linked.{number_found}
 use Rattle.rp_lots.proofs.links.number_in.Goals as goal
+use Rattle.rp_history.proofs.Places.{number_found}
 
 pub unreachable-requires : goal.unreachable-requires
 unreachable-requires c =

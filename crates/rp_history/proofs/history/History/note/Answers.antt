@@ -1,8 +1,13 @@
-use Rattle.std.proofs.Common.{◌++◌, ◌∙◌, List, map, sym, ap, ap₂, subst}
+use Rattle.std.proofs.Common.{◌≡◌, ◌++◌, ◌∙◌, None, List, map, sym, ap, ap₂, subst}
 use Rattle.rp_model.specs.states.State.{Lot, ended_at}
 use Rattle.rp_history.specs.Lots.{lot_of, new_lot_of, AreKeptWell}
+use Rattle.std.specs.List.{AllByRecursion}
+use Rattle.rp_history.proofs.Appended.{born_live}
 use Rattle.rp_history.proofs.KeptWell.{well_after, fresh_born, distinct_born}
 use Rattle.rp_history.proofs.history.History.note.Goals as goal
+
+pub append-requires-clause-live : goal.append-requires-clause-live
+append-requires-clause-live c = subst (AllByRecursion (λ (l : Lot (Unit {0})). l.ended ≡ None)) (sym c.in_ok-born.ensures) (born_live c.args.line (map new_lot_of c.args.births.now))
 
 pub append-requires-clause-fresh : goal.append-requires-clause-fresh
 append-requires-clause-fresh c =

@@ -13,10 +13,10 @@ returns-in_err-place-clause-lot c =
 
 pub returns-then-is_none-clause-lot : goal.returns-then-is_none-clause-lot
 returns-then-is_none-clause-lot c =
-    let item = live_at_item c.self.inside.lots.items c.args.self.now.lots c.self.inside.places.keys c.self.invariant c.self.view_is c.args.id.now c.in_ok-place.place c.index.result.now c.in_ok-place.ensures.within c.index.ensures c.in_ok-place.ensures.lot in
+    let item = live_at_item c.self.inside.lots.items c.args.self.now.lots c.self.inside.places.keys c.self.invariant.ids c.self.view_is c.args.id.now c.in_ok-place.place c.index.result.now c.in_ok-place.ensures.within c.index.ensures c.in_ok-place.ensures.lot in
     item.0 ∙ sym (item.1 ∙ ap (λ (b : Bool). pick b (Some (lot_of c.index.result.now)) None) (none_if_not_some c.index.result.now.ended true c.if-is_none.ensures))
 
 pub returns-else-is_none-clause-lot : goal.returns-else-is_none-clause-lot
 returns-else-is_none-clause-lot c =
-    let item = live_at_item c.self.inside.lots.items c.args.self.now.lots c.self.inside.places.keys c.self.invariant c.self.view_is c.args.id.now c.in_ok-place.place c.index.result.now c.in_ok-place.ensures.within c.index.ensures c.in_ok-place.ensures.lot in
+    let item = live_at_item c.self.inside.lots.items c.args.self.now.lots c.self.inside.places.keys c.self.invariant.ids c.self.view_is c.args.id.now c.in_ok-place.place c.index.result.now c.in_ok-place.ensures.within c.index.ensures c.in_ok-place.ensures.lot in
     sym (item.1 ∙ ap (λ (b : Bool). pick b (Some (lot_of c.index.result.now)) None) (none_if_not_some c.index.result.now.ended false c.if-is_none.ensures))
