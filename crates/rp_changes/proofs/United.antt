@@ -1,13 +1,12 @@
 -- The parts of several lots one after the other, and the row of a consolidation.
-use Rattle.std.proofs.Common.{◌≡◌, ◌+◌, ◌≤◌, Bool, true, false, List, [], ◌∷◌, ◌++◌, map, length, Option, Some, None, IfSome, refl, sym, ap, ◌∙◌, subst, append_assoc, append-nil, arith}
+use Rattle.std.proofs.Common.{◌≡◌, ◌+◌, ◌≤◌, Bool, true, false, List, [], ◌∷◌, ◌++◌, map, length, Option, Some, None, IfSome, refl, sym, ap, ◌∙◌, subst, append-nil, arith}
 use Rattle.std.specs.Prelude.{nat_le}
-use Rattle.std.proofs.lemmas.List.{length-append}
 use Rattle.rp_geometry.specs.sets.Shape.{Part}
 use Rattle.rp_geometry.specs.parts.Parts.{most_parts}
 use Rattle.rp_language.specs.Name.{Label}
 use Rattle.rp_walks.specs.Walk.{Stop, Outcome, done, stopped, limit_met, Walk, pass, stop, ◌>>◌}
-use Rattle.rp_walks.specs.Form.{if_at_most, parts_or_none}
-use Rattle.rp_model.specs.states.State.{PlainState, parts_of_lot, live_lot, parts_under_lots, layer_of_first, lots_replaced, most_kept_parts}
+use Rattle.rp_walks.specs.Form.{if_at_most}
+use Rattle.rp_model.specs.states.State.{PlainState, parts_under_lots, layer_of_first, lots_replaced, most_kept_parts}
 use Rattle.rp_model.specs.commands.Checks.{check_consolidate}
 use Rattle.rp_model.specs.commands.Row.{Reply, accepted, check, check_size, new_lot, parts_with_id, joined_parts, row_consolidate}
 use Rattle.rp_tester.specs.declared.stopped.Stopped.{Stopped}
@@ -52,16 +51,7 @@ passes_on e xs t u o h = by (stop_of e) h
 size_of_stopped : {W : Type 0} (e : Stopped) (xs : List Part) (t u : W) → StopsBy e u (at_most_by xs false t) → StopsBy e u (size_by false t)
 size_of_stopped e xs t u h = stops_on (λ _. pass tt) e u (at_most_by xs false t) h
 
--- where a list is too long, so is a longer one
-pub longer_stops : {W : Type 0} (e : Stopped) (xs ys : List Part) (t u : W) → StopsBy e u (if_at_most most_parts xs t) → StopsBy e u (if_at_most most_parts (xs ++ ys) t)
-longer_stops e xs ys t u h = by (nat_le (length xs) most_parts) (nat_le (length (xs ++ ys)) most_parts) refl refl h
-  where
-    by : (b c : Bool) → nat_le (length xs) most_parts ≡ b → nat_le (length (xs ++ ys)) most_parts ≡ c → StopsBy e u (at_most_by xs b t) → StopsBy e u (at_most_by (xs ++ ys) c t)
-    by true c f g k = passes_on e xs t u (at_most_by (xs ++ ys) c t) k
-    by false true f g k = let n = length-append xs ys in absurd (grind (arith, n))
-    by false false f g k = k
-
--- and so is its size
+-- where a list is too long, its size stops
 pub size_stops : {W : Type 0} (e : Stopped) (xs : List Part) (t u : W) → StopsBy e u (if_at_most most_parts xs t) → StopsBy e u (check_size (length xs) most_parts t)
 size_stops e xs t u h = by (nat_le (length xs) most_parts) h
   where
@@ -79,14 +69,6 @@ size_passes xs ys t u h = by (nat_le (length xs) most_parts) h
 
 -- ---- the lots
 
--- the parts of a lot that is found are those with its id
-pub parts_found : (s : PlainState) (x : Label) (ps : List Part) → Some ps ≡ parts_of_lot (live_lot x s.lots) → parts_with_id s x ≡ ps
-parts_found s x ps e = sym (ap parts_or_none e)
-
--- an id that is not found has none
-pub parts_not_found : (s : PlainState) (x : Label) → None ≡ parts_of_lot (live_lot x s.lots) → parts_with_id s x ≡ []
-parts_not_found s x e = sym (ap parts_or_none e)
-
 -- the parts of some ids one after the other
 abbrev pub joined_of : PlainState → List Label → List Part
 joined_of s ids = joined_parts (map (λ x. parts_with_id s x) ids)
@@ -95,29 +77,6 @@ joined_of s ids = joined_parts (map (λ x. parts_with_id s x) ids)
 pub record IsUniting (s : PlainState) (made : List Part) (rest whole : List Label) : Type 0 where
   pub all : made ++ joined_of s rest ≡ joined_of s whole
   pub few : length made ≤ most_parts
-
--- the parts of one more id
-pub unites_more : {W : Type 0} (s : PlainState) (made more ps : List Part) (x : Label) (rest xs whole : List Label) (t u : W) → IsUniting s made rest whole → rest ≡ x ∷ xs → parts_with_id s x ≡ ps → if_at_most most_parts (made ++ ps) t ≡ done more u → IsUniting s more xs whole
-unites_more s made more ps x rest xs whole t u h e f g =
-    let short = at_most_made (made ++ ps) more t u g in
-    record {
-      all = ap (λ (qs : List Part). qs ++ joined_of s xs) (sym short.1) ∙ append_assoc made ps (joined_of s xs) ∙ ap (λ (qs : List Part). made ++ (qs ++ joined_of s xs)) (sym f) ∙ ap (λ (ids : List Label). made ++ joined_of s ids) (sym e) ∙ h.all;
-      few = subst (λ (qs : List Part). length qs ≤ most_parts) short.1 short.0;
-    }
-
--- an id without parts
-pub unites_none : (s : PlainState) (made : List Part) (x : Label) (rest xs whole : List Label) → IsUniting s made rest whole → rest ≡ x ∷ xs → parts_with_id s x ≡ [] → IsUniting s made xs whole
-unites_none s made x rest xs whole h e f = record {
-  all = ap (λ (qs : List Part). made ++ (qs ++ joined_of s xs)) (sym f) ∙ ap (λ (ids : List Label). made ++ joined_of s ids) (sym e) ∙ h.all;
-  few = h.few;
-}
-
--- the parts of one more id are too many
-pub unites_stops : {W : Type 0} (s : PlainState) (made ps : List Part) (x : Label) (rest xs whole : List Label) → IsUniting s made rest whole → rest ≡ x ∷ xs → parts_with_id s x ≡ ps → (e : Stopped) (t u : W) → StopsBy e u (if_at_most most_parts (made ++ ps) t) → StopsBy e u (if_at_most most_parts (joined_of s whole) t)
-unites_stops s made ps x rest xs whole h e f l t u g =
-    subst (λ (qs : List Part). StopsBy l u (if_at_most most_parts qs t))
-    (append_assoc made ps (joined_of s xs) ∙ ap (λ (qs : List Part). made ++ (qs ++ joined_of s xs)) (sym f) ∙ ap (λ (ids : List Label). made ++ joined_of s ids) (sym e) ∙ h.all)
-    (longer_stops l (made ++ ps) (joined_of s xs) t u g)
 
 -- all are joined
 pub united : {W : Type 0} (s : PlainState) (made : List Part) (rest whole : List Label) → IsUniting s made rest whole → rest ≡ [] → (t : W) → if_at_most most_parts (joined_of s whole) t ≡ done made t

@@ -22,11 +22,6 @@ module _ {X : Type 0} (step : X → Walk Trail Bool) (search : List X → Walk T
       → IsLeft start whole now (step x >>= unless_found (search (drop (i + 1) xs)))
   item_left xs i x h e l = left_as (ap search (drop_item xs i x h e) ∙ is x (drop (i + 1) xs)) l
 
-  -- the item stops the search
-  pub item_stops : {start now : Trail} {whole : Walk Trail Bool} (xs : List X) (i : ℕ) (x : X) → i < length xs → x ≡ get_or xs i x → IsLeft start whole now (search (drop i xs))
-      → (e : Stopped) (new : Trail) → StopsBy e new (step x now) → StopsBy e new (whole start)
-  item_stops xs i x h g l e new m = stop_left (step x) (unless_found (search (drop (i + 1) xs))) (item_left xs i x h g l) e new m
-
   -- the item is found
   pub item_found : {start now new : Trail} {whole : Walk Trail Bool} (xs : List X) (i : ℕ) (x : X) → i < length xs → x ≡ get_or xs i x → IsLeft start whole now (search (drop i xs))
       → step x now ≡ done true new → whole start ≡ done true new
