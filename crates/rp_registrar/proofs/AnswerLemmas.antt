@@ -15,8 +15,9 @@ use Rattle.rp_scripts.proofs.RefusalLemmas.{list_any-append}
 use Rattle.rp_scripts.proofs.RunLemmas.{IsTrue-both}
 use Rattle.rp_scripts.proofs.SinkLemmas.{Appends-append, Appends-nothing}
 use Rattle.rp_book.specs.Lines.{HasEnd}
-use Rattle.rp_registrar.specs.Added.{HasRefusal, PutsBehind}
-use Rattle.rp_registrar.specs.Acts.{PutsAnswers, PutsFirst}
+use Rattle.rp_registrar.specs.Added.{PutsBehind}
+use Rattle.rp_book.specs.Act.{Told, HasActs}
+use Rattle.rp_registrar.specs.Acts.{PutsAsOf, PutsHistory, as_of_line, history_line, last_by}
 use Rattle.rp_registrar.specs.Answered.{Answers, AnswersBehind, lines_by}
 use Rattle.rp_registrar.proofs.ScriptLemmas.{IsReport-computed, IsReport-nothing, report-behind, report-refused}
 
@@ -122,16 +123,13 @@ PutsBehind-nothing lines old new mark h =
       marks = h.mark;
     }
 
--- so a line of the report of all is a refusal where the mark says so
-pub HasRefusal-behind : (script lines : List ℕ) (old new : Option (List ℕ)) (mark : Bool) → PutsBehind script lines old new mark → HasRefusal (script ++ lines) mark
-HasRefusal-behind script lines old new mark h = record { told = h.before ++ h.told; report = h.report; marks = h.marks }
-
--- answers behind a script that a book tells
-pub told_answers : {E : Type 0} (r : Result Bool E) (told : Option (List ℕ)) (text lines : List ℕ) (old new : Option (List ℕ)) → IfSome told (λ kept. text ≡ kept) → IfOk r (λ mark. PutsBehind text lines old new mark)
-    → IfOk r (λ mark. IfSome told (λ script. PutsAnswers script old new mark))
-told_answers (Err e) told text lines old new same h = tt
-told_answers (Ok mark) None text lines old new same h = tt
-told_answers (Ok mark) (Some kept) text lines old new same h = record { lines = lines; answers = subst (λ s. PutsBehind s lines old new mark) same h }
+-- the answer as of a date behind a script that a book tells
+pub as_of_put : {E : Type 0} (r : Result Bool E) (told : Option (List ℕ)) (text line date : List ℕ) (point : List (List ℕ)) (acts : List Told) (old new : Option (List ℕ)) → IfSome told (λ kept. text ≡ kept) → IfSome told (λ kept. HasActs kept acts)
+    → line ≡ as_of_line (last_by date acts) point → IfOk r (λ mark. PutsBehind text line old new mark) → IfOk r (λ mark. IfSome told (λ script. PutsAsOf script date point mark old new))
+as_of_put (Err e) told text line date point acts old new same have is h = tt
+as_of_put (Ok mark) None text line date point acts old new same have is h = tt
+as_of_put (Ok mark) (Some kept) text line date point acts old new same have is h =
+    record { acts = acts; kept = have; answer = subst (λ l. PutsBehind kept l old new mark) is (subst (λ s. PutsBehind s line old new mark) same h) }
 
 -- what was kept of answers, put elsewhere
 put_elsewhere : (script lines said : List ℕ) (old new : Option (List ℕ)) (mark : Bool) → PutsBehind script lines (Some []) (Some said) mark → Appends old new said → PutsBehind script lines old new mark
@@ -140,15 +138,14 @@ put_elsewhere script lines said old new mark h put =
     let whole : said ≡ text_of_lines h.told = h.text.2 ∙ ap (λ before. before ++ text_of_lines h.told) none in
     record { before = h.before; told = h.told; report_before = h.report_before; report = h.report; text = subst (Appends old new) whole put; marks = h.marks }
 
--- answers that were kept, and something behind them
-pub first_put : (told : Option (List ℕ)) (text lines said more : List ℕ) (old between new : Option (List ℕ)) (mark : Bool) → IfSome told (λ kept. text ≡ kept) → PutsBehind text lines (Some []) (Some said) mark
-    → Appends old between said → Appends between new more → IfSome told (λ script. PutsFirst script mark old new)
-first_put None text lines said more old between new mark same h first second = tt
-first_put (Some kept) text lines said more old between new mark same h first second =
+-- an answer that was kept, and something behind it
+pub history_put : (told : Option (List ℕ)) (text line id said more : List ℕ) (old between new : Option (List ℕ)) (mark : Bool) → IfSome told (λ kept. text ≡ kept) → line ≡ history_line id → PutsBehind text line (Some []) (Some said) mark
+    → Appends old between said → Appends between new more → IfSome told (λ script. PutsHistory script id mark old new)
+history_put None text line id said more old between new mark same is h first second = tt
+history_put (Some kept) text line id said more old between new mark same is h first second =
     record {
-      lines = lines;
       between = between;
       behind = more;
-      answers = subst (λ s. PutsBehind s lines old between mark) same (put_elsewhere text lines said old between mark h first);
+      answer = subst (λ l. PutsBehind kept l old between mark) is (subst (λ s. PutsBehind s line old between mark) same (put_elsewhere text line said old between mark h first));
       others = second;
     }

@@ -1,5 +1,5 @@
 -- Why calls stopped.
-use Rattle.std.proofs.Common.{ℕ, ◌≤◌, List, arith}
+use Rattle.std.proofs.Common.{ℕ, List}
 use Rattle.rp_scripts.specs.declared.fault.OutputFault.{OutputFault}
 use Rattle.rp_scripts.specs.declared.fault.OutputFault.TheVariants.{Put, Memory}
 use Rattle.rp_scripts.specs.Output.{HasOutputCause}

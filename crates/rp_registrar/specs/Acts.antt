@@ -1,8 +1,8 @@
 -- Acts on a date, and what is put of them.
-use Rattle.std.specs.Prelude.{ℕ, Bool, if◌then◌else◌, max, take, List, [], ◌∷◌, Option}
+use Rattle.std.specs.Prelude.{◌≡◌, ◌+◌, ℕ, Bool, if◌then◌else◌, max, take, List, [], ◌∷◌, ◌++◌, length, Option, codes, decimal}
 use Rattle.std.specs.Cmp.Lexicographic.{slice_cmp}
 use Rattle.std.specs.Ordering.{is_le, nat_cmp}
-use Rattle.rp_book.specs.Act.{Told}
+use Rattle.rp_book.specs.Act.{Told, HasActs}
 use Rattle.rp_io.specs.Bytes.{Appends}
 use Rattle.rp_registrar.specs.Added.{PutsBehind}
 
@@ -19,15 +19,34 @@ abbrev pub last_by : List ℕ → List Told → ℕ
 last_by date [] = 0
 last_by date (act ∷ acts) = max (line_by date act) (last_by date acts)
 
--- answers to lines behind a script were put, and the mark says whether one is a refusal
-pub record PutsAnswers (script : List ℕ) (old new : Option (List ℕ)) (mark : Bool) : Type 0 where
-  pub lines : List ℕ
-  pub answers : PutsBehind script lines old new mark
+-- the words of a line, each behind a space
+abbrev pub spaced : List (List ℕ) → List ℕ
+spaced [] = []
+spaced (word ∷ words) = 32 ∷ word ++ spaced words
 
--- answers to lines behind a script were put, the mark says whether one is a refusal, and something behind them
-pub record PutsFirst (script : List ℕ) (mark : Bool) (old new : Option (List ℕ)) : Type 0 where
-  pub lines : List ℕ
+-- the line that asks whose a place was after a line
+abbrev pub as_of_line : ℕ → List (List ℕ) → List ℕ
+as_of_line n words = codes "asof " ++ decimal n ++ spaced words ++ 10 ∷ []
+
+-- the line that asks what became of a lot
+abbrev pub history_line : List ℕ → List ℕ
+history_line id = codes "history " ++ id ++ 10 ∷ []
+
+-- the answer to `asof` for a point was put, as of the last line that was added on a date or before, and the mark says whether it is a refusal
+pub record PutsAsOf (script date : List ℕ) (point : List (List ℕ)) (mark : Bool) (old new : Option (List ℕ)) : Type 0 where
+  pub acts : List Told
+  pub kept : HasActs script acts
+  pub answer : PutsBehind script (as_of_line (last_by date acts) point) old new mark
+
+-- a script with that line behind it has so many bytes
+pub record HasAsOfLength (date : List ℕ) (point : List (List ℕ)) (n : ℕ) (script : List ℕ) : Type 0 where
+  pub acts : List Told
+  pub kept : HasActs script acts
+  pub is : n ≡ length script + length (as_of_line (last_by date acts) point)
+
+-- the answer to `history` for a lot was put, the mark says whether it is a refusal, and something behind it
+pub record PutsHistory (script id : List ℕ) (mark : Bool) (old new : Option (List ℕ)) : Type 0 where
   pub between : Option (List ℕ)
   pub behind : List ℕ
-  pub answers : PutsBehind script lines old between mark
+  pub answer : PutsBehind script (history_line id) old between mark
   pub others : Appends between new behind

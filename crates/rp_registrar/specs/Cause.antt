@@ -52,6 +52,16 @@ HasAnswerCause before after script lines (Memory e) = Unit {0}
 HasAnswerCause before after script lines Change = has_change (script_version (script ++ lines)) lines ≡ true
 HasAnswerCause before after script lines _ = ⊥
 
+-- why one question that stands behind a script was not answered, of which it is known how long the script is with its line: a put failed, or it would be too long; nothing is claimed where memory ran out
+abbrev pub HasQuestionCause : ℕ → ℕ → (ℕ → Type 0) → Stop → Type 0
+HasQuestionCause before after IsLong Put = HasRisen before after
+HasQuestionCause before after IsLong (Memory e) = Unit {0}
+HasQuestionCause before after IsLong (TooLong (Exactly n)) = IsLong n × (most_script_bytes < n)
+HasQuestionCause before after IsLong (TooLong (MoreThan n)) = ⊥
+HasQuestionCause before after IsLong Read = ⊥
+HasQuestionCause before after IsLong Change = ⊥
+HasQuestionCause before after IsLong (Book f) = ⊥
+
 -- counts of the faults of a source, a sink and a book
 pub record Counts : Type 0 where
   pub reads : ℕ

@@ -8,7 +8,7 @@ ghost use Rattle.rp_language.specs.Grammar.{reading};
 ghost use Rattle.rp_reports.specs.Output.{most_script_bytes};
 ghost use Rattle.rp_reports.specs.Report.{script_version};
 ghost use Rattle.rp_registrar.specs.Added.{PutsBehind, changes, ended, has_change, is_change};
-ghost use Rattle.rp_registrar.specs.Cause.{HasAnswerCause, HasStopCause};
+ghost use Rattle.rp_registrar.specs.Cause.{HasAnswerCause, HasQuestionCause, HasStopCause};
 
 use crate::answers::put_behind;
 use crate::lines::{MOST_BYTES, read_lines};
@@ -117,9 +117,10 @@ pub(crate) fn answer<R: Threads + Sync, K: Sink>(
     requires short { length script.now ≤ most_script_bytes }
     ensures counts { K.faults sink.old ≤ K.faults sink.new }
     ensures answers { IfOk result (λ refused. PutsBehind script.now lines.now (K.said sink.old) (K.said sink.new) refused) }
+    ensures cause { IfErr result (HasQuestionCause (K.faults sink.old) (K.faults sink.new) (λ n. n ≡ length script.now + length lines.now)) }
 {
     if lines.len() > MOST_BYTES - script.len() {
-        return Err(Stop::TooLong(Length::Exactly(script.len().saturating_add(lines.len()))));
+        return Err(Stop::TooLong(Length::Exactly(script.len() + lines.len())));
     }
     let refused = put_behind(rt, alloc, script, lines, sink)?;
     Ok(refused)

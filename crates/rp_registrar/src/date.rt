@@ -1,7 +1,8 @@
 //! What is asked as of a date.
-ghost use Rattle.std.specs.Prelude.{◌≡◌, ◌≤◌, IfOk, IfSome, map, max};
+ghost use Rattle.std.specs.Prelude.{◌≡◌, ◌≤◌, IfErr, IfOk, IfSome, map, max, string_bytes};
 ghost use Rattle.rp_book.specs.Act.{act_of};
-ghost use Rattle.rp_registrar.specs.Acts.{PutsAnswers, is_by, last_by, line_by};
+ghost use Rattle.rp_registrar.specs.Acts.{HasAsOfLength, PutsAsOf, as_of_line, is_by, last_by, line_by};
+ghost use Rattle.rp_registrar.specs.Cause.{HasQuestionCause};
 
 use crate::ask::answer;
 use crate::stop::Stop;
@@ -55,11 +56,12 @@ pub fn last_line_by(acts: &[Act], date: &str) -> u32
     last
 }
 
-/// The text of a question as of a line.
-fn question(alloc: Global, line: u32, words: &[String]) -> Result<Vec<u8>, AllocError> {
-    let mut text = Vec::new(alloc);
+/// The line that asks for a point, which the words spell, as of a line.
+fn question(alloc: Global, line: u32, words: &[String]) -> Result<Vec<u8>, AllocError>
+    ensures { IfOk result (λ text. text.items ≡ as_of_line line (map string_bytes words.now)) }
+{
     let mut buffer = Buffer::new();
-    text.extend_from_slice(b"asof ")?;
+    let mut text = Vec::from_slice(alloc, b"asof ")?;
     text.extend_from_slice(buffer.format(line).as_bytes())?;
     let mut rest = words;
     while let Some((word, more)) = rest.split_first() {
@@ -82,7 +84,8 @@ pub fn as_of<R: Threads + Sync, B: Book, K: Sink>(
     sink: &mut K,
 ) -> Result<bool, Stop>
     ensures counts { K.faults sink.old ≤ K.faults sink.new }
-    ensures answer { IfOk result (λ refused. IfSome (B.script book.now) (λ script. PutsAnswers script (K.said sink.old) (K.said sink.new) refused)) }
+    ensures answer { IfOk result (λ refused. IfSome (B.script book.now) (λ script. PutsAsOf script date.now (map string_bytes words.now) refused (K.said sink.old) (K.said sink.new))) }
+    ensures cause { IfErr result (HasQuestionCause (K.faults sink.old) (K.faults sink.new) (λ n. IfSome (B.script book.now) (HasAsOfLength date.now (map string_bytes words.now) n))) }
 {
     let line = last_line_by(book.acts(), date);
     let question = question(alloc, line, words)?;

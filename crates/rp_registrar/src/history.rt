@@ -1,9 +1,10 @@
 //! What became of a lot, with the acts in which it and its kin were born and ended.
-ghost use Rattle.std.specs.Prelude.{◌≤◌, [], Some, length, IfOk, IfSome};
+ghost use Rattle.std.specs.Prelude.{◌≡◌, ◌+◌, ◌≤◌, [], Some, length, IfErr, IfOk, IfSome};
 ghost use Rattle.rp_book.specs.Lines.{IsEnded};
 ghost use Rattle.rp_reports.specs.Output.{most_script_bytes};
-ghost use Rattle.rp_registrar.specs.Acts.{PutsFirst};
+ghost use Rattle.rp_registrar.specs.Acts.{PutsHistory, history_line};
 ghost use Rattle.rp_registrar.specs.Added.{PutsBehind};
+ghost use Rattle.rp_registrar.specs.Cause.{HasQuestionCause};
 
 use crate::ask::answer;
 use crate::stop::Stop;
@@ -110,10 +111,11 @@ fn events(alloc: Global, told: &str, acts: &[Act]) -> Result<String, AllocError>
     Ok(text)
 }
 
-/// The text of a question about a lot.
-fn question(alloc: Global, id: &str) -> Result<Vec<u8>, AllocError> {
-    let mut text = Vec::new(alloc);
-    text.extend_from_slice(b"history ")?;
+/// The line that asks for a lot.
+fn question(alloc: Global, id: &str) -> Result<Vec<u8>, AllocError>
+    ensures { IfOk result (λ text. text.items ≡ history_line id.now) }
+{
+    let mut text = Vec::from_slice(alloc, b"history ")?;
     text.extend_from_slice(id.as_bytes())?;
     text.push(b'\n')?;
     Ok(text)
@@ -128,7 +130,8 @@ fn answer_text<R: Threads + Sync>(
 ) -> Result<(Vec<u8>, bool), Stop>
     requires end { IsEnded script.now }
     requires short { length script.now ≤ most_script_bytes }
-    ensures { IfOk result (λ done. PutsBehind script.now lines.now (Some []) (Some done.0.items) done.1) }
+    ensures answers { IfOk result (λ done. PutsBehind script.now lines.now (Some []) (Some done.0.items) done.1) }
+    ensures cause { IfErr result (HasQuestionCause 0 0 (λ n. n ≡ length script.now + length lines.now)) }
 {
     let mut sink = TextSink {
         text: Vec::new(alloc),
@@ -153,7 +156,8 @@ pub fn history<R: Threads + Sync, B: Book, K: Sink>(
     sink: &mut K,
 ) -> Result<bool, Stop>
     ensures counts { K.faults sink.old ≤ K.faults sink.new }
-    ensures answer { IfOk result (λ refused. IfSome (B.script book.now) (λ script. PutsFirst script refused (K.said sink.old) (K.said sink.new))) }
+    ensures answer { IfOk result (λ refused. IfSome (B.script book.now) (λ script. PutsHistory script id.now refused (K.said sink.old) (K.said sink.new))) }
+    ensures cause { IfErr result (HasQuestionCause (K.faults sink.old) (K.faults sink.new) (λ n. IfSome (B.script book.now) (λ script. n ≡ length script + length (history_line id.now)))) }
 {
     let question = question(alloc, id)?;
     let (told, refused) = answer_text(rt, alloc, book.text(), &question)?;
