@@ -1,15 +1,34 @@
-ghost use Rattle.std.specs.Prelude.{◌≡◌, length, true};
+ghost use Rattle.std.specs.Prelude.{◌≡◌, map, length, true};
+ghost use Rattle.rp_space.specs.Boxes.{integer_box};
 ghost use Rattle.rp_lotindex.specs.Indexed.{NoneBehind};
 
 use crate::history::with_plot;
 use crate::names::name;
 use rp_boxindex::Quiet;
 use rp_history::History;
-use rp_lotindex::{Holder, LotBoxes, Moment, Reach, moved};
+use rp_lotindex::{Bounded, Holder, LotBoxes, Moment, Reach, moved};
 use rp_rows::Access;
 use rp_space::{IntBox, Point};
 use std::alloc::Global;
 use std::process::Abort;
+
+/// Boxes of one form.
+#[derive(Drop)]
+struct Boxes {
+    boxes: [IntBox; 2],
+}
+
+impl Bounded for Boxes {
+    ghost boxes = { λ s. map integer_box s.boxes };
+
+    fn count(&self) -> usize {
+        2
+    }
+
+    fn bounds(&self, number: usize) -> IntBox {
+        self.boxes[number]
+    }
+}
 
 /// The box from x, 0, 0 to x + 10, 10, 10.
 fn bounds(x: i16) -> IntBox {
@@ -20,36 +39,44 @@ fn bounds(x: i16) -> IntBox {
     }
 }
 
-/// The box around two parts, side by side.
-fn plot() -> IntBox {
-    bounds(0).union(&bounds(10))
+/// The boxes of two parts, far from each other.
+fn plot() -> Boxes {
+    Boxes {
+        boxes: [bounds(-500), bounds(10)],
+    }
 }
 
-/// The box of one lot of the layer `land` with these parts.
-fn box_of_plot(rt: &impl Abort, alloc: Global) -> LotBoxes
+/// The boxes of one lot of the layer `land` with these parts.
+fn boxes_of_plot(rt: &impl Abort, alloc: Global) -> LotBoxes
     ensures { NoneBehind result.index 1 }
 {
-    let hull = moved(&name(b"land"), &plot());
     let mut boxes = LotBoxes::new(alloc);
-    boxes.add_all(alloc, 0, &[hull]).expect(rt, "no memory");
+    boxes
+        .add(alloc, 0, &name(b"land"), &plot())
+        .expect(rt, "no memory");
     boxes
 }
 
-/// How many lots of the layer `land` touch the box from 20 on.
-fn count_near(rt: &impl Abort, alloc: Global, history: &History, boxes: &LotBoxes) -> usize
+/// How many lots of the layer `land` touch the boxes from `x` on and from 1,000 on.
+fn count_near(rt: &impl Abort, alloc: Global, history: &History, boxes: &LotBoxes, x: i16) -> usize
     requires { NoneBehind boxes.now.index (length history.now) }
 {
     let (layer, id) = (name(b"land"), name(b"other"));
-    let hull = bounds(20);
-    let places = boxes.near(alloc, &Quiet, history, &hull, &layer, &id, 0, Reach::Touch);
+    let form = Boxes {
+        boxes: [bounds(x), bounds(1000)],
+    };
+    let places = boxes.near(alloc, &Quiet, history, &form, &layer, &id, 0, Reach::Touch);
     places.expect(rt, "no memory").items().len()
 }
 
 #[test]
-fn lots_are_found_by_the_boxes_around_them(rt: HostRuntime) {
+fn lots_are_found_by_the_boxes_of_their_parts(rt: HostRuntime) {
     let history = with_plot(&rt, rt.alloc());
-    let boxes = box_of_plot(&rt, rt.alloc());
-    assert_eq!(rt; count_near(&rt, rt.alloc(), &history, &boxes), 1);
+    let boxes = boxes_of_plot(&rt, rt.alloc());
+    let beside = count_near(&rt, rt.alloc(), &history, &boxes, 20);
+    assert_eq!(rt; beside, 1);
+    let between = count_near(&rt, rt.alloc(), &history, &boxes, -200);
+    assert_eq!(rt; between, 0);
 }
 
 #[test]
@@ -82,7 +109,7 @@ fn is_owned(rt: &impl Abort, history: &History, boxes: &LotBoxes, moment: Moment
 fn a_lot_that_ends_has_its_points_of_before(rt: HostRuntime) {
     let alloc = rt.alloc();
     let mut history = with_plot(&rt, alloc);
-    let mut boxes = box_of_plot(&rt, alloc);
+    let mut boxes = boxes_of_plot(&rt, alloc);
     assert!(rt; is_owned(&rt, &history, &boxes, Moment::Now));
     history.end(2, name(b"plot"));
     let lots = history.lots();
@@ -91,7 +118,7 @@ fn a_lot_that_ends_has_its_points_of_before(rt: HostRuntime) {
     assert!(rt; !is_owned(&rt, &history, &boxes, Moment::Now));
     assert!(rt; is_owned(&rt, &history, &boxes, Moment::After(1)));
     assert!(rt; !is_owned(&rt, &history, &boxes, Moment::After(2)));
-    let near = count_near(&rt, alloc, &history, &boxes);
+    let near = count_near(&rt, alloc, &history, &boxes, 20);
     assert_eq!(rt; near, 0);
 }
 
@@ -99,9 +126,9 @@ fn a_lot_that_ends_has_its_points_of_before(rt: HostRuntime) {
 fn boxes_behind_a_place_are_taken_out(rt: HostRuntime) {
     let alloc = rt.alloc();
     let history = with_plot(&rt, alloc);
-    let mut boxes = box_of_plot(&rt, alloc);
+    let mut boxes = boxes_of_plot(&rt, alloc);
     boxes.remove_all(0, 1);
-    let near = count_near(&rt, alloc, &history, &boxes);
+    let near = count_near(&rt, alloc, &history, &boxes, 20);
     assert_eq!(rt; near, 0);
 }
 

@@ -1,9 +1,9 @@
 -- Lots behind a place.
-use Rattle.std.proofs.Common.{◌≡◌, ℕ, zero, suc, ◌+◌, ◌<◌, Bool, true, false, cond, List, [], ◌∷◌, length, drop, Some, slice_get, sym, ap, ◌∙◌, subst}
+use Rattle.std.proofs.Common.{◌≡◌, ℕ, zero, suc, ◌+◌, ◌<◌, List, [], ◌∷◌, length, drop, Some, slice_get, sym, subst}
 use Rattle.std.specs.Prelude.{IsTrue}
 use Rattle.std.proofs.lemmas.Option.{get_or_from_slice_get}
 use Rattle.rp_algebra.proofs.Lists.{drop_item}
-use Rattle.rp_model.specs.states.State.{Lot, is_live, live_lots, lots_of_layer, ids_of}
+use Rattle.rp_model.specs.states.State.{Lot, live_lots, lots_of_layer, ids_of}
 use Rattle.rp_model.specs.states.Sound.{are_distinct}
 use Rattle.rp_history.proofs.Found.{first_alone, rest_distinct}
 use Rattle.rp_lotindex.specs.Near.{others_in}
@@ -24,13 +24,3 @@ pub others_behind : (lots : List (Lot (Unit {0}))) → IsTrue (are_distinct (ids
 others_behind lots distinct k l within at =
     others_all l.layer l.id (drop (k + 1) lots)
     (first_alone l (drop (k + 1) lots) (subst (λ (ls : List (Lot (Unit {0}))). IsTrue (are_distinct (ids_of ls))) (left_at lots k l within at) (distinct_left k lots distinct)))
-
--- live lots that are left begin with a live lot
-pub live_first : (lots : List (Lot (Unit {0}))) (k : ℕ) (l : Lot (Unit {0})) → k < length lots → slice_get lots k ≡ Some l → is_live l ≡ true → live_lots (drop k lots) ≡ l ∷ live_lots (drop (k + 1) lots)
-live_first lots k l within at live =
-    ap (λ (ls : List (Lot (Unit {0}))). live_lots ls) (left_at lots k l within at) ∙ ap (λ (b : Bool). cond b (l ∷ live_lots (drop (k + 1) lots)) (live_lots (drop (k + 1) lots))) live
-
--- and not with an ended one
-pub live_next : (lots : List (Lot (Unit {0}))) (k : ℕ) (l : Lot (Unit {0})) → k < length lots → slice_get lots k ≡ Some l → is_live l ≡ false → live_lots (drop k lots) ≡ live_lots (drop (k + 1) lots)
-live_next lots k l within at ended =
-    ap (λ (ls : List (Lot (Unit {0}))). live_lots ls) (left_at lots k l within at) ∙ ap (λ (b : Bool). cond b (l ∷ live_lots (drop (k + 1) lots)) (live_lots (drop (k + 1) lots))) ended

@@ -1,4 +1,4 @@
--- Whose a point is: it is found among the lots around which the box has the point.
+-- Whose a point is: it is found among the lots of which a box has the point.
 use Rattle.std.proofs.Common.{◌≡◌, ℕ, zero, suc, ◌/◌, ◌<◌, ◌≤◌, Bool, true, false, ◌&&◌, cond, List, [], ◌∷◌, ◌⊎◌, inl, inr, ⊎_elim, map, filter, length, Option, Some, None, slice_get, refl, sym, ap, ◌∙◌, subst, arith}
 use Rattle.std.specs.Prelude.{option_map, is_none, nat_le, nat_lt}
 use Rattle.std.specs.List.{AllByRecursion, list_any}
@@ -28,12 +28,13 @@ use Rattle.rp_boxindex.proofs.Exact.{meeting_ids_rise_spec}
 use Rattle.rp_lotindex.specs.declared.moment.Moment.{Moment}
 use Rattle.rp_lotindex.specs.declared.stretch.Stretch.{Stretch}
 use Rattle.rp_lotindex.specs.declared.moment.Moment.TheVariants.{Now, After}
-use Rattle.rp_lotindex.specs.Indexed.{hull_of_parts, box_at, box_of_lot, IsIndexOf}
+use Rattle.rp_lotindex.specs.Indexed.{boxes_of_parts, box_at, box_by, IsIndexOf}
 use Rattle.rp_lotindex.specs.Layers.{cube_number, past_number, moved, moved_past}
 use Rattle.rp_lotindex.specs.Stretches.{stretch_of, stretches_with}
 use Rattle.rp_lotindex.specs.Owner.{is_there, is_there_at, boxes_asked, lesser_of, first_in, owner_verdict, IsLine, KnowsOwners, BoxesHold, IsOwner}
-use Rattle.rp_lotindex.proofs.Hulls.{part_within, wider_meet}
+use Rattle.rp_lotindex.proofs.Hulls.{listed_image, part_boxed, wider_meet}
 use Rattle.rp_lotindex.proofs.Layers.{moved_to_meet}
+use Rattle.rp_lotindex.proofs.Boxed.{lot_box}
 use Rattle.rp_lotindex.proofs.Stretches.{stretch_listed}
 use Rattle.rp_lotindex.proofs.Reached.{box_reached}
 
@@ -218,13 +219,7 @@ outside_parts : (ps : List Part) (p : RationalPoint) → is_cube_point p ≡ fal
 outside_parts [] p e = refl
 outside_parts (q ∷ ps) p e = false_unless (is_in_parts (q ∷ ps) p) (λ t. let o = some_passes (λ (r : Part). is_in_cell r.cell p) (q ∷ ps) t in false_not_true (is_cube_point p) (and_first (is_cube_point p) (all_hold o.0.cell p) o.2) e)
 
--- an item stands in the list of images with its image
-listed_image : {A B : Type 0} (f : A → B) (x : A) (xs : List A) → Listed x xs → Listed (f x) (map f xs)
-listed_image f x [] l = elim l [ ]
-listed_image f x (y ∷ xs) first = first
-listed_image f x (y ∷ xs) (later l) = later (listed_image f x xs l)
-
--- where a box around a lot stands, by its end
+-- where a box of a lot stands, by its end
 abbrev box_until : Label → ℕ → IntegerBox → Option ℕ → IntegerBox
 box_until y born b o = elim o [ None ↦ moved y b | Some t ↦ moved_past y (stretch_of born t) b ]
 
@@ -255,16 +250,16 @@ there_bare Now l = refl
 there_bare (After n) l = refl
 
 module _ (has : ℕ → Bool) (y : Label) (m : Moment) (p : RationalPoint) (history : List (Lot (Unit {0}))) (boxes : Boxes) where
-  -- the lot at a place is there, of the layer, and has the point
+  -- the lot at the place of an id is there, of the layer, and has the point
   abbrev pub passes : ℕ → Bool
-  passes k = is_there_at m y history k && has k
+  passes id = is_there_at m y history (id / 16) && has (id / 16)
 
   -- as the lots say
-  passes_is : (lots : List (Lot (Unit {0}))) → history ≡ map bare_lot lots → KnowsOwners has lots p → (k : ℕ) (l : Lot (Unit {0})) → slice_get lots k ≡ Some l → passes k ≡ owns (is_there m) y p l
-  passes_is lots bare knows k l at =
-      ap (λ (b : Bool). b && has k)
-      (ap test_of (ap (λ (ls : List (Lot (Unit {0}))). slice_get ls k) bare ∙ slice_get-map bare_lot lots k ∙ ap (option_map bare_lot) at) ∙ ap (λ (b : Bool). b && label_eq l.layer y) (there_bare m l))
-      ∙ ap (λ (b : Bool). (is_there m l && label_eq l.layer y) && b) (knows k l at)
+  passes_is : (lots : List (Lot (Unit {0}))) → history ≡ map bare_lot lots → KnowsOwners has lots p → (id : ℕ) (l : Lot (Unit {0})) → slice_get lots (id / 16) ≡ Some l → passes id ≡ owns (is_there m) y p l
+  passes_is lots bare knows id l at =
+      ap (λ (b : Bool). b && has (id / 16))
+      (ap test_of (ap (λ (ls : List (Lot (Unit {0}))). slice_get ls (id / 16)) bare ∙ slice_get-map bare_lot lots (id / 16) ∙ ap (option_map bare_lot) at) ∙ ap (λ (b : Bool). b && label_eq l.layer y) (there_bare m l))
+      ∙ ap (λ (b : Bool). (is_there m l && label_eq l.layer y) && b) (knows (id / 16) l at)
     where
       test_of : Option (Lot (Unit {0})) → Bool
       test_of o = elim o [ None ↦ false | Some l ↦ is_there m l && label_eq l.layer y ]
@@ -275,19 +270,28 @@ module _ (has : ℕ → Bool) (y : Label) (m : Moment) (p : RationalPoint) (hist
       sym (owner_none (is_there m) y p lots (λ k l at. false_unless (owns (is_there m) y p l) (λ t. false_not_true (is_in_parts l.parts p) (and_second (is_there m l && label_eq l.layer y) (is_in_parts l.parts p) t) (outside_parts l.parts p e))))
 
   module _ (unit : IntegerBox) (meets : (b : IntegerBox) → IsInBox b p → do_meet false unit b ≡ true) (line : IsLine m) where
-    -- a box that is asked about meets that of a lot that owns the point
-    owner_reached : (lots : List (Lot (Unit {0}))) → IsIndexOf lots boxes → BoxesHold lots → (k : ℕ) (l : Lot (Unit {0})) → slice_get lots k ≡ Some l → owns (is_there m) y p l ≡ true → (b : IntegerBox) × Listed b (boxes_asked m y unit) × Listed k (meeting_ids false b boxes)
+    -- the id of a box of a place is found, since one that is asked about meets it
+    record IsFound (k : ℕ) : Type 0 where
+      box : IntegerBox
+      listed : Listed box (boxes_asked m y unit)
+      id : ℕ
+      own : id / 16 ≡ k
+      reached : Listed id (meeting_ids false box boxes)
+
+    -- so it is where a lot owns the point
+    owner_reached : (lots : List (Lot (Unit {0}))) → IsIndexOf lots boxes → BoxesHold lots → (k : ℕ) (l : Lot (Unit {0})) → slice_get lots k ≡ Some l → owns (is_there m) y p l ≡ true → IsFound k
     owner_reached lots indexed hold k l at t =
         let q = some_passes (λ (r : Part). is_in_cell r.cell p) l.parts (and_second (is_there m l && label_eq l.layer y) (is_in_parts l.parts p) t) in
         let here = and_first (is_there m l && label_eq l.layer y) (is_in_parts l.parts p) t in
         let there = and_first (is_there m l) (label_eq l.layer y) here in
         let own = label_is l.layer y (and_second (is_there m l) (label_eq l.layer y) here) in
         let held = all_of (λ (r : Part). BoxHoldsCell r.bounds r.cell) l.parts (all_at lots k l at hold) q.0 q.1 in
-        let touch = wider_meet false unit q.0.bounds unit (hull_of_parts l.parts) (box_itself unit) (part_within q.0 l.parts q.1) (meets q.0.bounds (held p q.2)) in
-        let a = asked m y unit (hull_of_parts l.parts) l line touch there l.ended refl in
-        let box : box_at boxes k ≡ Some (box_until y l.born (hull_of_parts l.parts) l.ended) =
-        indexed k ∙ ap (option_map box_of_lot) at ∙ ap (λ (x : Label). Some (box_until x l.born (hull_of_parts l.parts) l.ended)) own in
-        (a.box, a.listed, box_reached false a.box (box_until y l.born (hull_of_parts l.parts) l.ended) boxes k box a.meets)
+        let b = part_boxed q.0 l.parts q.1 in
+        let touch = wider_meet false unit q.0.bounds unit b.0 (box_itself unit) b.2 (meets q.0.bounds (held p q.2)) in
+        let a = asked m y unit b.0 l line touch there l.ended refl in
+        let stood = lot_box lots boxes indexed k l at (box_by l b.0) (listed_image (box_by l) b.0 (boxes_of_parts l.parts) b.1) in
+        let box : box_at boxes stood.0 ≡ Some (box_until y l.born b.0 l.ended) = stood.2 ∙ ap (λ (x : Label). Some (box_until x l.born b.0 l.ended)) own in
+        record { box = a.box; listed = a.listed; id = stood.0; own = stood.1; reached = box_reached false a.box (box_until y l.born b.0 l.ended) boxes stood.0 box a.meets }
       where
         all_at : (ls : List (Lot (Unit {0}))) (k : ℕ) (l : Lot (Unit {0})) → slice_get ls k ≡ Some l → BoxesHold ls → AllByRecursion (λ (q : Part). BoxHoldsCell q.bounds q.cell) l.parts
         all_at [] k l e h = absurd (cc)
@@ -302,19 +306,20 @@ module _ (has : ℕ → Bool) (y : Label) (m : Moment) (p : RationalPoint) (hist
     found_is : (k : ℕ) → found ≡ Some k → passes k ≡ true
     found_is k e = found_passes passes boxes (boxes_asked m y unit) None (λ i f. absurd (cc)) k e
 
-    -- it is not behind a lot that owns the point
-    found_before : (lots : List (Lot (Unit {0}))) → history ≡ map bare_lot lots → IsIndexOf lots boxes → BoxesHold lots → KnowsOwners has lots p → (j : ℕ) (n : Lot (Unit {0})) → slice_get lots j ≡ Some n → owns (is_there m) y p n ≡ true → (k : ℕ) × (found ≡ Some k) × (k ≤ j)
+    -- its place is not behind a lot that owns the point
+    found_before : (lots : List (Lot (Unit {0}))) → history ≡ map bare_lot lots → IsIndexOf lots boxes → BoxesHold lots → KnowsOwners has lots p → (j : ℕ) (n : Lot (Unit {0})) → slice_get lots j ≡ Some n → owns (is_there m) y p n ≡ true → (id : ℕ) × (found ≡ Some id) × (id / 16 ≤ j)
     found_before lots bare indexed hold knows j n at t =
         let r = owner_reached lots indexed hold j n at t in
-        found_above passes boxes (boxes_asked m y unit) None r.0 r.1 j r.2 (passes_is lots bare knows j n at ∙ t)
+        let f = found_above passes boxes (boxes_asked m y unit) None r.box r.listed r.id r.reached (passes_is lots bare knows r.id n (ap (slice_get lots) r.own ∙ at) ∙ t) in
+        (f.0, f.1, let low = f.2 in let own = r.own in omega (arith, low, own))
 
-    -- it is a place of the history
-    pub found_within : (k : ℕ) → found ≡ Some k → k < length history
-    found_within k e = by (slice_get history k) refl (and_first (is_there_at m y history k) (has k) (found_is k e))
+    -- its place is one of the history
+    pub found_within : (id : ℕ) → found ≡ Some id → id / 16 < length history
+    found_within id e = by (slice_get history (id / 16)) refl (and_first (is_there_at m y history (id / 16)) (has (id / 16)) (found_is id e))
       where
-        by : (o : Option (Lot (Unit {0}))) → slice_get history k ≡ o → is_there_at m y history k ≡ true → k < length history
-        by None at t = absurd (false_not_true (is_there_at m y history k) t (ap (λ (o : Option (Lot (Unit {0}))). elim o as (λ _. Bool) [ None ↦ false | Some l ↦ is_there m l && label_eq l.layer y ]) at))
-        by (Some l) at t = slice_get_within history k l at
+        by : (o : Option (Lot (Unit {0}))) → slice_get history (id / 16) ≡ o → is_there_at m y history (id / 16) ≡ true → id / 16 < length history
+        by None at t = absurd (false_not_true (is_there_at m y history (id / 16)) t (ap (λ (o : Option (Lot (Unit {0}))). elim o as (λ _. Bool) [ None ↦ false | Some l ↦ is_there m l && label_eq l.layer y ]) at))
+        by (Some l) at t = slice_get_within history (id / 16) l at
 
     -- where none is found, nobody has the point
     pub owner_missing : found ≡ None → IsOwner has y m p history boxes None
@@ -322,24 +327,24 @@ module _ (has : ℕ → Bool) (y : Label) (m : Moment) (p : RationalPoint) (hist
         sym (owner_none (is_there m) y p lots (λ k l at. false_unless (owns (is_there m) y p l) (λ t. let f = (found_before lots bare indexed hold knows k l at t).1 in absurd (cc (e, f)))))
 
     -- one that is found has it
-    pub owner_found : (k : ℕ) (line : Lot (Unit {0})) → found ≡ Some k → slice_get history k ≡ Some line → IsOwner has y m p history boxes (Some line.id)
-    owner_found k line e there lots bare indexed hold knows =
-        by (slice_get lots k) refl (sym (slice_get-map bare_lot lots k) ∙ sym (ap (λ (ls : List (Lot (Unit {0}))). slice_get ls k) bare) ∙ there)
+    pub owner_found : (id : ℕ) (line : Lot (Unit {0})) → found ≡ Some id → slice_get history (id / 16) ≡ Some line → IsOwner has y m p history boxes (Some line.id)
+    owner_found id line e there lots bare indexed hold knows =
+        by (slice_get lots (id / 16)) refl (sym (slice_get-map bare_lot lots (id / 16)) ∙ sym (ap (λ (ls : List (Lot (Unit {0}))). slice_get ls (id / 16)) bare) ∙ there)
       where
         -- no earlier one owns the point
-        earlier : (j : ℕ) (n : Lot (Unit {0})) → j < k → slice_get lots j ≡ Some n → owns (is_there m) y p n ≡ true → ⊥
+        earlier : (j : ℕ) (n : Lot (Unit {0})) → j < id / 16 → slice_get lots j ≡ Some n → owns (is_there m) y p n ≡ true → ⊥
         earlier j n f g t =
             let b = found_before lots bare indexed hold knows j n g t in
             let own = b.1 in
-            let same : b.0 ≡ k = cc (e, own) in
+            let same : b.0 ≡ id = cc (e, own) in
             let low = b.2 in
             omega (arith, f, same, low)
 
-        by : (o : Option (Lot (Unit {0}))) → slice_get lots k ≡ o → option_map bare_lot (slice_get lots k) ≡ Some line → owner_verdict (Some line.id) ≡ owner_among (is_there m) y p lots
+        by : (o : Option (Lot (Unit {0}))) → slice_get lots (id / 16) ≡ o → option_map bare_lot (slice_get lots (id / 16)) ≡ Some line → owner_verdict (Some line.id) ≡ owner_among (is_there m) y p lots
         by None at f = absurd (let g : option_map bare_lot None ≡ Some line = sym (ap (option_map bare_lot) at) ∙ f in cc (g))
         by (Some l) at f =
             let own : Some (bare_lot l) ≡ Some line = sym (ap (option_map bare_lot) at) ∙ f in
             let same : bare_lot l ≡ line = cc (own) in
             ap (λ (n : Lot (Unit {0})). Verdict.parcel n.id) (sym same)
-            ∙ sym (owner_at (is_there m) y p lots k l at (sym (passes_is lots bare knows k l at) ∙ found_is k e)
+            ∙ sym (owner_at (is_there m) y p lots (id / 16) l at (sym (passes_is lots bare knows id l at) ∙ found_is id e)
             (λ j n f g. false_unless (owns (is_there m) y p n) (λ t. absurd (earlier j n f g t))))

@@ -1,33 +1,35 @@
 -- The lots that an index doesn't answer are passed over; those that it answers besides are not near.
-use Rattle.std.proofs.Common.{◌≡◌, ◌≢◌, ℕ, zero, suc, ◌+◌, ◌-◌, ◌<◌, ◌≤◌, ◌==◌, Bool, true, false, ◌&&◌, not, cond, List, [], ◌∷◌, ◌++◌, ⊎_elim, map, filter, length, drop, Option, Some, None, slice_get, refl, sym, ap, ◌∙◌, subst, arith}
+use Rattle.std.proofs.Common.{◌≡◌, ◌≢◌, ℕ, zero, suc, ◌+◌, ◌-◌, ◌<◌, ◌≤◌, ◌==◌, eqb, Bool, true, false, ◌&&◌, ◌||◌, not, cond, List, [], ◌∷◌, ◌++◌, ⊎_elim, map, filter, length, drop, Option, Some, None, slice_get, refl, sym, ap, ◌∙◌, subst, arith}
 use Rattle.std.specs.Prelude.{option_map}
-use Rattle.std.specs.List.{AllByRecursion}
-use Rattle.std.specs.List.Sorted.{IsStrictlySortedBy}
+use Rattle.std.specs.List.{AllByRecursion, dedup, dedup_from}
+use Rattle.std.specs.List.Retain.{IsFiltered, DiffersFromLast}
+use Rattle.std.specs.List.Sorted.{IsStrictlySortedBy, IsSorted, IsPermutation}
 use Rattle.std.specs.Ordering.{nat_cmp}
 use Rattle.std.specs.Option.{option_to_list}
 use Rattle.std.specs.declared.cmp.Ordering.TheVariants.{Less}
 use Rattle.std.proofs.lemmas.Bool.Decides.{nat_tests, Decides-eqb}
 use Rattle.std.proofs.lemmas.List.{drop_all, length-map}
+use Rattle.std.proofs.lemmas.List.Filters.{dedup_is}
 use Rattle.std.proofs.lemmas.List.Kept.{IsStrictlySortedBy-filter}
+use Rattle.std.proofs.lemmas.List.Sorted.{list_any-IsPermutation}
 use Rattle.std.proofs.lemmas.List.Sums.{sum_by-cons}
-use Rattle.std.proofs.lemmas.Map.Keys.{sorted_head, sorted_tail}
+use Rattle.std.proofs.lemmas.Map.Keys.{sorted_head, sorted_tail, sorted_from_strictly_increasing, IsStrictlyIncreasing-dedup}
 use Rattle.std.proofs.lemmas.Option.{get_or_from_slice_get, slice_get-map}
+use Rattle.rp_algebra.proofs.Filter.{kept, keeps}
 use Rattle.rp_algebra.proofs.Listed.{Listed, first, later, all_map, all_of}
 use Rattle.rp_algebra.proofs.Numbers.{same_or_not}
 use Rattle.rp_algebra.proofs.Lists.{get_some, drop_item, all_filter}
+use Rattle.rp_algebra.proofs.Tests.{same_test, and_first, and_second, and_true}
 use Rattle.rp_geometry.specs.Geometry.{IntegerBox}
 use Rattle.rp_geometry.specs.sets.Shape.{Part}
 use Rattle.rp_language.specs.Name.{Label, label_eq}
 use Rattle.rp_model.specs.states.State.{Lot, is_live, live_lots, lots_of_layer, other_lots, bare_lot}
 use Rattle.rp_model.specs.commands.Row.{count_pairs, lot_parts}
 use Rattle.rp_boxindex.specs.Boxes.{Boxes}
-use Rattle.rp_boxindex.specs.Meeting.{meeting_ids}
 use Rattle.rp_lotindex.specs.declared.near.Reach.{Reach}
-use Rattle.rp_lotindex.specs.Indexed.{box_of, NoneBehind}
-use Rattle.rp_lotindex.specs.Layers.{moved}
-use Rattle.rp_lotindex.specs.Near.{may_meet, others_in, pairs_with, is_near, is_closed, is_other_in, is_other_at, lots_at, other_places, AreWithin, AreNear}
-use Rattle.rp_lotindex.proofs.Boxed.{none_behind_lots}
-use Rattle.rp_lotindex.proofs.Reached.{places_from, places_rise, places_within, AreAllNear, places_near}
+use Rattle.rp_lotindex.specs.Indexed.{NoneBehind}
+use Rattle.rp_lotindex.specs.Near.{may_meet, others_in, pairs_with, is_near, is_other_in, is_other_at, lots_at, places_met, is_listed, AreOthers, AreWithin, AreNear}
+use Rattle.rp_lotindex.proofs.Reached.{number_listed, listed_number, AreInOrder, met_within, AreAllNear, places_near}
 
 -- the first lot is among the others, or not
 pub others_first : {S : Type 0} (y x : Label) (l : Lot S) (ls : List (Lot S)) → others_in y x (l ∷ ls) ≡ cond (is_other_in y x l) (l ∷ others_in y x ls) (others_in y x ls)
@@ -185,17 +187,23 @@ others_at y x lots history e (k ∷ places) w =
     by l at true rest = ap (λ (o : Option (Lot (Unit {0}))). option_to_list o ++ lots_at lots (filter (is_other_at y x history) places)) at ∙ ap (λ (ls : List (Lot (Unit {0}))). l ∷ ls) rest
     by l at false rest = rest
 
--- so the others among the places that are reached are those that are wanted, and such as may be answered besides
-pub others_near : (r : Reach) (hull : IntegerBox) (y x : Label) (from : ℕ) (history : List (Lot (Unit {0}))) (boxes : Boxes) → from ≤ length history → AreNear r hull y x from history boxes (other_places r hull y x from history boxes)
-others_near r hull y x from history boxes f lots ps kept own =
+-- so the others among the places that are met are those that are wanted, and such as may be answered besides
+pub others_near : (r : Reach) (bs : List IntegerBox) (y x : Label) (from : ℕ) (history : List (Lot (Unit {0}))) (boxes : Boxes) (places : List ℕ) → from ≤ length history → AreInOrder (places_met r y from boxes bs) places → AreNear r bs y x from history boxes (filter (is_other_at y x history) places)
+others_near r bs y x from history boxes places f h lots ps kept own =
     let many : length history ≡ length lots = ap length kept.bare ∙ length-map lots bare_lot in
-    let all = places_near r ps y lots boxes from kept.indexed (none_behind_lots lots boxes kept.indexed) in
-    ap (λ (b : IntegerBox). chosen r ps y x lots history (places_from from (meeting_ids (is_closed r) (moved y b) boxes))) own
-    ∙ ap (filter (is_near r ps)) (others_at y x lots history kept.bare (places_from from (meeting_ids (is_closed r) (box_of y ps) boxes)) all.within)
-    ∙ near_chosen r ps y x lots from (places_from from (meeting_ids (is_closed r) (box_of y ps) boxes)) (omega (arith, f, many)) all
-  where
-    chosen : Reach → List Part → Label → Label → List (Lot (Unit {0})) → List (Lot (Unit {0})) → List ℕ → List (Lot (Unit {0}))
-    chosen r ps y x lots history ks = filter (is_near r ps) (lots_at lots (filter (is_other_at y x history) ks))
+    let all = places_near r ps y lots boxes from places kept.indexed (subst (λ (cs : List IntegerBox). AreInOrder (places_met r y from boxes cs) places) own h) in
+    ap (filter (is_near r ps)) (others_at y x lots history kept.bare places all.within) ∙ near_chosen r ps y x lots from places (omega (arith, f, many)) all
+
+-- a number stands among those that a test keeps where it is one and passes
+listed_filter : (test : ℕ → Bool) (xs : List ℕ) (k : ℕ) → is_listed k (filter test xs) ≡ (is_listed k xs && test k)
+listed_filter test xs k =
+    same_test (is_listed k (filter test xs)) (is_listed k xs && test k)
+    (λ e. let stays = kept test xs k (number_listed k (filter test xs) e) in and_true (is_listed k xs) (test k) (listed_number k xs stays.listed) stays.passes)
+    (λ e. listed_number k (filter test xs) (keeps test xs k (number_listed k xs (and_first (is_listed k xs) (test k) e)) (and_second (is_listed k xs) (test k) e)))
+
+-- they are exactly these
+pub others_are : {S : Type 0} (r : Reach) (bs : List IntegerBox) (y x : Label) (from : ℕ) (history : List (Lot S)) (boxes : Boxes) (places : List ℕ) → AreInOrder (places_met r y from boxes bs) places → AreOthers r bs y x from history boxes (filter (is_other_at y x history) places)
+others_are r bs y x from history boxes places h k = listed_filter (is_other_at y x history) places k ∙ ap (λ (b : Bool). b && is_other_at y x history k) (h.same k)
 
 -- ---- how many places there are
 
@@ -219,13 +227,40 @@ pub record ArePlaces {A : Type 0} (xs : List A) (places : List ℕ) : Type 0 whe
   pub rising : IsStrictlySortedBy nat_cmp places
   pub few : length places ≤ length xs
 
--- those of the others that are reached are such
-pub others_places : {S : Type 0} (r : Reach) (hull : IntegerBox) (y x : Label) (from : ℕ) (history : List (Lot S)) (boxes : Boxes) → NoneBehind boxes (length history) → ArePlaces history (other_places r hull y x from history boxes)
-others_places r hull y x from history boxes none =
+-- those of the others that are met are such
+pub others_places : {S : Type 0} (r : Reach) (bs : List IntegerBox) (y x : Label) (from : ℕ) (history : List (Lot S)) (boxes : Boxes) (places : List ℕ) → NoneBehind boxes (length history) → AreInOrder (places_met r y from boxes bs) places → ArePlaces history (filter (is_other_at y x history) places)
+others_places r bs y x from history boxes places none h =
     let test = is_other_at y x history in
-    let box = moved y hull in
-    let reached = places_from from (meeting_ids (is_closed r) box boxes) in
-    let within = all_filter (λ (k : ℕ). k < length history) test reached (places_within (is_closed r) box boxes from history none) in
-    let rising = IsStrictlySortedBy-filter nat_cmp test reached (places_rise (is_closed r) box boxes from) in
-    let few = rising_few 0 (length history) (filter test reached) rising (above_none (filter test reached)) within (omega arith) in
+    let within = all_filter (λ (k : ℕ). k < length history) test places (met_within r y from boxes bs places history h none) in
+    let rising = IsStrictlySortedBy-filter nat_cmp test places h.rising in
+    let few = rising_few 0 (length history) (filter test places) rising (above_none (filter test places)) within (omega arith) in
     record { within = within; rising = rising; few = omega (arith, few) }
+
+-- ---- places in order
+
+-- what is left once of numbers stands there
+listed_once : (k x : ℕ) (xs : List ℕ) → is_listed k (dedup_from eqb x xs) ≡ is_listed k (x ∷ xs)
+listed_once k x [] = refl
+listed_once k x (z ∷ xs) = by (eqb z x) refl (listed_once k x xs) (listed_once k z xs)
+  where
+    twice : (a b : Bool) → (a || b) ≡ (a || (a || b))
+    twice true b = refl
+    twice false b = refl
+
+    by : (b : Bool) → eqb z x ≡ b → is_listed k (dedup_from eqb x xs) ≡ is_listed k (x ∷ xs) → is_listed k (dedup_from eqb z xs) ≡ is_listed k (z ∷ xs) →
+        is_listed k (cond b (dedup_from eqb x xs) (x ∷ dedup_from eqb z xs)) ≡ is_listed k (x ∷ z ∷ xs)
+    by true e here next = let same = (Decides-eqb z x).0 e in here ∙ twice (x == k) (is_listed k xs) ∙ ap (λ (i : ℕ). (x == k) || ((i == k) || is_listed k xs)) (sym same)
+    by false e here next = ap (λ (b : Bool). (x == k) || b) next
+
+-- numbers that are sorted, each left once, are in order
+pub in_order : (all sorted places : List ℕ) → IsPermutation all sorted → IsSorted nat_cmp sorted → IsFiltered (DiffersFromLast eqb) [] sorted places → AreInOrder all places
+in_order all sorted places moved rises left =
+    let is = dedup_is eqb sorted places left in
+    record {
+      rising = subst (IsStrictlySortedBy nat_cmp) (sym is) (sorted_from_strictly_increasing (dedup eqb sorted) (IsStrictlyIncreasing-dedup sorted rises));
+      same = λ k. ap (is_listed k) is ∙ once k sorted ∙ sym (list_any-IsPermutation (λ (i : ℕ). i == k) all sorted moved);
+    }
+  where
+    once : (k : ℕ) (xs : List ℕ) → is_listed k (dedup eqb xs) ≡ is_listed k xs
+    once k [] = refl
+    once k (x ∷ xs) = listed_once k x xs

@@ -1,16 +1,17 @@
--- The places that an index answers are those of the lots around which the box meets a box, so of all that have a part which may meet one of a list.
-use Rattle.std.proofs.Common.{◌≡◌, ℕ, ◌<◌, ◌≤◌, ◌==◌, Bool, true, false, not, cond, leb, List, [], ◌∷◌, ◌⊎◌, ⊎_elim, filter, length, Option, Some, None, slice_get, refl, sym, ap, ◌∙◌, subst, arith}
-use Rattle.std.specs.Prelude.{option_map, sum_by, count_by}
+-- The places whose boxes an index answers are those of lots of which a box meets one of some boxes, so of all that have a part which may meet one of a list.
+use Rattle.std.proofs.Common.{◌≡◌, ℕ, ◌+◌, ◌/◌, ◌<◌, ◌≤◌, ◌==◌, Bool, true, false, not, cond, List, [], ◌∷◌, ◌++◌, ◌⊎◌, ⊎_elim, map, length, drop, Option, Some, None, slice_get, refl, sym, ap, ◌∙◌, subst, append_assoc, arith}
+use Rattle.std.specs.Prelude.{option_map, sum_by, count_by, nat_le}
 use Rattle.std.specs.List.{AllByRecursion, list_any}
 use Rattle.std.specs.List.Sorted.{IsStrictlySortedBy}
 use Rattle.std.specs.Ordering.{nat_cmp}
 use Rattle.std.specs.FinMap.{get}
 use Rattle.std.proofs.lemmas.Bool.{cases_lt, or_cases, or_left, or_right, eq-eqb, le-leb, leb-true}
 use Rattle.std.proofs.lemmas.Bool.Decides.{nat_tests, Decides-eqb}
-use Rattle.std.proofs.lemmas.List.Kept.{IsStrictlySortedBy-filter}
 use Rattle.std.proofs.lemmas.List.Sums.{sum_by-cons}
-use Rattle.rp_algebra.proofs.Filter.{keeps}
-use Rattle.rp_algebra.proofs.Listed.{Listed, first, later, of_all}
+use Rattle.std.proofs.lemmas.Option.{get_or_from_slice_get, slice_get_within}
+use Rattle.rp_algebra.proofs.Filter.{kept, keeps}
+use Rattle.rp_algebra.proofs.Lists.{drop_item}
+use Rattle.rp_algebra.proofs.Listed.{Listed, first, later, of_all, listed_left, listed_right, listed_cases}
 use Rattle.rp_geometry.specs.Geometry.{IntegerBox}
 use Rattle.rp_geometry.specs.sets.Shape.{Part}
 use Rattle.rp_space.specs.declared.bounds.IntBox.{IntBox}
@@ -21,43 +22,38 @@ use Rattle.rp_model.specs.commands.Row.{count_pairs}
 use Rattle.rp_boxindex.specs.Boxes.{Boxes}
 use Rattle.rp_boxindex.specs.Laws.{is_there_and_meets}
 use Rattle.rp_boxindex.specs.Meeting.{do_meet, meeting_ids}
-use Rattle.rp_boxindex.proofs.Exact.{meeting_ids_are_exact_spec, meeting_ids_rise_spec}
+use Rattle.rp_boxindex.proofs.Exact.{meeting_ids_are_exact_spec}
 use Rattle.rp_lotindex.specs.declared.near.Reach.{Reach}
 use Rattle.rp_lotindex.specs.declared.near.Reach.TheVariants.{Overlap, Touch}
-use Rattle.rp_lotindex.specs.Indexed.{hull_of_parts, box_of, box_at, box_of_lot, NoneBehind, IsIndexOf}
-use Rattle.rp_lotindex.specs.Layers.{cube_number}
-use Rattle.rp_lotindex.specs.Near.{may_meet, is_near, is_closed, AreWithin}
-use Rattle.rp_lotindex.proofs.Hulls.{part_within, wider_meet}
+use Rattle.rp_lotindex.specs.Indexed.{boxes_of_parts, box_at, NoneBehind, IsIndexOf}
+use Rattle.rp_lotindex.specs.Layers.{cube_number, moved}
+use Rattle.rp_lotindex.specs.Near.{may_meet, is_near, is_closed, places_by, places_met, is_listed, AreWithin}
+use Rattle.rp_lotindex.proofs.Hulls.{listed_image, part_boxed, wider_meet}
 use Rattle.rp_lotindex.proofs.Layers.{moved_to_meet}
-use Rattle.rp_lotindex.proofs.Boxed.{live_box}
+use Rattle.rp_lotindex.proofs.Boxed.{live_boxes, lot_box, none_behind_lots}
 
 -- ---- what stands in a list
 
 -- a number for which the test of some number passes
-number_listed : (n : ℕ) (xs : List ℕ) → list_any (λ i. i == n) xs ≡ true → Listed n xs
+pub number_listed : (n : ℕ) (xs : List ℕ) → list_any (λ i. i == n) xs ≡ true → Listed n xs
 number_listed n [] e = absurd (cc)
 number_listed n (x ∷ xs) e = ⊎_elim (λ t. subst (λ (z : ℕ). Listed n (z ∷ xs)) (sym ((Decides-eqb x n).0 t)) first) (λ t. later (number_listed n xs t)) (or_cases (x == n) (list_any (λ i. i == n) xs) e)
 
 -- and back
-listed_number : (n : ℕ) (xs : List ℕ) → Listed n xs → list_any (λ i. i == n) xs ≡ true
+pub listed_number : (n : ℕ) (xs : List ℕ) → Listed n xs → list_any (λ i. i == n) xs ≡ true
 listed_number n [] l = elim l [ ]
 listed_number n (x ∷ xs) first = or_left (n == n) (list_any (λ i. i == n) xs) (eq-eqb n n refl)
 listed_number n (x ∷ xs) (later l) = or_right (x == n) (list_any (λ i. i == n) xs) (listed_number n xs l)
 
--- what stays of one item more, by the test of that item
-stayed_by : {A : Type 0} (test : A → Bool) (x y : A) (xs : List A) → (Listed x (filter test xs) → Listed x xs × (test x ≡ true)) → (b : Bool) → test y ≡ b → Listed x (cond b (y ∷ filter test xs) (filter test xs)) → Listed x (y ∷ xs) × (test x ≡ true)
-stayed_by test x y xs rest true e first = (first, e)
-stayed_by test x y xs rest true e (later k) = let s = rest k in (later s.0, s.1)
-stayed_by test x y xs rest false e k = let s = rest k in (later s.0, s.1)
-
--- what stays was there and passes
-stayed : {A : Type 0} (test : A → Bool) (x : A) (xs : List A) → Listed x (filter test xs) → Listed x xs × (test x ≡ true)
-stayed test x [] l = elim l [ ]
-stayed test x (y ∷ xs) l = stayed_by test x y xs (stayed test x xs) (test y) refl l
+-- an item of images is that of an item
+image_listed : {A B : Type 0} (f : A → B) (y : B) (xs : List A) → Listed y (map f xs) → (x : A) × Listed x xs × (f x ≡ y)
+image_listed f y [] l = elim l [ ]
+image_listed f y (x ∷ xs) first = (x, first, refl)
+image_listed f y (x ∷ xs) (later l) = let o = image_listed f y xs l in (o.0, later o.1, o.2)
 
 -- ---- boxes that meet
 
--- the place of a box that meets is answered
+-- the id of a box that meets is answered
 pub box_reached : (closed : Bool) (b c : IntegerBox) (boxes : Boxes) (k : ℕ) → box_at boxes k ≡ Some c → do_meet closed b c ≡ true → Listed k (meeting_ids closed b boxes)
 box_reached closed b c boxes k at m = number_listed k (meeting_ids closed b boxes) (meeting_ids_are_exact_spec closed b boxes k ∙ by (get boxes k) at)
   where
@@ -65,7 +61,7 @@ box_reached closed b c boxes k at m = number_listed k (meeting_ids closed b boxe
     by None e = absurd (cc)
     by (Some d) e = let same : integer_box d ≡ c = cc in subst (λ (a : IntegerBox). do_meet closed b a ≡ true) (sym same) m
 
--- a place that is answered has a box
+-- an id that is answered has a box
 pub reached_box : (closed : Bool) (b : IntegerBox) (boxes : Boxes) (k : ℕ) → Listed k (meeting_ids closed b boxes) → box_at boxes k ≡ None → ⊥
 reached_box closed b boxes k l none = by (get boxes k) none (sym (meeting_ids_are_exact_spec closed b boxes k) ∙ listed_number k (meeting_ids closed b boxes) l)
   where
@@ -112,30 +108,84 @@ as_asked Touch p q = refl
 has_pair : (n : ℕ) → not (n == 0) ≡ true → 0 < n
 has_pair n e = grind (arith, nat_tests)
 
--- the box around a lot that is near meets the box around the list
-hulls_meet : (r : Reach) (ps : List Part) (l : Lot (Unit {0})) → is_near r ps l ≡ true → do_meet (is_closed r) (hull_of_parts ps) (hull_of_parts l.parts) ≡ true
-hulls_meet r ps l near =
+-- two boxes that meet
+record MeetingBoxes (r : Reach) (bs cs : List IntegerBox) : Type 0 where
+  box : IntegerBox
+  listed : Listed box bs
+  other : IntegerBox
+  other_listed : Listed other cs
+  meet : do_meet (is_closed r) box other ≡ true
+
+-- a box of a lot that is near meets one of the list
+boxes_meet : (r : Reach) (ps : List Part) (l : Lot (Unit {0})) → is_near r ps l ≡ true → MeetingBoxes r (boxes_of_parts ps) (boxes_of_parts l.parts)
+boxes_meet r ps l near =
     let pair = parts_meet r ps l.parts (has_pair (count_pairs (may_meet r) ps l.parts) near) in
-    wider_meet (is_closed r) pair.part.bounds pair.other.bounds (hull_of_parts ps) (hull_of_parts l.parts) (part_within pair.part ps pair.listed) (part_within pair.other l.parts pair.other_listed)
-    (sym (as_asked r pair.part pair.other) ∙ pair.meet)
+    let b = part_boxed pair.part ps pair.listed in
+    let c = part_boxed pair.other l.parts pair.other_listed in
+    record {
+      box = b.0;
+      listed = b.1;
+      other = c.0;
+      other_listed = c.1;
+      meet = wider_meet (is_closed r) pair.part.bounds pair.other.bounds b.0 c.0 b.2 c.2 (sym (as_asked r pair.part pair.other) ∙ pair.meet);
+    }
 
 -- ---- places
 
--- the places from one on that are answered
-abbrev pub places_from : ℕ → List ℕ → List ℕ
-places_from from ids = filter (λ k. leb from k) ids
+module _ (r : Reach) (y : Label) (from : ℕ) (boxes : Boxes) where
+  -- a place at which a box meets one
+  record IsMet (k : ℕ) : Type 0 where
+    box : IntegerBox
+    id : ℕ
+    listed : Listed id (meeting_ids (is_closed r) box boxes)
+    own : id / 16 ≡ k
+    behind : from ≤ k
 
-module _ (closed : Bool) (b : IntegerBox) (boxes : Boxes) (from : ℕ) where
-  -- they rise
-  pub places_rise : IsStrictlySortedBy nat_cmp (places_from from (meeting_ids closed b boxes))
-  places_rise = IsStrictlySortedBy-filter nat_cmp (λ k. leb from k) (meeting_ids closed b boxes) (meeting_ids_rise_spec closed b boxes)
+  -- one of a box
+  met_by : (b : IntegerBox) (k : ℕ) → Listed k (places_by r from boxes b) → IsMet k
+  met_by b k l =
+      let stays = kept (λ c. nat_le from c) (map (λ id. id / 16) (meeting_ids (is_closed r) b boxes)) k l in
+      let one = image_listed (λ (id : ℕ). id / 16) k (meeting_ids (is_closed r) b boxes) stays.listed in
+      record { box = b; id = one.0; listed = one.1; own = one.2; behind = leb-true from k stays.passes }
 
-  -- none of them is behind those with boxes
-  pub places_within : {A : Type 0} (xs : List A) → NoneBehind boxes (length xs) → AreWithin xs (places_from from (meeting_ids closed b boxes))
-  places_within xs none = of_all (λ (k : ℕ). k < length xs) (places_from from (meeting_ids closed b boxes)) (λ k l. by k (stayed (λ c. leb from c) k (meeting_ids closed b boxes) l).0 (cases_lt k (length xs)))
-    where
-      by : (k : ℕ) → Listed k (meeting_ids closed b boxes) → (k < length xs) ⊎ (length xs ≤ k) → k < length xs
-      by k l c = ⊎_elim (λ f. f) (λ f. absurd (reached_box closed b boxes k l (none k f))) c
+  -- one of some boxes
+  met_at : (bs : List IntegerBox) (k : ℕ) → Listed k (places_met r y from boxes bs) → IsMet k
+  met_at [] k l = elim l [ ]
+  met_at (b ∷ bs) k l = ⊎_elim (met_by (moved y b) k) (met_at bs k) (listed_cases k (places_by r from boxes (moved y b)) (places_met r y from boxes bs) l)
+
+  -- where an id of a place is answered for a box, the place is met
+  place_met : (bs : List IntegerBox) (b : IntegerBox) → Listed b bs → (k id : ℕ) → Listed id (meeting_ids (is_closed r) (moved y b) boxes) → id / 16 ≡ k → from ≤ k → Listed k (places_met r y from boxes bs)
+  place_met [] b l k id m own f = elim l [ ]
+  place_met (d ∷ bs) b first k id m own f =
+      listed_left k (places_by r from boxes (moved y b)) (places_met r y from boxes bs)
+      (keeps (λ c. nat_le from c) (map (λ i. i / 16) (meeting_ids (is_closed r) (moved y b) boxes)) k
+      (subst (λ (n : ℕ). Listed n (map (λ i. i / 16) (meeting_ids (is_closed r) (moved y b) boxes))) own (listed_image (λ (i : ℕ). i / 16) id (meeting_ids (is_closed r) (moved y b) boxes) m)) (le-leb from k f))
+  place_met (c ∷ bs) b (later l) k id m own f = listed_right k (places_by r from boxes (moved y c)) (places_met r y from boxes bs) (place_met bs b l k id m own f)
+
+-- one box more
+pub met_next : (r : Reach) (y : Label) (from : ℕ) (boxes : Boxes) (bs : List IntegerBox) (i : ℕ) (b c : IntegerBox) (places more new : List ℕ) → slice_get bs i ≡ Some b → c ≡ moved y b → more ≡ places_by r from boxes c → new ≡ places ++ more →
+    new ++ places_met r y from boxes (drop (i + 1) bs) ≡ places ++ places_met r y from boxes (drop i bs)
+met_next r y from boxes bs i b c places more new at own found all =
+    let rest = places_met r y from boxes (drop (i + 1) bs) in
+    ap (λ (ks : List ℕ). ks ++ rest) (all ∙ ap (λ (ks : List ℕ). places ++ ks) (found ∙ ap (places_by r from boxes) own))
+    ∙ append_assoc places (places_by r from boxes (moved y b)) rest
+    ∙ ap (λ (cs : List IntegerBox). places ++ places_met r y from boxes cs) (sym (drop_item bs i b (slice_get_within bs i b at) (sym (get_or_from_slice_get bs i b b at))))
+
+-- numbers in rising order, each once, are those of a list
+pub record AreInOrder (all places : List ℕ) : Type 0 where
+  pub rising : IsStrictlySortedBy nat_cmp places
+  pub same : (k : ℕ) → is_listed k places ≡ is_listed k all
+
+-- each of them stands in the list
+pub in_order_of : (all places : List ℕ) → AreInOrder all places → (k : ℕ) → Listed k places → Listed k all
+in_order_of all places h k l = number_listed k all (sym (h.same k) ∙ listed_number k places l)
+
+-- none of the places that are met is behind those with boxes
+pub met_within : {A : Type 0} (r : Reach) (y : Label) (from : ℕ) (boxes : Boxes) (bs : List IntegerBox) (places : List ℕ) (xs : List A) → AreInOrder (places_met r y from boxes bs) places → NoneBehind boxes (length xs) → AreWithin xs places
+met_within r y from boxes bs places xs h none = of_all (λ (k : ℕ). k < length xs) places (λ k l. by k (met_at r y from boxes bs k (in_order_of (places_met r y from boxes bs) places h k l)) (cases_lt k (length xs)))
+  where
+    by : (k : ℕ) → IsMet r y from boxes k → (k < length xs) ⊎ (length xs ≤ k) → k < length xs
+    by k m c = ⊎_elim (λ f. f) (λ f. absurd (let own = m.own in reached_box (is_closed r) m.box boxes m.id m.listed (none m.id (omega (arith, f, own))))) c
 
 -- places from one on, in rising order, with those of all live lots of a layer that have a part that may meet one of a list
 pub record AreAllNear (r : Reach) (ps : List Part) (y : Label) (lots : List (Lot (Unit {0}))) (from : ℕ) (places : List ℕ) : Type 0 where
@@ -144,16 +194,19 @@ pub record AreAllNear (r : Reach) (ps : List Part) (y : Label) (lots : List (Lot
   pub within : AreWithin lots places
   pub all : (k : ℕ) (l : Lot (Unit {0})) → from ≤ k → slice_get lots k ≡ Some l → is_live l ≡ true → label_eq l.layer y ≡ true → is_near r ps l ≡ true → Listed k places
 
--- the places around which the box meets that around the list are such
-pub places_near : (r : Reach) (ps : List Part) (y : Label) (lots : List (Lot (Unit {0}))) (boxes : Boxes) (from : ℕ) → IsIndexOf lots boxes → NoneBehind boxes (length lots) → AreAllNear r ps y lots from (places_from from (meeting_ids (is_closed r) (box_of y ps) boxes))
-places_near r ps y lots boxes from h none = record {
-  rising = places_rise (is_closed r) (box_of y ps) boxes from;
-  behind = of_all (λ (k : ℕ). from ≤ k) (places_from from ids) (λ k l. leb-true from k (stayed (λ c. leb from c) k ids l).1);
-  within = places_within (is_closed r) (box_of y ps) boxes from lots none;
+-- the places at which a box meets one of the list are such
+pub places_near : (r : Reach) (ps : List Part) (y : Label) (lots : List (Lot (Unit {0}))) (boxes : Boxes) (from : ℕ) (places : List ℕ) → IsIndexOf lots boxes → AreInOrder (places_met r y from boxes (boxes_of_parts ps)) places → AreAllNear r ps y lots from places
+places_near r ps y lots boxes from places h reached = record {
+  rising = reached.rising;
+  behind = of_all (λ (k : ℕ). from ≤ k) places (λ k l. (met_at r y from boxes (boxes_of_parts ps) k (in_order_of all places reached k l)).behind);
+  within = met_within r y from boxes (boxes_of_parts ps) places lots reached (none_behind_lots lots boxes h);
   all = λ k l f at lives own near.
-      let box : box_at boxes k ≡ Some (box_of y l.parts) = h k ∙ ap (option_map box_of_lot) at ∙ ap (λ (b : IntegerBox). Some b) (live_box y l lives own) in
-      keeps (λ c. leb from c) ids k (box_reached (is_closed r) (box_of y ps) (box_of y l.parts) boxes k box (moved_to_meet (is_closed r) (cube_number y) (hull_of_parts ps) (hull_of_parts l.parts) (hulls_meet r ps l near))) (le-leb from k f);
+      let m = boxes_meet r ps l near in
+      let stands = subst (λ (bs : List IntegerBox). Listed (moved y m.other) bs) (sym (live_boxes y l lives own)) (listed_image (moved y) m.other (boxes_of_parts l.parts) m.other_listed) in
+      let box = lot_box lots boxes h k l at (moved y m.other) stands in
+      let id = box_reached (is_closed r) (moved y m.box) (moved y m.other) boxes box.0 box.2 (moved_to_meet (is_closed r) (cube_number y) m.box m.other m.meet) in
+      number_listed k places (reached.same k ∙ listed_number k all (place_met r y from boxes (boxes_of_parts ps) m.box m.listed k box.0 id box.1 f));
 }
   where
-    ids : List ℕ
-    ids = meeting_ids (is_closed r) (box_of y ps) boxes
+    all : List ℕ
+    all = places_met r y from boxes (boxes_of_parts ps)

@@ -1,5 +1,5 @@
 -- Lots have their boxes moved, id by id.
-use Rattle.std.proofs.Common.{◌≡◌, ℕ, zero, suc, ◌<◌, ◌≤◌, Bool, true, false, ◌||◌, List, [], ◌∷◌, ◌++◌, length, Some, None, slice_get, refl, sym, ap, ◌∙◌, subst, arith}
+use Rattle.std.proofs.Common.{◌≡◌, ℕ, zero, suc, ◌/◌, ◌%◌, Bool, true, false, ◌||◌, List, [], ◌∷◌, ◌++◌, Some, None, is_some, slice_get, refl, sym, ap, ◌∙◌, subst, arith}
 use Rattle.std.specs.Prelude.{IsTrue}
 use Rattle.std.proofs.lemmas.Option.{slice_get_within}
 use Rattle.rp_algebra.proofs.Tests.{false_not_true, false_unless}
@@ -8,9 +8,8 @@ use Rattle.rp_model.specs.states.State.{Lot, lot_with_id, ids_of}
 use Rattle.rp_model.specs.states.Sound.{are_distinct}
 use Rattle.rp_states.proofs.Labels.{label_is, label_is_not, among_left, among_right, among_neither}
 use Rattle.rp_history.proofs.Found.{first_alone, rest_distinct, found_has_id, there, own_place}
-use Rattle.rp_geometry.specs.Geometry.{IntegerBox}
 use Rattle.rp_boxindex.specs.Boxes.{Boxes}
-use Rattle.rp_lotindex.specs.Indexed.{box_at, box_of_lot, IsSettled, AreSettled}
+use Rattle.rp_lotindex.specs.Indexed.{box_at, boxes_of_lot, IsSettled, AreSettled}
 
 -- two lots with one id stand at one place
 one_place : {S : Type 0} (ls : List (Lot S)) → IsTrue (are_distinct (ids_of ls)) → (i k : ℕ) (l m : Lot S) → slice_get ls i ≡ Some l → slice_get ls k ≡ Some m → l.id ≡ m.id → i ≡ k
@@ -31,24 +30,23 @@ module _ (lots : List (Lot (Unit {0}))) (x : Label) (distinct : IsTrue (are_dist
   own_lot : (k : ℕ) (l : Lot (Unit {0})) → slice_get lots k ≡ Some l → label_eq l.id x ≡ true → lot_with_id x lots ≡ Some l
   own_lot k l at e = subst (λ (y : Label). lot_with_id y lots ≡ Some l) (label_is l.id x e) (own_place lots distinct k l at)
 
-  -- the box at its place is moved
-  pub place_settled : (p : ℕ) (m : Lot (Unit {0})) (old new : Boxes) → slice_get lots p ≡ Some m → label_eq m.id x ≡ true → IsSettled old new p (box_of_lot m) → AreSettled lots (λ y. label_eq y x) old new
+  -- the boxes at its place are moved
+  pub place_settled : (p : ℕ) (m : Lot (Unit {0})) (old new : Boxes) → slice_get lots p ≡ Some m → label_eq m.id x ≡ true → IsSettled old new p (boxes_of_lot m) → AreSettled lots (λ y. label_eq y x) old new
   place_settled p m old new there its h = let found = own_lot p m there its in record {
-    settled = λ k l c at e has.
-        let own : m ≡ l = (let f = own_lot k l at e in cc (found, f)) in
-        let same : p ≡ k = one_place lots distinct p k m l there at (ap (λ (n : Lot (Unit {0})). n.id) own) in
-        subst (λ (i : ℕ). box_at new i ≡ Some (box_of_lot l)) same
-        (h.here c (subst (λ (i : ℕ). box_at old i ≡ Some c) (sym same) has) ∙ ap (λ (n : Lot (Unit {0})). Some (box_of_lot n)) own);
-    kept = λ k l at e. h.rest k (λ same. label_is_not l.id x e (sym (label_is x l.id (found_has_id x lots l (found ∙ sym there ∙ subst (λ (i : ℕ). slice_get lots i ≡ Some l) same at)))));
-    rest = λ k f. h.rest k (λ same. absurd (let within = slice_get_within lots p m there in omega (arith, f, within, same)));
+    settled = λ id l at e has.
+        let own : m ≡ l = (let f = own_lot (id / 16) l at e in cc (found, f)) in
+        let same : p ≡ id / 16 = one_place lots distinct p (id / 16) m l there at (ap (λ (n : Lot (Unit {0})). n.id) own) in
+        h.here id (sym same) (has ∙ ap (λ (n : Lot (Unit {0})). is_some (slice_get (boxes_of_lot n) (id % 16))) (sym own)) ∙ ap (λ (n : Lot (Unit {0})). slice_get (boxes_of_lot n) (id % 16)) own;
+    kept = λ id l at e. h.rest id (λ same. label_is_not l.id x e (sym (label_is x l.id (found_has_id x lots l (found ∙ sym there ∙ subst (λ (i : ℕ). slice_get lots i ≡ Some l) same at)))));
+    rest = λ id f. h.rest id (λ same. absurd (let within = slice_get_within lots p m there in omega (arith, f, within, same)));
   }
 
   -- there is no lot with the id
   pub none_settled : (m : Boxes) → lot_with_id x lots ≡ None → AreSettled lots (λ y. label_eq y x) m m
   none_settled m none = record {
-    settled = λ k l c at e has. absurd (let found = own_lot k l at e in cc (none, found));
-    kept = λ k l at e. refl;
-    rest = λ k f. refl;
+    settled = λ id l at e has. absurd (let found = own_lot (id / 16) l at e in cc (none, found));
+    kept = λ id l at e. refl;
+    rest = λ id f. refl;
   }
 
 -- ---- several ids
@@ -56,9 +54,9 @@ module _ (lots : List (Lot (Unit {0}))) (x : Label) (distinct : IsTrue (are_dist
 -- one id more
 pub settled_next : (lots : List (Lot (Unit {0}))) (xs ys : List Label) (x : Label) (old m new : Boxes) → ys ≡ xs ++ x ∷ [] → AreSettled lots (λ y. is_among y xs) old m → AreSettled lots (λ y. label_eq y x) m new → AreSettled lots (λ y. is_among y ys) old new
 settled_next lots xs ys x old m new same h one = record {
-  settled = λ k l c at e has. by k l c at (subst (λ (zs : List Label). is_among l.id zs ≡ true) same e) has (label_eq l.id x) refl;
-  kept = λ k l at e. let g = subst (λ (zs : List Label). is_among l.id zs ≡ false) same e in one.kept k l at (not_last l.id g) ∙ h.kept k l at (not_left l.id g);
-  rest = λ k f. one.rest k f ∙ h.rest k f;
+  settled = λ id l at e has. by id l at (subst (λ (zs : List Label). is_among l.id zs ≡ true) same e) has (label_eq l.id x) refl;
+  kept = λ id l at e. let g = subst (λ (zs : List Label). is_among l.id zs ≡ false) same e in one.kept id l at (not_last l.id g) ∙ h.kept id l at (not_left l.id g);
+  rest = λ id f. one.rest id f ∙ h.rest id f;
 }
   where
     or_false : (b : Bool) → (b || false) ≡ b
@@ -71,14 +69,14 @@ settled_next lots xs ys x old m new same h one = record {
     not_last : (y : Label) → is_among y (xs ++ x ∷ []) ≡ false → label_eq y x ≡ false
     not_last y e = false_unless (label_eq y x) (λ f. false_not_true (is_among y (xs ++ x ∷ [])) (among_right y xs (x ∷ []) (or_false (label_eq y x) ∙ f)) e)
 
-    -- a lot has a box in between, too
-    between : (k : ℕ) (l : Lot (Unit {0})) (c : IntegerBox) → slice_get lots k ≡ Some l → box_at old k ≡ Some c → (b : Bool) → is_among l.id xs ≡ b → (d : IntegerBox) × (box_at m k ≡ Some d)
-    between k l c at has true f = (box_of_lot l, h.settled k l c at f has)
-    between k l c at has false f = (c, h.kept k l at f ∙ has)
+    -- a lot has as many boxes in between, too
+    between : (id : ℕ) (l : Lot (Unit {0})) → slice_get lots (id / 16) ≡ Some l → is_some (box_at old id) ≡ is_some (slice_get (boxes_of_lot l) (id % 16)) → (b : Bool) → is_among l.id xs ≡ b → is_some (box_at m id) ≡ is_some (slice_get (boxes_of_lot l) (id % 16))
+    between id l at has true f = ap is_some (h.settled id l at f has)
+    between id l at has false f = ap is_some (h.kept id l at f) ∙ has
 
-    by : (k : ℕ) (l : Lot (Unit {0})) (c : IntegerBox) → slice_get lots k ≡ Some l → is_among l.id (xs ++ x ∷ []) ≡ true → box_at old k ≡ Some c → (b : Bool) → label_eq l.id x ≡ b → box_at new k ≡ Some (box_of_lot l)
-    by k l c at e has true g = let d = between k l c at has (is_among l.id xs) refl in one.settled k l d.0 at g d.1
-    by k l c at e has false g = one.kept k l at g ∙ h.settled k l c at (earlier (is_among l.id xs) refl) has
+    by : (id : ℕ) (l : Lot (Unit {0})) → slice_get lots (id / 16) ≡ Some l → is_among l.id (xs ++ x ∷ []) ≡ true → is_some (box_at old id) ≡ is_some (slice_get (boxes_of_lot l) (id % 16)) → (b : Bool) → label_eq l.id x ≡ b → box_at new id ≡ slice_get (boxes_of_lot l) (id % 16)
+    by id l at e has true g = one.settled id l at g (between id l at has (is_among l.id xs) refl)
+    by id l at e has false g = one.kept id l at g ∙ h.settled id l at (earlier (is_among l.id xs) refl) has
       where
         earlier : (b : Bool) → is_among l.id xs ≡ b → is_among l.id xs ≡ true
         earlier true i = i

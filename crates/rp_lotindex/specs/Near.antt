@@ -1,6 +1,6 @@
--- The lots that may meet a list of parts, found by the boxes around lots.
-use Rattle.std.specs.Prelude.{◌≡◌, ℕ, ◌<◌, ◌==◌, Bool, true, false, ◌&&◌, not, nat_le, List, [], ◌∷◌, ◌++◌, filter, length, drop, Some, None, slice_get}
-use Rattle.std.specs.List.{AllByRecursion}
+-- The lots that may meet a list of parts, found by the boxes of lots.
+use Rattle.std.specs.Prelude.{◌≡◌, ℕ, ◌/◌, ◌<◌, ◌==◌, Bool, true, false, ◌&&◌, not, nat_le, List, [], ◌∷◌, ◌++◌, map, filter, length, drop, Some, None, slice_get}
+use Rattle.std.specs.List.{AllByRecursion, list_any}
 use Rattle.std.specs.Option.{option_to_list}
 use Rattle.rp_geometry.specs.Geometry.{IntegerBox}
 use Rattle.rp_geometry.specs.sets.Shape.{Part}
@@ -12,7 +12,7 @@ use Rattle.rp_boxindex.specs.Boxes.{Boxes}
 use Rattle.rp_boxindex.specs.Meeting.{meeting_ids}
 use Rattle.rp_lotindex.specs.declared.near.Reach.{Reach}
 use Rattle.rp_lotindex.specs.declared.near.Reach.TheVariants.{Overlap, Touch}
-use Rattle.rp_lotindex.specs.Indexed.{hull_of_parts, AreKeptIn}
+use Rattle.rp_lotindex.specs.Indexed.{boxes_of_parts, AreKeptIn}
 use Rattle.rp_lotindex.specs.Layers.{moved}
 
 -- the boxes of two parts let them meet
@@ -54,11 +54,24 @@ abbrev pub is_closed : Reach → Bool
 is_closed Overlap = false
 is_closed Touch = true
 
--- the places from one on of the live lots of the layer that have another id, whose boxes this one meets, moved into the cube of the layer
-abbrev pub other_places : {S : Type 0} → Reach → IntegerBox → Label → Label → ℕ → List (Lot S) → Boxes → List ℕ
-other_places r hull y x from history boxes = filter (is_other_at y x history) (filter (λ k. nat_le from k) (meeting_ids (is_closed r) (moved y hull) boxes))
+-- the places from one on of the lots of which a box meets this one
+abbrev pub places_by : Reach → ℕ → Boxes → IntegerBox → List ℕ
+places_by r from boxes b = filter (λ k. nat_le from k) (map (λ id. id / 16) (meeting_ids (is_closed r) b boxes))
 
--- of all lots that are kept in the history and the index, those at the places have among them, in order, exactly the live lots of the layer, from a place on, that have another id and a part that may meet one of the parts within this hull
-abbrev pub AreNear : Reach → IntegerBox → Label → Label → ℕ → List (Lot (Unit {0})) → Boxes → List ℕ → Type 0
-AreNear r hull y x from history boxes places =
-    (lots : List (Lot (Unit {0}))) (ps : List Part) → AreKeptIn history boxes lots → hull ≡ hull_of_parts ps → filter (is_near r ps) (lots_at lots places) ≡ filter (is_near r ps) (others_in y x (drop from lots))
+-- so of some boxes, moved into the cube of a layer, one after the other
+abbrev pub places_met : Reach → Label → ℕ → Boxes → List IntegerBox → List ℕ
+places_met r y from boxes [] = []
+places_met r y from boxes (b ∷ bs) = places_by r from boxes (moved y b) ++ places_met r y from boxes bs
+
+-- a number stands in a list
+abbrev pub is_listed : ℕ → List ℕ → Bool
+is_listed k ks = list_any (λ i. i == k) ks
+
+-- the places are those from one on of the live lots of the layer that have another id, of which a box meets one of these
+abbrev pub AreOthers : {S : Type 0} → Reach → List IntegerBox → Label → Label → ℕ → List (Lot S) → Boxes → List ℕ → Type 0
+AreOthers r bs y x from history boxes places = (k : ℕ) → is_listed k places ≡ (is_listed k (places_met r y from boxes bs) && is_other_at y x history k)
+
+-- of all lots that are kept in the history and the index, those at the places have among them, in order, exactly the live lots of the layer, from a place on, that have another id and a part that may meet one of the parts with these boxes
+abbrev pub AreNear : Reach → List IntegerBox → Label → Label → ℕ → List (Lot (Unit {0})) → Boxes → List ℕ → Type 0
+AreNear r bs y x from history boxes places =
+    (lots : List (Lot (Unit {0}))) (ps : List Part) → AreKeptIn history boxes lots → bs ≡ boxes_of_parts ps → filter (is_near r ps) (lots_at lots places) ≡ filter (is_near r ps) (others_in y x (drop from lots))

@@ -30,7 +30,7 @@ is_there_at m y lots k = elim (slice_get lots k) [ None ↦ false | Some l ↦ i
 abbrev pub boxes_past : Label → IntegerBox → List Stretch → List IntegerBox
 boxes_past y unit stretches = map (λ s. moved_past y s unit) stretches
 
--- where the lots of a layer that are there at a moment stand, if the box around them meets this one: after a line in the cubes of the stretches with the line, too
+-- where boxes of the lots of a layer that are there at a moment stand, if they meet this one: after a line in the cubes of the stretches with the line, too
 abbrev pub boxes_asked : Moment → Label → IntegerBox → List IntegerBox
 boxes_asked Now y unit = moved y unit ∷ []
 boxes_asked (After n) y unit = moved y unit ∷ boxes_past y unit (stretches_with n)

@@ -1,18 +1,18 @@
 #![tactic(auto)]
-//! A box around each lot, in an index that finds the lots which may meet a shape, or have a point, without a look at
-//! each.
+//! The boxes of lots, in an index that finds the lots which may meet a shape, or have a point, without a look at each.
 //!
 //! The live lots of each layer have a cube of their own, as far as its name tells, into which their boxes are moved
 //! ([`moved`]), and those that ended have further ones, by the lines between which they lived: so what is asked of the
 //! lots of a layer, now or after a line, meets few others.
 //!
-//! The boxes are kept under the places of the lots: those of new lots are all taken in, or none where memory runs out,
-//! and those of lots that end are moved without memory. [`LotBoxes::near`] answers the places of live lots of a layer,
-//! from a place on, with another id than one, around which the box meets a box: so of each that has a part which may
-//! meet a part within it, in rising order. [`LotBoxes::owner`] answers the first lot of a layer that has a point, now or
-//! after a line. The lemmas show that what the walks over all lots come to is what they come to over these, for every
-//! tester. Calls that answer `AllocError` do so only for want of memory.
+//! A lot has at most 16 boxes ([`Bounded`]), so the place of each has 16 ids. The boxes of a new lot are all taken in,
+//! or none where memory runs out, and those of lots that end are moved without memory. [`LotBoxes::near`] answers the
+//! places of live lots of a layer, from a place on, with another id than one, of which a box meets one of some boxes:
+//! so of each that has a part which may meet a part within these, in rising order. [`LotBoxes::owner`] answers the
+//! first lot of a layer that has a point, now or after a line. The lemmas show that what the walks over all lots come
+//! to is what they come to over these, for every tester. Calls that answer `AllocError` do so only for want of memory.
 
+mod bounded;
 mod boxes;
 mod layer;
 mod moment;
@@ -20,6 +20,7 @@ mod near;
 mod owner;
 mod stretch;
 
+pub use bounded::Bounded;
 pub use boxes::LotBoxes;
 pub use layer::moved;
 pub use moment::{Moment, is_there};

@@ -1,15 +1,14 @@
-//! The lots that may meet a shape, found by the boxes around them.
-ghost use Rattle.std.specs.Prelude.{◌≡◌, ◌<◌, ◌≤◌, filter, length, nat_le, IfOk};
+//! The lots that may meet a shape, found by their boxes.
+ghost use Rattle.std.specs.Prelude.{◌≡◌, ◌<◌, ◌≤◌, filter, length, IfOk};
 ghost use Rattle.std.specs.List.Sorted.{IsStrictlySortedBy};
 ghost use Rattle.std.specs.Ordering.{nat_cmp};
 ghost use Rattle.rp_space.specs.Boxes.{integer_box};
 ghost use Rattle.rp_history.specs.Lots.{lot_of};
-ghost use Rattle.rp_boxindex.specs.Meeting.{meeting_ids};
 ghost use Rattle.rp_lotindex.specs.Indexed.{NoneBehind};
-ghost use Rattle.rp_lotindex.specs.Layers.{moved};
-ghost use Rattle.rp_lotindex.specs.Near.{is_closed, is_other_in, is_other_at, other_places, AreWithin, AreNear};
+ghost use Rattle.rp_lotindex.specs.Near.{is_other_in, is_other_at, places_by, places_met, AreOthers, AreWithin, AreNear};
 
-use crate::boxes::LotBoxes;
+use crate::bounded::Bounded;
+use crate::boxes::{LotBoxes, place_of};
 use crate::layer::moved;
 use rp_boxindex::{Steps, Watch};
 use rp_history::{History, LotLine};
@@ -29,14 +28,14 @@ pub enum Reach {
 
 impl LotBoxes {
     /// The places, in rising order and at or behind `from`, of the live lots of `layer` in `history`, other than `id`,
-    /// around which the box meets `hull`, as `reach` says, both in the cube of the layer: so of each of them that has a
-    /// part which may meet a part within `hull`. `watch` is told of what is visited.
-    pub fn near<W: Watch>(
+    /// of which a box meets one of `boxes`, as `reach` says, both in the cube of the layer: so of each of them that has
+    /// a part which may meet a part within `boxes`. `watch` is told of what is visited.
+    pub fn near<W: Watch, B: Bounded>(
         &self,
         alloc: Global,
         watch: &W,
         history: &History,
-        hull: &IntBox,
+        boxes: &B,
         layer: &Name,
         id: &Name,
         from: usize,
@@ -44,23 +43,52 @@ impl LotBoxes {
     ) -> Result<Listed<usize>, AllocError>
         requires from { from ≤ length history.now }
         requires behind { NoneBehind self.now.index (length history.now) }
-        ensures exact { IfOk result (λ places. places.items ≡ other_places reach (integer_box hull.now) layer.now id.now from history.now self.now.index) }
-        ensures near { IfOk result (λ places. AreNear reach (integer_box hull.now) layer.now id.now from history.now self.now.index places.items) }
+        ensures exact { IfOk result (λ places. AreOthers reach (B.boxes boxes.now) layer.now id.now from history.now self.now.index places.items) }
+        ensures near { IfOk result (λ places. AreNear reach (B.boxes boxes.now) layer.now id.now from history.now self.now.index places.items) }
         ensures within { IfOk result (λ places. AreWithin history.now places.items) }
         ensures rising { IfOk result (λ places. IsStrictlySortedBy nat_cmp places.items) }
         ensures few { IfOk result (λ places. length places.items ≤ length history.now) }
     {
-        let hull = moved(layer, hull);
-        let places = self.reached::<W, Brand>(alloc, watch, &hull, from, reach, Blank::new(1))?;
+        let mut places = self.met(alloc, watch, boxes, layer, from, reach)?;
+        places.sort_unstable();
+        places.dedup();
         others(alloc, history, &places, layer, id)
     }
 
-    /// The places from one on, in rising order, of the lots whose box meets a box.
-    fn reached<W: Watch, L: Ledger>(
+    /// The places from one on of the lots of which a box meets one of some boxes in the cube of a layer, box by box.
+    fn met<W: Watch, B: Bounded>(
         &self,
         alloc: Global,
         watch: &W,
-        hull: &IntBox,
+        boxes: &B,
+        layer: &Name,
+        from: usize,
+        reach: Reach,
+    ) -> Result<Vec<usize>, AllocError>
+        ensures { IfOk result (λ places. places.items ≡ places_met reach layer.now from self.now.index (B.boxes boxes.now)) }
+    {
+        let mut places = Vec::new(alloc);
+        for number in 0..boxes.count() {
+            let bounds = moved(layer, &boxes.bounds(number));
+            let mut more = self.met_by::<W, Brand>(
+                alloc,
+                watch,
+                &bounds,
+                from,
+                reach,
+                Blank::new(1),
+            )?;
+            places.append(&mut more)?;
+        }
+        Ok(places)
+    }
+
+    /// The places from one on of the lots of which a box meets a box.
+    fn met_by<W: Watch, L: Ledger>(
+        &self,
+        alloc: Global,
+        watch: &W,
+        bounds: &IntBox,
         from: usize,
         reach: Reach,
         blank: Blank,
@@ -68,13 +96,15 @@ impl LotBoxes {
         requires name { blank.name ≡ L.name }
         requires parts { blank.parts ≡ L.parts }
         requires some { 0 < L.parts }
-        ensures { IfOk result (λ places. places.items ≡ filter (λ k. nat_le from k) (meeting_ids (is_closed reach) (integer_box hull.now) self.now.index)) }
+        ensures { IfOk result (λ places. places.items ≡ places_by reach from self.now.index (integer_box bounds.now)) }
     {
         let closed = matches!(reach, Reach::Touch);
         let mut steps = Steps::<L>::new(blank);
-        let ids = self.index.meeting(alloc, hull, closed, watch, &mut steps)?;
+        let ids = self
+            .index
+            .meeting(alloc, bounds, closed, watch, &mut steps)?;
         ids.iter()
-            .map(|id| *id as usize)
+            .map(|id| place_of(*id))
             .filter(|place| from <= *place)
             .collect(alloc)
     }

@@ -1,5 +1,5 @@
-//! The lot that has a point, found by the boxes around lots.
-ghost use Rattle.std.specs.Prelude.{◌≡◌, ◌<◌, ◌^◌, ◌&&◌, true, false, ℕ, Bool, None, pos, ◌<ℤ◌};
+//! The lot that has a point, found by the boxes of lots.
+ghost use Rattle.std.specs.Prelude.{◌≡◌, ◌<◌, ◌/◌, ◌^◌, ◌&&◌, true, false, ℕ, Bool, None, pos, ◌<ℤ◌};
 ghost use Rattle.rp_algebra.specs.Integer.{floor_of};
 ghost use Rattle.rp_algebra.specs.Within.{IsWithin};
 ghost use Rattle.rp_geometry.specs.Geometry.{IntegerBox, half_edge, is_cube_point, is_in_range};
@@ -9,7 +9,7 @@ ghost use Rattle.rp_boxindex.specs.Meeting.{do_meet, first_that, meeting_ids};
 ghost use Rattle.rp_lotindex.specs.Owner.{boxes_asked, boxes_past, first_in, lesser_of, is_there_at, IsLine, IsOwner};
 ghost use Rattle.rp_lotindex.specs.Stretches.{stretches_with};
 
-use crate::boxes::LotBoxes;
+use crate::boxes::{LotBoxes, place_of};
 use crate::layer::{moved, moved_past};
 use crate::moment::{Moment, is_there};
 use crate::stretch::Stretch;
@@ -38,10 +38,10 @@ struct Owners<'a, H: Holder> {
 }
 
 impl<H: Holder> Choice for Owners<'_, H> {
-    ghost passes = { λ s k. is_there_at s.moment s.layer.now s.history.now k && H.has s.holder.now k };
+    ghost passes = { λ s id. is_there_at s.moment s.layer.now s.history.now (id / 16) && H.has s.holder.now (id / 16) };
 
     fn passes(&self, id: u32) -> bool {
-        let place = id as usize;
+        let place = place_of(id);
         match self.history.lots().get(place) {
             None => false,
             Some(lot) => {
@@ -73,11 +73,12 @@ impl LotBoxes {
             moment,
             holder,
         };
-        let place = self.first(layer, moment, &unit_box(p), &owners)?;
-        Some(history.lots()[place as usize].id)
+        let id = self.first(layer, moment, &unit_box(p), &owners)?;
+        let place = place_of(id);
+        Some(history.lots()[place].id)
     }
 
-    /// The least place that passes a test, of the lots of a layer that may be there at a moment and whose box meets a
+    /// The least id that passes a test, of the boxes of lots of a layer that may be there at a moment, and that meet a
     /// box.
     fn first<C: Choice>(
         &self,
@@ -96,8 +97,8 @@ impl LotBoxes {
         }
     }
 
-    /// The lesser of a place and the least one that passes a test, of the lots of a layer that ended, lived within a
-    /// stretch with a line, and whose box meets a box.
+    /// The lesser of an id and the least one that passes a test, of the boxes of lots of a layer that ended and lived
+    /// within a stretch with a line, and that meet a box.
     fn first_past<C: Choice>(
         &self,
         layer: &Name,
@@ -121,14 +122,14 @@ impl LotBoxes {
     }
 }
 
-/// The lesser of two places, as far as they are there.
+/// The lesser of two ids, as far as they are there.
 fn lesser(first: Option<u32>, second: Option<u32>) -> Option<u32>
     ensures { result ≡ lesser_of first second }
 {
     match (first, second) {
         (None, other) => other,
-        (Some(place), None) => Some(place),
-        (Some(place), Some(other)) => Some(if other < place { other } else { place }),
+        (Some(id), None) => Some(id),
+        (Some(id), Some(other)) => Some(if other < id { other } else { id }),
     }
 }
 

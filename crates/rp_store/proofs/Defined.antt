@@ -1,7 +1,6 @@
 -- What the row of a definition comes to, whatever answers its tests: it makes none.
-use Rattle.std.proofs.Common.{◌≡◌, ℕ, ◌+◌, ◌≤◌, Bool, true, false, ◌&&◌, List, length, refl, ap, ◌∙◌, arith}
+use Rattle.std.proofs.Common.{◌≡◌, ◌+◌, Bool, true, false, ◌&&◌, List, length, refl, ap, ◌∙◌}
 use Rattle.std.specs.Prelude.{nat_le}
-use Rattle.rp_algebra.proofs.Tests.{and_first, and_second}
 use Rattle.rp_geometry.specs.sets.Shape.{Part}
 use Rattle.rp_language.specs.Name.{Label, is_among}
 use Rattle.rp_walks.specs.Walk.{Walk, done, stopped, limit_met, pass, stop, ◌>>◌}
@@ -9,7 +8,7 @@ use Rattle.rp_model.specs.states.State.{PlainState, name_added, names_of, parts_
 use Rattle.rp_model.specs.commands.Verdict.{known}
 use Rattle.rp_model.specs.commands.Checks.{refuse_if}
 use Rattle.rp_model.specs.commands.Row.{Reply, refusal, accepted, check, row_define}
-use Rattle.rp_store.specs.Kept.{kept_under, IsNewName}
+use Rattle.rp_store.specs.Kept.{kept_under}
 
 -- the row of a definition, by its three tests
 abbrev define_by : {W : Type 0} → Label → List Part → Bool → Bool → Bool → Walk W Reply
@@ -47,10 +46,3 @@ new_name s x ps e room w = ap (λ there. define_by x ps there (room_for_name s) 
     by true true h = refl
     by true false h = absurd (cc)
     by false parts h = absurd (cc)
-
--- and it may be
-pub fits_new : (s : PlainState) (x : Label) (ps : List Part) → is_among x (names_of s.names) ≡ false → (room_for_name s && room_for_parts s ps) ≡ true → IsNewName s.names x ps
-fits_new s x ps e room = record { fresh = e; few_names = few (length s.names + 1) most_names (and_first (room_for_name s) (room_for_parts s ps) room); few_parts = few (parts_under_names s.names + length ps) most_kept_parts (and_second (room_for_name s) (room_for_parts s ps) room) }
-  where
-    few : (m n : ℕ) → nat_le m n ≡ true → m ≤ n
-    few m n h = grind arith

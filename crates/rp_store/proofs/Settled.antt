@@ -1,7 +1,6 @@
--- The box of a lot with its parts, moved to where lots stand that lived as long.
-use Rattle.std.proofs.Common.{◌≡◌, ℕ, zero, suc, Bool, true, false, List, [], ◌∷◌, map, length, Some, None, slice_get, refl, sym, ap, ◌∙◌, subst, arith}
-use Rattle.std.specs.Prelude.{IsTrue, option_map}
-use Rattle.rp_geometry.specs.Geometry.{IntegerBox}
+-- The boxes of a lot with its parts, moved to where lots stand that lived as long.
+use Rattle.std.proofs.Common.{◌≡◌, ℕ, zero, suc, true, List, [], ◌∷◌, length, Some, None, slice_get, sym, ap, ◌∙◌, subst}
+use Rattle.std.specs.Prelude.{IsTrue}
 use Rattle.rp_geometry.specs.sets.Shape.{Part}
 use Rattle.rp_language.specs.Name.{Label, label_eq, is_among}
 use Rattle.rp_model.specs.states.State.{Lot, lot_with_id, ids_of}
@@ -11,7 +10,7 @@ use Rattle.rp_history.specs.Parts.{with_parts, lots_with_parts}
 use Rattle.rp_history.proofs.Found.{found_has_id, none_found, not_there}
 use Rattle.rp_history.proofs.Together.{ids-with_parts}
 use Rattle.rp_boxindex.specs.Boxes.{Boxes}
-use Rattle.rp_lotindex.specs.Indexed.{hull_of_parts, box_by, IsSettled, AreSettled}
+use Rattle.rp_lotindex.specs.Indexed.{boxes_of_parts, boxes_by, IsSettled, AreSettled}
 use Rattle.rp_lotindex.proofs.Settled.{place_settled, none_settled}
 
 -- a lot at a place, with its parts
@@ -27,11 +26,10 @@ module _ (ls : List (Lot (Unit {0}))) (lists : List (List Part)) (each : length 
   own_distinct = subst (λ (xs : List Label). IsTrue (are_distinct xs)) (sym (ids-with_parts ls lists each)) distinct
 
   -- the lot with the id is found
-  pub settled_here : (p : ℕ) (l : Lot (Unit {0})) (ps : List Part) (hull : IntegerBox) (old new : Boxes) → slice_get ls p ≡ Some l → Some l ≡ lot_with_id x ls → slice_get lists p ≡ Some ps → hull ≡ hull_of_parts ps → IsSettled old new p (box_by l hull) → AreSettled (lots_with_parts ls lists) (λ y. label_eq y x) old new
-  settled_here p l ps hull old new at found own is h =
+  pub settled_here : (p : ℕ) (l : Lot (Unit {0})) (ps : List Part) (old new : Boxes) → slice_get ls p ≡ Some l → Some l ≡ lot_with_id x ls → slice_get lists p ≡ Some ps → IsSettled old new p (boxes_by l (boxes_of_parts ps)) → AreSettled (lots_with_parts ls lists) (λ y. label_eq y x) old new
+  settled_here p l ps old new at found own h =
       place_settled (lots_with_parts ls lists) x own_distinct p (with_parts l ps) old new (with_parts_at ls lists p l ps at own)
-      (subst (λ (y : Label). label_eq l.id y ≡ true) (sym (label_is x l.id (found_has_id x ls l (sym found)))) (label_itself l.id))
-      (subst (λ (b : IntegerBox). IsSettled old new p (box_by l b)) is h)
+      (subst (λ (y : Label). label_eq l.id y ≡ true) (sym (label_is x l.id (found_has_id x ls l (sym found)))) (label_itself l.id)) h
 
   -- no lot has the id
   pub settled_nowhere : (m : Boxes) → lot_with_id x ls ≡ None → AreSettled (lots_with_parts ls lists) (λ y. label_eq y x) m m

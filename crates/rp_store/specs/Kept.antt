@@ -35,7 +35,7 @@ pub record AreFew (lots : List (Lot (Unit {0}))) : Type 0 where
   pub few_lots : length lots ≤ most_kept_parts
   pub few_parts : parts_under_lots lots ≤ most_kept_parts
 
--- a history and lists of parts make few lots with distinct ids, whose parts are counted, and around each of which there is a box in an index
+-- a history and lists of parts make few lots with distinct ids, whose parts are counted, and whose boxes are in an index
 pub record AreLots (history : List (Lot (Unit {0}))) (lists : List (List Part)) (parts : ℕ) (boxes : Boxes) : Type 0 where
   pub each : length history ≡ length lists
   pub bare : map bare_lot history ≡ history

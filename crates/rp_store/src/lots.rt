@@ -9,8 +9,8 @@ ghost use Rattle.rp_lotindex.specs.Near.{others_in, is_near, lots_at, AreWithin}
 ghost use Rattle.rp_lotindex.specs.Owner.{is_there, owner_verdict, BoxesHold};
 ghost use Rattle.rp_store.specs.Kept.{AreFew, has_point};
 
+use crate::boxes::{FormBoxes, add_all};
 use crate::forms::Forms;
-use crate::hulls::{boxes_of, hull_of};
 use crate::limits::MAX_KEPT_PARTS;
 use crate::settle::settle_all;
 use rp_boxindex::Watch;
@@ -22,7 +22,7 @@ use std::fmt;
 use std::marker::Model;
 
 /// All lots that were ever registered, in the order of registration, with their forms: at most 65,536 lots, with at
-/// most 65,536 parts together. Their ids are distinct, and around each there is a box in an index.
+/// most 65,536 parts together. Their ids are distinct, and the boxes of each are in an index.
 #[derive(Drop)]
 pub struct Lots<F: Forms> {
     history: History,
@@ -30,7 +30,7 @@ pub struct Lots<F: Forms> {
     forms: Listed<F::Form>,
     // How many parts the forms have together.
     parts: usize,
-    // A box around each lot.
+    // The boxes of all lots.
     boxes: LotBoxes,
 }
 
@@ -125,9 +125,8 @@ impl<F: Forms> Lots<F> {
         ensures within { IfOk result (λ places. AreWithin self.now places.items) }
         ensures few { IfOk result (λ places. length places.items ≤ most_kept_parts) }
     {
-        let hull = hull_of::<F>(form);
-        self.boxes
-            .near(alloc, watch, &self.history, &hull, layer, id, from, reach)
+        let boxes = FormBoxes::<F> { form };
+        self.boxes.near(alloc, watch, &self.history, &boxes, layer, id, from, reach)
     }
 
     /// The first lot of `layer`, of those that are there at `moment`, that has `point`; it is found without a walk over
@@ -172,9 +171,8 @@ impl<F: Forms> Lots<F> {
         let added = forms.items();
         let parts = count_parts::<F>(added);
         let first = self.forms.items().len();
-        let boxes = boxes_of::<F>(alloc, births, added)?;
         self.forms.reserve(added.len())?;
-        self.boxes.add_all(alloc, first, boxes.items())?;
+        add_all::<F>(&mut self.boxes, alloc, first, births, added)?;
         if let Err(error) = self.history.note(alloc, line, births, ends) {
             self.boxes.remove_all(first, added.len());
             return Err(error);

@@ -5,13 +5,13 @@ ghost use Rattle.rp_model.specs.states.State.{most_kept_parts};
 ghost use Rattle.rp_history.specs.Parts.{lots_with_parts};
 ghost use Rattle.rp_lotindex.specs.Indexed.{AreSettled};
 
+use crate::boxes::FormBoxes;
 use crate::forms::Forms;
-use crate::hulls::hull_of;
 use rp_history::History;
 use rp_lotindex::LotBoxes;
 use rp_space::Name;
 
-/// Moves the boxes of the lots with the ids, whose forms these are, as far as they have one. Takes no memory.
+/// Moves the boxes of the lots with the ids, whose forms these are, as far as they have some. Takes no memory.
 pub(crate) fn settle_all<F: Forms>(
     boxes: &mut LotBoxes,
     history: &History,
@@ -27,14 +27,14 @@ pub(crate) fn settle_all<F: Forms>(
     }
 }
 
-/// Moves the box of the lot with the id.
+/// Moves the boxes of the lot with the id.
 fn settle<F: Forms>(boxes: &mut LotBoxes, history: &History, forms: &[F::Form], id: &Name)
     requires each { length history.now ≡ length forms.now }
     requires few { length history.now ≤ most_kept_parts }
     ensures { AreSettled (lots_with_parts history.now (map F.parts_of forms.now)) (λ y. label_eq y id.now) boxes.old.index boxes.new.index }
 {
     if let Some(place) = history.place_of(id) {
-        let hull = hull_of::<F>(&forms[place]);
-        boxes.settle(place, &history.lots()[place], &hull);
+        let form = &forms[place];
+        boxes.settle(place, &history.lots()[place], &FormBoxes::<F> { form });
     }
 }

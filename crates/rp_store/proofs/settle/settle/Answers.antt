@@ -1,10 +1,7 @@
-use Rattle.std.proofs.Common.{◌≡◌, ◌<◌, ℕ, List, map, length, Option, Some, slice_get, refl, sym, ap, ◌∙◌, arith}
+use Rattle.std.proofs.Common.{◌≡◌, ◌<◌, ℕ, List, map, length, Some, slice_get, refl, sym, ap, ◌∙◌, arith}
 use Rattle.std.specs.Prelude.{option_map}
 use Rattle.std.proofs.lemmas.List.{length-map}
 use Rattle.std.proofs.lemmas.Option.{slice_get-map, slice_get_read}
-use Rattle.rp_model.specs.states.State.{Lot}
-use Rattle.rp_space.specs.Boxes.{integer_box}
-use Rattle.rp_history.specs.declared.lot.LotLine.{LotLine}
 use Rattle.rp_history.specs.Lots.{lot_of}
 use Rattle.rp_store.proofs.Settled.{settled_here, settled_nowhere}
 use Rattle.rp_store.proofs.settle.settle.Goals as goal
@@ -26,8 +23,8 @@ returns-in-Some g c =
     let line = c.index-lots-place.result in
     let form = c.index-forms-place.result in
     let at = image_at lot_of c.lots.result.now a.history.now k line c.lots.ensures.value here (slice_get_read c.lots.result.now (length c.lots.result.now) k line refl here c.index-lots-place.is) in
-    settled_here a.history.now (map parts a.forms.now) (c.requires.each ∙ sym (length-map a.forms.now parts)) a.id.now c.in-Some.ensures.distinct k (lot_of line) (parts form) (integer_box c.hull_of-hull.result) a.boxes.now.index c.settle.new.self.index at (sym at ∙ c.in-Some.ensures.lot)
-    (image_at parts a.forms.now (map parts a.forms.now) k form refl own (slice_get_read a.forms.now (length a.forms.now) k form refl own c.index-forms-place.is)) c.hull_of-hull.ensures c.settle.ensures
+    settled_here a.history.now (map parts a.forms.now) (c.requires.each ∙ sym (length-map a.forms.now parts)) a.id.now c.in-Some.ensures.distinct k (lot_of line) (parts form) a.boxes.now.index c.settle.new.self.index at (sym at ∙ c.in-Some.ensures.lot)
+    (image_at parts a.forms.now (map parts a.forms.now) k form refl own (slice_get_read a.forms.now (length a.forms.now) k form refl own c.index-forms-place.is)) c.settle.ensures
 
 pub returns-in_default : goal.returns-in_default
 returns-in_default g c =

@@ -1,4 +1,4 @@
-use Rattle.std.proofs.Common.{◌≡◌, ◌-◌, ◌+◌, ◌∙◌, arith}
+use Rattle.std.proofs.Common.{◌-◌, ◌+◌, ◌∙◌, arith}
 use Rattle.rp_space.specs.Boxes.{integer_box}
 use Rattle.rp_lotindex.proofs.Stretches.{found_next, found_end}
 use Rattle.rp_lotindex.proofs.boxes.LotBoxes.first_past.Goals as goal

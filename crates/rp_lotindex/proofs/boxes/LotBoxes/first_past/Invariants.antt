@@ -1,4 +1,4 @@
-use Rattle.std.proofs.Common.{◌≡◌, ◌-◌, ◌/◌, ◌^◌, ◌<◌}
+use Rattle.std.proofs.Common.{◌≡◌, ◌-◌}
 use Rattle.rp_space.specs.Boxes.{integer_box}
 use Rattle.rp_lotindex.specs.Owner.{boxes_past, first_in}
 use Rattle.rp_lotindex.specs.Stretches.{stretches_from, stretches_with}

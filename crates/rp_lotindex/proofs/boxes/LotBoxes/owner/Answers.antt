@@ -1,4 +1,4 @@
-use Rattle.std.proofs.Common.{◌≡◌, ◌<◌, ℕ, false, List, map, length, get_or, Option, Some, None, Bool, slice_get, sym, ap, ◌∙◌, subst, arith}
+use Rattle.std.proofs.Common.{◌≡◌, ◌<◌, ℕ, List, map, length, get_or, Some, slice_get, sym, ap, ◌∙◌, subst, arith}
 use Rattle.std.specs.Prelude.{option_map}
 use Rattle.std.proofs.lemmas.List.{length-map}
 use Rattle.std.proofs.lemmas.Option.{slice_get-map, slice_get-get_or}
@@ -19,34 +19,37 @@ returns-then-not-is_in_cube g c =
     let a = c.args in
     outside_owner (g.H.Holder.has a.holder.now) a.layer.now a.moment a.p.now a.history.now a.self.now.index (sym c.is_in_cube.ensures ∙ c.if-not-is_in_cube.true)
 
-pub returns-in_err-place : goal.returns-in_err-place
-returns-in_err-place g c =
+pub returns-in_err-id : goal.returns-in_err-id
+returns-in_err-id g c =
     let a = c.args in
     let has = g.H.Holder.has a.holder.now in
     subst (IsOwner has a.layer.now a.moment a.p.now a.history.now a.self.now.index) (sym c.from_residual.ensures)
-    (owner_missing has a.layer.now a.moment a.p.now a.history.now a.self.now.index (integer_box c.unit_box.result) c.unit_box.ensures c.first.ensures.small (sym c.first.ensures.first ∙ c.in_err-place.was))
+    (owner_missing has a.layer.now a.moment a.p.now a.history.now a.self.now.index (integer_box c.unit_box.result) c.unit_box.ensures c.first.ensures.small (sym c.first.ensures.first ∙ c.in_err-id.was))
 
 pub bounds-lots-place : goal.bounds-lots-place
 bounds-lots-place g c =
     let a = c.args in
     let has = g.H.Holder.has a.holder.now in
-    let within = found_within has a.layer.now a.moment a.p.now a.history.now a.self.now.index (integer_box c.unit_box.result) c.unit_box.ensures c.first.ensures.small c.in_ok-place.place (sym c.first.ensures.first ∙ c.in_ok-place.was) in
+    let within = found_within has a.layer.now a.moment a.p.now a.history.now a.self.now.index (integer_box c.unit_box.result) c.unit_box.ensures c.first.ensures.small c.in_ok-id.id (sym c.first.ensures.first ∙ c.in_ok-id.was) in
     let many = sym (ap length c.lots.ensures.value) ∙ length-map c.lots.result.now lot_of in
-    omega (arith, within, many)
+    let own = c.place_of-place.ensures in
+    omega (arith, within, many, own)
 
-pub bounds-lots-place-in_ok-place : goal.bounds-lots-place-in_ok-place
-bounds-lots-place-in_ok-place g c = bounds-lots-place g c
+pub bounds-lots-place-in_ok-id : goal.bounds-lots-place-in_ok-id
+bounds-lots-place-in_ok-id g c = bounds-lots-place g c
 
 pub returns : goal.returns
 returns g c =
     let a = c.args in
     let has = g.H.Holder.has a.holder.now in
     let unit = integer_box c.unit_box.result in
-    let k = c.in_ok-place.place in
-    let found = sym c.first.ensures.first ∙ c.in_ok-place.was in
-    let within = found_within has a.layer.now a.moment a.p.now a.history.now a.self.now.index unit c.unit_box.ensures c.first.ensures.small k found in
+    let id = c.in_ok-id.id in
+    let found = sym c.first.ensures.first ∙ c.in_ok-id.was in
+    let within = found_within has a.layer.now a.moment a.p.now a.history.now a.self.now.index unit c.unit_box.ensures c.first.ensures.small id found in
     let many = sym (ap length c.lots.ensures.value) ∙ length-map c.lots.result.now lot_of in
-    let here : k < length c.lots.result.now = omega (arith, within, many) in
-    owner_found has a.layer.now a.moment a.p.now a.history.now a.self.now.index unit c.unit_box.ensures c.first.ensures.small k
+    let k = c.place_of-place.result in
+    let own = c.place_of-place.ensures in
+    let here : k < length c.lots.result.now = omega (arith, within, many, own) in
+    owner_found has a.layer.now a.moment a.p.now a.history.now a.self.now.index unit c.unit_box.ensures c.first.ensures.small id
     (lot_of (get_or c.lots.result.now k c.index-lots-place.result)) found
-    (line_at c.lots.result.now a.history.now k c.index-lots-place.result c.lots.ensures.value here)
+    (ap (slice_get a.history.now) (sym own) ∙ line_at c.lots.result.now a.history.now k c.index-lots-place.result c.lots.ensures.value here)

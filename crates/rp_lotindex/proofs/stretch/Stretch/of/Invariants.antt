@@ -1,4 +1,4 @@
-use Rattle.std.proofs.Common.{◌≡◌, ◌-◌, ◌/◌}
+use Rattle.std.proofs.Common.{◌≡◌, ◌-◌}
 use Rattle.rp_lotindex.specs.Stretches.{stretch_from, stretch_of}
 use Rattle.rp_lotindex.proofs.stretch.Stretch.of.Given as goal
 

@@ -1,4 +1,4 @@
-use Rattle.std.proofs.Common.{◌≤◌, ◌<◌, ℕ, map, length, ap, sym, ◌∙◌, subst, arith}
+use Rattle.std.proofs.Common.{◌≤◌, ◌<◌, ℕ, map, length, refl, ap, sym, ◌∙◌, subst, arith}
 use Rattle.std.specs.List.{AllByRecursion}
 use Rattle.std.proofs.lemmas.List.{length-map}
 use Rattle.std.proofs.lemmas.Result.{IfOk-weaker}
@@ -21,7 +21,7 @@ returns-clause-near g c =
     let i = c.self.inside in
     let parts = g.F.Forms.parts_of in
     IfOk-weaker c.near.result _ _
-    (λ places h. h c.args.self.now (parts c.args.form.now) (lots_kept_in i.history (map parts i.forms.items) i.parts i.boxes.index c.args.self.now c.self.invariant c.self.view_is) c.hull_of-hull.ensures)
+    (λ places h. h c.args.self.now (parts c.args.form.now) (lots_kept_in i.history (map parts i.forms.items) i.parts i.boxes.index c.args.self.now c.self.invariant c.self.view_is) refl)
     c.near.ensures.near
 
 pub returns-clause-within : goal.returns-clause-within

@@ -3,15 +3,14 @@ use Rattle.std.proofs.lemmas.List.{length-append, length-map, map-append}
 use Rattle.rp_geometry.specs.sets.Shape.{Part}
 use Rattle.rp_language.specs.Name.{is_among}
 use Rattle.rp_model.specs.states.State.{Lot, ended_at, born_at, lots_replaced}
-use Rattle.rp_space.specs.Boxes.{integer_box}
 use Rattle.rp_states.proofs.Plain.{image_sums}
 use Rattle.rp_history.specs.Lots.{new_lot_of, lots_after, AreBornBefore, AreNew}
 use Rattle.rp_history.specs.Parts.{lots_with_parts, new_lots}
 use Rattle.rp_history.proofs.Together.{born_before, new_to_history, after_with_parts, parts_after, new_parts}
-use Rattle.rp_lotindex.specs.Indexed.{boxes_in, AreSettled}
+use Rattle.rp_lotindex.specs.Indexed.{ArePut, AreSettled}
 use Rattle.rp_lotindex.proofs.Put.{none_behind_put}
 use Rattle.rp_store.specs.Kept.{AreFew, AreLots}
-use Rattle.rp_store.proofs.Together.{lots_counted, lots_few, lots_parts, lots_kept_after}
+use Rattle.rp_store.proofs.Together.{lots_parts, lots_kept_after}
 use Rattle.rp_store.proofs.Boxed.{boxes_of_new, boxes_counted, room_for, free_behind, lots_stay, lots_restored, indexed_replaced}
 use Rattle.rp_store.proofs.lots.Lots.replace.Goals as goal
 
@@ -24,6 +23,9 @@ count_parts-parts-requires g c =
     let own = new_parts c.args.births.now (map parts c.args.forms.items) (c.requires.each ∙ sym (length-map c.args.forms.items parts)) ∙ image_sums parts (λ (ps : List Part). length ps) c.args.forms.items ∙ ap (sum_by (λ f. length (parts f))) (sym c.items-added.ensures) in
     omega (arith, few, all, own)
 
+pub add_all-requires-clause-each : goal.add_all-requires-clause-each
+add_all-requires-clause-each g c = c.requires.each ∙ sym (ap length c.items-added.ensures)
+
 pub add_all-requires-clause-small : goal.add_all-requires-clause-small
 add_all-requires-clause-small g c =
     let i = c.self.inside in
@@ -32,11 +34,9 @@ add_all-requires-clause-small g c =
     let first = ap length c.items-first.ensures ∙ sym (length-map i.forms.items parts) in
     let room = room_for i.history (map parts i.forms.items) i.parts i.boxes.index c.self.invariant (length c.items-first.result.now) first c.args.line c.args.ends.now c.args.births.now more (c.requires.each ∙ sym (length-map c.args.forms.items parts))
     (subst (λ (ls : List (Lot (Unit {0}))). AreFew (lots_after c.args.line ls (lots_replaced c.args.ends.now (new_lots c.args.births.now more)))) (sym c.self.view_is) c.requires.few) in
-    let boxes = ap length c.items.ensures in
-    let each = sym (length-map c.in_ok-boxes.boxes.items integer_box) ∙ ap length c.in_ok-boxes.ensures ∙ boxes_counted c.args.births.now (map parts c.items-added.result.now) (c.requires.each ∙ sym (ap length c.items-added.ensures) ∙ sym (length-map c.items-added.result.now parts)) ∙ length-map c.items-added.result.now parts in
     let new = ap length c.items-added.ensures in
     let many = length-map c.args.forms.items parts in
-    omega (arith, room, boxes, each, new, many)
+    omega (arith, room, new, many)
 
 pub add_all-requires-clause-free : goal.add_all-requires-clause-free
 add_all-requires-clause-free g c =
@@ -48,9 +48,9 @@ pub invariant_of-self-in_err-add_all : goal.invariant_of-self-in_err-add_all
 invariant_of-self-in_err-add_all g c =
     let i = c.self.inside in
     let parts = g.F.Forms.parts_of in
-    subst (λ (forms : List _). AreLots i.history (map parts forms) i.parts c.add_all.new.self.index) (sym c.in_ok-reserve.ensures.items)
+    subst (λ (forms : List _). AreLots i.history (map parts forms) i.parts c.add_all.new.boxes.index) (sym c.in_ok-reserve.ensures.items)
     (lots_stay i.history (map parts i.forms.items) i.parts i.boxes.index c.self.invariant (length c.items-first.result.now) (ap length c.items-first.ensures ∙ sym (length-map i.forms.items parts))
-    c.add_all.new.self.index c.in_err-add_all.ensures.err)
+    c.add_all.new.boxes.index c.in_err-add_all.ensures.err)
 
 pub note-requires-clause-later : goal.note-requires-clause-later
 note-requires-clause-later g c =
@@ -80,8 +80,8 @@ remove_all-requires-clause-small g c =
 pub remove_all-requires-clause-behind : goal.remove_all-requires-clause-behind
 remove_all-requires-clause-behind g c =
     let parts = g.F.Forms.parts_of in
-    let many = ap length (ap boxes_in c.items.ensures ∙ c.in_ok-boxes.ensures) ∙ boxes_counted c.args.births.now (map parts c.items-added.result.now) (c.requires.each ∙ sym (ap length c.items-added.ensures) ∙ sym (length-map c.items-added.result.now parts)) ∙ length-map c.items-added.result.now parts in
-    none_behind_put c.self.inside.boxes.index c.add_all.new.self.index (length c.items-first.result.now) _ (boxes_in c.items.result.now) c.in_ok-add_all.ensures.ok (ap (λ (n : ℕ). length c.items-first.result.now + n) (sym many))
+    let many = boxes_counted c.args.births.now (map parts c.items-added.result.now) (c.requires.each ∙ sym (ap length c.items-added.ensures) ∙ sym (length-map c.items-added.result.now parts)) ∙ length-map c.items-added.result.now parts in
+    none_behind_put c.self.inside.boxes.index c.add_all.new.boxes.index (length c.items-first.result.now) _ (boxes_of_new c.args.births.now (map parts c.items-added.result.now)) c.in_ok-add_all.ensures.ok (ap (λ (n : ℕ). length c.items-first.result.now + n) (sym many))
 
 pub invariant_of-self-in-Err : goal.invariant_of-self-in-Err
 invariant_of-self-in-Err g c =
@@ -89,7 +89,7 @@ invariant_of-self-in-Err g c =
     let parts = g.F.Forms.parts_of in
     subst (λ (history : List (Lot (Unit {0}))). AreLots history (map parts c.reserve.new.self.items) i.parts c.remove_all.new.self.index) (sym c.in-Err.ensures.err)
     (subst (λ (forms : List _). AreLots i.history (map parts forms) i.parts c.remove_all.new.self.index) (sym c.in_ok-reserve.ensures.items)
-    (lots_restored i.history (map parts i.forms.items) i.parts i.boxes.index c.self.invariant (length c.items-first.result.now) (ap length c.items-first.ensures ∙ sym (length-map i.forms.items parts)) (boxes_in c.items.result.now) c.add_all.new.self.index c.remove_all.new.self.index
+    (lots_restored i.history (map parts i.forms.items) i.parts i.boxes.index c.self.invariant (length c.items-first.result.now) (ap length c.items-first.ensures ∙ sym (length-map i.forms.items parts)) (boxes_of_new c.args.births.now (map parts c.items-added.result.now)) c.add_all.new.boxes.index c.remove_all.new.self.index
     c.in_ok-add_all.ensures.ok c.remove_all.ensures))
 
 pub settle_all-requires-clause-each : goal.settle_all-requires-clause-each
@@ -98,7 +98,7 @@ settle_all-requires-clause-each g c =
     let parts = g.F.Forms.parts_of in
     let new = c.args.births.now in
     let appended = rw c.unwrap.ensures at c.append.ensures.ok in
-    let forms = ap length c.items-2.ensures ∙ ap length (appended ∙ ap (λ (fs : List _). fs ++ c.args.forms.items) c.in_ok-reserve.ensures.items) ∙ length-append i.forms.items c.args.forms.items in
+    let forms = ap length c.items.ensures ∙ ap length (appended ∙ ap (λ (fs : List _). fs ++ c.args.forms.items) c.in_ok-reserve.ensures.items) ∙ length-append i.forms.items c.args.forms.items in
     let lots = ap length c.in_default.ensures.ok ∙ length-append (map (ended_at c.args.line c.args.ends.now) i.history) (map (born_at c.args.line) (map new_lot_of new)) in
     let old = length-map i.history (ended_at c.args.line c.args.ends.now) in
     let born = length-map (map new_lot_of new) (born_at c.args.line) ∙ length-map new new_lot_of in
@@ -142,11 +142,11 @@ invariant_of-self-2 g c =
     let first = ap length c.items-first.ensures ∙ sym (length-map i.forms.items parts) in
     let appended = rw c.unwrap.ensures at c.append.ensures.ok in
     let all = ap (map parts) (appended ∙ ap (λ (fs : List _). fs ++ c.args.forms.items) c.in_ok-reserve.ensures.items) ∙ map-append parts i.forms.items c.args.forms.items in
-    let boxes = ap boxes_in c.items.ensures ∙ c.in_ok-boxes.ensures ∙ ap (λ fs. boxes_of_new c.args.births.now (map parts fs)) c.items-added.ensures in
-    let together = ap₂ lots_with_parts c.in_default.ensures.ok (ap (map parts) c.items-2.ensures ∙ all) ∙ after_with_parts c.args.line c.args.ends.now c.args.births.now i.history (map parts i.forms.items) more c.self.invariant.each in
-    let settled = subst (λ (ls : List (Lot (Unit {0}))). AreSettled ls (λ y. is_among y c.args.ends.now) c.add_all.new.self.index c.settle_all.new.boxes.index) together c.settle_all.ensures in
+    let put = subst (λ (fs : List _). ArePut i.boxes.index c.add_all.new.boxes.index (length c.items-first.result.now) (boxes_of_new c.args.births.now (map parts fs))) c.items-added.ensures c.in_ok-add_all.ensures.ok in
+    let together = ap₂ lots_with_parts c.in_default.ensures.ok (ap (map parts) c.items.ensures ∙ all) ∙ after_with_parts c.args.line c.args.ends.now c.args.births.now i.history (map parts i.forms.items) more c.self.invariant.each in
+    let settled = subst (λ (ls : List (Lot (Unit {0}))). AreSettled ls (λ y. is_among y c.args.ends.now) c.add_all.new.boxes.index c.settle_all.new.boxes.index) together c.settle_all.ensures in
     let indexed = indexed_replaced i.history (map parts i.forms.items) i.parts i.boxes.index c.self.invariant (length c.items-first.result.now) first c.args.line c.args.ends.now c.args.births.now more
-    (boxes_in c.items.result.now) c.add_all.new.self.index c.settle_all.new.boxes.index boxes c.in_ok-add_all.ensures.ok settled in
+    c.add_all.new.boxes.index c.settle_all.new.boxes.index put settled in
     lots_kept_after c.args.line c.args.ends.now c.args.births.now i.history c.note.new.self (map parts i.forms.items) more (map parts c.append.new.self.items) i.parts c.count_parts-parts.result i.boxes.index c.settle_all.new.boxes.index c.self.invariant each
     (subst (λ (ls : List (Lot (Unit {0}))). AreFew (lots_after c.args.line ls (lots_replaced c.args.ends.now (new_lots c.args.births.now more)))) (sym c.self.view_is) c.requires.few)
     c.in_default.ensures.well.distinct c.in_default.ensures.ok all
