@@ -19,6 +19,7 @@ ghost use Rattle.rp_region.specs.Stops.{TakesOver};
 use crate::fault::OpFault;
 use crate::front::Front;
 use crate::part::Part;
+use crate::room::Room;
 use rp_cell::{
     DroppedHalf, Drops, Held, SideProofs, Sides, Slimmed, Strict, Weak, hold_strict, hold_weak,
     refute_strict, refute_weak, strict_soon, weak_soon,
@@ -35,8 +36,8 @@ use std::marker::Model;
 pub struct Work {
     tests: u32,
     proofs: Proofs,
-    /// Room for cells with their vertices, from the first difference or intersection on, unless it is lent.
-    room: Option<Box<Front>>,
+    /// Room for cells with their vertices.
+    room: Room,
     alloc: Global,
 }
 
@@ -57,12 +58,26 @@ impl Work {
     pub fn new(alloc: Global) -> Work
         ensures { result ≡ no_work }
     {
+        Work::over(alloc, Room::new())
+    }
+
+    /// Nothing done yet. Its tests are made over `room`, which another work has handed on. Takes no memory.
+    pub fn over(alloc: Global, room: Room) -> Work
+        ensures { result ≡ no_work }
+    {
         Work {
             tests: 0,
             proofs: Proofs::new(alloc),
-            room: None,
+            room,
             alloc,
         }
+    }
+
+    /// Hands the room of its tests on to another work. In any case all is as before.
+    pub fn hand_on_room(&mut self) -> Room
+        ensures { self.new ≡ self.old }
+    {
+        self.room.take()
     }
 
     /// The number of tests counted.
@@ -133,7 +148,7 @@ impl Work {
         Work {
             tests: self.tests,
             proofs: Proofs::new(alloc),
-            room: None,
+            room: Room::new(),
             alloc,
         }
     }
@@ -142,18 +157,14 @@ impl Work {
     pub(crate) fn take_room(&mut self) -> Result<Box<Front>, AllocError>
         ensures { self.new ≡ self.old }
     {
-        if let Some(room) = self.room.take() {
-            return Ok(room);
-        }
-        let room = Box::new(self.alloc, Front::new())?;
-        Ok(room)
+        self.room.lend_or_make(self.alloc)
     }
 
     /// Keeps the room for further tests.
     pub(crate) fn keep_room(&mut self, room: Box<Front>)
         ensures { self.new ≡ self.old }
     {
-        self.room = Some(room);
+        self.room.keep(room);
     }
 
     /// What a row has come to (`came`) on `walked`, a work that was begun fresh: its count takes the place of the one
@@ -170,9 +181,7 @@ impl Work {
         }
         self.proofs.append(walked.proofs)?;
         self.tests = walked.tests;
-        if let Some(room) = walked.room {
-            self.keep_room(room);
-        }
+        self.room.take_from(walked.room);
         match came {
             Ok(result) => Ok(result),
             Err(_) => Err(OpFault::Limit),
@@ -278,6 +287,18 @@ impl Work {
             self.tell(Proof::Out(terms))?;
             return Ok(None);
         }
+        self.strict_test_joined(first, second)
+    }
+
+    /// The same, of the cell of both. It is apart, as the next ones are, so that nobody else makes room for that.
+    fn strict_test_joined(
+        &mut self,
+        first: &Part,
+        second: &Part,
+    ) -> Result<Option<Inside>, AllocError>
+        ensures makes { Makes is_some (op_result result) self.old self.new (strict_test (first.now.cell ++ second.now.cell)) }
+        ensures told { IfOk result (λ o. IfSome o (λ x. IsLast (in_line x) self.new.proofs)) }
+    {
         self.strict_test(joined(first.halves(), second.halves()).as_slice())
     }
 
@@ -289,6 +310,14 @@ impl Work {
         if let Some(terms) = first.refute_with(second) {
             return self.tell(Proof::Out(terms));
         }
+        self.refute_strict_joined(first, second)
+    }
+
+    /// The same, of the cell of both.
+    fn refute_strict_joined(&mut self, first: &Part, second: &Part) -> Result<(), AllocError>
+        requires { IsEmpty (shape_of_cell (first.now.cell ++ second.now.cell)) }
+        ensures { Makes (λ _. false) (op_result result) self.old self.new (strict_test (first.now.cell ++ second.now.cell)) }
+    {
         self.refute_strict(joined(first.halves(), second.halves()).as_slice())
     }
 
@@ -305,6 +334,14 @@ impl Work {
             self.tell(Proof::Apart(terms))?;
             return Ok(None);
         }
+        self.weak_test_joined(first, second)
+    }
+
+    /// The same, of the cell of both.
+    fn weak_test_joined(&mut self, first: &Part, second: &Part) -> Result<Option<Point>, AllocError>
+        ensures makes { Makes is_some (op_result result) self.old self.new (weak_test (first.now.cell ++ second.now.cell)) }
+        ensures told { IfOk result (λ o. IfSome o (λ x. IsLast (at_line x) self.new.proofs)) }
+    {
         self.weak_test(joined(first.halves(), second.halves()).as_slice())
     }
 
@@ -317,6 +354,14 @@ impl Work {
         if let Some(terms) = first.refute_contact_with(second) {
             return self.tell(Proof::Apart(terms));
         }
+        self.refute_weak_joined(first, second)
+    }
+
+    /// The same, of the cell of both.
+    fn refute_weak_joined(&mut self, first: &Part, second: &Part) -> Result<(), AllocError>
+        requires { (p : RationalPoint) → ¬ IsSolution false (first.now.cell ++ second.now.cell) p }
+        ensures { Makes (λ _. false) (op_result result) self.old self.new (weak_test (first.now.cell ++ second.now.cell)) }
+    {
         self.refute_weak(joined(first.halves(), second.halves()).as_slice())
     }
 
@@ -348,7 +393,7 @@ impl Work {
         if let Some(found) = strict_soon(cell) {
             return found;
         }
-        let Some(mut room) = self.room.take() else {
+        let Some(mut room) = self.room.lend() else {
             return hold_strict(cell);
         };
         let found = room.decide_strict(cell);
@@ -367,7 +412,7 @@ impl Work {
         if let Some(found) = weak_soon(cell) {
             return found;
         }
-        let Some(mut room) = self.room.take() else {
+        let Some(mut room) = self.room.lend() else {
             return hold_weak(cell);
         };
         let found = room.decide_weak(cell);
@@ -391,7 +436,7 @@ impl Work {
         }
     }
 
-    /// A part test of a cell of at most 64 half-spaces, as of one that is held: over the room where there is one.
+    /// A part test of a cell of at most 64 half-spaces, as of one that is held.
     pub(crate) fn part_test(
         &mut self,
         alloc: Global,
@@ -401,21 +446,10 @@ impl Work {
         ensures makes { Makes (λ o. o) result self.old self.new (part_test cell.now) }
         ensures made { IfOk result (λ o. IsMadeOf IsPart cell.now o) }
     {
-        let Some(mut room) = self.room.take() else {
-            return self.part_alone(alloc, cell);
-        };
+        let mut room = self.take_room()?;
         let part = room.part_of(alloc, cell, self)?;
         self.keep_room(room);
         Ok(part)
-    }
-
-    /// The part test of `cell` over room of its own. It is apart so that nobody else makes room for the vertices.
-    fn part_alone(&mut self, alloc: Global, cell: &[Half]) -> Result<Option<Part>, OpFault>
-        requires { length cell.now ≤ 64 }
-        ensures makes { Makes (λ o. o) result self.old self.new (part_test cell.now) }
-        ensures made { IfOk result (λ o. IsMadeOf IsPart cell.now o) }
-    {
-        self.held_part(alloc, &Held::new(cell))
     }
 
     /// A part test of a cell that is held: the part of its slim cell, and `None` exactly where the cell has no point.
