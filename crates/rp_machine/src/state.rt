@@ -10,7 +10,7 @@ ghost use Rattle.rp_machine.specs.Replies.{made};
 
 use rp_changes::Change;
 use rp_ledger::Ledger;
-use rp_region::Region;
+use rp_region::{Region, Room};
 use rp_regionlots::Regions;
 use std::alloc::{AllocError, Global};
 use std::marker::Model;
@@ -21,6 +21,8 @@ use std::marker::Model;
 #[derive(Drop)]
 pub(crate) struct State {
     ledger: Ledger<Regions>,
+    /// Room for the tests of the next line.
+    room: Room,
 }
 
 impl Model for State {
@@ -41,6 +43,7 @@ impl State {
     {
         State {
             ledger: Ledger::new(alloc),
+            room: Room::new(),
         }
     }
 
@@ -57,6 +60,20 @@ impl State {
         ensures { result.now ≡ self.now }
     {
         &self.ledger
+    }
+
+    /// Lends the room for the tests of a line. All stays as it is.
+    pub(crate) fn lend_room(&mut self) -> Room
+        ensures { self.new ≡ self.old }
+    {
+        self.room.take()
+    }
+
+    /// Keeps the room for the tests of further lines. All stays as it is.
+    pub(crate) fn keep_room(&mut self, room: Room)
+        ensures { self.new ≡ self.old }
+    {
+        self.room = room;
     }
 
     /// How many lots of all layers are live.

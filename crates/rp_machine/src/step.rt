@@ -141,8 +141,9 @@ impl State {
         self.keep_sound();
         let echo = Echo::copy_of(alloc, line)?;
         let room = room_for_one(alloc)?;
-        let mut work = Work::new(alloc);
+        let mut work = Work::over(alloc, self.lend_room());
         let row = self.carry_out(rt, alloc, asked, &mut work);
+        self.keep_room(work.hand_on_room());
         let proofs = row_proofs(alloc, &row, work);
         let verdicts = self.follow(alloc, n, row, room)?;
         Ok(Answer {
