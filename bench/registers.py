@@ -3,6 +3,7 @@
 A script of a kind is made of one number alone, which says how many parcels it has, so that two runs time the same work.
 No line of them is refused.
 """
+import itertools
 import math
 import random
 
@@ -21,6 +22,21 @@ UNITS, DEPTH = 5, 18_000
 def unit_boxes(count):
     """Boxes of one unit in a row, each registered."""
     return [f"register p{number} {regions.box((number, 0, 0), (number + 1, 1, 1))}" for number in range(count)]
+
+
+def quads(count):
+    """A town of prisms of four corners, wall to wall, in streets of a hundred; the corners are drawn."""
+    draw = random.Random(4)
+    corners = {
+        (street, number): (street * 30_000 + draw.randint(-4_000, 4_000), number * 40_000 - 2_000_000 + draw.randint(-4_000, 4_000))
+        for street in range(count // 100 + 1)
+        for number in range(101)
+    }
+    lines = []
+    for street, number in itertools.product(range(count // 100), range(100)):
+        around = [corners[street, number], corners[street + 1, number], corners[street + 1, number + 1], corners[street, number + 1]]
+        lines.append(f"register n{street}-{number} prism -50000 100000 4 {' '.join(f'{x} {y}' for x, y in around)}")
+    return lines
 
 
 def piled_boxes(count):
