@@ -115,6 +115,16 @@ def strips(count):
     return [f"register p{number} {box}" for number, box in enumerate(mixed(below + above))] + ["audit"]
 
 
+def beams(count):
+    """Long thin boxes side by side, in no order of place, which all share an interval on x and begin at as many x as they are."""
+    draw = random.Random(6)
+    lines = []
+    for number in range(count):
+        first = draw.randint(-EDGE_OF_ALL, -EDGE_OF_ALL // 4)
+        lines.append(f"register p{number} {regions.box((first, number, 0), (first + EDGE_OF_ALL, number + 1, 1))}")
+    return mixed(lines)
+
+
 def apart_pairs(count):
     """So many boxes, two in each lot, so far from each other that the box around each lot meets that of each other one."""
     edge = EDGE_OF_ALL
