@@ -10,9 +10,12 @@ ghost use Rattle.rp_space.specs.Boxes.{integer_box};
 ghost use Rattle.rp_cell.specs.Lines.{side_line_of};
 
 use crate::held::Held;
-use crate::side_proofs::SideProofs;
 use rp_elim::first_outside_through;
+use rp_lists::Short;
 use rp_space::{Half, IntBox, Outside, box_halves, cube, keep_bounds};
+
+/// A list of at most six outside certificates, one for a side of a box, which takes no memory.
+pub type SideProofs = Short<Outside, 6>;
 
 /// The least box of a cell, and what shows of its sides that no member lies beyond them.
 #[derive(Drop)]

@@ -39,14 +39,12 @@ mod decide;
 mod held;
 mod others;
 mod refute;
-mod side_proofs;
 mod slimming;
 
-pub use bounds::{Sides, box_of, sides_of};
+pub use bounds::{SideProofs, Sides, box_of, sides_of};
 pub use decide::{
     Strict, Weak, decide_strict, decide_weak, hold_strict, hold_weak, refute_between,
     refute_by_two, refute_strict, refute_weak, refute_weak_between, strict_soon, weak_soon,
 };
 pub use held::Held;
-pub use side_proofs::SideProofs;
 pub use slimming::{Cell, DroppedHalf, Drops, Slimmed, slim};

@@ -13,7 +13,8 @@ use crate::decide::{Strict, decide_strict};
 use crate::held::Held;
 use crate::others::outside_of;
 use rp_elim::first_outside_through;
-use rp_space::{Half, Listed, Outside, joined, keep_bounds};
+use rp_lists::Listed;
+use rp_space::{Half, Outside, joined, keep_bounds};
 use std::alloc::{AllocError, Global};
 use std::marker::Model;
 

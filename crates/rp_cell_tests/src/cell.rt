@@ -1,5 +1,6 @@
 use crate::shapes::{half, term, tetrahedron};
 use rp_cell::{Held, SideProofs, Strict, Weak, box_of, decide_strict, decide_weak, sides_of, slim};
+use rp_lists::Copied;
 use rp_space::{IntBox, Outside, box_halves};
 
 #[test]

@@ -1,8 +1,8 @@
 use crate::shapes::half;
+use rp_lists::{Copied, Name, Numbers};
 use rp_space::{
-    Half, Inside, IntBox, Name, Numbers, Outside, Pair, Point, Term, box_halves, cube,
-    greatest_common_divisor, is_balanced, is_contradiction, is_multiplier, joined, meet, quotient,
-    with_cube,
+    Half, Inside, IntBox, Outside, Pair, Point, Term, box_halves, cube, greatest_common_divisor,
+    is_balanced, is_contradiction, is_multiplier, joined, meet, quotient, with_cube,
 };
 
 #[test]

@@ -1,6 +1,7 @@
 //! Lines of proof.
 
-use rp_space::{Half, Inside, IntBox, Listed, Outside, Point};
+use rp_lists::Listed;
+use rp_space::{Half, Inside, IntBox, Outside, Point};
 
 /// A line of proof.
 #[derive(Debug, Drop)]

@@ -2,7 +2,7 @@
 ghost use Rattle.std.specs.Prelude.{◌≡◌, length};
 
 use rp_history::Birth;
-use rp_space::{Listed, Name, Names};
+use rp_lists::{Listed, Name, Names};
 
 /// What an accepted command changes.
 #[derive(Drop)]

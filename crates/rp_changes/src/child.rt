@@ -1,6 +1,6 @@
 //! Children of a subdivision.
 
-use rp_space::Name;
+use rp_lists::Name;
 
 /// A child of a subdivision: the id of the lot to be made, and its form.
 #[derive(Drop)]

@@ -18,7 +18,7 @@ use rp_lotindex::Reach;
 use rp_lots::{Keeper, count_pairs, count_tests};
 use rp_queries::{is_empty, within};
 use rp_rows::RowEnd;
-use rp_space::Names;
+use rp_lists::Names;
 use rp_tester::{Stopped, Tests};
 use rp_text::Refusal;
 use std::alloc::{AllocError, Global};

@@ -11,7 +11,7 @@ use crate::checks::count_parts;
 use rp_history::Birth;
 use rp_lots::{Keeper, form_at};
 use rp_rows::RowEnd;
-use rp_space::{Listed, Name, Names};
+use rp_lists::{Listed, Name, Names};
 use rp_store::MAX_KEPT_PARTS;
 use rp_tester::{Stopped, Tests};
 use rp_text::Refusal;

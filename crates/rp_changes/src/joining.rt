@@ -15,7 +15,7 @@ use crate::registry::Registry;
 use rp_history::Birth;
 use rp_lots::{Keeper, form_at};
 use rp_rows::RowEnd;
-use rp_space::{Listed, Name, Names};
+use rp_lists::{Listed, Name, Names};
 use rp_tester::{Stopped, Tests};
 use rp_text::Refusal;
 use std::alloc::{AllocError, Global};

@@ -20,7 +20,7 @@ use rp_history::Birth;
 use rp_lotindex::Reach;
 use rp_lots::{Keeper, count_tests, form_at, lots_near};
 use rp_rows::RowEnd;
-use rp_space::{Listed, Name, Names};
+use rp_lists::{Listed, Name, Names};
 use rp_tester::{Stopped, Tests};
 use rp_text::Refusal;
 use std::alloc::{AllocError, Global};

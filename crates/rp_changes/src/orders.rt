@@ -23,7 +23,7 @@ use crate::subdividing::subdivide;
 use rp_command::Expr;
 use rp_queries::first_unknown;
 use rp_rows::{RowEnd, row_form, short_form};
-use rp_space::{Listed, Name};
+use rp_lists::{Listed, Name};
 use rp_tester::{Stopped, Tests};
 use rp_text::Refusal;
 use std::alloc::Global;

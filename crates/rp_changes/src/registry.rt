@@ -8,7 +8,8 @@ ghost use Rattle.rp_tester.specs.Comes.{Comes};
 
 use rp_lotindex::Moment;
 use rp_lots::Keeper;
-use rp_space::{Name, Point};
+use rp_lists::Name;
+use rp_space::Point;
 use rp_tester::{Named, Stopped, Tests};
 use std::alloc::Global;
 

@@ -22,7 +22,7 @@ use crate::dividing::born_of;
 use crate::registry::Overlaps;
 use rp_lots::{Keeper, form_at};
 use rp_rows::RowEnd;
-use rp_space::{Listed, Name, Names};
+use rp_lists::{Listed, Name, Names};
 use rp_tester::Tests;
 use rp_text::Refusal;
 use std::alloc::{AllocError, Global};

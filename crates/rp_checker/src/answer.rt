@@ -24,7 +24,7 @@ use rp_command::{Command, Expr, Line, Version, Why};
 use rp_ledger::Reply;
 use rp_register::{Followed, Register};
 use rp_rows::{RowEnd, one_line};
-use rp_space::Name;
+use rp_lists::Name;
 use rp_syntax::read_line;
 use rp_tester::Stopped;
 use rp_text::{Refusal, Verdict, read_echo};

@@ -1,6 +1,7 @@
 //! Expressions and commands.
 
-use rp_space::{Corners, Half, IntBox, Listed, Name, Names, Point};
+use rp_lists::{Listed, Name, Names};
+use rp_space::{Corners, Half, IntBox, Point};
 
 /// An expression for a region. Half-spaces are in lowest terms.
 #[derive(Drop)]

@@ -8,7 +8,7 @@ ghost use Rattle.rp_history.specs.Lots.{lot_of, new_lot_of};
 
 use crate::list::LotList;
 use crate::lot::{Birth, LotLine};
-use rp_space::{Listed, Name, Names};
+use rp_lists::{Listed, Name, Names};
 use std::alloc::{AllocError, Global};
 
 /// The lots that are born at the line, in order.

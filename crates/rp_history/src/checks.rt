@@ -10,7 +10,7 @@ ghost use Rattle.rp_history.specs.declared.fault.NameFault.TheVariants.{Known, U
 use crate::fault::NameFault;
 use crate::history::History;
 use indexmap::IndexSet;
-use rp_space::Name;
+use rp_lists::Name;
 use std::alloc::{AllocError, Global};
 
 impl History {

@@ -1,6 +1,6 @@
 //! Why a check on names fails.
 
-use rp_space::Name;
+use rp_lists::Name;
 use std::alloc::AllocError;
 use thiserror::Error;
 

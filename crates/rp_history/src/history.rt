@@ -11,7 +11,7 @@ use crate::births::{append, end_all, lots_born};
 use crate::lineage::lineage_ids;
 use crate::list::LotList;
 use crate::lot::{Birth, LotLine};
-use rp_space::{Name, Names};
+use rp_lists::{Name, Names};
 use std::alloc::{AllocError, Global};
 use std::marker::Model;
 

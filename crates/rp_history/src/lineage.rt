@@ -4,7 +4,7 @@ ghost use Rattle.rp_model.specs.states.State.{ids_of, lineage};
 ghost use Rattle.rp_history.specs.Pending.{AddsPlaces};
 
 use crate::history::History;
-use rp_space::{Name, Names};
+use rp_lists::{Name, Names};
 use std::alloc::{AllocError, Global};
 use std::collections::BTreeSet;
 

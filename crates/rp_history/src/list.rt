@@ -9,7 +9,7 @@ ghost use Rattle.rp_history.specs.Places.{live_places, AreRising, AreWithout, Is
 
 use crate::lot::LotLine;
 use indexmap::IndexSet;
-use rp_space::Name;
+use rp_lists::Name;
 use std::alloc::{AllocError, Global};
 use std::marker::Model;
 

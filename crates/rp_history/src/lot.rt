@@ -3,7 +3,7 @@ ghost use Rattle.std.specs.Prelude.{◌≡◌};
 ghost use Rattle.rp_model.specs.states.State.{is_alive_after};
 ghost use Rattle.rp_history.specs.Lots.{lot_of};
 
-use rp_space::{Name, Names};
+use rp_lists::{Name, Names};
 
 /// What a history tells of a lot: its layer, the lines of its birth and of its end, and the lots that it was made from.
 #[derive(Drop)]

@@ -6,7 +6,7 @@ use Rattle.rp_walks.specs.Walk.{Outcome, Tester}
 use Rattle.rp_model.specs.states.State.{PlainState}
 use Rattle.rp_model.specs.commands.Row.{Reply as ModelReply, row}
 use Rattle.rp_text.specs.declared.answer.Verdict.{Verdict as CodeVerdict}
-use Rattle.rp_space.specs.Listed.{Listed}
+use Rattle.rp_lists.specs.Listed.{Listed}
 use Rattle.rp_rows.specs.declared.reply.RowEnd.{RowEnd}
 use Rattle.rp_rows.specs.Replies.{Tells, GoesOn}
 use Rattle.rp_changes.specs.declared.change.Change.{Change}

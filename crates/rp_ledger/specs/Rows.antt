@@ -6,7 +6,7 @@ use Rattle.rp_geometry.specs.sets.Shape.{Part}
 use Rattle.rp_walks.specs.Walk.{Outcome, done, Tester, Walk, pass}
 use Rattle.rp_model.specs.states.State.{Change as ModelChange, nothing_changes, PlainState}
 use Rattle.rp_model.specs.commands.Row.{Reply as ModelReply, reply_lines, accepted, row_access, row_audit, row_neighbours, row_section}
-use Rattle.rp_space.specs.Listed.{Listed}
+use Rattle.rp_lists.specs.Listed.{Listed}
 use Rattle.rp_text.specs.declared.answer.Verdict.{Verdict as CodeVerdict}
 use Rattle.rp_text.specs.Views.{verdict_of}
 use Rattle.rp_rows.specs.declared.reply.RowEnd.{RowEnd}

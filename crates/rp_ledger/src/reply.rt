@@ -1,7 +1,7 @@
 //! What a command comes to, and how far its row stands once.
 
 use rp_changes::Change;
-use rp_space::Name;
+use rp_lists::Name;
 use rp_text::Verdicts;
 
 /// What a command comes to.

@@ -3,7 +3,7 @@ ghost use Rattle.rp_history.specs.Lots.{AreBornBefore};
 
 use crate::names::name;
 use rp_history::{Birth, History};
-use rp_space::Names;
+use rp_lists::Names;
 use std::alloc::Global;
 use std::process::Abort;
 

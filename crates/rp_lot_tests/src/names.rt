@@ -1,7 +1,7 @@
 ghost use Rattle.std.specs.Prelude.{◌≡◌, true};
 ghost use Rattle.rp_language.specs.Name.{is_name};
 
-use rp_space::Name;
+use rp_lists::Name;
 
 /// A name.
 pub fn name(bytes: &[u8]) -> Name

@@ -13,7 +13,8 @@ use crate::layer::{moved, moved_past};
 use crate::stretch::Stretch;
 use rp_boxindex::{Index, IndexFault};
 use rp_history::LotLine;
-use rp_space::{IntBox, Name};
+use rp_lists::Name;
+use rp_space::IntBox;
 use std::alloc::{AllocError, Global};
 use std::fmt;
 

@@ -7,7 +7,8 @@ ghost use Rattle.rp_space.specs.Boxes.{integer_box};
 ghost use Rattle.rp_lotindex.specs.Layers.{cube_number, step_of, is_near_domain, moved_low, moved_high, moved_to, moved, moved_past};
 
 use crate::stretch::Stretch;
-use rp_space::{IntBox, Name};
+use rp_lists::Name;
+use rp_space::IntBox;
 
 /// The edge of a cube of the grid, four times half the edge of the domain.
 const EDGE: i32 = 67_108_864;

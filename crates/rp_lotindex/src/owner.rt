@@ -15,7 +15,8 @@ use crate::moment::{Moment, is_there};
 use crate::stretch::Stretch;
 use rp_boxindex::{Choice, Index, Quiet, Steps};
 use rp_history::History;
-use rp_space::{IntBox, Name, Point};
+use rp_lists::Name;
+use rp_space::{IntBox, Point};
 use std::marker::Brand;
 use std::sync::ledger::{Blank, Ledger};
 

@@ -21,7 +21,7 @@ use crate::pair::Pair;
 use rp_history::LotLine;
 use rp_lotindex::Reach;
 use rp_rows::{Access, RowEnd};
-use rp_space::{Name, Names};
+use rp_lists::{Name, Names};
 use rp_tester::{Stopped, Tests};
 use std::alloc::{AllocError, Global};
 

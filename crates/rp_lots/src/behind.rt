@@ -12,7 +12,7 @@ use crate::near::{MAX_TESTS, Near, form_at, lots_near};
 use crate::pair::Pair;
 use rp_history::History;
 use rp_lotindex::Reach;
-use rp_space::Name;
+use rp_lists::Name;
 use rp_tester::{Stopped, Tests};
 use std::alloc::{AllocError, Global};
 

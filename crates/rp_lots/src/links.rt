@@ -9,7 +9,7 @@ ghost use Rattle.rp_lots.specs.Numbers.{IsPairOf, AreBelow, placed, links_met};
 
 use crate::pair::Pair;
 use rp_history::LotLine;
-use rp_space::{Name, Names};
+use rp_lists::{Name, Names};
 use std::alloc::{AllocError, Global};
 
 /// What is left of `access` once its tests are counted: the ids of the live lots of the layer, and those pairs of them,

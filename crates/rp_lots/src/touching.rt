@@ -14,7 +14,7 @@ use crate::pair::Pair;
 use rp_history::LotLine;
 use rp_lotindex::Reach;
 use rp_rows::RowEnd;
-use rp_space::{Listed, Name, Names};
+use rp_lists::{Listed, Name, Names};
 use rp_tester::{Stopped, Tests};
 use std::alloc::{AllocError, Global};
 

@@ -16,7 +16,8 @@ use rp_history::History;
 use rp_lotindex::{Moment, Reach};
 use rp_lots::Keeper;
 use rp_region::{Part, Region, Work};
-use rp_space::{IntBox, Listed, Name, Point};
+use rp_lists::{Listed, Name};
+use rp_space::{IntBox, Point};
 use rp_tester::{Named, Stopped};
 use std::alloc::{AllocError, Global};
 

@@ -18,7 +18,7 @@ use rp_region::{Region, Work};
 use rp_regionlots::{access, audit, neighbours};
 use rp_rows::{RowEnd, access_lines, neighbour_lines, one_line, slice_lines};
 use rp_section::section;
-use rp_space::Name;
+use rp_lists::Name;
 use rp_text::{Verdict, Verdicts};
 use std::alloc::Global;
 use std::thread::Threads;

@@ -13,7 +13,7 @@ use Rattle.rp_model.specs.commands.Row.{FormedChild, parts_with_id}
 use Rattle.rp_states.proofs.Listing.{all_mapped, all_unmapped}
 use Rattle.rp_states.proofs.Plain.{kept_images}
 use Rattle.rp_geometry.proofs.Kept.{part_is_checked}
-use Rattle.rp_space.specs.Listed.{Listed}
+use Rattle.rp_lists.specs.Listed.{Listed}
 use Rattle.rp_history.specs.Lots.{lots_in}
 use Rattle.rp_changes.specs.declared.child.Child.{Child as MadeChild}
 use Rattle.rp_changes.specs.Children.{formed_child, formed_children, IsShort}

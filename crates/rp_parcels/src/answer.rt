@@ -9,6 +9,7 @@ ghost use Rattle.rp_parcels.specs.Taken.{settled, IsTaken};
 
 use crate::fault::ParcelFault;
 use rp_cert::Proof;
+use rp_lists::Copied;
 use rp_region::Work;
 use rp_rows::RowEnd;
 use rp_space::Inside;

@@ -21,9 +21,9 @@ use crate::parcels::Parcels;
 use crate::visits::Visits;
 use rp_boxindex::Watch;
 use rp_changes::{Child as FormedChild, Replaced, consolidate, cut, make_lot, subdivide};
+use rp_lists::{Listed, Name};
 use rp_region::{Region, Work};
 use rp_rows::RowEnd;
-use rp_space::{Listed, Name};
 use std::alloc::{AllocError, Global};
 
 impl Parcels {

@@ -1,7 +1,7 @@
 //! The children of a subdivision.
 
+use rp_lists::Name;
 use rp_region::Region;
-use rp_space::Name;
 
 /// A child of a subdivision: a new id, and the region that it gets.
 #[derive(Drop)]

@@ -1,7 +1,8 @@
 //! Why a call of the register is refused.
 
+use rp_lists::Name;
 use rp_region::OpFault;
-use rp_space::{Inside, Name};
+use rp_space::Inside;
 use std::alloc::AllocError;
 use std::error::Error;
 use std::fmt;

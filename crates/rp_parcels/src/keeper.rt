@@ -15,10 +15,11 @@ use crate::parcels::Parcels;
 use crate::visits::Visits;
 use rp_changes::Overlaps;
 use rp_history::History;
+use rp_lists::{Listed, Name};
 use rp_lotindex::Reach;
 use rp_lots::Keeper;
 use rp_region::{Part, Region, Work};
-use rp_space::{IntBox, Listed, Name};
+use rp_space::IntBox;
 use rp_tester::Stopped;
 use std::alloc::{AllocError, Global};
 

@@ -7,8 +7,9 @@ ghost use Rattle.rp_parcels.specs.Kept.{AreSound};
 ghost use Rattle.rp_parcels.specs.Points.{IsOnlyOwner};
 
 use crate::parcels::Parcels;
+use rp_lists::Name;
 use rp_lotindex::Moment;
-use rp_space::{Name, Point};
+use rp_space::Point;
 
 impl Parcels {
     /// The one live parcel of `layer` that has `p`. `None` exactly where there is none. Takes no memory.

@@ -14,10 +14,10 @@ use crate::fault::ParcelFault;
 use crate::parcels::Parcels;
 use crate::visits::Visits;
 use rp_boxindex::Watch;
+use rp_lists::{Name, Names};
 use rp_region::Work;
 use rp_regionlots::{access, audit, neighbours};
 use rp_rows::Access;
-use rp_space::{Name, Names};
 use std::alloc::Global;
 use std::thread::Threads;
 

@@ -6,7 +6,7 @@ ghost use Rattle.rp_walks.specs.Pieces.{numbered_from, link_pair, links_with_par
 ghost use Rattle.rp_tester.specs.Comes.{Comes};
 ghost use Rattle.rp_unionfind.specs.Lists.{numbers_of, IsWithin};
 
-use rp_space::Listed;
+use rp_lists::Listed;
 use rp_tester::{Stopped, Tests};
 use rp_unionfind::{PieceList, groups_of_links};
 use std::alloc::Global;

@@ -10,7 +10,8 @@ ghost use Rattle.rp_tester.specs.Comes.{Comes};
 
 use crate::compare::outside;
 use rp_command::Expr;
-use rp_space::{Name, box_halves};
+use rp_lists::Name;
+use rp_space::box_halves;
 use rp_tester::{Named, Stopped, Tests};
 use std::alloc::Global;
 

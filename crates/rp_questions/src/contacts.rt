@@ -8,7 +8,7 @@ use rp_lotindex::Reach;
 use rp_lots::{Keeper, access_left, access_told, audit_left, ids_met, touch_left};
 use rp_register::{Register, meet_in_turn, show_apart_in_turn};
 use rp_rows::{RowEnd, access_lines, neighbour_lines, one_line};
-use rp_space::Name;
+use rp_lists::Name;
 use rp_text::{Verdict, Verdicts};
 use rp_trail::Trail;
 use std::alloc::Global;

@@ -10,7 +10,8 @@ use crate::fault::OpFault;
 use crate::front::Front;
 use crate::part::Part;
 use crate::work::Work;
-use rp_space::{Half, Listed};
+use rp_lists::Listed;
+use rp_space::Half;
 use rp_tester::MAX_PARTS;
 use std::alloc::Global;
 

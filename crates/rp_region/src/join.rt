@@ -10,7 +10,7 @@ use crate::fault::OpFault;
 use crate::front::Front;
 use crate::part::Part;
 use crate::work::Work;
-use rp_space::Listed;
+use rp_lists::Listed;
 use rp_tester::MAX_PARTS;
 use std::alloc::Global;
 

@@ -25,6 +25,7 @@ use rp_cell::{
     refute_strict, refute_weak, strict_soon, weak_soon,
 };
 use rp_cert::{Proof, Proofs};
+use rp_lists::Copied;
 use rp_space::{Half, Inside, Point, joined};
 use rp_tester::{MAX_HALVES, MAX_TESTS, Stopped};
 use std::alloc::{AllocError, Global};

@@ -13,7 +13,7 @@ use rp_lotindex::Reach;
 use rp_lots::{Keeper, access_left, access_told, ids_met, touch_left};
 use rp_region::Work;
 use rp_rows::{Access, RowEnd};
-use rp_space::{Name, Names};
+use rp_lists::{Name, Names};
 use std::alloc::Global;
 use std::thread::Threads;
 

@@ -6,7 +6,7 @@ use Rattle.rp_model.specs.states.State.{Change as ModelChange, nothing_changes}
 use Rattle.rp_model.specs.commands.Row.{Reply as ModelReply}
 use Rattle.rp_reports.specs.Check.{Trail, follow_lines}
 use Rattle.rp_reports.specs.Text.{verdict_text}
-use Rattle.rp_space.specs.Listed.{Listed}
+use Rattle.rp_lists.specs.Listed.{Listed}
 use Rattle.rp_text.specs.declared.answer.Verdict.{Verdict as CodeVerdict}
 use Rattle.rp_rows.specs.declared.reply.RowEnd.{RowEnd}
 use Rattle.rp_rows.specs.Replies.{EndsBy}

@@ -14,7 +14,7 @@ use rp_changes::Change;
 use rp_command::Expr;
 use rp_ledger::Ledger;
 use rp_queries::first_unknown;
-use rp_space::Name;
+use rp_lists::Name;
 use rp_trail::{Form, Trail};
 use std::alloc::{AllocError, Global};
 use std::marker::Model;

@@ -13,7 +13,7 @@ use crate::lines::read_lines;
 use crate::stop::Stop;
 use rp_book::{Book, BookFault, Entry};
 use rp_io::{Sink, Source};
-use rp_space::Name;
+use rp_lists::Name;
 use std::alloc::Global;
 use std::thread::Threads;
 

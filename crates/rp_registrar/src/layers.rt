@@ -2,7 +2,7 @@
 ghost use Rattle.std.specs.Prelude.{◌≡◌, ◌++◌, IfSome, codes};
 
 use rp_scripts::next_line;
-use rp_space::Name;
+use rp_lists::Name;
 use std::alloc::{AllocError, Global};
 
 /// The layer that a line chooses, if it is a line `layer X`.

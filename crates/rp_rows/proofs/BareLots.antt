@@ -9,7 +9,7 @@ use Rattle.rp_model.specs.commands.Verdict.{Verdict, unknown, entry_of, lot_line
 use Rattle.rp_model.specs.commands.Checks.{refuse_if}
 use Rattle.rp_model.specs.commands.Row.{Reply, reply_lines, check, row_history}
 use Rattle.rp_history.specs.Lots.{lots_in}
-use Rattle.rp_space.specs.Listed.{Listed}
+use Rattle.rp_lists.specs.Listed.{Listed}
 use Rattle.rp_text.specs.declared.answer.Verdict.{Verdict as CodeVerdict}
 use Rattle.rp_tester.specs.declared.stopped.Stopped.TheVariants.{Wrong, TakenWrong, Told, Limit, Memory}
 use Rattle.rp_history.proofs.Bare.{bare_ids, bare_live}

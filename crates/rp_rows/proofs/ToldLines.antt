@@ -2,7 +2,7 @@
 use Rattle.std.proofs.Common.{◌≡◌, ℕ, List, [], ◌∷◌, ◌++◌, suc, length, map, refl, ap}
 use Rattle.rp_geometry.specs.sets.Shape.{Part}
 use Rattle.rp_model.specs.commands.Verdict.{Verdict, part_lines_of, piece_lines}
-use Rattle.rp_space.specs.Listed.{Listed}
+use Rattle.rp_lists.specs.Listed.{Listed}
 use Rattle.rp_unionfind.specs.Lists.{lists_of}
 use Rattle.rp_text.specs.declared.answer.Verdict.{Verdict as CodeVerdict}
 use Rattle.rp_text.specs.Views.{verdict_of}

@@ -1,7 +1,7 @@
 -- The verdict lines of access.
 use Rattle.std.specs.Prelude.{ℕ, ◌-◌, List, [], ◌∷◌, ◌++◌, map, length, Option, Some, None}
 use Rattle.rp_language.specs.Name.{Label}
-use Rattle.rp_space.specs.Listed.{Listed}
+use Rattle.rp_lists.specs.Listed.{Listed}
 use Rattle.rp_model.specs.commands.Verdict.{Verdict}
 use Rattle.rp_rows.specs.declared.access.Access.{Access}
 

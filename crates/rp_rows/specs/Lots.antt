@@ -6,7 +6,7 @@ use Rattle.rp_model.specs.states.State.{Lot, lot_with_id, live_lots}
 use Rattle.rp_model.specs.commands.Verdict.{Verdict, lot_lines}
 use Rattle.rp_model.specs.commands.Row.{row_history}
 use Rattle.rp_history.specs.Lots.{lots_in}
-use Rattle.rp_space.specs.Listed.{Listed}
+use Rattle.rp_lists.specs.Listed.{Listed}
 use Rattle.rp_text.specs.declared.answer.Verdict.{Verdict as CodeVerdict}
 use Rattle.rp_rows.specs.declared.reply.RowEnd.{RowEnd}
 use Rattle.rp_rows.specs.Replies.{Tells}

@@ -6,7 +6,7 @@ use Rattle.rp_walks.specs.Walk.{Outcome, done, Walk, Tester, ◌>>=◌}
 use Rattle.rp_walks.specs.Form.{form}
 use Rattle.rp_model.specs.commands.Verdict.{unknown}
 use Rattle.rp_model.specs.commands.Row.{Reply, reply_lines, refusal, check, with_forms}
-use Rattle.rp_space.specs.Listed.{Listed}
+use Rattle.rp_lists.specs.Listed.{Listed}
 use Rattle.rp_history.specs.declared.fault.NameFault.{NameFault}
 use Rattle.rp_history.specs.declared.fault.NameFault.TheVariants.{Known as NameKnown, Unknown as NameUnknown, Repeated as NameRepeated, Layers as NameLayers, Same as NameSame, Few as NameFew, Memory as NameMemory}
 use Rattle.rp_text.specs.declared.answer.Refusal.TheVariants.{Known, Unknown, Repeated, Layers, Same, Few}

@@ -5,7 +5,7 @@ ghost use Rattle.rp_model.specs.states.State.{most_kept_parts};
 
 use crate::numbered::{named_chain, named_levels, number_of};
 use rp_access::{Links, chain, levels};
-use rp_space::{Listed, Name, Names};
+use rp_lists::{Listed, Name, Names};
 use std::alloc::{AllocError, Global};
 
 /// Levels, each with the id of its lot.

@@ -9,7 +9,7 @@ ghost use Rattle.rp_text.specs.Views.{verdict_of};
 use crate::reply::one_line;
 use rp_cert::Slice;
 use rp_queries::PieceList;
-use rp_space::Listed;
+use rp_lists::Listed;
 use rp_tester::Tests;
 use rp_text::{Verdict, Verdicts};
 use std::alloc::{AllocError, Global};

@@ -11,7 +11,7 @@ ghost use Rattle.rp_rows.specs.Lots.{lots_under};
 use crate::access::Access;
 use crate::reply::one_line;
 use rp_history::{History, LotLine};
-use rp_space::{Name, Names};
+use rp_lists::{Name, Names};
 use rp_text::{Verdict, Verdicts};
 use std::alloc::{AllocError, Global};
 

@@ -8,7 +8,7 @@ ghost use Rattle.rp_rows.specs.Lots.{list_lines, TellsHistory};
 use crate::lot_lines::{add_each, lot_line};
 use crate::reply::{RowEnd, one_line};
 use rp_history::History;
-use rp_space::Name;
+use rp_lists::Name;
 use rp_text::{Refusal, Verdict, Verdicts};
 use std::alloc::{AllocError, Global};
 

@@ -7,7 +7,7 @@ ghost use Rattle.rp_rows.specs.Access.{told_chain, told_levels};
 
 use crate::access::Levels;
 use rp_access::Route;
-use rp_space::{Name, Names};
+use rp_lists::{Name, Names};
 use std::alloc::{AllocError, Global};
 
 /// The number of an id, which is one of these.

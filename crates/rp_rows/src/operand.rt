@@ -11,7 +11,7 @@ ghost use Rattle.rp_rows.specs.Replies.{GoesOn, row_of_forms};
 use crate::reply::RowEnd;
 use rp_command::Expr;
 use rp_queries::{Operand, first_unknown, operand_of};
-use rp_space::Name;
+use rp_lists::Name;
 use rp_tester::{Named, Tests};
 use rp_text::Refusal;
 use std::alloc::Global;

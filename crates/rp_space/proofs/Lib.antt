@@ -4,7 +4,6 @@ mod Bounded
 mod Compared
 mod Cramer
 mod Kept
-mod Named
 mod Negative
 pub mod Positive
 mod Sides

@@ -1,10 +1,8 @@
 pub mod Boxes
 pub mod Corners
 pub mod FourNumbers
-pub mod Listed
 pub mod MadeHalfSpace
 pub mod MadePoint
-pub mod NameBytes
 pub mod PairMinors
 pub mod PositivePoint
 pub mod ShortNumbers

@@ -1,5 +1,5 @@
 //! Corners of polygons.
-use crate::listed::Listed;
+use rp_lists::Listed;
 
 /// A corner of a polygon, with whole coordinates.
 #[derive(Clone, Copy)]

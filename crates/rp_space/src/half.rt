@@ -6,6 +6,7 @@ ghost use Rattle.rp_space.specs.MadeHalfSpace.{made_half_space};
 
 use crate::divisor::{common_divisor, short_quotient};
 use crate::point::Point;
+use rp_lists::Listed;
 use std::marker::Model;
 use thiserror::Error;
 
@@ -59,6 +60,9 @@ impl Default for Half {
         }
     }
 }
+
+/// A list of half-spaces.
+pub type Halves = Listed<Half>;
 
 impl Half {
     /// The half-space of the numbers `a`, `b`, `c` and `d`, in lowest terms. The bounds are tested on the numbers as

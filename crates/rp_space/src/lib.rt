@@ -6,21 +6,14 @@
 //! zeros; and a point, or are refused for a weight below 1, or else for a bound. `holds` is the sign rule, `side` its
 //! value, `not` the complement; no product leaves 128 bits. The half-spaces of a box and of the cube, which points a
 //! box holds, whether two boxes meet and the least box that holds both are those of the definitions; a box holds a
-//! point exactly where its six half-spaces do. Three planes meet in the point of Cramer's rule, or not in one point. A
-//! list takes an item at its end: where there was room for it this does not fail, and where it fails the items are as
-//! they were; room that is reserved is there, and reserving gives none back. Names are exactly the byte strings that
-//! the grammar calls names. Lists of at most four points or terms take no memory. Calls that answer `AllocError` do so
-//! only for want of memory.
+//! point exactly where its six half-spaces do. Three planes meet in the point of Cramer's rule, or not in one point.
 
 mod bounds;
 mod corner;
 mod divisor;
 mod half;
-mod inside;
-mod listed;
 mod meeting;
 mod multiples;
-mod name;
 mod outside;
 mod point;
 mod system;
@@ -28,12 +21,9 @@ mod system;
 pub use bounds::{IntBox, box_halves, cube};
 pub use corner::{Corner, Corners};
 pub use divisor::{greatest_common_divisor, quotient};
-pub use half::{Half, HalfFault};
-pub use inside::Inside;
-pub use listed::{Halves, Listed, Names, Numbers};
+pub use half::{Half, HalfFault, Halves};
 pub use meeting::{Meeting, Pair, meet};
 pub use multiples::{is_balanced, is_contradiction, is_multiplier};
-pub use name::Name;
 pub use outside::{Outside, Term};
-pub use point::{Point, PointFault};
+pub use point::{Inside, Point, PointFault};
 pub use system::{System, joined, keep_bounds, with_cube};

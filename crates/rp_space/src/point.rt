@@ -6,6 +6,7 @@ ghost use Rattle.rp_space.specs.MadePoint.{made_point};
 
 use crate::bounds::IntBox;
 use crate::divisor::{common_divisor, quotient};
+use rp_lists::{Copied, Short};
 use std::marker::Model;
 use thiserror::Error;
 
@@ -58,6 +59,15 @@ impl Default for Point {
         }
     }
 }
+
+impl Copied for Point {
+    fn copy(&self) -> Point {
+        *self
+    }
+}
+
+/// A list of at most four points, which takes no memory.
+pub type Inside = Short<Point, 4>;
 
 impl Point {
     /// The point of the numbers `x`, `y`, `z` and the weight `w`, in lowest terms. `Weight` where `w` < 1; `Range`

@@ -12,7 +12,8 @@ ghost use Rattle.rp_spelling.specs.Spells.{Spells, before_size, children_words};
 
 use itoa::{Buffer, Integer};
 use rp_command::{Command, Entries, Expr, Version};
-use rp_space::{Corner, Corners, Half, IntBox, Name, Names, Point};
+use rp_lists::{Name, Names};
+use rp_space::{Corner, Corners, Half, IntBox, Point};
 use std::alloc::AllocError;
 
 /// Appends a word behind a space.

@@ -6,7 +6,7 @@ ghost use Rattle.rp_store.specs.Kept.{kept_under, IsNewName};
 use crate::forms::Forms;
 use crate::limits::{MAX_KEPT_PARTS, MAX_NAMES};
 use indexmap::IndexMap;
-use rp_space::Name;
+use rp_lists::Name;
 use std::alloc::{AllocError, Global};
 use std::fmt;
 use std::marker::Model;

@@ -9,7 +9,7 @@ use crate::boxes::FormBoxes;
 use crate::forms::Forms;
 use rp_history::History;
 use rp_lotindex::LotBoxes;
-use rp_space::Name;
+use rp_lists::Name;
 
 /// Moves the boxes of the lots with the ids, whose forms these are, as far as they have some. Takes no memory.
 pub(crate) fn settle_all<F: Forms>(

@@ -11,7 +11,7 @@ use crate::fault::ReadFault;
 use crate::keywords::{Comparison, Verb, verb_for};
 use crate::words::Words;
 use rp_command::{Command, Entries, Expr, Version, Why};
-use rp_space::{Name, Names};
+use rp_lists::{Name, Names};
 use std::alloc::Global;
 
 /// The most children of a subdivision.

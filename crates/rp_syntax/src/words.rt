@@ -7,7 +7,7 @@ ghost use Rattle.rp_syntax.specs.Reads.{Reads};
 
 use crate::fault::ReadFault;
 use rp_command::Why;
-use rp_space::Name;
+use rp_lists::Name;
 use std::marker::Model;
 
 /// The most nodes that the expressions of a line may have together.

@@ -5,7 +5,7 @@ ghost use Rattle.rp_language.specs.Expression.{Meaning};
 ghost use Rattle.rp_tester.specs.Short.{StandShort};
 
 use crate::tests::Tests;
-use rp_space::Name;
+use rp_lists::Name;
 
 /// What knows the forms that names and live lots stand for.
 pub trait Named<T: Tests> {

@@ -3,7 +3,8 @@
 use rp_cert::{Proofs, Slice};
 use rp_command::Why;
 use rp_history::LotLine;
-use rp_space::{Halves, Listed, Name, Numbers};
+use rp_lists::{Listed, Name, Numbers};
+use rp_space::Halves;
 use std::alloc::{AllocError, Global};
 use std::boxed::Box;
 

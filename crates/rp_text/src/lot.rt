@@ -5,7 +5,7 @@ ghost use Rattle.rp_text.specs.Fronts.{Writes};
 use crate::items::{WriteText, write_operand, write_operands};
 use crate::pieces::append;
 use rp_history::LotLine;
-use rp_space::{Name, Names};
+use rp_lists::{Name, Names};
 use std::alloc::AllocError;
 
 /// Appends the end of a lot, or that it is live.

@@ -6,7 +6,8 @@ ghost use Rattle.rp_space.specs.Boxes.{integer_box};
 use crate::items::WriteText;
 use crate::numbers::{write_in_parentheses, write_spaced};
 use crate::pieces::append;
-use rp_space::{Half, IntBox, Name, Point, Term};
+use rp_lists::Name;
+use rp_space::{Half, IntBox, Point, Term};
 use std::alloc::AllocError;
 
 impl WriteText for Half {

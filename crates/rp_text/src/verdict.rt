@@ -11,7 +11,7 @@ use crate::items::{WriteText, write_operand, write_operands};
 use crate::numbers::write_spaced;
 use crate::pieces::append;
 use rp_command::Why;
-use rp_space::Name;
+use rp_lists::Name;
 use std::alloc::AllocError;
 
 /// The word of a fault of a line.

@@ -1,6 +1,7 @@
 use rp_cert::{Proof, Proofs};
 use rp_command::Why;
-use rp_space::{Half, Halves, Name};
+use rp_lists::Name;
+use rp_space::{Half, Halves};
 use rp_text::{
     Answer, Refusal, Verdict, Verdicts, read_echo, read_proof, read_slice, write_answer,
     write_verdict,

@@ -16,7 +16,7 @@ use crate::kept::{Kept, keep_parts};
 use crate::meeting::Meeting;
 use crate::pairs::first_pair;
 use crate::trail::Trail;
-use rp_space::Listed;
+use rp_lists::Listed;
 use rp_tester::Stopped;
 use std::alloc::{AllocError, Global};
 

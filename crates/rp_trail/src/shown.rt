@@ -12,7 +12,7 @@ use crate::form::Form;
 use crate::kept::{Kept, keep_part, keep_parts};
 use crate::trail::Trail;
 use rp_cert::{Slice, check_slice};
-use rp_space::Listed;
+use rp_lists::Listed;
 use rp_tester::Stopped;
 use std::alloc::Global;
 

@@ -5,7 +5,7 @@ use Rattle.std.specs.List.{flat_map}
 use Rattle.std.proofs.lemmas.List.{length-map}
 use Rattle.std.proofs.lemmas.List.FromFn.{length-range_with_len}
 use Rattle.rp_geometry.specs.parts.Groups.{is_listed_number, group_of, groups, groups_of, numbers_to}
-use Rattle.rp_space.specs.Listed.{Listed}
+use Rattle.rp_lists.specs.Listed.{Listed}
 use Rattle.rp_unionfind.specs.Lists.{numbers_of}
 
 -- of the numbers still to come

@@ -1,6 +1,6 @@
 -- A number put into a list of a list of lists, as the code does it.
 use Rattle.std.proofs.Common.{◌≡◌, ℕ, zero, suc, ◌<◌, List, [], ◌∷◌, ◌++◌, length, get_or, set, ap, ◌∙◌, arith}
-use Rattle.rp_space.specs.Listed.{Listed}
+use Rattle.rp_lists.specs.Listed.{Listed}
 use Rattle.rp_unionfind.specs.Lists.{lists_of, with_number}
 
 -- a number behind those of a list at a place

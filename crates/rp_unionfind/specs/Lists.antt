@@ -1,6 +1,6 @@
 -- Lists of numbers, as the code keeps them.
 use Rattle.std.specs.Prelude.{ℕ, zero, suc, ◌≤◌, List, [], ◌∷◌, ◌++◌, map}
-use Rattle.rp_space.specs.Listed.{Listed}
+use Rattle.rp_lists.specs.Listed.{Listed}
 
 -- the numbers of each list
 abbrev pub lists_of : List (Listed ℕ) → List (List ℕ)

@@ -6,7 +6,7 @@ ghost use Rattle.rp_geometry.specs.parts.Parts.{most_parts};
 ghost use Rattle.rp_unionfind.specs.Lists.{numbers_of, lists_of, with_number, IsWithin};
 
 use crate::forest::forest_of_links;
-use rp_space::{Listed, Numbers};
+use rp_lists::{Listed, Numbers};
 use std::alloc::{AllocError, Global};
 
 /// A list of pieces: each a list of part numbers from 1.

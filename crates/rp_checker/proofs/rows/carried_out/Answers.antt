@@ -3,7 +3,7 @@ use Rattle.std.proofs.lemmas.Int.{to_z-of_z}
 use Rattle.rp_geometry.specs.sections.Trace.{IsHeight}
 use Rattle.std.proofs.lemmas.Result.{err_from_is_err_and}
 use Rattle.rp_geometry.specs.sets.Shape.{Part}
-use Rattle.rp_space.specs.Listed.{Listed}
+use Rattle.rp_lists.specs.Listed.{Listed}
 use Rattle.rp_command.specs.Views.{command_of}
 use Rattle.rp_walks.specs.Walk.{Outcome}
 use Rattle.rp_model.specs.commands.Row.{Reply as ModelReply, row, row_access, row_audit, row_neighbours, row_section}

@@ -8,7 +8,7 @@ point-requires g c = (search rules, row_below c.args.planes.now c.loop-next.left
 
 pub push-requires : goal.push-requires
 push-requires g c =
-    next_room c.args.planes.now c.args.table.now c.loop-next.left c.in-Some.next c.loop-next.taken (c.requires.table c.loop-next.left c.loop-next.invariant.within) c.loop-next.invariant.taken c.in-Some.ensures.some
+    (search rules, next_room c.args.planes.now c.args.table.now c.loop-next.left c.in-Some.next c.loop-next.taken (c.requires.table c.loop-next.left c.loop-next.invariant.within) c.loop-next.invariant.taken c.in-Some.ensures.some)
 
 pub places-left-requires : goal.places-left-requires
 places-left-requires g c =

@@ -7,7 +7,7 @@ use Rattle.std.proofs.lemmas.Result.{err_from_is_err_and}
 use Rattle.rp_language.specs.Grammar.{Version, coordinate_text, corner_words, expression_words, box_words, half_space_words}
 use Rattle.rp_space.specs.Boxes.{integer_box}
 use Rattle.rp_space.specs.Corners.{polygon_corners}
-use Rattle.rp_space.specs.Listed.{Listed}
+use Rattle.rp_lists.specs.Listed.{Listed}
 use Rattle.rp_space.specs.declared.corner.Corner.{Corner}
 use Rattle.rp_command.specs.declared.command.Expr.{Expr}
 use Rattle.rp_command.specs.declared.command.Expr.TheVariants.{Prism}

@@ -1,6 +1,6 @@
 use Rattle.std.proofs.Common.{◌≡◌, ℕ, ◌≤◌, inl, inr, length, get_or, sym, ap, ◌∙◌, subst, arith}
 use Rattle.std.proofs.lemmas.List.{length-map}
-use Rattle.rp_space.specs.Listed.{Listed}
+use Rattle.rp_lists.specs.Listed.{Listed}
 use Rattle.rp_geometry.specs.parts.Groups.{groups_of}
 use Rattle.rp_unionfind.specs.Lists.{lists_of, numbers_of}
 use Rattle.rp_unionfind.proofs.Few.{few_lists}

@@ -1,5 +1,5 @@
 use Rattle.std.proofs.Common.{◌≡◌, ◌∷◌, [], ◌++◌, ℕ, ◌≤◌, List, length, get_or, set, sym, ap, ◌∙◌, arith}
-use Rattle.rp_space.specs.Listed.{Listed}
+use Rattle.rp_lists.specs.Listed.{Listed}
 use Rattle.rp_unionfind.specs.Lists.{lists_of, with_number}
 use Rattle.std.proofs.lemmas.Result.{on_ok_weaker}
 use Rattle.rp_unionfind.proofs.Put.{put_known, put_new}

@@ -1,4 +1,4 @@
-use Rattle.std.proofs.Common.{List, [], ◌∷◌, ◌++◌, length, sym, ap, ◌∙◌}
+use Rattle.std.proofs.Common.{List, [], ◌∷◌, ◌++◌, length, sym, ap, ◌∙◌, arith}
 use Rattle.rp_algebra.proofs.Numbers.{above_zero}
 use Rattle.rp_geometry.specs.Geometry.{RationalPoint}
 use Rattle.rp_convex.proofs.Progress.{room_for_next}
@@ -11,9 +11,11 @@ loop-way-init c =
     (c.push.ensures ∙ ap (λ (ps : List RationalPoint). ps ++ c.args.first ∷ []) c.new-taken.ensures)
 
 pub push-requires-in-loop-way : goal.push-requires-in-loop-way
-push-requires-in-loop-way c =
-    room_for_next c.args.system.now c.loop-way.flat.items c.loop-way.taken c.in_ok-next.next c.loop-way.invariant.progress
-    (found_next c.args.system.now c.loop-way.flat.items c.as_slice.result.now c.in_ok-next.next c.as_slice.ensures.value (sym c.in_ok-next.ensures))
+push-requires-in-loop-way c = (
+  omega arith,
+  room_for_next c.args.system.now c.loop-way.flat.items c.loop-way.taken c.in_ok-next.next c.loop-way.invariant.progress
+      (found_next c.args.system.now c.loop-way.flat.items c.as_slice.result.now c.in_ok-next.next c.as_slice.ensures.value (sym c.in_ok-next.ensures)),
+)
 
 pub loop-way-smaller : goal.loop-way-smaller
 loop-way-smaller c =

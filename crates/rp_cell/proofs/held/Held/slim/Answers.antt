@@ -6,7 +6,7 @@ use Rattle.rp_geometry.specs.sets.Sets.{SameMembers}
 use Rattle.rp_geometry.specs.parts.Parts.{most_half_spaces}
 use Rattle.rp_geometry.specs.searches.Certificate.{Multiple}
 use Rattle.rp_parts.proofs.Slim.{slim_keeps_members_spec, slim_part_is_part_spec}
-use Rattle.rp_space.specs.Listed.{Listed}
+use Rattle.rp_lists.specs.Listed.{Listed}
 use Rattle.rp_cell.specs.Lines.{drop_line_of}
 use Rattle.rp_cell.proofs.SlimSoFar.{IsSlim, slim_start, tested_here, at_here, tested_list, drop_proof_none, drop_proof_some, slim_is, slim_stays, slim_goes, slim_end}
 use Rattle.rp_cell.proofs.held.Held.slim.Goals as goal

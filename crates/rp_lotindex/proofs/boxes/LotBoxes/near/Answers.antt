@@ -4,7 +4,7 @@ use Rattle.std.specs.List.Retain.{IsFiltered, DiffersFromLast}
 use Rattle.std.specs.List.Sorted.{IsStrictlySortedBy, IsSorted, IsPermutation}
 use Rattle.std.specs.Ordering.{nat_cmp}
 use Rattle.std.proofs.lemmas.Result.{IfOk-weaker}
-use Rattle.rp_space.specs.Listed.{Listed}
+use Rattle.rp_lists.specs.Listed.{Listed}
 use Rattle.rp_lotindex.specs.Near.{is_other_at, places_met, AreOthers, AreWithin, AreNear}
 use Rattle.rp_lotindex.proofs.Passed.{in_order, others_are, others_near, others_places}
 use Rattle.rp_lotindex.proofs.Reached.{AreInOrder, met_within}

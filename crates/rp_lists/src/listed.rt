@@ -1,7 +1,6 @@
 //! Lists that grow, whose room contracts see.
 ghost use Rattle.std.specs.Prelude.{◌≡◌, IfOk, IsOk, OnOk, OnErr, [], ◌∷◌, ◌++◌, ◌≤◌, ◌<◌, ◌+◌, length};
 
-use crate::half::Half;
 use crate::name::Name;
 use std::alloc::{AllocError, Global};
 use std::marker::Model;
@@ -14,7 +13,7 @@ pub struct Listed<T> {
 
 impl<T> Model for Listed<T> {
     ghost use Rattle.std.specs.Prelude.{◌-◌, vec_len, vec_capacity};
-    ghost use Rattle.rp_space.specs.Listed.{Listed};
+    ghost use Rattle.rp_lists.specs.Listed.{Listed};
 
     ghost Value = { Listed T };
 
@@ -97,6 +96,3 @@ pub type Names = Listed<Name>;
 
 /// A list of numbers.
 pub type Numbers = Listed<u32>;
-
-/// A list of half-spaces.
-pub type Halves = Listed<Half>;

@@ -25,7 +25,7 @@ impl Model for Name {
 
     ghost Value = { List ℕ };
 
-    ghost use Rattle.rp_space.specs.NameBytes.{kept_bytes, name_back, IsNameInside, kept_back};
+    ghost use Rattle.rp_lists.specs.NameBytes.{kept_bytes, name_back, IsNameInside, kept_back};
 
     ghost view = { kept_bytes };
 

@@ -3,7 +3,7 @@ use Rattle.std.specs.Prelude.{◌≡◌, ℕ, true, ◌-◌, ◌≤◌, List, �
 use Rattle.std.proofs.Common.{ap, sym, ◌∙◌, arith, length-take}
 use Rattle.std.proofs.Math.ListN.{take-append-drop}
 use Rattle.rp_language.specs.Name.{is_name}
-use Rattle.rp_space.specs.declared.name.Name.TheInside.{Inside}
+use Rattle.rp_lists.specs.declared.name.Name.TheInside.{Inside}
 
 -- the bytes that count
 abbrev pub kept_bytes : Inside → List ℕ

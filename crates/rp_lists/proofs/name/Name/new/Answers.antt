@@ -1,7 +1,7 @@
 use Rattle.std.proofs.Common.{◌≡◌, true, sym, ◌∙◌}
 use Rattle.rp_language.specs.Name.{is_name}
-use Rattle.rp_space.proofs.Named.{name_inside}
-use Rattle.rp_space.proofs.name.Name.new.Goals as goal
+use Rattle.rp_lists.proofs.Named.{name_inside}
+use Rattle.rp_lists.proofs.name.Name.new.Goals as goal
 
 pub invariant_of-result : goal.invariant_of-result
 invariant_of-result c =

@@ -5,7 +5,7 @@ use Rattle.std.specs.List.{list_all}
 use Rattle.std.proofs.lemmas.List.{length-replicate, drop-replicate, length-drop}
 use Rattle.std.proofs.Math.Seq.{take-append_seam, drop-append_seam}
 use Rattle.rp_language.specs.Name.{is_letter, is_name_byte, is_name}
-use Rattle.rp_space.specs.NameBytes.{IsNameInside}
+use Rattle.rp_lists.specs.NameBytes.{IsNameInside}
 use Rattle.std.proofs.lemmas.Bool.{and_parts}
 
 -- a name has at most 32 bytes
