@@ -8,7 +8,7 @@ use Rattle.rp_language.specs.Name.{Label}
 use Rattle.rp_model.specs.commands.Row.{Reply, FormedChild, new_lot}
 use Rattle.rp_history.specs.declared.lot.Birth.{Birth}
 use Rattle.rp_history.specs.Parts.{new_lots}
-use Rattle.rp_rows.specs.declared.reply.RowEnd.{RowEnd}
+use Rattle.rp_answer.specs.declared.reply.RowEnd.{RowEnd}
 use Rattle.rp_changes.specs.declared.change.Replaced.{Replaced}
 use Rattle.rp_changes.specs.declared.change.Change.{Change}
 use Rattle.rp_changes.specs.declared.child.Child.{Child}

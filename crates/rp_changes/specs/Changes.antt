@@ -5,8 +5,8 @@ use Rattle.rp_walks.specs.Walk.{Outcome, done}
 use Rattle.rp_model.specs.states.State.{Change as ModelChange, name_added, lots_replaced, layer_changed}
 use Rattle.rp_model.specs.commands.Row.{Reply, accepted}
 use Rattle.rp_history.specs.Parts.{new_lots}
-use Rattle.rp_rows.specs.declared.reply.RowEnd.{RowEnd}
-use Rattle.rp_rows.specs.Replies.{EndsBy}
+use Rattle.rp_answer.specs.declared.reply.RowEnd.{RowEnd}
+use Rattle.rp_answer.specs.Replies.{EndsBy}
 use Rattle.rp_changes.specs.declared.change.Replaced.{Replaced}
 use Rattle.rp_changes.specs.declared.change.Change.{Change}
 use Rattle.rp_changes.specs.declared.change.Change.TheVariants.{Named, Replaced as ReplacedLots, Layer}

@@ -6,7 +6,7 @@ ghost use Rattle.rp_walks.specs.Compare.{is_covered};
 ghost use Rattle.rp_walks.specs.Form.{near_pair, subtract};
 ghost use Rattle.rp_model.specs.commands.Verdict.{empty_child, outside_lot, children_overlap};
 ghost use Rattle.rp_model.specs.commands.Row.{Reply, child_parts, joined_parts, count_with_each, count_among, first_empty_child, first_outside_child, first_overlapping_child, first_overlapping_children};
-ghost use Rattle.rp_rows.specs.Replies.{GoesOn};
+ghost use Rattle.rp_answer.specs.Replies.{GoesOn};
 ghost use Rattle.rp_tester.specs.Comes.{Comes};
 ghost use Rattle.rp_changes.specs.Children.{formed_child, IsShort};
 ghost use Rattle.rp_changes.specs.Steps.{inside_tested, apart_tested, cover_tested};
@@ -14,13 +14,12 @@ ghost use Rattle.rp_changes.specs.Steps.{inside_tested, apart_tested, cover_test
 use crate::checks::count_parts;
 use crate::child::Child;
 use crate::registry::Overlaps;
+use rp_answer::{Refusal, RowEnd};
+use rp_lists::Names;
 use rp_lotindex::Reach;
 use rp_lots::{Keeper, count_pairs, count_tests};
 use rp_queries::{is_empty, within};
-use rp_rows::RowEnd;
-use rp_lists::Names;
 use rp_tester::{Stopped, Tests};
-use rp_text::Refusal;
 use std::alloc::{AllocError, Global};
 
 /// The ids of children, in order.

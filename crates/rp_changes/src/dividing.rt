@@ -8,13 +8,12 @@ ghost use Rattle.rp_changes.specs.Changes.{Changes, replaced_of};
 
 use crate::change::Replaced;
 use crate::checks::count_parts;
+use rp_answer::{Refusal, RowEnd};
 use rp_history::Birth;
-use rp_lots::{Keeper, form_at};
-use rp_rows::RowEnd;
 use rp_lists::{Listed, Name, Names};
+use rp_lots::{Keeper, form_at};
 use rp_store::MAX_KEPT_PARTS;
 use rp_tester::{Stopped, Tests};
-use rp_text::Refusal;
 use std::alloc::{AllocError, Global};
 
 /// The live lot `id` is to be cut in two: `first` gets its points in the form `by`, and `second` the others.

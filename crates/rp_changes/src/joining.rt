@@ -12,12 +12,11 @@ use crate::change::{Change, Replaced};
 use crate::checks::{check_room, count_parts};
 use crate::making::one_born;
 use crate::registry::Registry;
+use rp_answer::{Refusal, RowEnd};
 use rp_history::Birth;
-use rp_lots::{Keeper, form_at};
-use rp_rows::RowEnd;
 use rp_lists::{Listed, Name, Names};
+use rp_lots::{Keeper, form_at};
 use rp_tester::{Stopped, Tests};
-use rp_text::Refusal;
 use std::alloc::{AllocError, Global};
 
 /// A form is to be kept under `name`, which must be new, and there must be room for both.

@@ -6,7 +6,7 @@ ghost use Rattle.rp_language.specs.Name.{is_among};
 ghost use Rattle.rp_walks.specs.Walk.{Walk};
 ghost use Rattle.rp_model.specs.states.State.{ids_of, lots_replaced, present_lots};
 ghost use Rattle.rp_model.specs.commands.Row.{Reply, first_overlapped, new_lot, row_register};
-ghost use Rattle.rp_rows.specs.Replies.{GoesOn};
+ghost use Rattle.rp_answer.specs.Replies.{GoesOn};
 ghost use Rattle.rp_history.specs.Lots.{lots_in};
 ghost use Rattle.rp_lotindex.specs.Near.{lots_at, AreWithin};
 ghost use Rattle.rp_tester.specs.Comes.{Comes};
@@ -16,13 +16,12 @@ ghost use Rattle.rp_changes.specs.Steps.{lot_checked, lots_tested};
 use crate::change::Replaced;
 use crate::checks::{check_room, count_parts};
 use crate::registry::Overlaps;
+use rp_answer::{Refusal, RowEnd};
 use rp_history::Birth;
+use rp_lists::{Listed, Name, Names};
 use rp_lotindex::Reach;
 use rp_lots::{Keeper, count_tests, form_at, lots_near};
-use rp_rows::RowEnd;
-use rp_lists::{Listed, Name, Names};
 use rp_tester::{Stopped, Tests};
-use rp_text::Refusal;
 use std::alloc::{AllocError, Global};
 
 /// A form is to become the lot `id` of `layer`, the present one. As many tests are counted as there are pairs of its

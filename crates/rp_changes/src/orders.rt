@@ -8,7 +8,7 @@ ghost use Rattle.rp_language.specs.Expression.{IsKeptExpression, first_unknown_a
 ghost use Rattle.rp_walks.specs.Walk.{Walk};
 ghost use Rattle.rp_model.specs.states.State.{parts_in};
 ghost use Rattle.rp_model.specs.commands.Row.{Reply, row, form_children};
-ghost use Rattle.rp_rows.specs.Replies.{GoesOn, row_of_form};
+ghost use Rattle.rp_answer.specs.Replies.{GoesOn, row_of_form};
 ghost use Rattle.rp_tester.specs.Comes.{Comes};
 ghost use Rattle.rp_changes.specs.Changes.{Changes, change_of, replacing};
 ghost use Rattle.rp_changes.specs.Children.{formed_children, IsShort};
@@ -20,12 +20,11 @@ use crate::joining::{consolidate, define, retire};
 use crate::making::make_lot;
 use crate::registry::Registry;
 use crate::subdividing::subdivide;
+use rp_answer::{Refusal, RowEnd, row_form, short_form};
 use rp_command::Expr;
-use rp_queries::first_unknown;
-use rp_rows::{RowEnd, row_form, short_form};
 use rp_lists::{Listed, Name};
+use rp_queries::first_unknown;
 use rp_tester::{Stopped, Tests};
-use rp_text::Refusal;
 use std::alloc::Global;
 
 /// `let`: the form of `region`, by `tests`, under the new name `name`.

@@ -6,9 +6,9 @@ ghost use Rattle.rp_model.specs.commands.Row.{owner_line};
 ghost use Rattle.rp_lotindex.specs.Owner.{is_there, owner_verdict};
 ghost use Rattle.rp_tester.specs.Comes.{Comes};
 
+use rp_lists::Name;
 use rp_lotindex::Moment;
 use rp_lots::Keeper;
-use rp_lists::Name;
 use rp_space::Point;
 use rp_tester::{Named, Stopped, Tests};
 use std::alloc::Global;

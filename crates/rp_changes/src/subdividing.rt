@@ -6,7 +6,7 @@ ghost use Rattle.rp_walks.specs.Walk.{Walk};
 ghost use Rattle.rp_model.specs.states.State.{bare_lot, live_lot, lots_replaced};
 ghost use Rattle.rp_model.specs.commands.Checks.{check_live};
 ghost use Rattle.rp_model.specs.commands.Row.{Reply, new_lot, row_subdivide};
-ghost use Rattle.rp_rows.specs.Replies.{GoesOn};
+ghost use Rattle.rp_answer.specs.Replies.{GoesOn};
 ghost use Rattle.rp_history.specs.Checks.{InEach};
 ghost use Rattle.rp_changes.specs.Changes.{Changes, replaced_of};
 ghost use Rattle.rp_changes.specs.Children.{formed_child, formed_children, IsShort};
@@ -20,11 +20,10 @@ use crate::children::{
 };
 use crate::dividing::born_of;
 use crate::registry::Overlaps;
-use rp_lots::{Keeper, form_at};
-use rp_rows::RowEnd;
+use rp_answer::{Refusal, RowEnd};
 use rp_lists::{Listed, Name, Names};
+use rp_lots::{Keeper, form_at};
 use rp_tester::Tests;
-use rp_text::Refusal;
 use std::alloc::{AllocError, Global};
 
 /// The live lot `id` is to be divided into children, which lie in it, share no point and leave no gap. As many tests

@@ -5,8 +5,8 @@ use Rattle.rp_algebra.proofs.Lists.{drop_item}
 use Rattle.rp_walks.specs.Walk.{Outcome, done, Walk, after_first}
 use Rattle.rp_reports.specs.Check.{Trail, follow_line, follow_lines}
 use Rattle.rp_reports.specs.Text.{verdict_text}
-use Rattle.rp_text.specs.Views.{verdict_of}
-use Rattle.rp_text.specs.declared.answer.Verdict.{Verdict as CodeVerdict}
+use Rattle.rp_answer.specs.Views.{verdict_of}
+use Rattle.rp_answer.specs.declared.answer.Verdict.{Verdict as CodeVerdict}
 use Rattle.rp_tester.proofs.Left.{IsLeft, left_as, next_left, end_left}
 use Rattle.rp_checker.specs.declared.halt.Halt.{Halt}
 use Rattle.rp_checker.specs.declared.halt.Halt.TheVariants.{Wrong, Memory}

@@ -8,7 +8,7 @@ use Rattle.rp_model.specs.states.State.{PlainState, state_of_parts}
 use Rattle.rp_model.specs.states.Sound.{IsLaterThan}
 use Rattle.rp_model.specs.commands.Row.{row}
 use Rattle.rp_reports.specs.Check.{Trail, line_tester}
-use Rattle.rp_rows.specs.declared.reply.RowEnd.{RowEnd}
+use Rattle.rp_answer.specs.declared.reply.RowEnd.{RowEnd}
 use Rattle.rp_run_laws.proofs.Rows.{line_rows}
 use Rattle.rp_ledger.specs.Kept.{IsSoundByParts}
 use Rattle.rp_ledger.specs.Taken.{IsTaken}

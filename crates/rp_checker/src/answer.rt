@@ -20,14 +20,14 @@ ghost use Rattle.rp_register.specs.Followed.{change_followed, IsFollowed};
 use crate::halt::Halt;
 use crate::lines::{follow_limit, follow_verdict, follow_verdicts};
 use crate::rows::carried_out;
+use rp_answer::{Refusal, RowEnd, Verdict, one_line};
 use rp_command::{Command, Expr, Line, Version, Why};
 use rp_ledger::Reply;
-use rp_register::{Followed, Register};
-use rp_rows::{RowEnd, one_line};
 use rp_lists::Name;
+use rp_register::{Followed, Register};
 use rp_syntax::read_line;
 use rp_tester::Stopped;
-use rp_text::{Refusal, Verdict, read_echo};
+use rp_text::read_echo;
 use rp_trail::Trail;
 use std::alloc::Global;
 

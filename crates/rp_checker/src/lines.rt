@@ -3,11 +3,12 @@ ghost use Rattle.std.specs.Prelude.{◌∷◌, [], map};
 ghost use Rattle.rp_model.specs.states.State.{PlainState};
 ghost use Rattle.rp_reports.specs.Check.{tells_limit, follow_line, follow_lines, follow_limit};
 ghost use Rattle.rp_reports.specs.Text.{verdict_text};
-ghost use Rattle.rp_text.specs.Views.{verdict_of};
+ghost use Rattle.rp_answer.specs.Views.{verdict_of};
 ghost use Rattle.rp_checker.specs.Answers.{Answers};
 
 use crate::halt::Halt;
-use rp_text::{Verdict, write_verdict};
+use rp_answer::Verdict;
+use rp_text::write_verdict;
 use rp_trail::Trail;
 use std::alloc::Global;
 

@@ -8,12 +8,11 @@ ghost use Rattle.rp_model.specs.commands.Row.{row};
 ghost use Rattle.rp_reports.specs.Check.{line_tester};
 ghost use Rattle.rp_register.specs.Followed.{IsFollowed, followed_told};
 
+use rp_answer::{RowEnd, Verdicts};
 use rp_command::Command;
 use rp_ledger::{Reply, Row, carry_out};
 use rp_questions::{access, audit, neighbours, section};
 use rp_register::{Followed, Register};
-use rp_rows::RowEnd;
-use rp_text::Verdicts;
 use rp_trail::Trail;
 use std::alloc::Global;
 

@@ -21,7 +21,7 @@ use Rattle.rp_states.proofs.Parted.{parts_are_sound, read_plain, same_lots}
 use Rattle.rp_states.proofs.PlainRows.{row_same}
 use Rattle.rp_states.proofs.Replies.{plain_new, plain_change, IsFitReply, row_fit}
 use Rattle.rp_states.proofs.Steps.{change_step}
-use Rattle.rp_rows.specs.declared.reply.RowEnd.{RowEnd}
+use Rattle.rp_answer.specs.declared.reply.RowEnd.{RowEnd}
 use Rattle.rp_ledger.specs.declared.reply.Reply.{Reply}
 use Rattle.rp_ledger.specs.declared.reply.Reply.TheVariants.{Told, Changed}
 use Rattle.rp_ledger.specs.Kept.{ComesFromKnown}

@@ -5,10 +5,10 @@ use Rattle.rp_language.specs.Expression.{Command}
 use Rattle.rp_walks.specs.Walk.{Outcome, Tester}
 use Rattle.rp_model.specs.states.State.{PlainState}
 use Rattle.rp_model.specs.commands.Row.{Reply as ModelReply, row}
-use Rattle.rp_text.specs.declared.answer.Verdict.{Verdict as CodeVerdict}
+use Rattle.rp_answer.specs.declared.answer.Verdict.{Verdict as CodeVerdict}
 use Rattle.rp_lists.specs.Listed.{Listed}
-use Rattle.rp_rows.specs.declared.reply.RowEnd.{RowEnd}
-use Rattle.rp_rows.specs.Replies.{Tells, GoesOn}
+use Rattle.rp_answer.specs.declared.reply.RowEnd.{RowEnd}
+use Rattle.rp_answer.specs.Replies.{Tells, GoesOn}
 use Rattle.rp_changes.specs.declared.change.Change.{Change}
 use Rattle.rp_changes.specs.Changes.{Changes, change_of}
 use Rattle.rp_ledger.specs.declared.reply.Reply.{Reply}

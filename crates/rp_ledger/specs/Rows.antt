@@ -7,10 +7,10 @@ use Rattle.rp_walks.specs.Walk.{Outcome, done, Tester, Walk, pass}
 use Rattle.rp_model.specs.states.State.{Change as ModelChange, nothing_changes, PlainState}
 use Rattle.rp_model.specs.commands.Row.{Reply as ModelReply, reply_lines, accepted, row_access, row_audit, row_neighbours, row_section}
 use Rattle.rp_lists.specs.Listed.{Listed}
-use Rattle.rp_text.specs.declared.answer.Verdict.{Verdict as CodeVerdict}
-use Rattle.rp_text.specs.Views.{verdict_of}
-use Rattle.rp_rows.specs.declared.reply.RowEnd.{RowEnd}
-use Rattle.rp_rows.specs.Replies.{EndsBy}
+use Rattle.rp_answer.specs.declared.answer.Verdict.{Verdict as CodeVerdict}
+use Rattle.rp_answer.specs.Views.{verdict_of}
+use Rattle.rp_answer.specs.declared.reply.RowEnd.{RowEnd}
+use Rattle.rp_answer.specs.Replies.{EndsBy}
 use Rattle.rp_changes.specs.declared.change.Change.{Change}
 use Rattle.rp_changes.specs.Changes.{change_of}
 use Rattle.rp_ledger.specs.declared.reply.Reply.{Reply}

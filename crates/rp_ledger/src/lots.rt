@@ -1,16 +1,16 @@
 //! The questions about lots that make no test.
 ghost use Rattle.rp_language.specs.Expression.{ask_history, ask_at, ask_as_of, ask_list};
 ghost use Rattle.rp_model.specs.commands.Row.{row};
-ghost use Rattle.rp_rows.specs.Replies.{Tells};
+ghost use Rattle.rp_answer.specs.Replies.{Tells};
 
+use rp_answer::{RowEnd, Verdicts, one_line};
 use rp_changes::Registry;
+use rp_lists::Name;
 use rp_lotindex::Moment;
 use rp_lots::Keeper;
-use rp_rows::{RowEnd, lineage, list, one_line, owner_verdict};
-use rp_lists::Name;
+use rp_rows::{lineage, list, owner_verdict};
 use rp_space::Point;
 use rp_tester::Tests;
-use rp_text::Verdicts;
 use std::alloc::Global;
 
 /// `at`: the live lot of the present layer that has the point.

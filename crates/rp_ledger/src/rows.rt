@@ -5,21 +5,19 @@ ghost use Rattle.rp_command.specs.Views.{command_of, expression_of};
 ghost use Rattle.rp_geometry.specs.sections.Trace.{IsHeight};
 ghost use Rattle.rp_language.specs.Expression.{IsKeptExpression, expressions_of, heights_of, ask_section, HasFewChildren};
 ghost use Rattle.rp_model.specs.commands.Row.{row};
-ghost use Rattle.rp_rows.specs.Replies.{GoesOn};
+ghost use Rattle.rp_answer.specs.Replies.{GoesOn};
 ghost use Rattle.rp_ledger.specs.Rows.{rest_of, row_told, row_changed, IsReadyRow};
 
 use crate::lots::{live_list, origins, owner, owner_then};
 use crate::reply::{Reply, Row};
+use rp_answer::{RowEnd, Verdicts, row_form};
 use rp_changes::{
     Change, Registry, consolidation, cutting, definition, registration, retirement, subdivision,
 };
 use rp_command::{Command, Expr};
 use rp_queries::Question;
-use rp_rows::{
-    RowEnd, comparison, emptiness, membership, piece_numbers, related, row_form, shown_parts,
-};
+use rp_rows::{comparison, emptiness, membership, piece_numbers, related, shown_parts};
 use rp_tester::Tests;
-use rp_text::Verdicts;
 use std::alloc::Global;
 
 /// The row of a question that is answered.

@@ -13,7 +13,7 @@ use Rattle.rp_model.specs.commands.Row.{Reply, check, lot_parts, parts_with_id}
 use Rattle.rp_history.specs.declared.fault.NameFault.{NameFault}
 use Rattle.rp_history.specs.declared.fault.NameFault.TheVariants.{Known, Unknown, Repeated, Layers, Same, Few, Memory}
 use Rattle.rp_history.specs.Checks.{FailsNames}
-use Rattle.rp_rows.specs.Replies.{EndsBy, end_of_names}
+use Rattle.rp_answer.specs.Replies.{EndsBy, end_of_names}
 
 -- a check on names is failed, and the row ends
 pub names_end : {W : Type 0} (e : NameFault) (o : Option Refusal) (rest : Walk W Reply) (w : W) → FailsNames e o → EndsBy (end_of_names e) w (check o rest w)

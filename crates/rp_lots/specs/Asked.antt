@@ -9,8 +9,8 @@ use Rattle.rp_model.specs.commands.Verdict.{neighbour_lines}
 use Rattle.rp_model.specs.commands.Row.{Reply, reply_lines, lot_parts, touched_lots, access_by_links}
 use Rattle.rp_lotindex.specs.declared.near.Reach.TheVariants.{Touch}
 use Rattle.rp_lotindex.specs.Near.{pairs_with}
-use Rattle.rp_rows.specs.declared.reply.RowEnd.{RowEnd}
-use Rattle.rp_rows.specs.Replies.{EndsBy}
+use Rattle.rp_answer.specs.declared.reply.RowEnd.{RowEnd}
+use Rattle.rp_answer.specs.Replies.{EndsBy}
 use Rattle.rp_tester.specs.declared.stopped.Stopped.{Stopped}
 use Rattle.rp_tester.specs.Comes.{StopsBy}
 use Rattle.rp_lots.specs.declared.links.AccessLeft.{AccessLeft}

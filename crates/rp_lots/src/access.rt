@@ -18,10 +18,11 @@ use crate::keeper::Keeper;
 use crate::links::{AccessLeft, ids_at, met_pairs, numbered_pairs};
 use crate::near::count_tests;
 use crate::pair::Pair;
+use rp_answer::RowEnd;
 use rp_history::LotLine;
-use rp_lotindex::Reach;
-use rp_rows::{Access, RowEnd};
 use rp_lists::{Name, Names};
+use rp_lotindex::Reach;
+use rp_rows::Access;
 use rp_tester::{Stopped, Tests};
 use std::alloc::{AllocError, Global};
 

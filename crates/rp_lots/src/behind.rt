@@ -11,8 +11,8 @@ use crate::keeper::Keeper;
 use crate::near::{MAX_TESTS, Near, form_at, lots_near};
 use crate::pair::Pair;
 use rp_history::History;
-use rp_lotindex::Reach;
 use rp_lists::Name;
+use rp_lotindex::Reach;
 use rp_tester::{Stopped, Tests};
 use std::alloc::{AllocError, Global};
 

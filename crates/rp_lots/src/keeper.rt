@@ -9,8 +9,8 @@ ghost use Rattle.rp_model.specs.commands.Row.{lot_parts};
 ghost use Rattle.rp_lotindex.specs.Near.{others_in, is_near, lots_at, AreWithin};
 
 use rp_history::History;
-use rp_lotindex::Reach;
 use rp_lists::{Listed, Name};
+use rp_lotindex::Reach;
 use rp_space::IntBox;
 use rp_tester::Tests;
 use std::alloc::{AllocError, Global};

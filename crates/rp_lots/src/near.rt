@@ -10,8 +10,8 @@ ghost use Rattle.rp_lots.specs.Counted.{CountsUpTo};
 ghost use Rattle.rp_lots.specs.Meets.{boxes_let};
 
 use crate::keeper::Keeper;
-use rp_lotindex::Reach;
 use rp_lists::{Listed, Name};
+use rp_lotindex::Reach;
 use rp_space::IntBox;
 use rp_tester::{Stopped, Tests};
 use std::alloc::Global;

@@ -11,10 +11,10 @@ ghost use Rattle.rp_lots.specs.Meets.{pair_of, parts_at, ids_met, IsPairWithin};
 use crate::keeper::Keeper;
 use crate::near::{count_tests, form_at, lots_near};
 use crate::pair::Pair;
+use rp_answer::RowEnd;
 use rp_history::LotLine;
-use rp_lotindex::Reach;
-use rp_rows::RowEnd;
 use rp_lists::{Listed, Name, Names};
+use rp_lotindex::Reach;
 use rp_tester::{Stopped, Tests};
 use std::alloc::{AllocError, Global};
 

@@ -12,8 +12,8 @@ use Rattle.rp_reports.specs.Text.{Answer}
 use Rattle.rp_reports.specs.Machine.{verdicts_walked, change_walked, answer_read, state_read, step_answer, step_state, Running, after_line}
 use Rattle.rp_tester.specs.declared.stopped.Stopped.{Stopped}
 use Rattle.rp_tester.specs.Comes.{stop_of, StopsBy}
-use Rattle.rp_rows.specs.declared.reply.RowEnd.{RowEnd}
-use Rattle.rp_rows.specs.declared.reply.RowEnd.TheVariants.{Refused, Stopped as StoppedEnd}
+use Rattle.rp_answer.specs.declared.reply.RowEnd.{RowEnd}
+use Rattle.rp_answer.specs.declared.reply.RowEnd.TheVariants.{Refused, Stopped as StoppedEnd}
 use Rattle.rp_ledger.specs.declared.reply.Reply.{Reply as CodeReply}
 use Rattle.rp_ledger.specs.declared.reply.Reply.TheVariants.{Told, Changed}
 use Rattle.rp_ledger.specs.Rows.{Replies}

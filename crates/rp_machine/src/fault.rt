@@ -1,7 +1,7 @@
 //! Why an expression has no form.
 
-use rp_region::OpFault;
 use rp_lists::Name;
+use rp_region::OpFault;
 use std::alloc::AllocError;
 use thiserror::Error;
 

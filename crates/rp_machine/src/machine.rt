@@ -14,16 +14,16 @@ ghost use Rattle.rp_model.specs.states.State.{opening, live_lots, parts_in, stat
 ghost use Rattle.rp_model.specs.states.Sound.{IsSound, IsLaterThan};
 ghost use Rattle.rp_model.specs.commands.Row.{shapes_of_parts};
 ghost use Rattle.rp_reports.specs.Machine.{step_answer, after_line, answer_read, state_read};
-ghost use Rattle.rp_text.specs.Views.{answer_of};
+ghost use Rattle.rp_answer.specs.Views.{answer_of};
 ghost use Rattle.rp_machine.specs.Forms.{MakesForm};
 
 use crate::fault::FormFault;
 use crate::state::State;
 use crate::step::bad_line;
+use rp_answer::Answer;
 use rp_command::{Command, Expr, Line, Version};
 use rp_region::{Region, Work};
 use rp_syntax::read_line;
-use rp_text::Answer;
 use std::alloc::{AllocError, Global};
 use std::marker::Model;
 use std::thread::Threads;

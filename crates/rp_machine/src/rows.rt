@@ -7,19 +7,19 @@ ghost use Rattle.rp_geometry.specs.sections.Trace.{IsHeight};
 ghost use Rattle.rp_language.specs.Expression.{IsKeptExpression, expressions_of, heights_of, HasFewChildren};
 ghost use Rattle.rp_walks.specs.Walk.{first_tester};
 ghost use Rattle.rp_model.specs.commands.Row.{row, row_access, row_audit, row_neighbours, row_section};
-ghost use Rattle.rp_rows.specs.Replies.{Tells};
+ghost use Rattle.rp_answer.specs.Replies.{Tells};
 ghost use Rattle.rp_ledger.specs.Rows.{Replies, reply_told};
 
 use crate::state::State;
+use rp_answer::{RowEnd, Verdict, Verdicts, one_line};
 use rp_boxindex::Quiet;
 use rp_command::Command;
 use rp_ledger::{Reply, Row, carry_out};
+use rp_lists::Name;
 use rp_region::{Region, Work};
 use rp_regionlots::{access, audit, neighbours};
-use rp_rows::{RowEnd, access_lines, neighbour_lines, one_line, slice_lines};
+use rp_rows::{access_lines, neighbour_lines, slice_lines};
 use rp_section::section;
-use rp_lists::Name;
-use rp_text::{Verdict, Verdicts};
 use std::alloc::Global;
 use std::thread::Threads;
 

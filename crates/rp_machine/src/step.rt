@@ -11,18 +11,17 @@ ghost use Rattle.rp_model.specs.states.Sound.{IsLaterThan};
 ghost use Rattle.rp_reports.specs.Report.{echoed, bad_answer};
 ghost use Rattle.rp_reports.specs.Machine.{answer_read, state_read};
 ghost use Rattle.rp_cert.specs.Lines.{line_of};
-ghost use Rattle.rp_text.specs.Views.{answer_of, verdict_of};
+ghost use Rattle.rp_answer.specs.Views.{answer_of, verdict_of};
 ghost use Rattle.rp_ledger.specs.Taken.{IsTaken};
 ghost use Rattle.rp_machine.specs.Replies.{made_by, made_by_row, verdicts_of_row, proofs_of_row, IsWant};
 
 use crate::state::State;
+use rp_answer::{Answer, Echo, Refusal, RowEnd, Verdict, Verdicts};
 use rp_cert::Proofs;
 use rp_command::{Command, Why};
 use rp_ledger::Reply;
 use rp_region::{Region, Work};
-use rp_rows::RowEnd;
 use rp_tester::Stopped;
-use rp_text::{Answer, Echo, Refusal, Verdict, Verdicts};
 use std::alloc::{AllocError, Global};
 use std::thread::Threads;
 

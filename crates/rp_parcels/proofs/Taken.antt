@@ -17,11 +17,11 @@ use Rattle.rp_region.specs.Stops.{fresh, behind, TakesOver}
 use Rattle.rp_region.proofs.Behind.{ComesBehind, behind_tells, makes_behind}
 use Rattle.rp_region.proofs.Grows.{no_more}
 use Rattle.rp_region.proofs.Left.{not_begun}
-use Rattle.rp_rows.specs.declared.reply.RowEnd.{RowEnd}
-use Rattle.rp_rows.specs.declared.reply.RowEnd.TheVariants.{Refused, Stopped as StoppedEnd}
+use Rattle.rp_answer.specs.declared.reply.RowEnd.{RowEnd}
+use Rattle.rp_answer.specs.declared.reply.RowEnd.TheVariants.{Refused, Stopped as StoppedEnd}
 use Rattle.rp_lots.specs.Asked.{Answers as RowAnswers}
-use Rattle.rp_text.specs.declared.answer.Refusal.{Refusal}
-use Rattle.rp_text.specs.Views.{refusal_of}
+use Rattle.rp_answer.specs.declared.answer.Refusal.{Refusal}
+use Rattle.rp_answer.specs.Views.{refusal_of}
 use Rattle.rp_history.specs.Parts.{new_lots}
 use Rattle.rp_changes.specs.declared.change.Replaced.{Replaced}
 use Rattle.rp_changes.specs.Changes.{Changes as RowChanges, replaced_of}

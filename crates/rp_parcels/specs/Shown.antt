@@ -4,9 +4,9 @@ use Rattle.rp_geometry.specs.Geometry.{RationalPoint}
 use Rattle.rp_geometry.specs.searches.ProofLine.{ProofLine, in_line}
 use Rattle.rp_model.specs.commands.Verdict.{Refusal, overlaps, outside_lot, children_overlap, gap, bad, limit, empty_operand}
 use Rattle.rp_region.specs.Pairs.{IsLast}
-use Rattle.rp_rows.specs.declared.reply.RowEnd.{RowEnd}
-use Rattle.rp_rows.specs.declared.reply.RowEnd.TheVariants.{Refused, Stopped}
-use Rattle.rp_text.specs.Views.{refusal_of}
+use Rattle.rp_answer.specs.declared.reply.RowEnd.{RowEnd}
+use Rattle.rp_answer.specs.declared.reply.RowEnd.TheVariants.{Refused, Stopped}
+use Rattle.rp_answer.specs.Views.{refusal_of}
 
 -- the last line has points
 pub record EndsInside (lines : List ProofLine) : Type 0 where

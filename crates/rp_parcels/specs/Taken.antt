@@ -6,10 +6,10 @@ use Rattle.rp_model.specs.states.State.{Lot}
 use Rattle.rp_tester.specs.declared.stopped.Stopped.{Stopped}
 use Rattle.rp_region.specs.declared.fault.OpFault.TheVariants.{Limit as OpLimit}
 use Rattle.rp_region.specs.Stops.{behind, TakesOver}
-use Rattle.rp_rows.specs.declared.reply.RowEnd.{RowEnd}
-use Rattle.rp_rows.specs.declared.reply.RowEnd.TheVariants.{Refused, Stopped as StoppedEnd}
-use Rattle.rp_text.specs.declared.answer.Refusal.{Refusal}
-use Rattle.rp_text.specs.Views.{refusal_of}
+use Rattle.rp_answer.specs.declared.reply.RowEnd.{RowEnd}
+use Rattle.rp_answer.specs.declared.reply.RowEnd.TheVariants.{Refused, Stopped as StoppedEnd}
+use Rattle.rp_answer.specs.declared.answer.Refusal.{Refusal}
+use Rattle.rp_answer.specs.Views.{refusal_of}
 use Rattle.rp_history.specs.Lots.{lots_after}
 use Rattle.rp_history.specs.Parts.{new_lots}
 use Rattle.rp_changes.specs.declared.change.Replaced.{Replaced}

@@ -2,19 +2,18 @@
 ghost use Rattle.std.specs.Prelude.{◌≡◌, IfErr};
 ghost use Rattle.rp_geometry.specs.searches.ProofLine.{in_line};
 ghost use Rattle.rp_region.specs.Pairs.{IsLast};
-ghost use Rattle.rp_text.specs.Views.{refusal_of};
+ghost use Rattle.rp_answer.specs.Views.{refusal_of};
 ghost use Rattle.rp_parcels.specs.Rows.{cause_of, refuses, IsTold};
 ghost use Rattle.rp_parcels.specs.Shown.{EndsInside, IsShown, EndIsShown};
 ghost use Rattle.rp_parcels.specs.Taken.{settled, IsTaken};
 
 use crate::fault::ParcelFault;
+use rp_answer::{Refusal, RowEnd};
 use rp_cert::Proof;
 use rp_lists::Copied;
 use rp_region::Work;
-use rp_rows::RowEnd;
 use rp_space::Inside;
 use rp_tester::Stopped;
-use rp_text::Refusal;
 
 /// What a row has come to (`came`) on `walked`, a work that was begun fresh, is taken over by `work` and answered. A
 /// refusal carries the points of the last proof line, where it is shown by points.

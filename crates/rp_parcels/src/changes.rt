@@ -19,11 +19,11 @@ use crate::child::Child;
 use crate::fault::ParcelFault;
 use crate::parcels::Parcels;
 use crate::visits::Visits;
+use rp_answer::RowEnd;
 use rp_boxindex::Watch;
 use rp_changes::{Child as FormedChild, Replaced, consolidate, cut, make_lot, subdivide};
 use rp_lists::{Listed, Name};
 use rp_region::{Region, Work};
-use rp_rows::RowEnd;
 use std::alloc::{AllocError, Global};
 
 impl Parcels {

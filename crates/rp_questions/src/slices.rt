@@ -8,15 +8,16 @@ ghost use Rattle.rp_reports.specs.Check.{taken, slices_told, follow_line, line_t
 ghost use Rattle.rp_cert.specs.Section.{slice_shown};
 ghost use Rattle.rp_tester.specs.Comes.{Comes};
 ghost use Rattle.rp_trail.specs.Stops.{IsWrongOrMemory};
-ghost use Rattle.rp_text.specs.Views.{verdict_of};
+ghost use Rattle.rp_answer.specs.Views.{verdict_of};
 ghost use Rattle.rp_questions.specs.Slices.{follow_section_lines};
 ghost use Rattle.rp_register.specs.Followed.{IsFollowed};
 
+use rp_answer::{RowEnd, Verdict};
 use rp_ledger::Reply;
 use rp_register::Followed;
-use rp_rows::{RowEnd, slice_lines};
+use rp_rows::slice_lines;
 use rp_tester::Stopped;
-use rp_text::{Verdict, write_verdict};
+use rp_text::write_verdict;
 use rp_trail::{Form, Slices, Trail, slices};
 use std::alloc::Global;
 

@@ -8,11 +8,11 @@ ghost use Rattle.rp_model.specs.commands.Row.{reply, row_audit};
 ghost use Rattle.rp_lots.specs.Asked.{Answers};
 
 use crate::halves::meet_in_halves;
+use rp_answer::RowEnd;
 use rp_boxindex::Watch;
 use rp_lotindex::Reach;
 use rp_lots::{Keeper, audit_left};
 use rp_region::Work;
-use rp_rows::RowEnd;
 use std::alloc::Global;
 use std::thread::Threads;
 

@@ -8,12 +8,13 @@ ghost use Rattle.rp_rows.specs.Access.{told_access};
 ghost use Rattle.rp_lots.specs.Asked.{Answers};
 
 use crate::halves::meet_in_halves;
+use rp_answer::RowEnd;
 use rp_boxindex::Watch;
+use rp_lists::{Name, Names};
 use rp_lotindex::Reach;
 use rp_lots::{Keeper, access_left, access_told, ids_met, touch_left};
 use rp_region::Work;
-use rp_rows::{Access, RowEnd};
-use rp_lists::{Name, Names};
+use rp_rows::Access;
 use std::alloc::Global;
 use std::thread::Threads;
 

@@ -7,9 +7,9 @@ use Rattle.rp_model.specs.commands.Row.{Reply as ModelReply}
 use Rattle.rp_reports.specs.Check.{Trail, follow_lines}
 use Rattle.rp_reports.specs.Text.{verdict_text}
 use Rattle.rp_lists.specs.Listed.{Listed}
-use Rattle.rp_text.specs.declared.answer.Verdict.{Verdict as CodeVerdict}
-use Rattle.rp_rows.specs.declared.reply.RowEnd.{RowEnd}
-use Rattle.rp_rows.specs.Replies.{EndsBy}
+use Rattle.rp_answer.specs.declared.answer.Verdict.{Verdict as CodeVerdict}
+use Rattle.rp_answer.specs.declared.reply.RowEnd.{RowEnd}
+use Rattle.rp_answer.specs.Replies.{EndsBy}
 use Rattle.rp_changes.specs.declared.change.Change.{Change}
 use Rattle.rp_changes.specs.Changes.{change_of}
 use Rattle.rp_ledger.specs.declared.reply.Reply.TheVariants.{Told}

@@ -1,8 +1,8 @@
 //! Layers that are named for the first time.
 ghost use Rattle.std.specs.Prelude.{◌≡◌, ◌++◌, IfSome, codes};
 
-use rp_scripts::next_line;
 use rp_lists::Name;
+use rp_scripts::next_line;
 use std::alloc::{AllocError, Global};
 
 /// The layer that a line chooses, if it is a line `layer X`.

@@ -10,13 +10,13 @@ use Rattle.rp_model.specs.commands.Checks.{refuse_if}
 use Rattle.rp_model.specs.commands.Row.{Reply, reply_lines, check, row_history}
 use Rattle.rp_history.specs.Lots.{lots_in}
 use Rattle.rp_lists.specs.Listed.{Listed}
-use Rattle.rp_text.specs.declared.answer.Verdict.{Verdict as CodeVerdict}
+use Rattle.rp_answer.specs.declared.answer.Verdict.{Verdict as CodeVerdict}
 use Rattle.rp_tester.specs.declared.stopped.Stopped.TheVariants.{Wrong, TakenWrong, Told, Limit, Memory}
 use Rattle.rp_history.proofs.Bare.{bare_ids, bare_live}
-use Rattle.rp_rows.specs.declared.reply.RowEnd.{RowEnd}
-use Rattle.rp_rows.specs.declared.reply.RowEnd.TheVariants.{Refused, Stopped as StoppedEnd}
+use Rattle.rp_answer.specs.declared.reply.RowEnd.{RowEnd}
+use Rattle.rp_answer.specs.declared.reply.RowEnd.TheVariants.{Refused, Stopped as StoppedEnd}
 use Rattle.rp_rows.specs.Lots.{list_lines, TellsHistory}
-use Rattle.rp_rows.specs.Replies.{Tells}
+use Rattle.rp_answer.specs.Replies.{Tells}
 
 -- and their lines
 pub bare_lines : (lots : List (Lot (Unit {0}))) → lot_lines (map bare_lot lots) ≡ lot_lines lots

@@ -4,8 +4,8 @@ use Rattle.rp_geometry.specs.sets.Shape.{Part}
 use Rattle.rp_model.specs.commands.Verdict.{Verdict, part_lines_of, piece_lines}
 use Rattle.rp_lists.specs.Listed.{Listed}
 use Rattle.rp_unionfind.specs.Lists.{lists_of}
-use Rattle.rp_text.specs.declared.answer.Verdict.{Verdict as CodeVerdict}
-use Rattle.rp_text.specs.Views.{verdict_of}
+use Rattle.rp_answer.specs.declared.answer.Verdict.{Verdict as CodeVerdict}
+use Rattle.rp_answer.specs.Views.{verdict_of}
 
 -- a line behind others
 pub line_told : (vs : List CodeVerdict) (v : CodeVerdict) (rest : List Verdict) → map verdict_of (vs ++ v ∷ []) ++ rest ≡ map verdict_of vs ++ verdict_of v ∷ rest

@@ -1,4 +1,3 @@
 pub mod Access
 pub mod Asked
 pub mod Lots
-pub mod Replies

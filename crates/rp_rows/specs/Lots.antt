@@ -7,9 +7,9 @@ use Rattle.rp_model.specs.commands.Verdict.{Verdict, lot_lines}
 use Rattle.rp_model.specs.commands.Row.{row_history}
 use Rattle.rp_history.specs.Lots.{lots_in}
 use Rattle.rp_lists.specs.Listed.{Listed}
-use Rattle.rp_text.specs.declared.answer.Verdict.{Verdict as CodeVerdict}
-use Rattle.rp_rows.specs.declared.reply.RowEnd.{RowEnd}
-use Rattle.rp_rows.specs.Replies.{Tells}
+use Rattle.rp_answer.specs.declared.answer.Verdict.{Verdict as CodeVerdict}
+use Rattle.rp_answer.specs.declared.reply.RowEnd.{RowEnd}
+use Rattle.rp_answer.specs.Replies.{Tells}
 
 -- the lots with some ids, in the order of the ids
 abbrev pub lots_under : {S : Type 0} → List Label → List (Lot S) → List (Lot S)

@@ -4,14 +4,13 @@ ghost use Rattle.rp_geometry.specs.parts.Parts.{most_parts};
 ghost use Rattle.rp_model.specs.commands.Verdict.{part_lines_of, piece_lines, section_lines};
 ghost use Rattle.rp_cert.specs.Section.{slice_shown};
 ghost use Rattle.rp_unionfind.specs.Lists.{numbers_of};
-ghost use Rattle.rp_text.specs.Views.{verdict_of};
+ghost use Rattle.rp_answer.specs.Views.{verdict_of};
 
-use crate::reply::one_line;
+use rp_answer::{Verdict, Verdicts, one_line};
 use rp_cert::Slice;
-use rp_queries::PieceList;
 use rp_lists::Listed;
+use rp_queries::PieceList;
 use rp_tester::Tests;
-use rp_text::{Verdict, Verdicts};
 use std::alloc::{AllocError, Global};
 
 /// The verdict lines of the parts of a form; the half-spaces are moved.

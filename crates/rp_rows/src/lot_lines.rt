@@ -4,15 +4,14 @@ ghost use Rattle.rp_model.specs.states.State.{lot_with_id, most_kept_parts};
 ghost use Rattle.rp_model.specs.commands.Verdict.{Verdict as ModelVerdict, neighbour_lines, lot_lines};
 ghost use Rattle.rp_history.specs.Lots.{lot_of};
 ghost use Rattle.rp_lotindex.specs.Owner.{owner_verdict};
-ghost use Rattle.rp_text.specs.Views.{verdict_of};
+ghost use Rattle.rp_answer.specs.Views.{verdict_of};
 ghost use Rattle.rp_rows.specs.Access.{told_access};
 ghost use Rattle.rp_rows.specs.Lots.{lots_under};
 
 use crate::access::Access;
-use crate::reply::one_line;
+use rp_answer::{Verdict, Verdicts, one_line};
 use rp_history::{History, LotLine};
 use rp_lists::{Name, Names};
-use rp_text::{Verdict, Verdicts};
 use std::alloc::{AllocError, Global};
 
 /// The verdict that tells an owner.

@@ -2,14 +2,13 @@
 ghost use Rattle.std.specs.Prelude.{◌≡◌, ◌≤◌, ◌++◌, IfOk, OnOk, length, map};
 ghost use Rattle.rp_model.specs.states.State.{most_kept_parts, live_lots};
 ghost use Rattle.rp_model.specs.commands.Verdict.{lot_lines};
-ghost use Rattle.rp_text.specs.Views.{verdict_of};
+ghost use Rattle.rp_answer.specs.Views.{verdict_of};
 ghost use Rattle.rp_rows.specs.Lots.{list_lines, TellsHistory};
 
 use crate::lot_lines::{add_each, lot_line};
-use crate::reply::{RowEnd, one_line};
+use rp_answer::{Refusal, RowEnd, Verdict, Verdicts, one_line};
 use rp_history::History;
 use rp_lists::Name;
-use rp_text::{Refusal, Verdict, Verdicts};
 use std::alloc::{AllocError, Global};
 
 /// `history`: the lot and all lots that it was made from.

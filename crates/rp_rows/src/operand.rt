@@ -6,14 +6,13 @@ ghost use Rattle.rp_language.specs.Expression.{IsKeptExpression, first_unknown_a
 ghost use Rattle.rp_walks.specs.Walk.{Walk};
 ghost use Rattle.rp_model.specs.commands.Row.{Reply};
 ghost use Rattle.rp_rows.specs.Asked.{both_of};
-ghost use Rattle.rp_rows.specs.Replies.{GoesOn, row_of_forms};
+ghost use Rattle.rp_answer.specs.Replies.{GoesOn, row_of_forms};
 
-use crate::reply::RowEnd;
+use rp_answer::{Refusal, RowEnd};
 use rp_command::Expr;
-use rp_queries::{Operand, first_unknown, operand_of};
 use rp_lists::Name;
+use rp_queries::{Operand, first_unknown, operand_of};
 use rp_tester::{Named, Tests};
-use rp_text::Refusal;
 use std::alloc::Global;
 
 /// The first name or lot of two expressions, in reading order, that isn't there.

@@ -3,18 +3,16 @@ ghost use Rattle.rp_command.specs.Views.{expression_of};
 ghost use Rattle.rp_language.specs.Expression.{IsKeptExpression};
 ghost use Rattle.rp_model.specs.commands.Row.{row_empty, row_pieces, row_relation};
 ghost use Rattle.rp_rows.specs.Asked.{row_asking, row_of_member, row_show};
-ghost use Rattle.rp_rows.specs.Replies.{Tells, row_of_form, row_of_forms};
+ghost use Rattle.rp_answer.specs.Replies.{Tells, row_of_form, row_of_forms};
 
-use crate::form::row_form;
 use crate::lines::{part_lines, piece_lines};
 use crate::operand::row_operands;
 use crate::relation::relation;
-use crate::reply::{RowEnd, yes_or_no};
+use rp_answer::{Refusal, RowEnd, Verdicts, row_form, yes_or_no};
 use rp_command::Expr;
 use rp_queries::{Question, first_unknown, is_empty, is_member, pieces};
 use rp_space::Point;
 use rp_tester::{Named, Tests};
-use rp_text::{Refusal, Verdicts};
 use std::alloc::Global;
 
 /// `member`: whether `point` is a member of `region`, by signs. It rests on no test and has no limit. `Refused` exactly

@@ -3,13 +3,12 @@ ghost use Rattle.std.specs.Prelude.{◌≡◌};
 ghost use Rattle.rp_model.specs.commands.Verdict.{Verdict as ModelVerdict};
 ghost use Rattle.rp_model.specs.commands.Row.{row_relation};
 ghost use Rattle.rp_queries.specs.Relations.{relation_of};
-ghost use Rattle.rp_text.specs.Views.{verdict_of};
-ghost use Rattle.rp_rows.specs.Replies.{Tells};
+ghost use Rattle.rp_answer.specs.Views.{verdict_of};
+ghost use Rattle.rp_answer.specs.Replies.{Tells};
 
-use crate::reply::{RowEnd, one_line};
+use rp_answer::{Refusal, RowEnd, Verdict, Verdicts, one_line};
 use rp_queries::{Rcc8, found_relation};
 use rp_tester::Tests;
-use rp_text::{Refusal, Verdict, Verdicts};
 use std::alloc::Global;
 
 /// The verdict line of the relation of two forms, of which each must have a part.

@@ -5,8 +5,8 @@ use Rattle.std.specs.List.{list_any}
 use Rattle.rp_reports.specs.Output.{is_refused_line}
 use Rattle.rp_geometry.specs.searches.ProofLine.{ProofLine, in_line, out_line, at_line, apart_line, drop_line, box_line}
 use Rattle.rp_reports.specs.Text.{lines_with, echo_text, proof_text, proof_texts, verdict_text, Answer}
-use Rattle.rp_text.specs.Views.{verdict_of}
-use Rattle.rp_text.specs.declared.answer.Verdict.{Verdict}
+use Rattle.rp_answer.specs.Views.{verdict_of}
+use Rattle.rp_answer.specs.declared.answer.Verdict.{Verdict}
 
 -- whether the verdict refuses its line
 abbrev pub refuses : Verdict → Bool

@@ -2,7 +2,7 @@
 ghost use Rattle.std.specs.Prelude.{◌≡◌, ◌≤◌, IfErr, IfOk, OnErr, OnOk};
 ghost use Rattle.std.specs.List.{list_any};
 ghost use Rattle.rp_io.specs.Bytes.{Appends, AppendsPrefix};
-ghost use Rattle.rp_text.specs.Views.{answer_of};
+ghost use Rattle.rp_answer.specs.Views.{answer_of};
 ghost use Rattle.rp_reports.specs.Output.{is_refused_line};
 ghost use Rattle.rp_reports.specs.Text.{answer_lines, text_of_lines};
 ghost use Rattle.rp_scripts.specs.Output.{HasOutputCause};
@@ -10,8 +10,9 @@ ghost use Rattle.rp_scripts.specs.Output.{HasOutputCause};
 use crate::fault::OutputFault;
 use crate::output::put_lines;
 use crate::refusal::has_refusal;
+use rp_answer::Answer;
 use rp_io::Sink;
-use rp_text::{Answer, write_answer};
+use rp_text::write_answer;
 
 /// Puts the report lines of `answer` to `sink`, and where `brief` those without the proof lines; `text` is a buffer for
 /// them. Answers whether one of them is a refusal; `Put` only where a put failed, `Memory` only for want of memory, and

@@ -1,12 +1,12 @@
 //! What is counted in the report of a script, answer by answer, and the lines that tell it.
 ghost use Rattle.std.specs.Prelude.{◌≡◌, ◌+◌, ◌^◌, ◌<◌, ◌++◌, OnOk};
-ghost use Rattle.rp_text.specs.Views.{answer_of};
+ghost use Rattle.rp_answer.specs.Views.{answer_of};
 ghost use Rattle.rp_reports.specs.Text.{text_of_lines};
 ghost use Rattle.rp_scripts.specs.Trial.{AreBounded, counted, summary_lines};
 
 use crate::refusal::count_refusals;
 use crate::text::write_count;
-use rp_text::Answer;
+use rp_answer::Answer;
 use std::alloc::AllocError;
 
 /// What is counted in a report, as far as it has come.

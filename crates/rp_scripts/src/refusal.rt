@@ -4,9 +4,9 @@ ghost use Rattle.std.specs.List.{list_any};
 ghost use Rattle.rp_reports.specs.Made.{is_refusal};
 ghost use Rattle.rp_reports.specs.Output.{is_refused_line};
 ghost use Rattle.rp_reports.specs.Text.{answer_lines, verdict_text};
-ghost use Rattle.rp_text.specs.Views.{answer_of, verdict_of};
+ghost use Rattle.rp_answer.specs.Views.{answer_of, verdict_of};
 
-use rp_text::{Answer, Verdict};
+use rp_answer::{Answer, Verdict};
 
 /// Whether a verdict refuses its line.
 fn is_refusal(verdict: &Verdict) -> bool

@@ -6,9 +6,9 @@ use Rattle.rp_geometry.specs.searches.ProofLine.{ProofLine}
 use Rattle.rp_reports.specs.Text.{verdict_text, proof_text, proof_texts, echo_text, items_text, line_end, text_of_lines, answer_lines}
 use Rattle.rp_cert.specs.declared.proof.Proof.{Proof}
 use Rattle.rp_cert.specs.Lines.{line_of}
-use Rattle.rp_text.specs.declared.answer.Verdict.{Verdict}
+use Rattle.rp_answer.specs.declared.answer.Verdict.{Verdict}
 use Rattle.rp_text.specs.LineTexts.{lines_text}
-use Rattle.rp_text.specs.Views.{verdict_of}
+use Rattle.rp_answer.specs.Views.{verdict_of}
 
 -- a number and others behind spaces are numbers with one space between each two
 pub spaced_text : {X : Type 0} (text : X → List ℕ) (first : List ℕ) (xs : List X) → first ++ items_text text xs ≡ spaced (first ∷ map text xs)

@@ -2,4 +2,3 @@ pub mod Fronts
 pub mod LineTexts
 pub mod Readers
 pub mod SliceReaders
-pub mod Views

@@ -1,12 +1,11 @@
 #![tactic(auto)]
-//! Answers, their text in the report, and the lines of a report, read back.
+//! The text of answers in a report, and the lines of a report, read back.
 //!
 //! [`write_answer`] appends the text of an answer, byte for byte: its echo, its proof lines unless it is to be brief,
 //! and its verdict lines; where memory ran out, a front of it. A proof line, a line that shows a slice and an echo are
 //! read exactly where they are spelled so, and no memory is taken for it. Calls that answer `AllocError` do so only for
 //! want of memory.
 
-mod answer;
 mod echo;
 mod items;
 mod lot;
@@ -21,7 +20,6 @@ mod space;
 mod text;
 mod verdict;
 
-pub use answer::{Answer, Echo, Refusal, Verdict, Verdicts};
 pub use echo::read_echo;
 pub use proof_line::read_proof;
 pub use slice_line::read_slice;

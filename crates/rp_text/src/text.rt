@@ -2,13 +2,13 @@
 ghost use Rattle.std.specs.Prelude.{◌∷◌, [], ◌++◌};
 ghost use Rattle.rp_reports.specs.Text.{echo_text, line_end, text_of_lines, answer_lines, verdict_text};
 ghost use Rattle.rp_text.specs.Fronts.{Writes};
-ghost use Rattle.rp_text.specs.Views.{answer_of, verdict_of};
+ghost use Rattle.rp_answer.specs.Views.{answer_of, verdict_of};
 
-use crate::answer::{Answer, Verdict};
 use crate::items::{WriteText, write_lines};
 use crate::pieces::append_all;
 use crate::proof::write_told_proofs;
 use itoa::Buffer;
+use rp_answer::{Answer, Verdict};
 use std::alloc::AllocError;
 
 /// Appends the echo line of an answer; it is the number alone where nothing is echoed.

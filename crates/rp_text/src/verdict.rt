@@ -4,12 +4,12 @@ ghost use Rattle.rp_command.specs.Views.{fault_of};
 ghost use Rattle.rp_reports.specs.Text.{fault_word, refusal_text, verdict_text};
 ghost use Rattle.rp_model.specs.commands.Verdict.{children_overlap, level};
 ghost use Rattle.rp_text.specs.Fronts.{Writes};
-ghost use Rattle.rp_text.specs.Views.{refusal_of, verdict_of};
+ghost use Rattle.rp_answer.specs.Views.{refusal_of, verdict_of};
 
-use crate::answer::{Refusal, Verdict};
 use crate::items::{WriteText, write_operand, write_operands};
 use crate::numbers::write_spaced;
 use crate::pieces::append;
+use rp_answer::{Refusal, Verdict};
 use rp_command::Why;
 use rp_lists::Name;
 use std::alloc::AllocError;

@@ -1,11 +1,9 @@
+use rp_answer::{Answer, Refusal, Verdict, Verdicts};
 use rp_cert::{Proof, Proofs};
 use rp_command::Why;
 use rp_lists::Name;
 use rp_space::{Half, Halves};
-use rp_text::{
-    Answer, Refusal, Verdict, Verdicts, read_echo, read_proof, read_slice, write_answer,
-    write_verdict,
-};
+use rp_text::{read_echo, read_proof, read_slice, write_answer, write_verdict};
 use std::alloc::Global;
 use std::process::Abort;
 

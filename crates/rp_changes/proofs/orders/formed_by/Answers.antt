@@ -1,5 +1,5 @@
 use Rattle.std.proofs.Common.{subst}
-use Rattle.rp_rows.specs.Replies.{GoesOn, row_of_form}
+use Rattle.rp_answer.specs.Replies.{GoesOn, row_of_form}
 use Rattle.rp_command.specs.Views.{expression_of}
 use Rattle.rp_changes.proofs.orders.formed_by.Goals as goal
 

@@ -1,6 +1,6 @@
 use Rattle.std.proofs.Common.{map, sym, ◌∙◌, subst}
 use Rattle.std.proofs.lemmas.Result.{err_from_is_err_and}
-use Rattle.rp_rows.specs.Replies.{EndsBy, GoesOn}
+use Rattle.rp_answer.specs.Replies.{EndsBy, GoesOn}
 use Rattle.rp_changes.specs.Children.{formed_child}
 use Rattle.rp_changes.specs.Steps.{apart_tested, cover_tested}
 use Rattle.rp_changes.proofs.subdividing.check_division.Goals as goal

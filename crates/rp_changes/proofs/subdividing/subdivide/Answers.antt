@@ -5,7 +5,7 @@ use Rattle.rp_language.specs.Name.{Label}
 use Rattle.rp_walks.specs.Walk.{done, pass, Walk, Tester}
 use Rattle.rp_model.specs.states.State.{PlainState, Change, layer_with_id, lots_replaced}
 use Rattle.rp_model.specs.commands.Row.{Reply, FormedChild, accepted, new_lot, parts_with_id, row_subdivide}
-use Rattle.rp_rows.specs.Replies.{EndsBy}
+use Rattle.rp_answer.specs.Replies.{EndsBy}
 use Rattle.rp_lots.proofs.Names.{parts_here}
 use Rattle.rp_changes.specs.Children.{formed_child, formed_children}
 use Rattle.rp_changes.specs.Steps.{inside_tested, apart_tested, cover_tested, children_checked}

@@ -1,7 +1,7 @@
 use Rattle.std.proofs.Common.{◌<◌, ◌≤◌, ◌++◌, List, ℕ, length, ap, ◌∙◌, arith}
 use Rattle.std.proofs.lemmas.Result.{err_from_is_err_and}
 use Rattle.rp_reports.specs.Text.{verdict_text}
-use Rattle.rp_text.specs.Views.{verdict_of}
+use Rattle.rp_answer.specs.Views.{verdict_of}
 use Rattle.rp_checker.proofs.Ahead.{verdict_taken, verdict_halts, verdicts_end}
 use Rattle.rp_checker.proofs.lines.follow_verdicts.Goals as goal
 

@@ -8,9 +8,9 @@ use Rattle.rp_command.specs.Views.{command_of}
 use Rattle.rp_walks.specs.Walk.{Outcome}
 use Rattle.rp_model.specs.commands.Row.{Reply as ModelReply, row, row_access, row_audit, row_neighbours, row_section}
 use Rattle.rp_reports.specs.Check.{Trail, line_tester}
-use Rattle.rp_text.specs.declared.answer.Verdict.{Verdict as CodeVerdict}
-use Rattle.rp_rows.specs.declared.reply.RowEnd.{RowEnd}
-use Rattle.rp_rows.specs.Replies.{Tells}
+use Rattle.rp_answer.specs.declared.answer.Verdict.{Verdict as CodeVerdict}
+use Rattle.rp_answer.specs.declared.reply.RowEnd.{RowEnd}
+use Rattle.rp_answer.specs.Replies.{Tells}
 use Rattle.rp_ledger.specs.declared.reply.Row.{Row as CodeRow}
 use Rattle.rp_ledger.specs.Rows.{rest_of, IsReadyRow}
 use Rattle.rp_register.specs.declared.followed.Followed.{Followed}

@@ -11,7 +11,7 @@ use Rattle.rp_command.proofs.Children.{kept_shapes}
 use Rattle.rp_model.specs.commands.Row.{row, row_empty, row_pieces, row_relation}
 use Rattle.rp_queries.specs.declared.question.Question.TheVariants.{Equal, Within, Overlap, Contact}
 use Rattle.rp_rows.specs.Asked.{row_asking, row_of_member, row_show}
-use Rattle.rp_rows.specs.Replies.{Tells, GoesOn, row_of_form, row_of_forms}
+use Rattle.rp_answer.specs.Replies.{Tells, GoesOn, row_of_form, row_of_forms}
 use Rattle.rp_ledger.specs.Rows.{rest_of}
 use Rattle.rp_ledger.proofs.Told.{question_told, change_told, told_ready, changed_ready}
 use Rattle.rp_ledger.proofs.rows.carry_out.Goals as goal

@@ -2,7 +2,7 @@ use Rattle.std.proofs.Common.{◌≡◌, map, ap, ◌∙◌, subst, arith, to_z,
 use Rattle.std.proofs.lemmas.Int.{to_z-of_z}
 use mir.Syntax.{w32}
 use Rattle.rp_reports.specs.Check.{Trail, taken, slices_told}
-use Rattle.rp_text.specs.Views.{verdict_of}
+use Rattle.rp_answer.specs.Views.{verdict_of}
 use Rattle.rp_cert.specs.Section.{slice_shown}
 use Rattle.rp_tester.specs.declared.stopped.Stopped.{Stopped}
 use Rattle.rp_tester.specs.declared.stopped.Stopped.TheVariants.{Wrong}

@@ -4,8 +4,8 @@ use Rattle.rp_algebra.proofs.Results.{on_ok}
 use Rattle.rp_io.specs.Bytes.{Appends}
 use Rattle.rp_reports.specs.Output.{is_refused_line}
 use Rattle.rp_reports.specs.Text.{Answer, answer_lines, text_of_lines}
-use Rattle.rp_text.specs.declared.answer.Answer.{Answer as Written}
-use Rattle.rp_text.specs.Views.{answer_of}
+use Rattle.rp_answer.specs.declared.answer.Answer.{Answer as Written}
+use Rattle.rp_answer.specs.Views.{answer_of}
 use Rattle.rp_scripts.proofs.RefusalLemmas.{list_any-lines}
 use Rattle.rp_registrar.proofs.answers.answer_line.Goals as goal
 

@@ -2,9 +2,9 @@ use Rattle.std.proofs.Common.{◌≡◌, ◌∷◌, [], ◌++◌, ℕ, List, len
 use Rattle.std.proofs.lemmas.List.{length-map}
 use Rattle.std.specs.Vec.Iter.{into_iter_items}
 use Rattle.rp_model.specs.commands.Verdict.{Verdict, part_lines_of}
-use Rattle.rp_text.specs.declared.answer.Verdict.{Verdict as CodeVerdict}
-use Rattle.rp_text.specs.declared.answer.Verdict.TheVariants.{Parts, Part}
-use Rattle.rp_text.specs.Views.{verdict_of}
+use Rattle.rp_answer.specs.declared.answer.Verdict.{Verdict as CodeVerdict}
+use Rattle.rp_answer.specs.declared.answer.Verdict.TheVariants.{Parts, Part}
+use Rattle.rp_answer.specs.Views.{verdict_of}
 use Rattle.rp_rows.proofs.ToldLines.{line_told, lines_of_parts}
 use Rattle.rp_rows.proofs.lines.part_lines.Goals as goal
 

@@ -1,7 +1,7 @@
 use Rattle.std.proofs.Common.{◌≡◌, ◌++◌, map}
 use Rattle.std.specs.Vec.Iter.{into_iter_items}
 use Rattle.rp_model.specs.commands.Verdict.{Verdict, part_lines_of}
-use Rattle.rp_text.specs.Views.{verdict_of}
+use Rattle.rp_answer.specs.Views.{verdict_of}
 use Rattle.rp_rows.proofs.lines.part_lines.Given as goal
 
 -- the lines so far and those of the parts still to come are all lines

@@ -1,9 +1,9 @@
 use Rattle.std.proofs.Common.{◌≡◌, ◌∷◌, [], ◌++◌, ℕ, List, length, map, sym, ap, ◌∙◌}
 use Rattle.std.specs.Vec.Iter.{into_iter_items}
 use Rattle.rp_model.specs.commands.Verdict.{Verdict}
-use Rattle.rp_text.specs.declared.answer.Verdict.{Verdict as CodeVerdict}
-use Rattle.rp_text.specs.declared.answer.Verdict.TheVariants.{Pieces, Piece}
-use Rattle.rp_text.specs.Views.{verdict_of}
+use Rattle.rp_answer.specs.declared.answer.Verdict.{Verdict as CodeVerdict}
+use Rattle.rp_answer.specs.declared.answer.Verdict.TheVariants.{Pieces, Piece}
+use Rattle.rp_answer.specs.Views.{verdict_of}
 use Rattle.rp_lists.specs.Listed.{Listed}
 use Rattle.rp_rows.proofs.ToldLines.{line_told, lines_of_pieces}
 use Rattle.rp_rows.proofs.lines.piece_lines.Goals as goal

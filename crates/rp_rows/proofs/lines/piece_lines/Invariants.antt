@@ -1,7 +1,7 @@
 use Rattle.std.proofs.Common.{◌≡◌, ◌++◌, map}
 use Rattle.std.specs.Vec.Iter.{into_iter_items}
 use Rattle.rp_model.specs.commands.Verdict.{Verdict, piece_lines}
-use Rattle.rp_text.specs.Views.{verdict_of}
+use Rattle.rp_answer.specs.Views.{verdict_of}
 use Rattle.rp_unionfind.specs.Lists.{numbers_of}
 use Rattle.rp_rows.proofs.lines.piece_lines.Given as goal
 

@@ -2,9 +2,9 @@ use Rattle.std.proofs.Common.{◌∷◌, ◌++◌, List, map, sym, ap, ◌∙◌
 use Rattle.std.specs.Vec.Iter.{into_iter_items}
 use Rattle.rp_model.specs.commands.Verdict.{Verdict}
 use Rattle.rp_cert.specs.Section.{slice_shown}
-use Rattle.rp_text.specs.declared.answer.Verdict.{Verdict as CodeVerdict}
-use Rattle.rp_text.specs.declared.answer.Verdict.TheVariants.{Slice}
-use Rattle.rp_text.specs.Views.{verdict_of}
+use Rattle.rp_answer.specs.declared.answer.Verdict.{Verdict as CodeVerdict}
+use Rattle.rp_answer.specs.declared.answer.Verdict.TheVariants.{Slice}
+use Rattle.rp_answer.specs.Views.{verdict_of}
 use Rattle.rp_rows.proofs.ToldLines.{line_told}
 use Rattle.rp_rows.proofs.lines.slice_lines.Goals as goal
 

@@ -1,6 +1,6 @@
 use Rattle.std.proofs.Common.{◌≡◌, ◌++◌, map, drop}
 use Rattle.rp_model.specs.commands.Verdict.{lot_lines}
-use Rattle.rp_text.specs.Views.{verdict_of}
+use Rattle.rp_answer.specs.Views.{verdict_of}
 use Rattle.rp_rows.specs.Lots.{lots_under}
 use Rattle.rp_rows.proofs.lot_lines.add_each.Given as goal
 

@@ -1,6 +1,6 @@
 use Rattle.std.proofs.Common.{◌≡◌, ◌∷◌, ◌++◌, map, drop}
 use Rattle.rp_model.specs.commands.Verdict.{Verdict}
-use Rattle.rp_text.specs.Views.{verdict_of}
+use Rattle.rp_answer.specs.Views.{verdict_of}
 use Rattle.rp_rows.proofs.lot_lines.parcel_lines.Given as goal
 
 -- the lines so far and those of the ids still to come are all lines

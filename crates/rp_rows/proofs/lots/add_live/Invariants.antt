@@ -2,7 +2,7 @@ use Rattle.std.proofs.Common.{◌≡◌, ◌++◌, map, drop}
 use Rattle.rp_model.specs.states.State.{live_lots}
 use Rattle.rp_model.specs.commands.Verdict.{lot_lines}
 use Rattle.rp_lotindex.specs.Near.{lots_at}
-use Rattle.rp_text.specs.Views.{verdict_of}
+use Rattle.rp_answer.specs.Views.{verdict_of}
 use Rattle.rp_rows.proofs.lots.add_live.Given as goal
 
 -- the lines so far and those of the lots still to come are all lines

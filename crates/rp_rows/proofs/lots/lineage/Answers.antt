@@ -4,7 +4,7 @@ use Rattle.rp_walks.specs.Walk.{done}
 use Rattle.rp_model.specs.commands.Verdict.{Verdict, lot_lines}
 use Rattle.rp_model.specs.commands.Row.{reply_lines}
 use Rattle.rp_history.specs.Lots.{lots_in}
-use Rattle.rp_text.specs.Views.{verdict_of}
+use Rattle.rp_answer.specs.Views.{verdict_of}
 use Rattle.rp_rows.specs.Lots.{lots_under}
 use Rattle.rp_rows.proofs.Ancestors.{placed, no_history, its_history, history_lines, history_few}
 use Rattle.rp_rows.proofs.lots.lineage.Goals as goal

@@ -3,7 +3,7 @@ use Rattle.rp_algebra.proofs.Results.{on_ok}
 use Rattle.rp_io.specs.Bytes.{AppendsPrefix}
 use Rattle.rp_reports.specs.Machine.{step_answer}
 use Rattle.rp_reports.specs.Text.{Answer, answer_lines, text_of_lines}
-use Rattle.rp_text.specs.Views.{answer_of}
+use Rattle.rp_answer.specs.Views.{answer_of}
 use Rattle.rp_scripts.proofs.RunLemmas.{PutsAnswer-told}
 use Rattle.rp_scripts.proofs.SinkLemmas.{AppendsPrefix-nothing, OnErr-holds}
 use Rattle.rp_runner.proofs.run.run_line.Goals as goal

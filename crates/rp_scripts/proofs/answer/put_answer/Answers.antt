@@ -1,6 +1,6 @@
 use Rattle.std.proofs.Common.{◌≡◌, ℕ, List, ◌++◌, ap, ◌∙◌, subst}
 use Rattle.rp_io.specs.Bytes.{Appends, AppendsPrefix}
-use Rattle.rp_text.specs.Views.{answer_of}
+use Rattle.rp_answer.specs.Views.{answer_of}
 use Rattle.rp_reports.specs.Text.{answer_lines, text_of_lines}
 use Rattle.rp_scripts.proofs.SinkLemmas.{AppendsPrefix-nothing, OnErr-holds}
 use Rattle.rp_scripts.proofs.answer.put_answer.Goals as goal

@@ -1,6 +1,6 @@
 use Rattle.std.proofs.Common.{ap, sym, ◌∙◌}
 use Rattle.std.specs.List.{list_any}
-use Rattle.rp_text.specs.Views.{answer_of}
+use Rattle.rp_answer.specs.Views.{answer_of}
 use Rattle.rp_scripts.proofs.RefusalLemmas.{refuses, list_any-lines}
 use Rattle.rp_scripts.proofs.refusal.has_refusal.Goals as goal
 

@@ -4,9 +4,9 @@ use Rattle.rp_reports.specs.Text.{echo_text, line_end, proof_texts, text_of_line
 use Rattle.rp_cert.specs.declared.proof.Proof.{Proof}
 use Rattle.rp_cert.specs.Lines.{line_of}
 use Rattle.rp_command.proofs.Fronts.{front_before}
-use Rattle.rp_text.specs.declared.answer.Answer.{Answer}
-use Rattle.rp_text.specs.declared.answer.Verdict.{Verdict}
-use Rattle.rp_text.specs.Views.{answer_of}
+use Rattle.rp_answer.specs.declared.answer.Answer.{Answer}
+use Rattle.rp_answer.specs.declared.answer.Verdict.{Verdict}
+use Rattle.rp_answer.specs.Views.{answer_of}
 use Rattle.rp_text.proofs.FrontLemmas.{front_between, front_same, writes_third, writes_same}
 use Rattle.rp_text.proofs.LineLemmas.{verdicts_text, answer_text}
 use Rattle.rp_text.proofs.text.write_answer.Goals as goal

@@ -6,7 +6,7 @@ use Rattle.rp_language.specs.Grammar.{blank, bad, command, reading}
 use Rattle.rp_language.proofs.ReadBounds.{read_expressions_are_kept_spec, read_heights_are_kept_spec, read_children_are_few}
 use Rattle.rp_reports.specs.Report.{bad_answer}
 use Rattle.rp_reports.specs.Machine.{answer_read, step_answer, Running}
-use Rattle.rp_text.specs.Views.{answer_of}
+use Rattle.rp_answer.specs.Views.{answer_of}
 use Rattle.rp_command.specs.Views.{line_of, command_of, fault_of}
 use Rattle.rp_machine.proofs.LaterLemmas.{next_later}
 use Rattle.rp_machine.proofs.Told.{answer_as_read, after_as_read, after_where_ok}

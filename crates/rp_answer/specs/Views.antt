@@ -7,11 +7,11 @@ use Rattle.rp_history.specs.Lots.{lot_of}
 use Rattle.rp_command.specs.Views.{fault_of}
 use Rattle.rp_cert.specs.Lines.{line_of}
 use Rattle.rp_cert.specs.Section.{slice_shown}
-use Rattle.rp_text.specs.declared.answer.Refusal.{Refusal}
-use Rattle.rp_text.specs.declared.answer.Refusal.TheVariants.{Bad, Unknown, Known, Repeated, Layers, Same, Few, Empty, Limit, Overlaps, EmptySide, EmptyChild, Outside, ChildrenOverlap, Gap, EmptyRegion}
-use Rattle.rp_text.specs.declared.answer.Verdict.{Verdict}
-use Rattle.rp_text.specs.declared.answer.Verdict.TheVariants.{Yes, No, Ok, DC, EC, PO, EQ, TPP, NTPP, TPPi, NTPPi, Pieces, Piece, Parts, Part, Parcel, Nobody, Neighbours, Clear, Parcels, Lots, Lot, Sections, Slice, Access, NoAccess, Level, Refused}
-use Rattle.rp_text.specs.declared.answer.Answer.{Answer}
+use Rattle.rp_answer.specs.declared.answer.Refusal.{Refusal}
+use Rattle.rp_answer.specs.declared.answer.Refusal.TheVariants.{Bad, Unknown, Known, Repeated, Layers, Same, Few, Empty, Limit, Overlaps, EmptySide, EmptyChild, Outside, ChildrenOverlap, Gap, EmptyRegion}
+use Rattle.rp_answer.specs.declared.answer.Verdict.{Verdict}
+use Rattle.rp_answer.specs.declared.answer.Verdict.TheVariants.{Yes, No, Ok, DC, EC, PO, EQ, TPP, NTPP, TPPi, NTPPi, Pieces, Piece, Parts, Part, Parcel, Nobody, Neighbours, Clear, Parcels, Lots, Lot, Sections, Slice, Access, NoAccess, Level, Refused}
+use Rattle.rp_answer.specs.declared.answer.Answer.{Answer}
 
 -- the refusal of the model
 abbrev pub refusal_of : Refusal → ModelRefusal

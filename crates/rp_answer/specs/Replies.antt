@@ -9,13 +9,13 @@ use Rattle.rp_model.specs.commands.Row.{Reply, reply_lines, refusal, check, with
 use Rattle.rp_lists.specs.Listed.{Listed}
 use Rattle.rp_history.specs.declared.fault.NameFault.{NameFault}
 use Rattle.rp_history.specs.declared.fault.NameFault.TheVariants.{Known as NameKnown, Unknown as NameUnknown, Repeated as NameRepeated, Layers as NameLayers, Same as NameSame, Few as NameFew, Memory as NameMemory}
-use Rattle.rp_text.specs.declared.answer.Refusal.TheVariants.{Known, Unknown, Repeated, Layers, Same, Few}
-use Rattle.rp_text.specs.declared.answer.Verdict.{Verdict as CodeVerdict}
-use Rattle.rp_text.specs.Views.{refusal_of, verdict_of}
+use Rattle.rp_answer.specs.declared.answer.Refusal.TheVariants.{Known, Unknown, Repeated, Layers, Same, Few}
+use Rattle.rp_answer.specs.declared.answer.Verdict.{Verdict as CodeVerdict}
+use Rattle.rp_answer.specs.Views.{refusal_of, verdict_of}
 use Rattle.rp_tester.specs.declared.stopped.Stopped.TheVariants.{Memory}
 use Rattle.rp_tester.specs.Comes.{StopsBy}
-use Rattle.rp_rows.specs.declared.reply.RowEnd.{RowEnd}
-use Rattle.rp_rows.specs.declared.reply.RowEnd.TheVariants.{Refused, Stopped as StoppedEnd}
+use Rattle.rp_answer.specs.declared.reply.RowEnd.{RowEnd}
+use Rattle.rp_answer.specs.declared.reply.RowEnd.TheVariants.{Refused, Stopped as StoppedEnd}
 
 -- the row ends so, and the work is this
 abbrev pub EndsBy : {W : Type 0} → RowEnd → W → Outcome W Reply → Type 0

@@ -131,7 +131,7 @@ impl Answer {
     ghost use Rattle.rp_model.specs.commands.Verdict.{refused, limit};
     ghost use Rattle.rp_reports.specs.Report.{blank_answer};
     ghost use Rattle.rp_cert.specs.Lines.{line_of};
-    ghost use Rattle.rp_text.specs.Views.{verdict_of, answer_of};
+    ghost use Rattle.rp_answer.specs.Views.{verdict_of, answer_of};
 
     /// The answer to line `n`, which is blank: it says nothing.
     pub fn blank(alloc: Global, n: u32) -> Answer

@@ -1,6 +1,6 @@
 use Rattle.rp_command.specs.Views.{expression_of}
-use Rattle.rp_rows.proofs.ShortForms.{made_form_is_short}
-use Rattle.rp_rows.proofs.form.short_form.Goals as goal
+use Rattle.rp_answer.proofs.ShortForms.{made_form_is_short}
+use Rattle.rp_answer.proofs.form.short_form.Goals as goal
 
 pub returns-clause-few : goal.returns-clause-few
 returns-clause-few g c =

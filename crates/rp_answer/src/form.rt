@@ -8,13 +8,13 @@ ghost use Rattle.rp_walks.specs.Walk.{Walk};
 ghost use Rattle.rp_walks.specs.Form.{form};
 ghost use Rattle.rp_model.specs.commands.Row.{Reply};
 ghost use Rattle.rp_tester.specs.Comes.{Comes};
-ghost use Rattle.rp_rows.specs.Replies.{GoesOn, row_of_form};
+ghost use Rattle.rp_answer.specs.Replies.{GoesOn, row_of_form};
 
+use crate::answer::Refusal;
 use crate::reply::RowEnd;
 use rp_command::Expr;
 use rp_queries::{first_unknown, formed};
 use rp_tester::{Named, Stopped, Tests};
-use rp_text::Refusal;
 use std::alloc::Global;
 
 /// The form of `region`, with what `named` knows of names and lots: its parts, at most 1,024, made by `tests` in

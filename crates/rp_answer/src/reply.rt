@@ -1,11 +1,11 @@
 //! What a question comes to: verdict lines, or why it ends.
 ghost use Rattle.std.specs.Prelude.{◌≡◌, ◌∷◌, [], map, IfOk};
 ghost use Rattle.rp_model.specs.commands.Row.{reply_lines, yes_or_no};
-ghost use Rattle.rp_text.specs.Views.{verdict_of};
+ghost use Rattle.rp_answer.specs.Views.{verdict_of};
 
+use crate::answer::{Refusal, Verdict, Verdicts};
 use rp_history::NameFault;
 use rp_tester::Stopped;
-use rp_text::{Refusal, Verdict, Verdicts};
 use std::alloc::{AllocError, Global};
 use std::fmt;
 use thiserror::Error;
@@ -29,7 +29,7 @@ impl fmt::Debug for RowEnd {
 
 impl From<Stopped> for RowEnd {
     ghost use Rattle.std.specs.Prelude.{◌≡◌};
-    ghost use Rattle.rp_rows.specs.declared.reply.RowEnd.TheVariants.{Stopped as StoppedEnd};
+    ghost use Rattle.rp_answer.specs.declared.reply.RowEnd.TheVariants.{Stopped as StoppedEnd};
 
     ghost from_gives = { λ x e. e ≡ StoppedEnd x };
 
@@ -40,7 +40,7 @@ impl From<Stopped> for RowEnd {
 
 impl From<AllocError> for RowEnd {
     ghost use Rattle.std.specs.Prelude.{◌≡◌};
-    ghost use Rattle.rp_rows.specs.declared.reply.RowEnd.TheVariants.{Stopped as StoppedEnd};
+    ghost use Rattle.rp_answer.specs.declared.reply.RowEnd.TheVariants.{Stopped as StoppedEnd};
     ghost use Rattle.rp_tester.specs.declared.stopped.Stopped.TheVariants.{Memory};
 
     ghost from_gives = { λ x e. e ≡ StoppedEnd (Memory x) };
@@ -52,7 +52,7 @@ impl From<AllocError> for RowEnd {
 
 impl From<NameFault> for RowEnd {
     ghost use Rattle.std.specs.Prelude.{◌≡◌};
-    ghost use Rattle.rp_rows.specs.Replies.{end_of_names};
+    ghost use Rattle.rp_answer.specs.Replies.{end_of_names};
 
     ghost from_gives = { λ x e. e ≡ end_of_names x };
 
