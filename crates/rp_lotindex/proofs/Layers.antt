@@ -1,12 +1,16 @@
--- What meets before boxes are moved into a cube meets after it.
-use Rattle.std.proofs.Common.{◌≡◌, ℕ, ◌<◌, ◌≤◌, ◌/◌, ◌%◌, ℤ, pos, negsuc, ◌+ℤ◌, unsigned_abs, Bool, true, false, cond, refl, arith}
-use Rattle.std.specs.Prelude.{int_le}
+-- What meets before boxes are turned and moved into a cube meets after it.
+use Rattle.std.proofs.Common.{◌≡◌, ℕ, ◌<◌, ◌≤◌, ◌/◌, ◌%◌, ℤ, pos, negsuc, ◌+ℤ◌, ◌+◌, unsigned_abs, Bool, true, false, ◌&&◌, cond, refl, arith}
+use Rattle.std.specs.Prelude.{int_le, int_lt}
 use Rattle.std.proofs.lemmas.Int.{ints}
 use Rattle.rp_algebra.specs.Within.{IsWithin}
+use Rattle.rp_algebra.proofs.Listed.{Listed, first, later}
 use Rattle.rp_algebra.proofs.Tests.{both_follow, and_first, and_second}
 use Rattle.rp_geometry.specs.Geometry.{IntegerBox}
 use Rattle.rp_boxindex.specs.Meeting.{is_below, do_meet}
-use Rattle.rp_lotindex.specs.Layers.{step_of, is_near_domain, moved_low, moved_high, moved_by, moved_to}
+use Rattle.rp_lotindex.specs.declared.axis.Axis.{Axis}
+use Rattle.rp_lotindex.specs.declared.axis.Axis.TheVariants.{X, Y, Z}
+use Rattle.rp_lotindex.specs.Turns.{turned}
+use Rattle.rp_lotindex.specs.Layers.{step_of, is_near_domain, moved_low, moved_high, moved_by, moved_to, turn_number, moved_in, in_turns}
 
 -- ---- one side below another
 
@@ -57,8 +61,46 @@ pub step_within : (n : ℕ) → n < 64 → IsWithin 2113929216 (step_of n)
 step_within n h = record { abs_le = omega (arith, ints) }
 
 -- what meets does so in the cube of a number
-pub moved_to_meet : (closed : Bool) (n : ℕ) (b c : IntegerBox) → do_meet closed b c ≡ true → do_meet closed (moved_to n b) (moved_to n c) ≡ true
+moved_to_meet : (closed : Bool) (n : ℕ) (b c : IntegerBox) → do_meet closed b c ≡ true → do_meet closed (moved_to n b) (moved_to n c) ≡ true
 unfolding moved_to
 moved_to_meet closed n b c h =
     moved_by_meet closed (step_of (n % 64)) (step_of (n / 64 % 64)) (step_of (n / 4096 % 64))
     (step_within (n % 64) (omega arith)) (step_within (n / 64 % 64) (omega arith)) (step_within (n / 4096 % 64) (omega arith)) b c h
+
+-- ---- boxes that are turned
+
+-- six tests pass in another order, as the second axis comes first
+second_first : (a b c d e f : Bool) → (((((a && b) && c) && d) && e) && f) ≡ true → (((((c && d) && a) && b) && e) && f) ≡ true
+second_first true true true true e f h = h
+second_first true true true false e f h = h
+second_first true true false d e f h = h
+second_first true false c d e f h = absurd (cc)
+second_first false b c d e f h = absurd (cc)
+
+-- or the third one
+third_first : (a b c d e f : Bool) → (((((a && b) && c) && d) && e) && f) ≡ true → (((((e && f) && c) && d) && a) && b) ≡ true
+third_first true true true true true true h = refl
+third_first true true true true true false h = h
+third_first true true true true false f h = h
+third_first true true true false e f h = absurd (cc)
+third_first true true false d e f h = absurd (cc)
+third_first true false c d e f h = absurd (cc)
+third_first false b c d e f h = absurd (cc)
+
+-- what meets does so in each turn
+turned_meet : (closed : Bool) (a : Axis) (b c : IntegerBox) → do_meet closed b c ≡ true → do_meet closed (turned a b) (turned a c) ≡ true
+turned_meet closed X b c h = h
+turned_meet false Y b c h = second_first (int_lt b.x1 c.x2) (int_lt c.x1 b.x2) (int_lt b.y1 c.y2) (int_lt c.y1 b.y2) (int_lt b.z1 c.z2) (int_lt c.z1 b.z2) h
+turned_meet true Y b c h = second_first (int_le b.x1 c.x2) (int_le c.x1 b.x2) (int_le b.y1 c.y2) (int_le c.y1 b.y2) (int_le b.z1 c.z2) (int_le c.z1 b.z2) h
+turned_meet false Z b c h = third_first (int_lt b.x1 c.x2) (int_lt c.x1 b.x2) (int_lt b.y1 c.y2) (int_lt c.y1 b.y2) (int_lt b.z1 c.z2) (int_lt c.z1 b.z2) h
+turned_meet true Z b c h = third_first (int_le b.x1 c.x2) (int_le c.x1 b.x2) (int_le b.y1 c.y2) (int_le c.y1 b.y2) (int_le b.z1 c.z2) (int_le c.z1 b.z2) h
+
+-- and in the cube for it
+pub moved_in_meet : (closed : Bool) (a : Axis) (n : ℕ) (b c : IntegerBox) → do_meet closed b c ≡ true → do_meet closed (moved_in a n b) (moved_in a n c) ≡ true
+moved_in_meet closed a n b c h = moved_to_meet closed (n % 262144 + turn_number a) (turned a b) (turned a c) (turned_meet closed a b c h)
+
+-- a box in one turn is one of those in each
+pub turn_listed : (a : Axis) (n : ℕ) (b : IntegerBox) → Listed (moved_in a n b) (in_turns n b)
+turn_listed X n b = first
+turn_listed Y n b = later first
+turn_listed Z n b = later (later first)

@@ -9,7 +9,7 @@ use Rattle.std.proofs.lemmas.Bool.{or_cases, leb-true}
 use Rattle.std.proofs.lemmas.Bool.Decides.{nat_tests}
 use Rattle.std.proofs.lemmas.Map.Keys.{sorted_head, sorted_tail}
 use Rattle.std.proofs.lemmas.Option.{slice_get-map, slice_get_within}
-use Rattle.rp_algebra.proofs.Listed.{Listed, first, later, all_of, all_map}
+use Rattle.rp_algebra.proofs.Listed.{Listed, first, later, all_of, all_map, listed_left, listed_right}
 use Rattle.rp_algebra.proofs.Tests.{and_first, and_second, false_not_true, false_unless}
 use Rattle.rp_geometry.specs.Geometry.{RationalPoint, IntegerBox, is_in_cell, is_cube_point, all_hold}
 use Rattle.rp_geometry.specs.sets.Shape.{Shape, Part}
@@ -26,16 +26,16 @@ use Rattle.rp_boxindex.specs.Boxes.{Boxes}
 use Rattle.rp_boxindex.specs.Meeting.{do_meet, meeting_ids, first_that}
 use Rattle.rp_boxindex.proofs.Exact.{meeting_ids_rise_spec}
 use Rattle.rp_lotindex.specs.declared.moment.Moment.{Moment}
-use Rattle.rp_lotindex.specs.declared.stretch.Stretch.{Stretch}
 use Rattle.rp_lotindex.specs.declared.moment.Moment.TheVariants.{Now, After}
 use Rattle.rp_lotindex.specs.Indexed.{boxes_of_parts, box_at, box_by, IsIndexOf}
-use Rattle.rp_lotindex.specs.Layers.{cube_number, past_number, moved, moved_past}
+use Rattle.rp_lotindex.specs.Turns.{axis_of}
+use Rattle.rp_lotindex.specs.Layers.{cube_number, past_number, moved, moved_in, moved_past, in_turns}
 use Rattle.rp_lotindex.specs.Stretches.{stretch_of, stretches_with}
-use Rattle.rp_lotindex.specs.Owner.{is_there, is_there_at, boxes_asked, lesser_of, first_in, owner_verdict, IsLine, KnowsOwners, BoxesHold, IsOwner}
+use Rattle.rp_lotindex.specs.Owner.{is_there, is_there_at, boxes_past, boxes_asked, lesser_of, first_in, owner_verdict, IsLine, KnowsOwners, BoxesHold, IsOwner}
 use Rattle.rp_lotindex.proofs.Hulls.{listed_image, part_boxed, wider_meet}
-use Rattle.rp_lotindex.proofs.Layers.{moved_to_meet}
+use Rattle.rp_lotindex.proofs.Layers.{moved_in_meet, turn_listed}
 use Rattle.rp_lotindex.proofs.Boxed.{lot_box}
-use Rattle.rp_lotindex.proofs.Stretches.{stretch_listed}
+use Rattle.rp_lotindex.proofs.Stretches.{stretch_listed, past_listed}
 use Rattle.rp_lotindex.proofs.Reached.{box_reached}
 
 -- ---- the boxes of sound lots
@@ -230,18 +230,26 @@ record IsAsked (m : Moment) (y : Label) (unit hull : IntegerBox) (born : ℕ) (o
   meets : do_meet false box (box_until y born hull o) ≡ true
 
 asked : (m : Moment) (y : Label) (unit hull : IntegerBox) (l : Lot (Unit {0})) → IsLine m → do_meet false unit hull ≡ true → is_there m l ≡ true → (o : Option ℕ) → l.ended ≡ o → IsAsked m y unit hull l.born o
-asked Now y unit hull l line h e None f = record { box = moved y unit; listed = first; meets = moved_to_meet false (cube_number y) unit hull h }
+asked Now y unit hull l line h e None f =
+    let axis = axis_of hull in
+    record { box = moved_in axis (cube_number y) unit; listed = turn_listed axis (cube_number y) unit; meets = moved_in_meet false axis (cube_number y) unit hull h }
 asked Now y unit hull l line h e (Some t) f = absurd (let g : is_none (Some t) ≡ true = sym (ap (λ (o : Option ℕ). is_none o) f) ∙ e in cc (g))
-asked (After n) y unit hull l line h e None f = record { box = moved y unit; listed = first; meets = moved_to_meet false (cube_number y) unit hull h }
+asked (After n) y unit hull l line h e None f =
+    let axis = axis_of hull in
+    let box = moved_in axis (cube_number y) unit in
+    record { box = box; listed = listed_left box (in_turns (cube_number y) unit) (boxes_past y unit (stretches_with n)) (turn_listed axis (cube_number y) unit); meets = moved_in_meet false axis (cube_number y) unit hull h }
 asked (After n) y unit hull l line h e (Some t) f =
     let s = stretch_of l.born t in
     let low : l.born ≤ n = leb-true l.born n (and_first (nat_le l.born n) (ends_later n l.ended) e) in
     let later_end : nat_lt n t ≡ true = sym (ap (λ (o : Option ℕ). ends_later n o) f) ∙ and_second (nat_le l.born n) (ends_later n l.ended) e in
     let high : n < t = grind (arith, nat_tests) in
+    let axis = axis_of hull in
+    let box = moved_in axis (past_number y s) unit in
+    let stretch = stretch_listed 31 0 (l.born / 2) (n / 2) (t / 2) (omega (arith, low)) (omega (arith, high)) (omega (arith, line)) in
     record {
-      box = moved_past y s unit;
-      listed = later (listed_image (λ (s : Stretch). moved_past y s unit) s (stretches_with n) (stretch_listed 31 0 (l.born / 2) (n / 2) (t / 2) (omega (arith, low)) (omega (arith, high)) (omega (arith, line))));
-      meets = moved_to_meet false (past_number y s) unit hull h;
+      box = box;
+      listed = listed_right box (in_turns (cube_number y) unit) (boxes_past y unit (stretches_with n)) (past_listed y unit s (stretches_with n) stretch box (turn_listed axis (past_number y s) unit));
+      meets = moved_in_meet false axis (past_number y s) unit hull h;
     }
 
 -- a lot is there without its parts as with them

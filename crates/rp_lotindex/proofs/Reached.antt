@@ -1,5 +1,5 @@
 -- The places whose boxes an index answers are those of lots of which a box meets one of some boxes, so of all that have a part which may meet one of a list.
-use Rattle.std.proofs.Common.{◌≡◌, ℕ, ◌+◌, ◌/◌, ◌<◌, ◌≤◌, ◌==◌, Bool, true, false, not, cond, List, [], ◌∷◌, ◌++◌, ◌⊎◌, ⊎_elim, map, length, drop, Option, Some, None, slice_get, refl, sym, ap, ◌∙◌, subst, append_assoc, arith}
+use Rattle.std.proofs.Common.{◌≡◌, ℕ, ◌+◌, ◌/◌, ◌<◌, ◌≤◌, ◌==◌, Bool, true, false, not, cond, List, [], ◌∷◌, ◌++◌, ◌⊎◌, ⊎_elim, map, length, drop, Option, Some, None, slice_get, refl, sym, ap, ◌∙◌, subst, append_assoc, append-nil, arith}
 use Rattle.std.specs.Prelude.{option_map, sum_by, count_by, nat_le}
 use Rattle.std.specs.List.{AllByRecursion, list_any}
 use Rattle.std.specs.List.Sorted.{IsStrictlySortedBy}
@@ -26,10 +26,12 @@ use Rattle.rp_boxindex.proofs.Exact.{meeting_ids_are_exact_spec}
 use Rattle.rp_lotindex.specs.declared.near.Reach.{Reach}
 use Rattle.rp_lotindex.specs.declared.near.Reach.TheVariants.{Overlap, Touch}
 use Rattle.rp_lotindex.specs.Indexed.{boxes_of_parts, box_at, NoneBehind, IsIndexOf}
-use Rattle.rp_lotindex.specs.Layers.{cube_number, moved}
-use Rattle.rp_lotindex.specs.Near.{may_meet, is_near, is_closed, places_by, places_met, is_listed, AreWithin}
+use Rattle.rp_lotindex.specs.declared.axis.Axis.TheVariants.{X, Y, Z}
+use Rattle.rp_lotindex.specs.Turns.{axis_of}
+use Rattle.rp_lotindex.specs.Layers.{cube_number, moved, moved_in, in_turns}
+use Rattle.rp_lotindex.specs.Near.{may_meet, is_near, is_closed, places_by, places_each, places_met, is_listed, AreWithin}
 use Rattle.rp_lotindex.proofs.Hulls.{listed_image, part_boxed, wider_meet}
-use Rattle.rp_lotindex.proofs.Layers.{moved_to_meet}
+use Rattle.rp_lotindex.proofs.Layers.{moved_in_meet, turn_listed}
 use Rattle.rp_lotindex.proofs.Boxed.{live_boxes, lot_box, none_behind_lots}
 
 -- ---- what stands in a list
@@ -149,26 +151,46 @@ module _ (r : Reach) (y : Label) (from : ℕ) (boxes : Boxes) where
       record { box = b; id = one.0; listed = one.1; own = one.2; behind = leb-true from k stays.passes }
 
   -- one of some boxes
+  met_each : (bs : List IntegerBox) (k : ℕ) → Listed k (places_each r from boxes bs) → IsMet k
+  met_each [] k l = elim l [ ]
+  met_each (b ∷ bs) k l = ⊎_elim (met_by b k) (met_each bs k) (listed_cases k (places_by r from boxes b) (places_each r from boxes bs) l)
+
+  -- one of some boxes in each turn
   met_at : (bs : List IntegerBox) (k : ℕ) → Listed k (places_met r y from boxes bs) → IsMet k
   met_at [] k l = elim l [ ]
-  met_at (b ∷ bs) k l = ⊎_elim (met_by (moved y b) k) (met_at bs k) (listed_cases k (places_by r from boxes (moved y b)) (places_met r y from boxes bs) l)
+  met_at (b ∷ bs) k l = ⊎_elim (met_each (in_turns (cube_number y) b) k) (met_at bs k) (listed_cases k (places_each r from boxes (in_turns (cube_number y) b)) (places_met r y from boxes bs) l)
 
   -- where an id of a place is answered for a box, the place is met
-  place_met : (bs : List IntegerBox) (b : IntegerBox) → Listed b bs → (k id : ℕ) → Listed id (meeting_ids (is_closed r) (moved y b) boxes) → id / 16 ≡ k → from ≤ k → Listed k (places_met r y from boxes bs)
-  place_met [] b l k id m own f = elim l [ ]
-  place_met (d ∷ bs) b first k id m own f =
-      listed_left k (places_by r from boxes (moved y b)) (places_met r y from boxes bs)
-      (keeps (λ c. nat_le from c) (map (λ i. i / 16) (meeting_ids (is_closed r) (moved y b) boxes)) k
-      (subst (λ (n : ℕ). Listed n (map (λ i. i / 16) (meeting_ids (is_closed r) (moved y b) boxes))) own (listed_image (λ (i : ℕ). i / 16) id (meeting_ids (is_closed r) (moved y b) boxes) m)) (le-leb from k f))
-  place_met (c ∷ bs) b (later l) k id m own f = listed_right k (places_by r from boxes (moved y c)) (places_met r y from boxes bs) (place_met bs b l k id m own f)
+  place_each : (bs : List IntegerBox) (b : IntegerBox) → Listed b bs → (k id : ℕ) → Listed id (meeting_ids (is_closed r) b boxes) → id / 16 ≡ k → from ≤ k → Listed k (places_each r from boxes bs)
+  place_each [] b l k id m own f = elim l [ ]
+  place_each (d ∷ bs) b first k id m own f =
+      listed_left k (places_by r from boxes b) (places_each r from boxes bs)
+      (keeps (λ c. nat_le from c) (map (λ i. i / 16) (meeting_ids (is_closed r) b boxes)) k
+      (subst (λ (n : ℕ). Listed n (map (λ i. i / 16) (meeting_ids (is_closed r) b boxes))) own (listed_image (λ (i : ℕ). i / 16) id (meeting_ids (is_closed r) b boxes) m)) (le-leb from k f))
+  place_each (c ∷ bs) b (later l) k id m own f = listed_right k (places_by r from boxes c) (places_each r from boxes bs) (place_each bs b l k id m own f)
+
+  -- so it is for a box in one of its turns
+  place_met : (bs : List IntegerBox) (b : IntegerBox) → Listed b bs → (c : IntegerBox) → Listed c (in_turns (cube_number y) b) → (k id : ℕ) → Listed id (meeting_ids (is_closed r) c boxes) → id / 16 ≡ k → from ≤ k → Listed k (places_met r y from boxes bs)
+  place_met [] b l c t k id m own f = elim l [ ]
+  place_met (d ∷ bs) b first c t k id m own f = listed_left k (places_each r from boxes (in_turns (cube_number y) b)) (places_met r y from boxes bs) (place_each (in_turns (cube_number y) b) c t k id m own f)
+  place_met (d ∷ bs) b (later l) c t k id m own f = listed_right k (places_each r from boxes (in_turns (cube_number y) d)) (places_met r y from boxes bs) (place_met bs b l c t k id m own f)
+
+-- the places of a box in the three turns, joined one behind the other
+pub met_in_turns : (r : Reach) (n from : ℕ) (boxes : Boxes) (b x y z : IntegerBox) (places beside above both all : List ℕ) → x ≡ moved_in X n b → y ≡ moved_in Y n b → z ≡ moved_in Z n b →
+    places ≡ places_by r from boxes x → beside ≡ places_by r from boxes y → above ≡ places_by r from boxes z → both ≡ places ++ beside → all ≡ both ++ above → all ≡ places_each r from boxes (in_turns n b)
+met_in_turns r n from boxes b x y z places beside above both all own_x own_y own_z found_x found_y found_z join_both join_all =
+    join_all ∙ ap (λ (ks : List ℕ). ks ++ above) join_both ∙ append_assoc places beside above
+    ∙ ap (λ (ks : List ℕ). ks ++ (beside ++ above)) (found_x ∙ ap (places_by r from boxes) own_x)
+    ∙ ap (λ (ks : List ℕ). places_by r from boxes (moved_in X n b) ++ (ks ++ above)) (found_y ∙ ap (places_by r from boxes) own_y)
+    ∙ ap (λ (ks : List ℕ). places_by r from boxes (moved_in X n b) ++ (places_by r from boxes (moved_in Y n b) ++ ks)) (found_z ∙ ap (places_by r from boxes) own_z ∙ sym (append-nil (places_by r from boxes (moved_in Z n b))))
 
 -- one box more
-pub met_next : (r : Reach) (y : Label) (from : ℕ) (boxes : Boxes) (bs : List IntegerBox) (i : ℕ) (b c : IntegerBox) (places more new : List ℕ) → slice_get bs i ≡ Some b → c ≡ moved y b → more ≡ places_by r from boxes c → new ≡ places ++ more →
+pub met_next : (r : Reach) (y : Label) (from : ℕ) (boxes : Boxes) (bs : List IntegerBox) (i : ℕ) (b : IntegerBox) (places more new : List ℕ) → slice_get bs i ≡ Some b → more ≡ places_each r from boxes (in_turns (cube_number y) b) → new ≡ places ++ more →
     new ++ places_met r y from boxes (drop (i + 1) bs) ≡ places ++ places_met r y from boxes (drop i bs)
-met_next r y from boxes bs i b c places more new at own found all =
+met_next r y from boxes bs i b places more new at found all =
     let rest = places_met r y from boxes (drop (i + 1) bs) in
-    ap (λ (ks : List ℕ). ks ++ rest) (all ∙ ap (λ (ks : List ℕ). places ++ ks) (found ∙ ap (places_by r from boxes) own))
-    ∙ append_assoc places (places_by r from boxes (moved y b)) rest
+    ap (λ (ks : List ℕ). ks ++ rest) (all ∙ ap (λ (ks : List ℕ). places ++ ks) found)
+    ∙ append_assoc places (places_each r from boxes (in_turns (cube_number y) b)) rest
     ∙ ap (λ (cs : List IntegerBox). places ++ places_met r y from boxes cs) (sym (drop_item bs i b (slice_get_within bs i b at) (sym (get_or_from_slice_get bs i b b at))))
 
 -- numbers in rising order, each once, are those of a list
@@ -204,8 +226,10 @@ places_near r ps y lots boxes from places h reached = record {
       let m = boxes_meet r ps l near in
       let stands = subst (λ (bs : List IntegerBox). Listed (moved y m.other) bs) (sym (live_boxes y l lives own)) (listed_image (moved y) m.other (boxes_of_parts l.parts) m.other_listed) in
       let box = lot_box lots boxes h k l at (moved y m.other) stands in
-      let id = box_reached (is_closed r) (moved y m.box) (moved y m.other) boxes box.0 box.2 (moved_to_meet (is_closed r) (cube_number y) m.box m.other m.meet) in
-      number_listed k places (reached.same k ∙ listed_number k all (place_met r y from boxes (boxes_of_parts ps) m.box m.listed k box.0 id box.1 f));
+      let axis = axis_of m.other in
+      let asked = moved_in axis (cube_number y) m.box in
+      let id = box_reached (is_closed r) asked (moved y m.other) boxes box.0 box.2 (moved_in_meet (is_closed r) axis (cube_number y) m.box m.other m.meet) in
+      number_listed k places (reached.same k ∙ listed_number k all (place_met r y from boxes (boxes_of_parts ps) m.box m.listed asked (turn_listed axis (cube_number y) m.box) k box.0 id box.1 f));
 }
   where
     all : List ℕ

@@ -2,14 +2,13 @@
 use Rattle.std.proofs.Common.{◌≡◌, ℕ, zero, suc, ◌+◌, ◌/◌, ◌^◌, ◌<◌, ◌≤◌, ◌==◌, Bool, true, false, cond, List, [], ◌∷◌, Option, refl, sym, ap, ◌∙◌, subst, arith}
 use Rattle.std.proofs.Math.Nat.{pow-suc}
 use Rattle.std.proofs.lemmas.Bool.Decides.{Decides-eqb}
-use Rattle.rp_algebra.proofs.Listed.{Listed, first, later}
+use Rattle.rp_algebra.proofs.Listed.{Listed, first, later, listed_left, listed_right}
 use Rattle.rp_geometry.specs.Geometry.{IntegerBox}
 use Rattle.rp_language.specs.Name.{Label}
 use Rattle.rp_boxindex.specs.Boxes.{Boxes}
-use Rattle.rp_boxindex.specs.Meeting.{first_that, meeting_ids}
 use Rattle.rp_lotindex.specs.declared.stretch.Stretch.{Stretch}
-use Rattle.rp_lotindex.specs.Layers.{moved_past}
-use Rattle.rp_lotindex.specs.Owner.{boxes_past, lesser_of, first_in}
+use Rattle.rp_lotindex.specs.Layers.{past_number, in_turns}
+use Rattle.rp_lotindex.specs.Owner.{boxes_past, first_in}
 use Rattle.rp_lotindex.specs.Stretches.{stretch_from, stretches_from}
 
 -- ---- the least stretch with two lines, step by step
@@ -73,6 +72,12 @@ stretch_listed (suc f) level a n b low high small =
         subst (λ (i : ℕ). Listed {A = Stretch} (record { level = level; mark = a }) (record { level = level; mark = i } ∷ stretches_from (suc f) (level + 1) (n / 2))) (sym same) first
     by false h rest = later rest
 
+-- a box that is asked about at one of some stretches is asked about at them
+pub past_listed : (y : Label) (unit : IntegerBox) (s : Stretch) (ss : List Stretch) → Listed s ss → (b : IntegerBox) → Listed b (in_turns (past_number y s) unit) → Listed b (boxes_past y unit ss)
+past_listed y unit s [] l b t = elim l [ ]
+past_listed y unit s (r ∷ ss) first b t = listed_left b (in_turns (past_number y s) unit) (boxes_past y unit ss) t
+past_listed y unit s (r ∷ ss) (later l) b t = listed_right b (in_turns (past_number y r) unit) (boxes_past y unit ss) (past_listed y unit s ss l b t)
+
 -- ---- what is found at them, one after the other
 
 module _ (test : ℕ → Bool) (boxes : Boxes) (y : Label) (unit : IntegerBox) where
@@ -81,9 +86,9 @@ module _ (test : ℕ → Bool) (boxes : Boxes) (y : Label) (unit : IntegerBox) w
   found_from f level n o = first_in test boxes (boxes_past y unit (stretches_from f level n)) o
 
   -- at one of them
-  pub found_next : (f g level n : ℕ) (old found new : Option ℕ) (b : IntegerBox) → f ≡ g + 1 → b ≡ moved_past y (record { level = level; mark = n }) unit → found ≡ first_that test (meeting_ids false b boxes) → new ≡ lesser_of old found → found_from g (level + 1) (n / 2) new ≡ found_from f level n old
-  found_next f g level n old found new b count own is least =
-      ap (found_from g (level + 1) (n / 2)) (least ∙ ap (lesser_of old) (is ∙ ap (λ (c : IntegerBox). first_that test (meeting_ids false c boxes)) own))
+  pub found_next : (f g level n : ℕ) (old new : Option ℕ) (k : ℕ) → f ≡ g + 1 → k ≡ past_number y (record { level = level; mark = n }) → new ≡ first_in test boxes (in_turns k unit) old → found_from g (level + 1) (n / 2) new ≡ found_from f level n old
+  found_next f g level n old new k count own is =
+      ap (found_from g (level + 1) (n / 2)) (is ∙ ap (λ (i : ℕ). first_in test boxes (in_turns i unit) old) own)
       ∙ sym (ap (λ (ss : List Stretch). first_in test boxes (boxes_past y unit ss) old) (stretches_next f g level n count))
 
   -- behind the last

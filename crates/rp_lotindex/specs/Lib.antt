@@ -1,4 +1,5 @@
 pub mod Indexed
+pub mod Turns
 pub mod Layers
 pub mod Stretches
 pub mod Near

@@ -13,7 +13,7 @@ use Rattle.rp_boxindex.specs.Meeting.{meeting_ids}
 use Rattle.rp_lotindex.specs.declared.near.Reach.{Reach}
 use Rattle.rp_lotindex.specs.declared.near.Reach.TheVariants.{Overlap, Touch}
 use Rattle.rp_lotindex.specs.Indexed.{boxes_of_parts, AreKeptIn}
-use Rattle.rp_lotindex.specs.Layers.{moved}
+use Rattle.rp_lotindex.specs.Layers.{cube_number, in_turns}
 
 -- the boxes of two parts let them meet
 abbrev pub may_meet : Reach → Part → Part → Bool
@@ -58,10 +58,15 @@ is_closed Touch = true
 abbrev pub places_by : Reach → ℕ → Boxes → IntegerBox → List ℕ
 places_by r from boxes b = filter (λ k. nat_le from k) (map (λ id. id / 16) (meeting_ids (is_closed r) b boxes))
 
--- so of some boxes, moved into the cube of a layer, one after the other
+-- so of some boxes, one after the other
+abbrev pub places_each : Reach → ℕ → Boxes → List IntegerBox → List ℕ
+places_each r from boxes [] = []
+places_each r from boxes (b ∷ bs) = places_by r from boxes b ++ places_each r from boxes bs
+
+-- so of some boxes, in each turn moved into the cube of a layer, one after the other
 abbrev pub places_met : Reach → Label → ℕ → Boxes → List IntegerBox → List ℕ
 places_met r y from boxes [] = []
-places_met r y from boxes (b ∷ bs) = places_by r from boxes (moved y b) ++ places_met r y from boxes bs
+places_met r y from boxes (b ∷ bs) = places_each r from boxes (in_turns (cube_number y) b) ++ places_met r y from boxes bs
 
 -- a number stands in a list
 abbrev pub is_listed : ℕ → List ℕ → Bool

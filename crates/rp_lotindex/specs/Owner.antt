@@ -1,5 +1,5 @@
 -- Whose a point is.
-use Rattle.std.specs.Prelude.{◌≡◌, ℕ, ◌<◌, ◌^◌, Bool, false, ◌&&◌, cond, nat_lt, List, [], ◌∷◌, map, filter, Option, Some, None, slice_get}
+use Rattle.std.specs.Prelude.{◌≡◌, ℕ, ◌<◌, ◌^◌, Bool, false, ◌&&◌, cond, nat_lt, List, [], ◌∷◌, ◌++◌, map, filter, Option, Some, None, slice_get}
 use Rattle.std.specs.List.{AllByRecursion}
 use Rattle.rp_geometry.specs.Geometry.{RationalPoint, IntegerBox}
 use Rattle.rp_geometry.specs.sets.Shape.{Part}
@@ -14,7 +14,7 @@ use Rattle.rp_lotindex.specs.declared.moment.Moment.{Moment}
 use Rattle.rp_lotindex.specs.declared.stretch.Stretch.{Stretch}
 use Rattle.rp_lotindex.specs.declared.moment.Moment.TheVariants.{Now, After}
 use Rattle.rp_lotindex.specs.Indexed.{IsIndexOf}
-use Rattle.rp_lotindex.specs.Layers.{moved, moved_past}
+use Rattle.rp_lotindex.specs.Layers.{cube_number, past_number, in_turns}
 use Rattle.rp_lotindex.specs.Stretches.{stretches_with}
 
 -- a lot is there at a moment
@@ -26,14 +26,15 @@ is_there (After n) = is_alive_after n
 abbrev pub is_there_at : {S : Type 0} → Moment → Label → List (Lot S) → ℕ → Bool
 is_there_at m y lots k = elim (slice_get lots k) [ None ↦ false | Some l ↦ is_there m l && label_eq l.layer y ]
 
--- a box, moved into the cube of a layer for each of some stretches
+-- a box, in each turn moved into the cube of a layer for each of some stretches
 abbrev pub boxes_past : Label → IntegerBox → List Stretch → List IntegerBox
-boxes_past y unit stretches = map (λ s. moved_past y s unit) stretches
+boxes_past y unit [] = []
+boxes_past y unit (s ∷ stretches) = in_turns (past_number y s) unit ++ boxes_past y unit stretches
 
 -- where boxes of the lots of a layer that are there at a moment stand, if they meet this one: after a line in the cubes of the stretches with the line, too
 abbrev pub boxes_asked : Moment → Label → IntegerBox → List IntegerBox
-boxes_asked Now y unit = moved y unit ∷ []
-boxes_asked (After n) y unit = moved y unit ∷ boxes_past y unit (stretches_with n)
+boxes_asked Now y unit = in_turns (cube_number y) unit
+boxes_asked (After n) y unit = in_turns (cube_number y) unit ++ boxes_past y unit (stretches_with n)
 
 -- a moment is now, or after a line of a script
 abbrev pub IsLine : Moment → Type 0

@@ -1,14 +1,19 @@
 //! Where the boxes of each layer stand in the index: its live lots have a cube of their own, in a grid of 64 by 64 by 64
 //! cubes, as far as the name of the layer tells. So what is asked of one layer does not meet the lots of the others that
-//! share its place. Lots that ended have further cubes, one for each stretch of lines.
+//! share its place. Lots that ended have further cubes, one for each stretch of lines. And boxes that are turned, so that
+//! an axis comes first on which they are thin, have cubes of their own for each turn.
 ghost use Rattle.std.specs.Prelude.{◌≡◌, ◌<◌, ◌+◌, ◌%◌, ◌/◌, ◌+ℤ◌};
 ghost use Rattle.rp_algebra.specs.Within.{IsWithin};
 ghost use Rattle.rp_space.specs.Boxes.{integer_box};
-ghost use Rattle.rp_lotindex.specs.Layers.{cube_number, step_of, is_near_domain, moved_low, moved_high, moved_to, moved, moved_past};
+ghost use Rattle.rp_lotindex.specs.Layers.{cube_number, past_number, turn_number, step_of, is_near_domain, moved_low, moved_high, moved_to, moved_in, moved_own, moved, moved_past};
 
+use crate::axis::{Axis, axis_of, turned};
 use crate::stretch::Stretch;
 use rp_lists::Name;
 use rp_space::IntBox;
+
+/// How many cubes there are.
+const CUBES: u64 = 262_144;
 
 /// The edge of a cube of the grid, four times half the edge of the domain.
 const EDGE: i32 = 67_108_864;
@@ -16,24 +21,54 @@ const EDGE: i32 = 67_108_864;
 /// How far the coordinates are from 0 that are moved: half the edge of the domain, and one more.
 const FAR: i32 = 16_777_217;
 
-/// The box, moved into the cube of a layer. A side that lies outside of the domain goes as far as a number does, so
-/// that what meets before the move meets after it.
+/// The box, in its own turn moved into the cube of a layer. A side that lies outside of the domain goes as far as a
+/// number does, so that what meets before the move meets after it.
 pub fn moved(layer: &Name, bounds: &IntBox) -> IntBox
     ensures { integer_box result ≡ moved layer.now (integer_box bounds.now) }
 {
-    moved_to(cube_number(layer) as u64, bounds)
+    moved_own(cube_number(layer) as u64, bounds)
 }
 
-/// The box, moved into the cube of a layer for the lots that ended and lived within a stretch of lines.
+/// The box, in its own turn moved into the cube of a layer for the lots that ended and lived within a stretch of lines.
 pub(crate) fn moved_past(layer: &Name, stretch: &Stretch, bounds: &IntBox) -> IntBox
     ensures { integer_box result ≡ moved_past layer.now stretch.now (integer_box bounds.now) }
 {
+    moved_own(past_number(layer, stretch), bounds)
+}
+
+/// The number of the cube of a layer for a stretch of lines.
+pub(crate) fn past_number(layer: &Name, stretch: &Stretch) -> u64
+    ensures { result ≡ past_number layer.now stretch.now }
+{
     // The first stretches of a level come to other cubes than those of the next levels.
     let level = stretch.level as u64 * 70_001;
-    moved_to(
-        cube_number(layer) as u64 + level + stretch.mark as u64,
-        bounds,
-    )
+    cube_number(layer) as u64 + level + stretch.mark as u64
+}
+
+/// The box, in its own turn moved into the cube of a number.
+fn moved_own(number: u64, bounds: &IntBox) -> IntBox
+    ensures { integer_box result ≡ moved_own number (integer_box bounds.now) }
+{
+    moved_in(axis_of(bounds), number, bounds)
+}
+
+/// The box, turned so that `axis` comes first, and moved into the cube of `number` for this turn.
+pub(crate) fn moved_in(axis: Axis, number: u64, bounds: &IntBox) -> IntBox
+    ensures { integer_box result ≡ moved_in axis number (integer_box bounds.now) }
+{
+    moved_to(number % CUBES + turn_number(axis), &turned(axis, bounds))
+}
+
+/// How far the cubes of a turn are behind the others: so far that they are others along x too.
+fn turn_number(axis: Axis) -> u64
+    ensures value { result ≡ turn_number axis }
+    ensures small { result < 262144 }
+{
+    match axis {
+        Axis::X => 0,
+        Axis::Y => 87_403,
+        Axis::Z => 174_806,
+    }
 }
 
 /// The box, moved into the cube of a number.
@@ -52,7 +87,7 @@ fn moved_to(number: u64, bounds: &IntBox) -> IntBox
 }
 
 /// A number below 64 times 64 times 64 for a layer, made of the bytes of its name.
-fn cube_number(layer: &Name) -> u32
+pub(crate) fn cube_number(layer: &Name) -> u32
     ensures { result ≡ cube_number layer.now }
 {
     let mut number = 0;

@@ -3,7 +3,8 @@
 //!
 //! The live lots of each layer have a cube of their own, as far as its name tells, into which their boxes are moved
 //! ([`moved`]), and those that ended have further ones, by the lines between which they lived: so what is asked of the
-//! lots of a layer, now or after a line, meets few others.
+//! lots of a layer, now or after a line, meets few others. The index goes by x first; so a box that is thin on another
+//! axis stands turned, that this one comes first, and what is asked is asked in each of the three turns.
 //!
 //! A lot has at most 16 boxes ([`Bounded`]), so the place of each has 16 ids. The boxes of a new lot are all taken in,
 //! or none where memory runs out, and those of lots that end are moved without memory. [`LotBoxes::near`] answers the
@@ -12,6 +13,7 @@
 //! first lot of a layer that has a point, now or after a line. The lemmas show that what the walks over all lots come
 //! to is what they come to over these, for every tester. Calls that answer `AllocError` do so only for want of memory.
 
+mod axis;
 mod bounded;
 mod boxes;
 mod layer;

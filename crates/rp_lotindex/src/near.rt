@@ -5,11 +5,13 @@ ghost use Rattle.std.specs.Ordering.{nat_cmp};
 ghost use Rattle.rp_space.specs.Boxes.{integer_box};
 ghost use Rattle.rp_history.specs.Lots.{lot_of};
 ghost use Rattle.rp_lotindex.specs.Indexed.{NoneBehind};
-ghost use Rattle.rp_lotindex.specs.Near.{is_other_in, is_other_at, places_by, places_met, AreOthers, AreWithin, AreNear};
+ghost use Rattle.rp_lotindex.specs.Layers.{in_turns};
+ghost use Rattle.rp_lotindex.specs.Near.{is_other_in, is_other_at, places_by, places_each, places_met, AreOthers, AreWithin, AreNear};
 
+use crate::axis::Axis;
 use crate::bounded::Bounded;
 use crate::boxes::{LotBoxes, place_of};
-use crate::layer::moved;
+use crate::layer::{cube_number, moved_in};
 use rp_boxindex::{Steps, Watch};
 use rp_history::{History, LotLine};
 use rp_lists::{Listed, Name};
@@ -29,8 +31,8 @@ pub enum Reach {
 
 impl LotBoxes {
     /// The places, in rising order and at or behind `from`, of the live lots of `layer` in `history`, other than `id`,
-    /// of which a box meets one of `boxes`, as `reach` says, both in the cube of the layer: so of each of them that has
-    /// a part which may meet a part within `boxes`. `watch` is told of what is visited.
+    /// of which a box meets one of `boxes`, as `reach` says, both in a cube of the layer: so of each of them that has a
+    /// part which may meet a part within `boxes`. `watch` is told of what is visited.
     pub fn near<W: Watch, B: Bounded>(
         &self,
         alloc: Global,
@@ -56,7 +58,7 @@ impl LotBoxes {
         others(alloc, history, &places, layer, id)
     }
 
-    /// The places from one on of the lots of which a box meets one of some boxes in the cube of a layer, box by box.
+    /// The places from one on of the lots of which a box meets one of some boxes in a cube of a layer, box by box.
     fn met<W: Watch, B: Bounded>(
         &self,
         alloc: Global,
@@ -68,19 +70,36 @@ impl LotBoxes {
     ) -> Result<Vec<usize>, AllocError>
         ensures { IfOk result (λ places. places.items ≡ places_met reach layer.now from self.now.index (B.boxes boxes.now)) }
     {
+        let cube = cube_number(layer) as u64;
         let mut places = Vec::new(alloc);
         for number in 0..boxes.count() {
-            let bounds = moved(layer, &boxes.bounds(number));
-            let mut more = self.met_by::<W, Brand>(
-                alloc,
-                watch,
-                &bounds,
-                from,
-                reach,
-                Blank::new(1),
-            )?;
+            let bounds = boxes.bounds(number);
+            let mut more = self.met_turned(alloc, watch, cube, &bounds, from, reach)?;
             places.append(&mut more)?;
         }
+        Ok(places)
+    }
+
+    /// The places from one on of the lots of which a box meets a box, turn by turn, in the cubes of a number.
+    fn met_turned<W: Watch>(
+        &self,
+        alloc: Global,
+        watch: &W,
+        cube: u64,
+        bounds: &IntBox,
+        from: usize,
+        reach: Reach,
+    ) -> Result<Vec<usize>, AllocError>
+        ensures { IfOk result (λ places. places.items ≡ places_each reach from self.now.index (in_turns cube (integer_box bounds.now))) }
+    {
+        let x = moved_in(Axis::X, cube, bounds);
+        let y = moved_in(Axis::Y, cube, bounds);
+        let z = moved_in(Axis::Z, cube, bounds);
+        let mut places = self.met_by::<W, Brand>(alloc, watch, &x, from, reach, Blank::new(1))?;
+        let mut beside = self.met_by::<W, Brand>(alloc, watch, &y, from, reach, Blank::new(1))?;
+        let mut above = self.met_by::<W, Brand>(alloc, watch, &z, from, reach, Blank::new(1))?;
+        places.append(&mut beside)?;
+        places.append(&mut above)?;
         Ok(places)
     }
 

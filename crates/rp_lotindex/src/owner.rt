@@ -6,11 +6,13 @@ ghost use Rattle.rp_geometry.specs.Geometry.{IntegerBox, half_edge, is_cube_poin
 ghost use Rattle.rp_geometry.specs.parts.LeastBox.{IsInBox};
 ghost use Rattle.rp_space.specs.Boxes.{integer_box};
 ghost use Rattle.rp_boxindex.specs.Meeting.{do_meet, first_that, meeting_ids};
+ghost use Rattle.rp_lotindex.specs.Layers.{in_turns};
 ghost use Rattle.rp_lotindex.specs.Owner.{boxes_asked, boxes_past, first_in, lesser_of, is_there_at, IsLine, IsOwner};
 ghost use Rattle.rp_lotindex.specs.Stretches.{stretches_with};
 
+use crate::axis::Axis;
 use crate::boxes::{LotBoxes, place_of};
-use crate::layer::{moved, moved_past};
+use crate::layer::{cube_number, moved_in, past_number};
 use crate::moment::{Moment, is_there};
 use crate::stretch::Stretch;
 use rp_boxindex::{Choice, Index, Quiet, Steps};
@@ -91,7 +93,7 @@ impl LotBoxes {
         ensures first { result ≡ first_in (C.passes choice.now) self.now.index (boxes_asked moment layer.now (integer_box unit.now)) None }
         ensures small { IsLine moment }
     {
-        let live = first_that::<_, Brand>(&self.index, &moved(layer, unit), choice, Blank::new(1));
+        let live = self.first_turned(cube_number(layer) as u64, unit, choice, None);
         match moment {
             Moment::Now => live,
             Moment::After(line) => self.first_past(layer, line, unit, choice, live),
@@ -114,12 +116,31 @@ impl LotBoxes {
         let mut first = live;
         let mut mark = line / 2;
         for level in 0..32 {
-            let past = moved_past(layer, &Stretch { level, mark }, unit);
-            let found = first_that::<_, Brand>(&self.index, &past, choice, Blank::new(1));
-            first = lesser(first, found);
+            let cube = past_number(layer, &Stretch { level, mark });
+            first = self.first_turned(cube, unit, choice, first);
             mark /= 2;
         }
         first
+    }
+
+    /// The lesser of an id and the least one that passes a test, of the boxes that meet a box in any turn, in the cubes
+    /// of a number.
+    fn first_turned<C: Choice>(
+        &self,
+        cube: u64,
+        unit: &IntBox,
+        choice: &C,
+        first: Option<u32>,
+    ) -> Option<u32>
+        ensures { result ≡ first_in (C.passes choice.now) self.now.index (in_turns cube (integer_box unit.now)) first }
+    {
+        let x = moved_in(Axis::X, cube, unit);
+        let y = moved_in(Axis::Y, cube, unit);
+        let z = moved_in(Axis::Z, cube, unit);
+        let found = first_that::<_, Brand>(&self.index, &x, choice, Blank::new(1));
+        let beside = first_that::<_, Brand>(&self.index, &y, choice, Blank::new(1));
+        let above = first_that::<_, Brand>(&self.index, &z, choice, Blank::new(1));
+        lesser(lesser(lesser(first, found), beside), above)
     }
 }
 

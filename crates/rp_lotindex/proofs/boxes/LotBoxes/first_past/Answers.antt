@@ -7,7 +7,7 @@ pub loop-level-preserved : goal.loop-level-preserved
 loop-level-preserved g c =
     let l = c.loop-level in
     let in_time = c.loop-level-test.true in
-    found_next (g.C.Choice.passes c.args.choice.now) c.args.self.now.index c.args.layer.now (integer_box c.args.unit.now) (32 - l.level) (32 - (l.level + 1)) l.level l.mark l.first c.first_that-found.result c.lesser-first.result (integer_box c.moved_past-past.result) (omega (arith, in_time)) c.moved_past-past.ensures c.first_that-found.ensures c.lesser-first.ensures
+    found_next (g.C.Choice.passes c.args.choice.now) c.args.self.now.index c.args.layer.now (integer_box c.args.unit.now) (32 - l.level) (32 - (l.level + 1)) l.level l.mark l.first c.first_turned-first.result c.past_number-cube.result (omega (arith, in_time)) c.past_number-cube.ensures c.first_turned-first.ensures
     ∙ l.invariant
 
 pub returns-clause-first : goal.returns-clause-first

@@ -4,10 +4,6 @@ use Rattle.rp_lotindex.specs.Owner.{boxes_past, first_in}
 use Rattle.rp_lotindex.specs.Stretches.{stretches_from, stretches_with}
 use Rattle.rp_lotindex.proofs.boxes.LotBoxes.first_past.Given as goal
 
--- the ledger of the count of steps
-abbrev pub ghosts-first_that : goal.ghosts-first_that
-ghosts-first_that g a = record { name = a.blank.name; parts = a.blank.parts }
-
 -- the stretches still to come are left
 abbrev pub invariant-loop-level : goal.invariant-loop-level
 invariant-loop-level g l =

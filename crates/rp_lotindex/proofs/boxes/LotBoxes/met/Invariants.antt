@@ -2,10 +2,6 @@ use Rattle.std.proofs.Common.{◌≡◌, ◌++◌, drop}
 use Rattle.rp_lotindex.specs.Near.{places_met}
 use Rattle.rp_lotindex.proofs.boxes.LotBoxes.met.Given as goal
 
--- the ledger of the count of steps
-abbrev pub ghosts-met_by : goal.ghosts-met_by
-ghosts-met_by g a = record { name = a.blank.name; parts = a.blank.parts }
-
 -- the boxes still to come are left
 abbrev pub invariant-loop-number : goal.invariant-loop-number
 invariant-loop-number g l =

@@ -1,0 +1,76 @@
+//! Which axis of a box comes first in the index, which goes by the least x of boxes: one on which the box is thin. Boxes
+//! that are long on the first axis are not told apart there, however many there are beside one another.
+ghost use Rattle.std.specs.Prelude.{◌≡◌, ◌-ℤ◌};
+ghost use Rattle.rp_algebra.specs.Within.{IsWithin};
+ghost use Rattle.rp_space.specs.Boxes.{integer_box};
+ghost use Rattle.rp_lotindex.specs.Turns.{is_plate, axis_by, axis_of, turned};
+
+use rp_space::IntBox;
+
+/// An axis of space.
+#[derive(Clone, Copy)]
+pub(crate) enum Axis {
+    X,
+    Y,
+    Z,
+}
+
+/// The axis of a box that comes first.
+pub(crate) fn axis_of(bounds: &IntBox) -> Axis
+    ensures { result ≡ axis_of (integer_box bounds.now) }
+{
+    let [x1, y1, z1] = bounds.lo;
+    let [x2, y2, z2] = bounds.hi;
+    axis_by(extent(x1, x2), extent(y1, y2), extent(z1, z2))
+}
+
+/// The axis that comes first where a box has the lengths `x`, `y` and `z`. Heights differ little from lot to lot, even
+/// where the lots are flat: so z comes first for plates alone.
+fn axis_by(x: i64, y: i64, z: i64) -> Axis
+    requires y { IsWithin 4294967296 y }
+    requires z { IsWithin 4294967296 z }
+    ensures { result ≡ axis_by x y z }
+{
+    if is_plate(x, y, z) {
+        Axis::Z
+    } else if 8 * y < x {
+        Axis::Y
+    } else {
+        Axis::X
+    }
+}
+
+/// Whether a box of the lengths `x`, `y` and `z` is a plate that lies flat.
+fn is_plate(x: i64, y: i64, z: i64) -> bool
+    requires { IsWithin 4294967296 z }
+    ensures { result ≡ is_plate x y z }
+{
+    64 * z < x && 64 * z < y
+}
+
+/// How far it is from a lower side to an upper one.
+fn extent(low: i32, high: i32) -> i64
+    ensures value { result ≡ high -ℤ low }
+    ensures within { IsWithin 4294967296 result }
+{
+    high as i64 - low as i64
+}
+
+/// The box with the numbers of x and of an axis exchanged.
+pub(crate) fn turned(axis: Axis, bounds: &IntBox) -> IntBox
+    ensures { integer_box result ≡ turned axis (integer_box bounds.now) }
+{
+    let [x1, y1, z1] = bounds.lo;
+    let [x2, y2, z2] = bounds.hi;
+    match axis {
+        Axis::X => *bounds,
+        Axis::Y => IntBox {
+            lo: [y1, x1, z1],
+            hi: [y2, x2, z2],
+        },
+        Axis::Z => IntBox {
+            lo: [z1, y1, x1],
+            hi: [z2, y2, x2],
+        },
+    }
+}
