@@ -1,12 +1,6 @@
--- How many parts there are, as the code counts them.
-use Rattle.std.proofs.Common.{◌≡◌, ℕ, ◌==◌, true, false, List, map, length, sym, ap, ◌∙◌, arith}
+-- Whether there are parts, as the code counts them.
+use Rattle.std.proofs.Common.{◌≡◌, ℕ, ◌==◌, true, false, arith}
 use Rattle.std.proofs.lemmas.Bool.Decides.{nat_tests}
-use Rattle.std.proofs.lemmas.List.{length-map}
-use Rattle.rp_geometry.specs.sets.Shape.{Part}
-
--- as many parts as the model has
-pub counted : {X : Type 0} (seen : X → Part) (xs : List X) (ps : List Part) → map seen xs ≡ ps → length xs ≡ length ps
-counted seen xs ps e = sym (length-map xs seen) ∙ ap length e
 
 -- they are none
 pub are_none : (n m : ℕ) → n ≡ m → n ≡ 0 → (m == 0) ≡ true

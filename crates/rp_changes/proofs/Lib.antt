@@ -1,9 +1,5 @@
 pub mod Counted
 pub mod Divided
-pub mod TakenAway
 pub mod United
 pub mod Searched
 pub mod Alone
-pub mod Steps
-pub mod ChildLemmas
-pub mod BornLots

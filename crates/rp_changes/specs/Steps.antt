@@ -1,16 +1,13 @@
--- The steps of rows that change something, each by what comes behind it.
-use Rattle.std.specs.Prelude.{◌+◌, ◌==◌, not, List, map, length, option_map}
+-- The steps of a registration, each by what comes behind it.
+use Rattle.std.specs.Prelude.{◌+◌, ◌==◌, List, length, option_map}
 use Rattle.rp_geometry.specs.sets.Shape.{Part}
 use Rattle.rp_language.specs.Name.{Label}
 use Rattle.rp_walks.specs.Walk.{Walk, Tester, ◌>>=◌, ◌>>◌}
 use Rattle.rp_walks.specs.Form.{near_pair}
-use Rattle.rp_walks.specs.Compare.{is_covered}
 use Rattle.rp_model.specs.states.State.{Lot, PlainState, parts_under_lots, most_kept_parts}
-use Rattle.rp_model.specs.commands.Verdict.{empty_region, overlaps, gap}
-use Rattle.rp_model.specs.commands.Checks.{refuse_if, and_then, check_new, check_subdivide}
-use Rattle.rp_model.specs.commands.Row.{Reply, check, check_size, FormedChild, lot_parts, joined_parts, child_parts, count_with_each, count_among, first_overlapped, first_empty_child, first_outside_child, first_overlapping_children}
-
--- ---- a registration
+use Rattle.rp_model.specs.commands.Verdict.{empty_region, overlaps}
+use Rattle.rp_model.specs.commands.Checks.{refuse_if, and_then, check_new}
+use Rattle.rp_model.specs.commands.Row.{Reply, check, check_size, lot_parts, count_with_each, first_overlapped}
 
 -- its checks: a new id, a part, and room
 abbrev pub lot_checked : {W : Type 0} → PlainState → Label → List Part → Walk W Reply → Walk W Reply
@@ -19,21 +16,3 @@ lot_checked s x ps rest = check (and_then (check_new s x) (refuse_if (length ps 
 -- its pairs with some lots are counted, and none of these shares a member with it
 abbrev pub lots_tested : {W : Type 0} → Tester W → List Part → List (Lot (Unit {0})) → Walk W Reply → Walk W Reply
 lots_tested tester ps lots rest = tester.count (count_with_each near_pair ps (lot_parts lots)) >> (first_overlapped tester ps lots >>= λ found. check (option_map overlaps found) rest)
-
--- ---- a subdivision
-
--- its checks: names, a part in each child, and room
-abbrev pub children_checked : {W : Type 0} → PlainState → Label → List FormedChild → Walk W Reply → Walk W Reply
-children_checked s x cs rest = check (and_then (check_subdivide s x (map (λ c. c.id) cs)) (first_empty_child 1 cs)) (check_size (parts_under_lots s.lots + length (joined_parts (child_parts cs))) most_kept_parts >> rest)
-
--- its children lie in the parts
-abbrev pub inside_tested : {W : Type 0} → Tester W → List Part → List FormedChild → Walk W Reply → Walk W Reply
-inside_tested tester qs cs rest = first_outside_child tester qs 1 cs >>= λ out. check out rest
-
--- their pairs are counted, and no two of them share a member
-abbrev pub apart_tested : {W : Type 0} → Tester W → List FormedChild → Walk W Reply → Walk W Reply
-apart_tested tester cs rest = tester.count (count_among near_pair (child_parts cs)) >> (first_overlapping_children tester 1 cs >>= λ double. check double rest)
-
--- they leave no gap in the parts
-abbrev pub cover_tested : {W : Type 0} → Tester W → List Part → List FormedChild → Walk W Reply → Walk W Reply
-cover_tested tester qs cs rest = is_covered tester qs (joined_parts (child_parts cs)) >>= λ covered. check (refuse_if (not covered) gap) rest

@@ -4,14 +4,11 @@ ghost use Rattle.rp_geometry.specs.sets.Shape.{Part};
 ghost use Rattle.rp_model.specs.states.State.{lots_replaced, parts_under_lots, most_kept_parts};
 ghost use Rattle.rp_model.specs.commands.Row.{check_size, new_lot, row_cut};
 ghost use Rattle.rp_tester.specs.Comes.{Comes};
-ghost use Rattle.rp_changes.specs.Changes.{Changes, replaced_of};
+ghost use Rattle.rp_lots.specs.Changes.{Changes, replaced_of};
 
-use crate::change::Replaced;
-use crate::checks::count_parts;
 use rp_answer::{Refusal, RowEnd};
-use rp_history::Birth;
 use rp_lists::{Listed, Name, Names};
-use rp_lots::{Keeper, form_at};
+use rp_lots::{Keeper, Replaced, born_of, count_parts, form_at};
 use rp_store::MAX_KEPT_PARTS;
 use rp_tester::{Stopped, Tests};
 use std::alloc::{AllocError, Global};
@@ -87,17 +84,4 @@ fn in_two<F: Drop>(
         births,
         forms,
     })
-}
-
-/// The birth of a lot from another one.
-pub(crate) fn born_of(
-    alloc: Global,
-    layer: Name,
-    origin: Name,
-    id: Name,
-) -> Result<Birth, AllocError>
-    ensures { IfOk result (λ birth. (birth.id ≡ id) × (birth.layer ≡ layer) × (birth.origins.items ≡ origin ∷ [])) }
-{
-    let origins = Names::copy_of(alloc, &[origin])?;
-    Ok(Birth { id, layer, origins })
 }

@@ -6,16 +6,13 @@ ghost use Rattle.rp_walks.specs.Form.{if_at_most};
 ghost use Rattle.rp_model.specs.states.State.{live_lot, lots_replaced, parts_of_lot};
 ghost use Rattle.rp_model.specs.commands.Row.{joined_parts, new_lot, parts_with_id, row_consolidate, row_define, row_retire};
 ghost use Rattle.rp_tester.specs.Comes.{Comes};
-ghost use Rattle.rp_changes.specs.Changes.{Changes, change_of, replaced_of};
+ghost use Rattle.rp_lots.specs.Changes.{Changes, change_of, replaced_of};
 
-use crate::change::{Change, Replaced};
-use crate::checks::{check_room, count_parts};
 use crate::making::one_born;
-use crate::registry::Registry;
 use rp_answer::{Refusal, RowEnd};
 use rp_history::Birth;
 use rp_lists::{Listed, Name, Names};
-use rp_lots::{Keeper, form_at};
+use rp_lots::{Change, Keeper, Registry, Replaced, check_room, count_parts, form_at};
 use rp_tester::{Stopped, Tests};
 use std::alloc::{AllocError, Global};
 

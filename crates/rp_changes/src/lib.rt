@@ -1,27 +1,17 @@
 #![tactic(auto)]
-//! The rows of the commands that change something, written once over whatever answers their tests and keeps the
-//! register.
+//! The rows of the commands that change something, but for subdivisions, written once over whatever answers their tests
+//! and keeps the register.
 //!
 //! Each comes to the change, the refusal or the stop that its definition has for it, and makes exactly the tests of
 //! that. No change is made here: it is answered, and what keeps the register makes it. Calls that answer `AllocError`
 //! do so only for want of memory.
 
-mod change;
-mod checks;
-mod child;
-mod children;
 mod dividing;
 mod joining;
 mod making;
 mod orders;
-mod registry;
-mod subdividing;
 
-pub use change::{Change, Replaced};
-pub use child::Child;
 pub use dividing::cut;
 pub use joining::{consolidate, define, retire};
 pub use making::make_lot;
-pub use orders::{consolidation, cutting, definition, registration, retirement, subdivision};
-pub use registry::{Overlaps, Registry};
-pub use subdividing::subdivide;
+pub use orders::{consolidation, cutting, definition, registration, retirement};

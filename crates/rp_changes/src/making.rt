@@ -10,17 +10,16 @@ ghost use Rattle.rp_answer.specs.Replies.{GoesOn};
 ghost use Rattle.rp_history.specs.Lots.{lots_in};
 ghost use Rattle.rp_lotindex.specs.Near.{lots_at, AreWithin};
 ghost use Rattle.rp_tester.specs.Comes.{Comes};
-ghost use Rattle.rp_changes.specs.Changes.{Changes, replaced_of};
+ghost use Rattle.rp_lots.specs.Changes.{Changes, replaced_of};
 ghost use Rattle.rp_changes.specs.Steps.{lot_checked, lots_tested};
 
-use crate::change::Replaced;
-use crate::checks::{check_room, count_parts};
-use crate::registry::Overlaps;
 use rp_answer::{Refusal, RowEnd};
 use rp_history::Birth;
 use rp_lists::{Listed, Name, Names};
 use rp_lotindex::Reach;
-use rp_lots::{Keeper, count_tests, form_at, lots_near};
+use rp_lots::{
+    Keeper, Overlaps, Replaced, check_room, count_parts, count_tests, form_at, lots_near,
+};
 use rp_tester::{Stopped, Tests};
 use std::alloc::{AllocError, Global};
 

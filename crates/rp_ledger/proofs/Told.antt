@@ -9,8 +9,8 @@ use Rattle.rp_answer.specs.declared.answer.Verdict.{Verdict as CodeVerdict}
 use Rattle.rp_lists.specs.Listed.{Listed}
 use Rattle.rp_answer.specs.declared.reply.RowEnd.{RowEnd}
 use Rattle.rp_answer.specs.Replies.{Tells, GoesOn}
-use Rattle.rp_changes.specs.declared.change.Change.{Change}
-use Rattle.rp_changes.specs.Changes.{Changes, change_of}
+use Rattle.rp_lots.specs.declared.change.Change.{Change}
+use Rattle.rp_lots.specs.Changes.{Changes, change_of}
 use Rattle.rp_ledger.specs.declared.reply.Reply.{Reply}
 use Rattle.rp_ledger.specs.declared.reply.Row.{Row as CodeRow}
 use Rattle.rp_ledger.specs.Rows.{Replies, reply_told, rest_of, row_told, row_changed, IsReadyRow}

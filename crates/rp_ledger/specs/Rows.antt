@@ -11,8 +11,8 @@ use Rattle.rp_answer.specs.declared.answer.Verdict.{Verdict as CodeVerdict}
 use Rattle.rp_answer.specs.Views.{verdict_of}
 use Rattle.rp_answer.specs.declared.reply.RowEnd.{RowEnd}
 use Rattle.rp_answer.specs.Replies.{EndsBy}
-use Rattle.rp_changes.specs.declared.change.Change.{Change}
-use Rattle.rp_changes.specs.Changes.{change_of}
+use Rattle.rp_lots.specs.declared.change.Change.{Change}
+use Rattle.rp_lots.specs.Changes.{change_of}
 use Rattle.rp_ledger.specs.declared.reply.Reply.{Reply}
 use Rattle.rp_ledger.specs.declared.reply.Reply.TheVariants.{Told, Changed}
 use Rattle.rp_ledger.specs.declared.reply.Row.{Row as CodeRow}

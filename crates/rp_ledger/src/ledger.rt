@@ -8,16 +8,16 @@ ghost use Rattle.rp_model.specs.commands.Row.{lot_parts, owner_line};
 ghost use Rattle.rp_lotindex.specs.Near.{others_in, is_near, lots_at, AreWithin};
 ghost use Rattle.rp_lotindex.specs.Owner.{is_there, owner_verdict};
 ghost use Rattle.rp_tester.specs.Short.{StandShort};
-ghost use Rattle.rp_changes.specs.Changes.{change_of};
+ghost use Rattle.rp_lots.specs.Changes.{change_of};
 ghost use Rattle.rp_ledger.specs.Kept.{IsSoundByParts};
 ghost use Rattle.rp_ledger.specs.Taken.{IsTaken};
 
 use crate::replaced::replace;
 use rp_boxindex::Quiet;
-use rp_changes::Change;
 use rp_history::History;
 use rp_lists::{Listed, Name};
 use rp_lotindex::{Moment, Reach};
+use rp_lots::Change;
 use rp_space::Point;
 use rp_store::{Forms, Lots, NamedForms};
 use std::alloc::{AllocError, Global};

@@ -4,10 +4,9 @@ ghost use Rattle.rp_model.specs.commands.Row.{row};
 ghost use Rattle.rp_answer.specs.Replies.{Tells};
 
 use rp_answer::{RowEnd, Verdicts, one_line};
-use rp_changes::Registry;
 use rp_lists::Name;
 use rp_lotindex::Moment;
-use rp_lots::Keeper;
+use rp_lots::{Keeper, Registry};
 use rp_rows::{lineage, list, owner_verdict};
 use rp_space::Point;
 use rp_tester::Tests;

@@ -3,9 +3,9 @@ ghost use Rattle.std.specs.Prelude.{◌≡◌, map, OnOk, OnErr};
 ghost use Rattle.rp_history.specs.Lots.{lots_after, AreBornBefore, AreNew};
 ghost use Rattle.rp_history.specs.Parts.{new_lots};
 ghost use Rattle.rp_store.specs.Kept.{AreFew};
-ghost use Rattle.rp_changes.specs.Changes.{replaced_of};
+ghost use Rattle.rp_lots.specs.Changes.{replaced_of};
 
-use rp_changes::Replaced;
+use rp_lots::Replaced;
 use rp_store::{Forms, Lots};
 use std::alloc::{AllocError, Global};
 

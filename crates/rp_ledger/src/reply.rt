@@ -1,8 +1,8 @@
 //! What a command comes to, and how far its row stands once.
 
 use rp_answer::Verdicts;
-use rp_changes::Change;
 use rp_lists::Name;
+use rp_lots::Change;
 
 /// What a command comes to.
 #[derive(Drop)]

@@ -11,12 +11,12 @@ ghost use Rattle.rp_ledger.specs.Rows.{rest_of, row_told, row_changed, IsReadyRo
 use crate::lots::{live_list, origins, owner, owner_then};
 use crate::reply::{Reply, Row};
 use rp_answer::{RowEnd, Verdicts, row_form};
-use rp_changes::{
-    Change, Registry, consolidation, cutting, definition, registration, retirement, subdivision,
-};
+use rp_changes::{consolidation, cutting, definition, registration, retirement};
 use rp_command::{Command, Expr};
+use rp_lots::{Change, Registry};
 use rp_queries::Question;
 use rp_rows::{comparison, emptiness, membership, piece_numbers, related, shown_parts};
+use rp_subdivide::subdivision;
 use rp_tester::Tests;
 use std::alloc::Global;
 

@@ -1,12 +1,5 @@
 pub mod Names
-pub mod Items
 pub mod Sieved
 pub mod Counted
-pub mod Meeting
-pub mod Contacts
-pub mod Linked
-pub mod Paired
-pub mod Numbers
-pub mod Accessed
-pub mod Judging
-pub mod Apart
+pub mod Steps
+pub mod BornLots

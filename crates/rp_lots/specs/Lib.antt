@@ -1,6 +1,3 @@
-pub mod Meets
 pub mod Counted
-pub mod Behind
-pub mod Numbers
-pub mod Asked
-pub mod Apart
+pub mod Boxes
+pub mod Changes

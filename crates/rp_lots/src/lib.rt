@@ -1,25 +1,21 @@
 #![tactic(auto)]
-//! The rows of the questions about lots in contact and apart, written once over whatever answers their tests and
-//! whatever keeps the lots, and what the rows of changes need of lots.
+//! What the rows of questions about lots and the rows of changes both need, over whatever answers their tests and
+//! whatever keeps the lots.
 //!
-//! [`Keeper`] has the lots that were ever registered, with their forms. The row of a question comes to pairs of lots
-//! that are to be judged, or to the refusal or the stop that its definition has for it, and counts exactly the tests of
-//! that. Whoever asks judges the pairs, in threads or line after line; what follows from the answers stands here too.
-//! Calls that answer `AllocError` do so only for want of memory.
+//! [`Keeper`] has the lots that were ever registered, with their forms, and [`Registry`] the whole register. The lots
+//! that may meet a form are found and their tests are counted here, and a row that changes something answers a
+//! [`Change`]. Calls that answer `AllocError` do so only for want of memory.
 
-mod access;
-mod audit;
-mod behind;
+mod births;
+mod change;
+mod checks;
 mod keeper;
-mod links;
 mod near;
-mod pair;
-mod touching;
+mod registry;
 
-pub use access::{access_left, access_told};
-pub use audit::{AuditLeft, audit_left};
+pub use births::{born_of, replacing};
+pub use change::{Change, Replaced};
+pub use checks::{check_room, count_parts};
 pub use keeper::Keeper;
-pub use links::AccessLeft;
-pub use near::{count_pairs, count_tests, form_at, lots_near};
-pub use pair::Pair;
-pub use touching::{TouchLeft, ids_met, touch_left};
+pub use near::{Near, count_pairs, count_tests, form_at, lots_near};
+pub use registry::{Overlaps, Registry};

@@ -6,18 +6,15 @@ ghost use Rattle.rp_model.specs.commands.Row.{count_pairs};
 ghost use Rattle.rp_lotindex.specs.Near.{may_meet, others_in, pairs_with, is_near, lots_at, AreWithin};
 ghost use Rattle.rp_space.specs.Boxes.{integer_box};
 ghost use Rattle.rp_tester.specs.Comes.{Comes};
+ghost use Rattle.rp_lots.specs.Boxes.{boxes_let};
 ghost use Rattle.rp_lots.specs.Counted.{CountsUpTo};
-ghost use Rattle.rp_lots.specs.Meets.{boxes_let};
 
 use crate::keeper::Keeper;
 use rp_lists::{Listed, Name};
 use rp_lotindex::Reach;
 use rp_space::IntBox;
-use rp_tester::{Stopped, Tests};
+use rp_tester::{MAX_TESTS, Stopped, Tests};
 use std::alloc::Global;
-
-/// The most tests that are counted in a command.
-pub(crate) const MAX_TESTS: u64 = 65536;
 
 /// The lots that may meet a form: their places among all lots, and how many pairs of parts may meet.
 #[derive(Drop)]
@@ -119,7 +116,7 @@ fn count_at<T: Tests, K: Keeper<T>>(
     };
     for place in places {
         let pairs = count_pairs::<T, K>(form, form_at::<T, K>(keeper, *place), reach);
-        if pairs > MAX_TESTS - near.pairs {
+        if pairs > MAX_TESTS as u64 - near.pairs {
             return Err(Stopped::Limit);
         }
         if pairs > 0 {

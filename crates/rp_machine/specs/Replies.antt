@@ -6,8 +6,8 @@ use Rattle.rp_model.specs.states.State.{Change as ModelChange, nothing_changes}
 use Rattle.rp_model.specs.commands.Verdict.{Verdict, says_ok, refused, limit}
 use Rattle.rp_answer.specs.Views.{refusal_of, verdict_of}
 use Rattle.rp_tester.specs.Comes.{stop_of}
-use Rattle.rp_changes.specs.declared.change.Change.{Change}
-use Rattle.rp_changes.specs.Changes.{change_of}
+use Rattle.rp_lots.specs.declared.change.Change.{Change}
+use Rattle.rp_lots.specs.Changes.{change_of}
 use Rattle.rp_answer.specs.declared.reply.RowEnd.{RowEnd}
 use Rattle.rp_answer.specs.declared.reply.RowEnd.TheVariants.{Refused, Stopped as StoppedEnd}
 use Rattle.rp_ledger.specs.declared.reply.Reply.{Reply as CodeReply}

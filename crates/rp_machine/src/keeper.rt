@@ -11,11 +11,10 @@ ghost use Rattle.rp_lotindex.specs.Near.{others_in, is_near, lots_at, AreWithin}
 ghost use Rattle.rp_lotindex.specs.Owner.{is_there, owner_verdict};
 
 use crate::state::State;
-use rp_changes::{Overlaps, Registry};
 use rp_history::History;
 use rp_lists::{Listed, Name};
 use rp_lotindex::{Moment, Reach};
-use rp_lots::Keeper;
+use rp_lots::{Keeper, Overlaps, Registry};
 use rp_region::{Part, Region, Work};
 use rp_space::{IntBox, Point};
 use rp_tester::{Named, Stopped};

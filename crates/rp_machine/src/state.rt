@@ -8,8 +8,8 @@ ghost use Rattle.rp_model.specs.commands.Row.{shapes_of_parts};
 ghost use Rattle.rp_ledger.specs.Taken.{IsTaken};
 ghost use Rattle.rp_machine.specs.Replies.{made};
 
-use rp_changes::Change;
 use rp_ledger::Ledger;
+use rp_lots::Change;
 use rp_region::{Region, Room};
 use rp_regionlots::Regions;
 use std::alloc::{AllocError, Global};

@@ -15,8 +15,8 @@ use Rattle.rp_states.proofs.Plain.{kept_images}
 use Rattle.rp_geometry.proofs.Kept.{part_is_checked}
 use Rattle.rp_lists.specs.Listed.{Listed}
 use Rattle.rp_history.specs.Lots.{lots_in}
-use Rattle.rp_changes.specs.declared.child.Child.{Child as MadeChild}
-use Rattle.rp_changes.specs.Children.{formed_child, formed_children, IsShort}
+use Rattle.rp_subdivide.specs.declared.child.Child.{Child as MadeChild}
+use Rattle.rp_subdivide.specs.Children.{formed_child, formed_children, IsShort}
 use Rattle.rp_store.specs.Kept.{AreFew}
 use Rattle.rp_parcels.specs.Kept.{AreSound}
 use Rattle.rp_ledger.proofs.Applied.{sound_are_few}

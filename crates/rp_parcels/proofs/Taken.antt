@@ -19,12 +19,12 @@ use Rattle.rp_region.proofs.Grows.{no_more}
 use Rattle.rp_region.proofs.Left.{not_begun}
 use Rattle.rp_answer.specs.declared.reply.RowEnd.{RowEnd}
 use Rattle.rp_answer.specs.declared.reply.RowEnd.TheVariants.{Refused, Stopped as StoppedEnd}
-use Rattle.rp_lots.specs.Asked.{Answers as RowAnswers}
+use Rattle.rp_contacts.specs.Asked.{Answers as RowAnswers}
 use Rattle.rp_answer.specs.declared.answer.Refusal.{Refusal}
 use Rattle.rp_answer.specs.Views.{refusal_of}
 use Rattle.rp_history.specs.Parts.{new_lots}
-use Rattle.rp_changes.specs.declared.change.Replaced.{Replaced}
-use Rattle.rp_changes.specs.Changes.{Changes as RowChanges, replaced_of}
+use Rattle.rp_lots.specs.declared.change.Replaced.{Replaced}
+use Rattle.rp_lots.specs.Changes.{Changes as RowChanges, replaced_of}
 use Rattle.rp_parcels.specs.declared.fault.ParcelFault.{ParcelFault}
 use Rattle.rp_parcels.specs.Register.{IsFitChange}
 use Rattle.rp_parcels.specs.Rows.{Cause, refuses, limited, wanting, cause_of, EndsBy, Answers, Changes}

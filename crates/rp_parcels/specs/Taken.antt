@@ -12,8 +12,8 @@ use Rattle.rp_answer.specs.declared.answer.Refusal.{Refusal}
 use Rattle.rp_answer.specs.Views.{refusal_of}
 use Rattle.rp_history.specs.Lots.{lots_after}
 use Rattle.rp_history.specs.Parts.{new_lots}
-use Rattle.rp_changes.specs.declared.change.Replaced.{Replaced}
-use Rattle.rp_changes.specs.Changes.{replaced_of}
+use Rattle.rp_lots.specs.declared.change.Replaced.{Replaced}
+use Rattle.rp_lots.specs.Changes.{replaced_of}
 use Rattle.rp_parcels.specs.declared.fault.ParcelFault.{ParcelFault}
 use Rattle.rp_parcels.specs.Register.{IsFitChange}
 use Rattle.rp_parcels.specs.Rows.{Cause, refuses, limited, wanting, cause_of}

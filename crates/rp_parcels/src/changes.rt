@@ -7,7 +7,7 @@ ghost use Rattle.rp_model.specs.states.State.{lots_replaced};
 ghost use Rattle.rp_model.specs.commands.Row.{row_register, row_cut, row_subdivide, row_consolidate};
 ghost use Rattle.rp_history.specs.Lots.{lots_in, lots_after};
 ghost use Rattle.rp_history.specs.Parts.{new_lots};
-ghost use Rattle.rp_changes.specs.Children.{formed_children};
+ghost use Rattle.rp_subdivide.specs.Children.{formed_children};
 ghost use Rattle.rp_parcels.specs.Kept.{AreSound};
 ghost use Rattle.rp_parcels.specs.Register.{IsLater, child_of};
 ghost use Rattle.rp_parcels.specs.Rows.{Changes, IsTold};
@@ -21,9 +21,11 @@ use crate::parcels::Parcels;
 use crate::visits::Visits;
 use rp_answer::RowEnd;
 use rp_boxindex::Watch;
-use rp_changes::{Child as FormedChild, Replaced, consolidate, cut, make_lot, subdivide};
+use rp_changes::{consolidate, cut, make_lot};
 use rp_lists::{Listed, Name};
+use rp_lots::Replaced;
 use rp_region::{Region, Work};
+use rp_subdivide::{Child as FormedChild, subdivide};
 use std::alloc::{AllocError, Global};
 
 impl Parcels {

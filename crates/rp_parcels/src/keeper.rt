@@ -13,11 +13,10 @@ ghost use Rattle.rp_lotindex.specs.Near.{others_in, is_near, lots_at, AreWithin}
 
 use crate::parcels::Parcels;
 use crate::visits::Visits;
-use rp_changes::Overlaps;
 use rp_history::History;
 use rp_lists::{Listed, Name};
 use rp_lotindex::Reach;
-use rp_lots::Keeper;
+use rp_lots::{Keeper, Overlaps};
 use rp_region::{Part, Region, Work};
 use rp_space::IntBox;
 use rp_tester::Stopped;

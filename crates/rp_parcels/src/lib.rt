@@ -9,8 +9,8 @@
 //! proof lines are those of the row for every grain. The parcel at a point is the only one of its layer. Points that a
 //! refusal carries are those of its last proof line. Calls that answer `AllocError` do so only for want of memory.
 //!
-//! The rows are those of `rp_changes` and `rp_regionlots`, each walked on a work of its own, which the work of the call
-//! takes over.
+//! The rows are those of `rp_changes`, `rp_subdivide` and `rp_regionlots`, each walked on a work of its own, which the
+//! work of the call takes over.
 
 mod answer;
 mod changes;

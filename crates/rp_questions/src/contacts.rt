@@ -5,9 +5,10 @@ ghost use Rattle.rp_reports.specs.Check.{line_tester};
 ghost use Rattle.rp_answer.specs.Replies.{Tells};
 
 use rp_answer::{RowEnd, Verdict, Verdicts, one_line};
+use rp_contacts::{access_left, access_told, audit_left, ids_met, touch_left};
 use rp_lists::Name;
 use rp_lotindex::Reach;
-use rp_lots::{Keeper, access_left, access_told, audit_left, ids_met, touch_left};
+use rp_lots::Keeper;
 use rp_register::{Register, meet_in_turn, show_apart_in_turn};
 use rp_rows::{access_lines, neighbour_lines};
 use rp_trail::Trail;

@@ -13,10 +13,10 @@ use Rattle.rp_verdicts.proofs.Right.{first_walks_are_right}
 use Rattle.rp_verdicts.proofs.RowStops.{row_stops, first_only_limits}
 use Rattle.rp_verdicts.proofs.Stops.{StopsAtLimit}
 use Rattle.rp_lotindex.specs.declared.near.Reach.TheVariants.{Overlap}
-use Rattle.rp_lots.specs.declared.pair.Pair.{Pair}
-use Rattle.rp_lots.specs.Apart.{apart_each}
-use Rattle.rp_lots.proofs.Apart.{none_meet}
-use Rattle.rp_lots.proofs.Judging.{meet_pairs}
+use Rattle.rp_contacts.specs.declared.pair.Pair.{Pair}
+use Rattle.rp_contacts.specs.Apart.{apart_each}
+use Rattle.rp_contacts.proofs.Apart.{none_meet}
+use Rattle.rp_contacts.proofs.Judging.{meet_pairs}
 
 -- what is stopped by limits alone is not stopped by a line
 no_line : {A : Type 0} (o : Outcome Work A) (v : Work) → StopsAtLimit o → o ≡ stopped taken_wrong v → ⊥

@@ -5,8 +5,8 @@ use Rattle.rp_geometry.specs.sets.Shape.{Part}
 use Rattle.rp_walks.specs.Walk.{Outcome, done, Work, no_work, with_lines, pass, after_first, first_tester}
 use Rattle.rp_region.specs.Makes.{work_after}
 use Rattle.rp_lotindex.specs.declared.near.Reach.{Reach}
-use Rattle.rp_lots.specs.declared.pair.Pair.{Pair}
-use Rattle.rp_lots.specs.Meets.{meet_each}
+use Rattle.rp_contacts.specs.declared.pair.Pair.{Pair}
+use Rattle.rp_contacts.specs.Meets.{meet_each}
 use Rattle.rp_regionlots.specs.declared.halves.Shown.{Shown}
 use Rattle.rp_regionlots.specs.Shown.{pair_test, is_passed, shown_of, shown, with_all_shown, ShowsNothingCounted}
 use Rattle.rp_regionlots.proofs.Framed.{shown_behind, none_counted}

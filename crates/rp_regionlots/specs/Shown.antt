@@ -4,8 +4,8 @@ use Rattle.rp_geometry.specs.sets.Shape.{Part}
 use Rattle.rp_walks.specs.Walk.{Outcome, done, stopped, Walk, Work, no_work, with_lines, first_tester}
 use Rattle.rp_region.specs.Makes.{work_after}
 use Rattle.rp_lotindex.specs.declared.near.Reach.{Reach}
-use Rattle.rp_lots.specs.declared.pair.Pair.{Pair}
-use Rattle.rp_lots.specs.Meets.{pair_of, IsPairWithin, pair_test as tests_of_pair}
+use Rattle.rp_contacts.specs.declared.pair.Pair.{Pair}
+use Rattle.rp_contacts.specs.Meets.{pair_of, IsPairWithin, pair_test as tests_of_pair}
 use Rattle.rp_regionlots.specs.declared.halves.Shown.{Shown}
 
 -- the tests of two lists of parts: of the pairs whose boxes let them meet alone, up to the first that does

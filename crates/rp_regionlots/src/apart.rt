@@ -5,13 +5,14 @@ ghost use Rattle.rp_model.specs.states.State.{state_of_parts};
 ghost use Rattle.rp_model.specs.states.Sound.{IsSound};
 ghost use Rattle.rp_model.specs.commands.Verdict.{clear};
 ghost use Rattle.rp_model.specs.commands.Row.{reply, row_audit};
-ghost use Rattle.rp_lots.specs.Asked.{Answers};
+ghost use Rattle.rp_contacts.specs.Asked.{Answers};
 
 use crate::halves::meet_in_halves;
 use rp_answer::RowEnd;
 use rp_boxindex::Watch;
+use rp_contacts::audit_left;
 use rp_lotindex::Reach;
-use rp_lots::{Keeper, audit_left};
+use rp_lots::Keeper;
 use rp_region::Work;
 use std::alloc::Global;
 use std::thread::Threads;

@@ -5,14 +5,15 @@ ghost use Rattle.rp_model.specs.states.State.{most_kept_parts};
 ghost use Rattle.rp_model.specs.commands.Verdict.{neighbour_lines};
 ghost use Rattle.rp_model.specs.commands.Row.{reply_lines, row_access, row_neighbours};
 ghost use Rattle.rp_rows.specs.Access.{told_access};
-ghost use Rattle.rp_lots.specs.Asked.{Answers};
+ghost use Rattle.rp_contacts.specs.Asked.{Answers};
 
 use crate::halves::meet_in_halves;
 use rp_answer::RowEnd;
 use rp_boxindex::Watch;
+use rp_contacts::{access_left, access_told, ids_met, touch_left};
 use rp_lists::{Name, Names};
 use rp_lotindex::Reach;
-use rp_lots::{Keeper, access_left, access_told, ids_met, touch_left};
+use rp_lots::Keeper;
 use rp_region::Work;
 use rp_rows::Access;
 use std::alloc::Global;

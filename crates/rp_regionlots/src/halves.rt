@@ -3,13 +3,13 @@ ghost use Rattle.std.specs.Prelude.{◌≡◌, ◌≤◌, [], IfOk, OnOk, length
 ghost use Rattle.std.specs.List.{AllByRecursion};
 ghost use Rattle.rp_walks.specs.Walk.{most_tests, first_tester};
 ghost use Rattle.rp_tester.specs.Comes.{Comes};
-ghost use Rattle.rp_lots.specs.Meets.{meet_each, IsPairWithin};
+ghost use Rattle.rp_contacts.specs.Meets.{meet_each, IsPairWithin};
 ghost use Rattle.rp_region.specs.Makes.{Makes};
 ghost use Rattle.rp_regionlots.specs.Shown.{pair_test, shown, shown_at, with_all_shown, ShowsNothingCounted, ArePairsWithin};
 
 use rp_boxindex::Watch;
+use rp_contacts::Pair;
 use rp_lotindex::Reach;
-use rp_lots::Pair;
 use rp_parallel::{Judge, judge_all};
 use rp_region::{OpFault, Region, Work};
 use rp_tester::Stopped;

@@ -10,8 +10,8 @@ use Rattle.rp_lists.specs.Listed.{Listed}
 use Rattle.rp_answer.specs.declared.answer.Verdict.{Verdict as CodeVerdict}
 use Rattle.rp_answer.specs.declared.reply.RowEnd.{RowEnd}
 use Rattle.rp_answer.specs.Replies.{EndsBy}
-use Rattle.rp_changes.specs.declared.change.Change.{Change}
-use Rattle.rp_changes.specs.Changes.{change_of}
+use Rattle.rp_lots.specs.declared.change.Change.{Change}
+use Rattle.rp_lots.specs.Changes.{change_of}
 use Rattle.rp_ledger.specs.declared.reply.Reply.TheVariants.{Told}
 use Rattle.rp_ledger.specs.Rows.{reply_of, change_in}
 use Rattle.rp_register.specs.declared.followed.Followed.{Followed}

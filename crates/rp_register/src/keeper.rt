@@ -14,11 +14,10 @@ ghost use Rattle.rp_lotindex.specs.Owner.{is_there, owner_verdict};
 ghost use Rattle.rp_tester.specs.Short.{StandShort};
 
 use crate::register::Register;
-use rp_changes::{Overlaps, Registry};
 use rp_history::History;
 use rp_lists::{Listed, Name};
 use rp_lotindex::{Moment, Reach};
-use rp_lots::Keeper;
+use rp_lots::{Keeper, Overlaps, Registry};
 use rp_space::{IntBox, Point};
 use rp_tester::{Named, Stopped};
 use rp_trail::{Form, Kept, Trail, common};

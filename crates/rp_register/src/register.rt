@@ -10,10 +10,10 @@ ghost use Rattle.rp_ledger.specs.Taken.{IsTaken};
 ghost use Rattle.rp_register.specs.Followed.{shown_change};
 
 use crate::shown::Shown;
-use rp_changes::Change;
 use rp_command::Expr;
 use rp_ledger::Ledger;
 use rp_lists::Name;
+use rp_lots::Change;
 use rp_queries::first_unknown;
 use rp_trail::{Form, Trail};
 use std::alloc::{AllocError, Global};

@@ -3,11 +3,11 @@ ghost use Rattle.std.specs.Prelude.{◌≡◌, ◌++◌, ◌∷◌, [], IfOk, On
 ghost use Rattle.std.specs.List.{AllByRecursion};
 ghost use Rattle.rp_reports.specs.Check.{line_tester};
 ghost use Rattle.rp_tester.specs.Comes.{Comes};
-ghost use Rattle.rp_lots.specs.Meets.{pair_test, meet_each, IsPairWithin};
-ghost use Rattle.rp_lots.specs.Apart.{apart_each};
+ghost use Rattle.rp_contacts.specs.Meets.{pair_test, meet_each, IsPairWithin};
+ghost use Rattle.rp_contacts.specs.Apart.{apart_each};
 
+use rp_contacts::Pair;
 use rp_lotindex::Reach;
-use rp_lots::Pair;
 use rp_tester::Stopped;
 use rp_trail::{Form, Trail, common, touching};
 use std::alloc::{AllocError, Global};

@@ -10,8 +10,8 @@ use crate::flat::first_flat;
 use crate::guess::quick_ring;
 use crate::ring::ring;
 use rp_cert::{Slice, check_slice};
-use rp_region::Region;
 use rp_lists::Listed;
+use rp_region::Region;
 use rp_space::{Half, keep_bounds};
 use std::alloc::{AllocError, Global};
 

@@ -8,8 +8,8 @@ ghost use Rattle.rp_lotindex.specs.Indexed.{AreSettled};
 use crate::boxes::FormBoxes;
 use crate::forms::Forms;
 use rp_history::History;
-use rp_lotindex::LotBoxes;
 use rp_lists::Name;
+use rp_lotindex::LotBoxes;
 
 /// Moves the boxes of the lots with the ids, whose forms these are, as far as they have some. Takes no memory.
 pub(crate) fn settle_all<F: Forms>(

@@ -7,7 +7,7 @@ use Rattle.rp_history.proofs.Checked.{fails_first}
 use Rattle.rp_lots.proofs.Names.{names_end}
 use Rattle.rp_changes.proofs.Counted.{are_none, are_some}
 use Rattle.rp_changes.proofs.Alone.{new_id}
-use Rattle.rp_changes.proofs.Steps.{no_room, has_room, second_fails}
+use Rattle.rp_lots.proofs.Steps.{no_room, has_room, second_fails}
 use Rattle.rp_changes.proofs.making.check_lot.Goals as goal
 
 pub returns-in_err-check_new-clause-row : goal.returns-in_err-check_new-clause-row

@@ -1,6 +1,6 @@
 use Rattle.std.proofs.Common.{sym, subst}
 use Rattle.rp_model.specs.commands.Row.{row_define}
-use Rattle.rp_changes.specs.Changes.{Changes, change_of}
+use Rattle.rp_lots.specs.Changes.{Changes, change_of}
 use Rattle.rp_changes.proofs.orders.definition.Goals as goal
 
 pub returns : goal.returns

@@ -3,8 +3,8 @@ use Rattle.std.proofs.lemmas.Result.{err_from_is_err_and}
 use Rattle.rp_language.specs.Name.{Label}
 use Rattle.rp_model.specs.commands.Row.{row_register}
 use Rattle.rp_history.specs.Lots.{lots_in}
-use Rattle.rp_changes.specs.Changes.{Changes, replaced_of}
-use Rattle.rp_changes.proofs.BornLots.{replaced_row}
+use Rattle.rp_lots.specs.Changes.{Changes, replaced_of}
+use Rattle.rp_lots.proofs.BornLots.{replaced_row}
 use Rattle.rp_changes.proofs.orders.registration.Goals as goal
 
 pub returns-in_err-form : goal.returns-in_err-form

@@ -1,7 +1,7 @@
 use Rattle.std.proofs.Common.{◌≡◌, map, take}
 use Rattle.std.specs.List.{AllByRecursion}
 use Rattle.rp_geometry.specs.parts.Parts.{IsRegion}
-use Rattle.rp_changes.specs.Children.{formed_children}
+use Rattle.rp_subdivide.specs.Children.{formed_children}
 use Rattle.rp_parcels.specs.Register.{child_of}
 use Rattle.rp_parcels.proofs.changes.formed.Given as goal
 

@@ -5,8 +5,8 @@ use Rattle.rp_model.specs.commands.Verdict.{Verdict}
 use Rattle.rp_model.specs.commands.Row.{reply_lines}
 use Rattle.rp_reports.specs.Check.{line_tester}
 use Rattle.rp_lotindex.specs.declared.near.Reach.TheVariants.{Touch}
-use Rattle.rp_lots.specs.Asked.{access_reply}
-use Rattle.rp_lots.proofs.Judging.{within_forms, meet_pairs, judged_stops, judged_ends}
+use Rattle.rp_contacts.specs.Asked.{access_reply}
+use Rattle.rp_contacts.proofs.Judging.{within_forms, meet_pairs, judged_stops, judged_ends}
 use Rattle.rp_questions.proofs.contacts.access.Goals as goal
 
 pub returns-in_err-left : goal.returns-in_err-left

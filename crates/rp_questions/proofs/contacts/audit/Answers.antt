@@ -4,8 +4,8 @@ use Rattle.rp_walks.specs.Walk.{done}
 use Rattle.rp_model.specs.commands.Verdict.{Verdict, clear}
 use Rattle.rp_model.specs.commands.Row.{reply, reply_lines}
 use Rattle.rp_reports.specs.Check.{line_tester}
-use Rattle.rp_lots.specs.Apart.{apart_each}
-use Rattle.rp_lots.proofs.Judging.{within_forms, judged_stops, judged_ends}
+use Rattle.rp_contacts.specs.Apart.{apart_each}
+use Rattle.rp_contacts.proofs.Judging.{within_forms, judged_stops, judged_ends}
 use Rattle.rp_questions.proofs.contacts.audit.Goals as goal
 
 pub returns-in_err-left : goal.returns-in_err-left

@@ -6,10 +6,10 @@ use Rattle.rp_model.specs.commands.Verdict.{Verdict, neighbour_lines}
 use Rattle.rp_model.specs.commands.Row.{reply_lines}
 use Rattle.rp_reports.specs.Check.{line_tester}
 use Rattle.rp_lotindex.specs.declared.near.Reach.TheVariants.{Touch}
-use Rattle.rp_lots.specs.Asked.{contacts_reply}
-use Rattle.rp_lots.specs.Meets.{ids_met}
-use Rattle.rp_lots.proofs.Contacts.{bare_met}
-use Rattle.rp_lots.proofs.Judging.{within_lines, within_forms, meet_pairs, judged_stops, judged_ends}
+use Rattle.rp_contacts.specs.Asked.{contacts_reply}
+use Rattle.rp_contacts.specs.Meets.{ids_met}
+use Rattle.rp_contacts.proofs.Contacts.{bare_met}
+use Rattle.rp_contacts.proofs.Judging.{within_lines, within_forms, meet_pairs, judged_stops, judged_ends}
 use Rattle.rp_questions.proofs.contacts.neighbours.Goals as goal
 
 pub returns-in_err-left : goal.returns-in_err-left

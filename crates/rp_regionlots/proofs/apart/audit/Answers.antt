@@ -5,7 +5,7 @@ use Rattle.rp_walks.specs.Walk.{first_tester}
 use Rattle.rp_model.specs.commands.Verdict.{clear}
 use Rattle.rp_model.specs.commands.Row.{reply}
 use Rattle.rp_lotindex.specs.declared.near.Reach.TheVariants.{Overlap}
-use Rattle.rp_lots.proofs.Judging.{within_forms, meet_pairs, judged_stops, judged_ends}
+use Rattle.rp_contacts.proofs.Judging.{within_forms, meet_pairs, judged_stops, judged_ends}
 use Rattle.rp_regionlots.proofs.Audited.{audit_met}
 use Rattle.rp_regionlots.proofs.Shown.{own_map}
 use Rattle.rp_regionlots.proofs.apart.audit.Goals as goal

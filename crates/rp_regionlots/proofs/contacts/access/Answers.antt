@@ -5,8 +5,8 @@ use Rattle.rp_walks.specs.Walk.{done, first_tester}
 use Rattle.rp_model.specs.commands.Verdict.{Verdict}
 use Rattle.rp_model.specs.commands.Row.{reply_lines}
 use Rattle.rp_lotindex.specs.declared.near.Reach.TheVariants.{Touch}
-use Rattle.rp_lots.specs.Asked.{access_reply}
-use Rattle.rp_lots.proofs.Judging.{within_forms, meet_pairs, judged_stops, judged_ends}
+use Rattle.rp_contacts.specs.Asked.{access_reply}
+use Rattle.rp_contacts.proofs.Judging.{within_forms, meet_pairs, judged_stops, judged_ends}
 use Rattle.rp_regionlots.proofs.Shown.{own_map}
 use Rattle.rp_regionlots.proofs.contacts.access.Goals as goal
 

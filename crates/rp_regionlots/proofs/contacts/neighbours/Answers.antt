@@ -7,10 +7,10 @@ use Rattle.rp_model.specs.states.State.{Lot}
 use Rattle.rp_model.specs.commands.Verdict.{neighbour_lines}
 use Rattle.rp_model.specs.commands.Row.{reply_lines}
 use Rattle.rp_lotindex.specs.declared.near.Reach.TheVariants.{Touch}
-use Rattle.rp_lots.specs.Asked.{contacts_reply}
-use Rattle.rp_lots.specs.Meets.{ids_met}
-use Rattle.rp_lots.proofs.Contacts.{bare_met}
-use Rattle.rp_lots.proofs.Judging.{within_lines, within_forms, meet_pairs, judged_stops, judged_ends}
+use Rattle.rp_contacts.specs.Asked.{contacts_reply}
+use Rattle.rp_contacts.specs.Meets.{ids_met}
+use Rattle.rp_contacts.proofs.Contacts.{bare_met}
+use Rattle.rp_contacts.proofs.Judging.{within_lines, within_forms, meet_pairs, judged_stops, judged_ends}
 use Rattle.rp_regionlots.proofs.Shown.{own_map}
 use Rattle.rp_regionlots.proofs.contacts.neighbours.Goals as goal
 

@@ -1,6 +1,6 @@
 use Rattle.std.proofs.Common.{◌∙◌}
 use Rattle.std.proofs.lemmas.Result.{IfOk-weaker}
-use Rattle.rp_lots.specs.Meets.{pair_of}
+use Rattle.rp_contacts.specs.Meets.{pair_of}
 use Rattle.rp_regionlots.specs.Shown.{shown}
 use Rattle.rp_regionlots.proofs.Items.{all_meanings}
 use Rattle.rp_regionlots.proofs.halves.judge_pairs.Goals as goal

@@ -1,7 +1,7 @@
 use Rattle.std.proofs.Common.{◌≡◌, [], length, map, drop}
 use Rattle.rp_reports.specs.Check.{line_tester}
 use Rattle.rp_tester.proofs.Left.{IsLeft}
-use Rattle.rp_lots.specs.Meets.{meet_each}
+use Rattle.rp_contacts.specs.Meets.{meet_each}
 use Rattle.rp_register.proofs.turn.meet_in_turn.Given as goal
 
 -- the pairs still to come are left

@@ -1,7 +1,7 @@
 use Rattle.std.proofs.Common.{map, drop}
 use Rattle.rp_reports.specs.Check.{line_tester}
 use Rattle.rp_tester.proofs.Left.{IsLeft}
-use Rattle.rp_lots.specs.Apart.{apart_each}
+use Rattle.rp_contacts.specs.Apart.{apart_each}
 use Rattle.rp_register.proofs.turn.show_apart_in_turn.Given as goal
 
 -- the pairs still to come are left

@@ -4,9 +4,9 @@ use Rattle.rp_geometry.specs.parts.Parts.{IsCheckedPart}
 use Rattle.rp_model.specs.states.State.{NewLot, PlainState, changed, lots_replaced, state_of_parts}
 use Rattle.rp_model.specs.states.Sound.{IsLaterThan}
 use Rattle.rp_history.specs.Parts.{new_lots}
-use Rattle.rp_changes.specs.declared.change.Change.{Change}
-use Rattle.rp_changes.specs.declared.change.Replaced.{Replaced}
-use Rattle.rp_changes.specs.Changes.{change_of}
+use Rattle.rp_lots.specs.declared.change.Change.{Change}
+use Rattle.rp_lots.specs.declared.change.Replaced.{Replaced}
+use Rattle.rp_lots.specs.Changes.{change_of}
 use Rattle.rp_store.specs.Kept.{state_with}
 use Rattle.rp_ledger.specs.Taken.{IsTaken}
 use Rattle.rp_ledger.proofs.Applied.{name_is_new, sound_are_few, later_births, lots_are_new}

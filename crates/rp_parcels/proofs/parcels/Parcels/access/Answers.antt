@@ -3,7 +3,7 @@ use Rattle.rp_walks.specs.Walk.{first_tester}
 use Rattle.rp_model.specs.states.State.{Lot}
 use Rattle.rp_model.specs.commands.Row.{row_access}
 use Rattle.rp_history.specs.Lots.{lots_in}
-use Rattle.rp_lots.specs.Asked.{Answers}
+use Rattle.rp_contacts.specs.Asked.{Answers}
 use Rattle.rp_parcels.proofs.Behind.{access_behind}
 use Rattle.rp_parcels.proofs.Ends.{access_ends}
 use Rattle.rp_parcels.proofs.Taken.{end_shown, row_answered}

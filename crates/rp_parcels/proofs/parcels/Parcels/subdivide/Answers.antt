@@ -7,7 +7,7 @@ use Rattle.rp_model.specs.commands.Row.{row_subdivide}
 use Rattle.rp_region.proofs.Behind.{behind_tells}
 use Rattle.rp_region.proofs.Left.{not_begun}
 use Rattle.rp_history.specs.Lots.{lots_in}
-use Rattle.rp_changes.specs.Changes.{Changes as RowChanges, replaced_of}
+use Rattle.rp_lots.specs.Changes.{Changes as RowChanges, replaced_of}
 use Rattle.rp_parcels.proofs.Behind.{subdivide_behind}
 use Rattle.rp_parcels.proofs.Ends.{subdivide_ends}
 use Rattle.rp_parcels.proofs.Fits.{subdivide_fits}

@@ -1,0 +1,9 @@
+pub mod Items
+pub mod Meeting
+pub mod Contacts
+pub mod Linked
+pub mod Paired
+pub mod Numbers
+pub mod Accessed
+pub mod Judging
+pub mod Apart

@@ -1,0 +1,3 @@
+pub mod TakenAway
+pub mod ChildLemmas
+pub mod ChildBorn

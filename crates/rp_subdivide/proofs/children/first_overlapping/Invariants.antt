@@ -1,0 +1,8 @@
+use Rattle.std.proofs.Common.{◌≡◌, ◌+◌, map, drop}
+use Rattle.rp_model.specs.commands.Row.{first_overlapping_children}
+use Rattle.rp_subdivide.specs.Children.{formed_child}
+use Rattle.rp_subdivide.proofs.children.first_overlapping.Given as goal
+
+-- the children still to come are left
+abbrev pub invariant-loop-place : goal.invariant-loop-place
+invariant-loop-place g l = first_overlapping_children g.T.Tests.tester (l.place + 1) (map (formed_child g.T.Tests.parts_of) (drop l.place l.children)) l.tests ≡ first_overlapping_children g.T.Tests.tester 1 (map (formed_child g.T.Tests.parts_of) l.children) l.fn.tests

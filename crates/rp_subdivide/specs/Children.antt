@@ -1,0 +1,19 @@
+-- The children of a subdivision.
+use Rattle.std.specs.Prelude.{◌≤◌, List, map, length}
+use Rattle.rp_geometry.specs.sets.Shape.{Part}
+use Rattle.rp_geometry.specs.parts.Parts.{most_parts}
+use Rattle.rp_model.specs.commands.Row.{FormedChild}
+use Rattle.rp_lists.specs.Listed.{Listed}
+use Rattle.rp_subdivide.specs.declared.child.Child.{Child}
+
+-- the child of the model
+abbrev pub formed_child : {F : Type 0} → (F → List Part) → Child F → FormedChild
+formed_child view c = record { id = c.id; parts = view c.form }
+
+-- children with their forms
+abbrev pub formed_children : {F : Type 0} → (F → List Part) → Listed (Child F) → List FormedChild
+formed_children view children = map (formed_child view) children.items
+
+-- its form has few parts
+abbrev pub IsShort : {F : Type 0} → (F → List Part) → Child F → Type 0
+IsShort view c = length (view c.form) ≤ most_parts

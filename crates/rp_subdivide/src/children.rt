@@ -1,0 +1,231 @@
+//! The children of a subdivision: what is asked of them.
+ghost use Rattle.std.specs.Prelude.{◌≡◌, ◌+◌, ◌*◌, ◌≤◌, length, map, not, option_map, IfOk};
+ghost use Rattle.std.specs.List.{AllByRecursion};
+ghost use Rattle.rp_walks.specs.Walk.{Walk};
+ghost use Rattle.rp_walks.specs.Compare.{is_covered};
+ghost use Rattle.rp_walks.specs.Form.{near_pair, subtract};
+ghost use Rattle.rp_model.specs.commands.Verdict.{empty_child, outside_lot, children_overlap};
+ghost use Rattle.rp_model.specs.commands.Row.{Reply, child_parts, joined_parts, count_with_each, count_among, first_empty_child, first_outside_child, first_overlapping_child, first_overlapping_children};
+ghost use Rattle.rp_answer.specs.Replies.{GoesOn};
+ghost use Rattle.rp_tester.specs.Comes.{Comes};
+ghost use Rattle.rp_subdivide.specs.Children.{formed_child, IsShort};
+ghost use Rattle.rp_subdivide.specs.Steps.{inside_tested, apart_tested, cover_tested};
+
+use crate::child::Child;
+use rp_answer::{Refusal, RowEnd};
+use rp_lists::Names;
+use rp_lotindex::Reach;
+use rp_lots::{Keeper, Overlaps, count_pairs, count_parts, count_tests};
+use rp_queries::{is_empty, within};
+use rp_tester::{Stopped, Tests};
+use std::alloc::{AllocError, Global};
+
+/// The ids of children, in order.
+pub(crate) fn child_ids<T: Tests>(
+    alloc: Global,
+    children: &[Child<T::Form>],
+) -> Result<Names, AllocError>
+    ensures { IfOk result (λ ids. ids.items ≡ map (λ c. c.id) (map (formed_child T.parts_of) children.now)) }
+{
+    let mut ids = Names::new(alloc);
+    for child in children {
+        ids.push(child.id)?;
+    }
+    Ok(ids)
+}
+
+/// The number of the first child that has no part.
+pub(crate) fn first_empty<T: Tests>(children: &[Child<T::Form>]) -> Option<u32>
+    requires { length children.now ≤ 1024 }
+    ensures { option_map empty_child result ≡ first_empty_child 1 (map (formed_child T.parts_of) children.now) }
+{
+    let mut number = 1;
+    for child in children {
+        if count_parts::<T>(&child.form) == 0 {
+            return Some(number);
+        }
+        number += 1;
+    }
+    None
+}
+
+/// How many parts children have together.
+pub(crate) fn count_all<T: Tests>(children: &[Child<T::Form>]) -> usize
+    requires few { length children.now ≤ 1024 }
+    requires short { AllByRecursion (IsShort T.parts_of) children.now }
+    ensures { result ≡ length (joined_parts (child_parts (map (formed_child T.parts_of) children.now))) }
+{
+    let mut count = 0;
+    for child in children {
+        count += count_parts::<T>(&child.form);
+    }
+    count
+}
+
+/// Each child lies in `whole`.
+pub(crate) fn check_inside<T: Tests>(
+    alloc: Global,
+    whole: &T::Form,
+    children: &[Child<T::Form>],
+    tests: &mut T,
+) -> Result<(), RowEnd>
+    requires { length children.now ≤ 1024 }
+    ensures { (rest : Walk T Reply) → GoesOn (λ x. x) result tests.new (λ _. rest) (inside_tested T.tester (T.parts_of whole.now) (map (formed_child T.parts_of) children.now) rest tests.old) }
+{
+    match first_outside(alloc, whole, children, tests)? {
+        Some(number) => Err(RowEnd::Refused(Refusal::Outside(number))),
+        None => Ok(()),
+    }
+}
+
+/// The number of the first child that has a point outside a form.
+fn first_outside<T: Tests>(
+    alloc: Global,
+    whole: &T::Form,
+    children: &[Child<T::Form>],
+    tests: &mut T,
+) -> Result<Option<u32>, Stopped>
+    requires { length children.now ≤ 1024 }
+    ensures { Comes (option_map outside_lot) result tests.new (first_outside_child T.tester (T.parts_of whole.now) 1 (map (formed_child T.parts_of) children.now) tests.old) }
+{
+    let mut number = 1;
+    for child in children {
+        if !within(alloc, &child.form, whole, tests)? {
+            return Ok(Some(number));
+        }
+        number += 1;
+    }
+    Ok(None)
+}
+
+/// No two children share a point. Their pairs of parts whose boxes share more than boundary are counted first.
+pub(crate) fn check_apart<T: Tests, K: Overlaps<T>>(
+    alloc: Global,
+    children: &[Child<T::Form>],
+    tests: &mut T,
+) -> Result<(), RowEnd>
+    requires few { length children.now ≤ 1024 }
+    requires short { AllByRecursion (IsShort T.parts_of) children.now }
+    ensures { (rest : Walk T Reply) → GoesOn (λ x. x) result tests.new (λ _. rest) (apart_tested T.tester (map (formed_child T.parts_of) children.now) rest tests.old) }
+{
+    count_tests(tests, count_near::<T, K>(children))?;
+    match first_overlapping::<T, K>(alloc, children, tests)? {
+        Some((first, second)) => Err(RowEnd::Refused(Refusal::ChildrenOverlap(first, second))),
+        None => Ok(()),
+    }
+}
+
+/// How many pairs of parts of two children have boxes that share more than boundary.
+fn count_near<T: Tests, K: Keeper<T>>(children: &[Child<T::Form>]) -> u64
+    requires few { length children.now ≤ 1024 }
+    requires short { AllByRecursion (IsShort T.parts_of) children.now }
+    ensures { result ≡ count_among near_pair (child_parts (map (formed_child T.parts_of) children.now)) }
+{
+    let mut pairs = 0;
+    for place in 0..children.len() {
+        pairs += count_near_with::<T, K>(&children[place], &children[place + 1..]);
+    }
+    pairs
+}
+
+/// How many pairs of a part of a child and one of some others have boxes that share more than boundary.
+fn count_near_with<T: Tests, K: Keeper<T>>(child: &Child<T::Form>, others: &[Child<T::Form>]) -> u64
+    requires one { IsShort T.parts_of child.now }
+    requires few { length others.now ≤ 1024 }
+    requires short { AllByRecursion (IsShort T.parts_of) others.now }
+    ensures value { result ≡ count_with_each near_pair (T.parts_of child.now.form) (child_parts (map (formed_child T.parts_of) others.now)) }
+    ensures few { result ≤ 1048576 * 1024 }
+{
+    let mut pairs = 0;
+    for other in others {
+        pairs += count_pairs::<T, K>(&child.form, &other.form, Reach::Overlap);
+    }
+    pairs
+}
+
+/// The numbers of the first two children that share a point. Only pairs of parts are tested whose boxes share more than
+/// boundary, and nothing is counted.
+fn first_overlapping<T: Tests, K: Overlaps<T>>(
+    alloc: Global,
+    children: &[Child<T::Form>],
+    tests: &mut T,
+) -> Result<Option<(u32, u32)>, Stopped>
+    requires { length children.now ≤ 1024 }
+    ensures { Comes (option_map (λ p. children_overlap p.0 p.1)) result tests.new (first_overlapping_children T.tester 1 (map (formed_child T.parts_of) children.now) tests.old) }
+{
+    for place in 0..children.len() {
+        let first = place as u32 + 1;
+        let child = &children[place];
+        let behind = &children[place + 1..];
+        let found = first_overlapping_with::<T, K>(alloc, first, child, behind, tests)?;
+        if let Some(second) = found {
+            return Ok(Some((first, second)));
+        }
+    }
+    Ok(None)
+}
+
+/// The number of the first of the children behind one, of this number, that shares a point with it.
+fn first_overlapping_with<T: Tests, K: Overlaps<T>>(
+    alloc: Global,
+    first: u32,
+    child: &Child<T::Form>,
+    behind: &[Child<T::Form>],
+    tests: &mut T,
+) -> Result<Option<u32>, Stopped>
+    requires { first + length behind.now ≤ 1024 }
+    ensures { Comes (option_map (λ n. children_overlap first n)) result tests.new (first_overlapping_child T.tester first (T.parts_of child.now.form) (first + 1) (map (formed_child T.parts_of) behind.now) tests.old) }
+{
+    let mut number = first + 1;
+    for other in behind {
+        if K::overlap(alloc, &child.form, &other.form, tests)? {
+            return Ok(Some(number));
+        }
+        number += 1;
+    }
+    Ok(None)
+}
+
+/// The children leave no point of `whole` out.
+pub(crate) fn check_covered<T: Tests>(
+    alloc: Global,
+    whole: &T::Form,
+    children: &[Child<T::Form>],
+    tests: &mut T,
+) -> Result<(), RowEnd>
+    ensures { (rest : Walk T Reply) → GoesOn (λ x. x) result tests.new (λ _. rest) (cover_tested T.tester (T.parts_of whole.now) (map (formed_child T.parts_of) children.now) rest tests.old) }
+{
+    if has_gap(alloc, whole, children, tests)? {
+        return Err(RowEnd::Refused(Refusal::Gap));
+    }
+    Ok(())
+}
+
+/// Whether a form has a point that no child has: the children are taken away one after the other.
+fn has_gap<T: Tests>(
+    alloc: Global,
+    whole: &T::Form,
+    children: &[Child<T::Form>],
+    tests: &mut T,
+) -> Result<bool, Stopped>
+    ensures { Comes not result tests.new (is_covered T.tester (T.parts_of whole.now) (joined_parts (child_parts (map (formed_child T.parts_of) children.now))) tests.old) }
+{
+    let left = left_of(alloc, whole, children, tests)?;
+    Ok(!is_empty(alloc, &left, tests)?)
+}
+
+/// What is left of a form outside all children.
+fn left_of<T: Tests>(
+    alloc: Global,
+    whole: &T::Form,
+    children: &[Child<T::Form>],
+    tests: &mut T,
+) -> Result<T::Form, Stopped>
+    ensures { Comes T.parts_of result tests.new (subtract T.tester (T.parts_of whole.now) (joined_parts (child_parts (map (formed_child T.parts_of) children.now))) tests.old) }
+{
+    let mut left = T::copy(alloc, whole)?;
+    for child in children {
+        left = tests.into_minus(alloc, left, &child.form)?;
+    }
+    Ok(left)
+}
