@@ -4,17 +4,13 @@ use Rattle.rp_geometry.specs.Geometry.{IntegerBox}
 use Rattle.rp_lotindex.specs.declared.axis.Axis.{Axis}
 use Rattle.rp_lotindex.specs.declared.axis.Axis.TheVariants.{X, Y, Z}
 
--- so many times a length is below another
-abbrev pub is_thin : ℤ → ℤ → ℤ → Bool
-is_thin n a b = int_lt (n *ℤ a) b
-
 -- what has these lengths on the three axes is a plate that lies flat
 abbrev pub is_plate : ℤ → ℤ → ℤ → Bool
-is_plate x y z = is_thin (pos 64) z x && is_thin (pos 64) z y
+is_plate x y z = int_lt (pos 64 *ℤ z) x && int_lt (pos 64 *ℤ z) y
 
--- the axis that comes first, by the lengths on all three: z for plates, y for what is long on x alone, else x
+-- the axis that comes first, by the lengths on all three: z for plates, y for what is thinner on y than on x, else x
 abbrev pub axis_by : ℤ → ℤ → ℤ → Axis
-axis_by x y z = cond (is_plate x y z) Z (cond (is_thin (pos 8) y x) Y X)
+axis_by x y z = cond (is_plate x y z) Z (cond (int_lt y x) Y X)
 
 -- the axis of a box that comes first
 abbrev pub axis_of : IntegerBox → Axis

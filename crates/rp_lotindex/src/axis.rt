@@ -27,13 +27,12 @@ pub(crate) fn axis_of(bounds: &IntBox) -> Axis
 /// The axis that comes first where a box has the lengths `x`, `y` and `z`. Heights differ little from lot to lot, even
 /// where the lots are flat: so z comes first for plates alone.
 fn axis_by(x: i64, y: i64, z: i64) -> Axis
-    requires y { IsWithin 4294967296 y }
     requires z { IsWithin 4294967296 z }
     ensures { result ≡ axis_by x y z }
 {
     if is_plate(x, y, z) {
         Axis::Z
-    } else if 8 * y < x {
+    } else if y < x {
         Axis::Y
     } else {
         Axis::X
