@@ -1,4 +1,5 @@
 pub mod Fronts
 pub mod LineTexts
+pub mod Operands
 pub mod Readers
 pub mod SliceReaders

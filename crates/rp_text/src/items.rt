@@ -17,13 +17,20 @@ pub(crate) trait WriteText {
         ensures { Writes result out.old.items out.new.items (text self.now) };
 }
 
+/// Appends a thing behind a space.
+pub(crate) fn write_item<T: WriteText>(item: &T, out: &mut Vec<u8>) -> Result<(), AllocError>
+    ensures { Writes result out.old.items out.new.items (space ∷ T.text item.now) }
+{
+    append(b" ", out)?;
+    item.write_text(out)
+}
+
 /// Appends things, each behind a space.
 pub(crate) fn write_items<T: WriteText>(items: &[T], out: &mut Vec<u8>) -> Result<(), AllocError>
     ensures { Writes result out.old.items out.new.items (items_text T.text items.now) }
 {
     for item in items {
-        append(b" ", out)?;
-        item.write_text(out)?;
+        write_item(item, out)?;
     }
     Ok(())
 }
@@ -48,8 +55,7 @@ pub(crate) fn write_operand<T: WriteText>(
     ensures { Writes result out.old.items out.new.items (word.now ++ space ∷ T.text operand.now) }
 {
     append(word, out)?;
-    append(b" ", out)?;
-    operand.write_text(out)
+    write_item(operand, out)
 }
 
 /// Appends a word, and its operands, each behind a space.

@@ -1,12 +1,14 @@
 //! The text of verdict lines.
-ghost use Rattle.std.specs.Prelude.{◌≡◌};
+ghost use Rattle.std.specs.Prelude.{◌≡◌, ◌∷◌, ◌++◌, decimal};
 ghost use Rattle.rp_command.specs.Views.{fault_of};
+ghost use Rattle.rp_language.specs.Grammar.{space};
 ghost use Rattle.rp_reports.specs.Text.{fault_word, refusal_text, verdict_text};
-ghost use Rattle.rp_model.specs.commands.Verdict.{children_overlap, level};
+ghost use Rattle.rp_model.specs.commands.Verdict.{children_overlap};
 ghost use Rattle.rp_text.specs.Fronts.{Writes};
+ghost use Rattle.rp_text.specs.Operands.{operands_text};
 ghost use Rattle.rp_answer.specs.Views.{refusal_of, verdict_of};
 
-use crate::items::{WriteText, write_operand, write_operands};
+use crate::items::{WriteText, write_item, write_items, write_operand};
 use crate::numbers::write_spaced;
 use crate::pieces::append;
 use rp_answer::{Refusal, Verdict};
@@ -35,15 +37,6 @@ fn write_children(first: u32, second: u32, out: &mut Vec<u8>) -> Result<(), Allo
     write_spaced(&first, &[second], out)
 }
 
-/// Appends how many steps a parcel is away.
-fn write_level(steps: u32, name: &Name, out: &mut Vec<u8>) -> Result<(), AllocError>
-    ensures { Writes result out.old.items out.new.items (verdict_text (level steps name.now)) }
-{
-    write_operand(b"= level", &steps, out)?;
-    append(b" ", out)?;
-    name.write_text(out)
-}
-
 impl WriteText for Refusal {
     ghost text = { λ r. refusal_text (refusal_of r) };
 
@@ -69,39 +62,91 @@ impl WriteText for Refusal {
     }
 }
 
+/// The sign and the word that begin the line of `verdict`; the sign alone where there is no word.
+fn verdict_word(verdict: &Verdict) -> &'static [u8]
+    ensures { verdict_text (verdict_of verdict.now) ≡ result.now ++ operands_text (verdict_of verdict.now) }
+{
+    match verdict {
+        Verdict::Yes => b"= yes",
+        Verdict::No => b"= no",
+        Verdict::Ok => b"= ok",
+        Verdict::DC => b"= DC",
+        Verdict::EC => b"= EC",
+        Verdict::PO => b"= PO",
+        Verdict::EQ => b"= EQ",
+        Verdict::TPP => b"= TPP",
+        Verdict::NTPP => b"= NTPP",
+        Verdict::TPPi => b"= TPPi",
+        Verdict::NTPPi => b"= NTPPi",
+        Verdict::Pieces(_) => b"= pieces",
+        Verdict::Piece(_) => b"= piece",
+        Verdict::Parts(_) => b"= parts",
+        Verdict::Part(_) => b"= part",
+        Verdict::Parcel(_) => b"= parcel",
+        Verdict::Nobody => b"= nobody",
+        Verdict::Neighbours(_) => b"= neighbours",
+        Verdict::Clear(_) => b"= clear",
+        Verdict::Parcels(_) => b"= parcels",
+        Verdict::Lots(_) => b"= lots",
+        Verdict::Lot(_) => b"=",
+        Verdict::Sections(_) => b"= sections",
+        Verdict::Slice(_) => b"=",
+        Verdict::Access(_) => b"= access",
+        Verdict::NoAccess => b"= noaccess",
+        Verdict::Level(_, _) => b"= level",
+        Verdict::Refused(_) => b"= refused",
+    }
+}
+
+/// Appends how many steps a parcel is away, and its name, each behind a space.
+fn write_level(steps: u32, name: &Name, out: &mut Vec<u8>) -> Result<(), AllocError>
+    ensures { Writes result out.old.items out.new.items ((space ∷ decimal steps) ++ space ∷ name.now) }
+{
+    write_item(&steps, out)?;
+    write_item(name, out)
+}
+
+/// Appends the operands of `verdict` to `out`, each behind a space.
+fn write_verdict_operands(verdict: &Verdict, out: &mut Vec<u8>) -> Result<(), AllocError>
+    ensures { Writes result out.old.items out.new.items (operands_text (verdict_of verdict.now)) }
+{
+    match verdict {
+        Verdict::Yes
+        | Verdict::No
+        | Verdict::Ok
+        | Verdict::DC
+        | Verdict::EC
+        | Verdict::PO
+        | Verdict::EQ
+        | Verdict::TPP
+        | Verdict::NTPP
+        | Verdict::TPPi
+        | Verdict::NTPPi
+        | Verdict::Nobody
+        | Verdict::NoAccess => Ok(()),
+        Verdict::Pieces(count)
+        | Verdict::Parts(count)
+        | Verdict::Neighbours(count)
+        | Verdict::Clear(count)
+        | Verdict::Parcels(count)
+        | Verdict::Lots(count)
+        | Verdict::Sections(count)
+        | Verdict::Access(count) => write_item(count, out),
+        Verdict::Piece(numbers) => write_items(numbers.items(), out),
+        Verdict::Part(halves) => write_items(halves.items(), out),
+        Verdict::Parcel(name) => write_item(name, out),
+        Verdict::Lot(lot) => write_item(lot, out),
+        Verdict::Slice(slice) => write_item(&**slice, out),
+        Verdict::Level(steps, name) => write_level(*steps, name, out),
+        Verdict::Refused(refusal) => write_item(refusal, out),
+    }
+}
+
 impl WriteText for Verdict {
     ghost text = { λ v. verdict_text (verdict_of v) };
 
     fn write_text(&self, out: &mut Vec<u8>) -> Result<(), AllocError> {
-        match self {
-            Verdict::Yes => append(b"= yes", out),
-            Verdict::No => append(b"= no", out),
-            Verdict::Ok => append(b"= ok", out),
-            Verdict::DC => append(b"= DC", out),
-            Verdict::EC => append(b"= EC", out),
-            Verdict::PO => append(b"= PO", out),
-            Verdict::EQ => append(b"= EQ", out),
-            Verdict::TPP => append(b"= TPP", out),
-            Verdict::NTPP => append(b"= NTPP", out),
-            Verdict::TPPi => append(b"= TPPi", out),
-            Verdict::NTPPi => append(b"= NTPPi", out),
-            Verdict::Pieces(count) => write_operand(b"= pieces", count, out),
-            Verdict::Piece(numbers) => write_operands(b"= piece", numbers.items(), out),
-            Verdict::Parts(count) => write_operand(b"= parts", count, out),
-            Verdict::Part(halves) => write_operands(b"= part", halves.items(), out),
-            Verdict::Parcel(name) => write_operand(b"= parcel", name, out),
-            Verdict::Nobody => append(b"= nobody", out),
-            Verdict::Neighbours(count) => write_operand(b"= neighbours", count, out),
-            Verdict::Clear(count) => write_operand(b"= clear", count, out),
-            Verdict::Parcels(count) => write_operand(b"= parcels", count, out),
-            Verdict::Lots(count) => write_operand(b"= lots", count, out),
-            Verdict::Lot(lot) => write_operand(b"=", lot, out),
-            Verdict::Sections(count) => write_operand(b"= sections", count, out),
-            Verdict::Slice(slice) => write_operand(b"=", &**slice, out),
-            Verdict::Access(steps) => write_operand(b"= access", steps, out),
-            Verdict::NoAccess => append(b"= noaccess", out),
-            Verdict::Level(steps, name) => write_level(*steps, name, out),
-            Verdict::Refused(refusal) => write_operand(b"= refused", refusal, out),
-        }
+        append(verdict_word(self), out)?;
+        write_verdict_operands(self, out)
     }
 }
