@@ -53,7 +53,7 @@ module _ (g : ℕ) (ts : List Multiple) (p : 0 < g) (d : DividesAll g (factors_o
       λ i. zero (λ h. h.a) i && zero (λ h. h.b) i && zero (λ h. h.c) i
 
   -- they contradict where the terms do
-  same_contradiction : (strict : Bool) → is_contradiction strict (divided g ts) ≡ is_contradiction strict ts
+  pub same_contradiction : (strict : Bool) → is_contradiction strict (divided g ts) ≡ is_contradiction strict ts
   same_contradiction true = same_at_most g p (weighted_sum (λ h. h.d) (divided g ts)) (weighted_sum (λ h. h.d) ts) (weighted_sum-divided g (λ h. h.d) ts d q)
   same_contradiction false = same_negative g p (weighted_sum (λ h. h.d) (divided g ts)) (weighted_sum (λ h. h.d) ts) (weighted_sum-divided g (λ h. h.d) ts d q)
 

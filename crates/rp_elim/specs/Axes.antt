@@ -42,6 +42,14 @@ are_parallel f g = is_zero (det2 f.a f.b g.a g.b) && is_zero (det2 f.a f.c g.a g
 abbrev pub are_opposed : ℤ → ℤ → Bool
 are_opposed v w = is_positive v && is_negative w || is_negative v && is_positive w || is_zero v && is_zero w
 
+-- positive multiples of three numbers may cancel: one is above 0 and one below, or all are 0
+abbrev pub are_mixed : ℤ → ℤ → ℤ → Bool
+are_mixed u v w = (is_positive u || is_positive v || is_positive w) && (is_negative u || is_negative v || is_negative w) || is_zero u && is_zero v && is_zero w
+
+-- positive multiples of three normals may cancel: the coefficients are mixed on each axis
+abbrev pub may_three_cancel : HalfSpace → HalfSpace → HalfSpace → Bool
+may_three_cancel f g h = are_mixed f.a g.a h.a && are_mixed f.b g.b h.b && are_mixed f.c g.c h.c
+
 -- positive multiples of two normals may cancel: the coefficients are opposed on each axis
 abbrev pub may_cancel : HalfSpace → HalfSpace → Bool
 may_cancel f g = are_opposed f.a g.a && are_opposed f.b g.b && are_opposed f.c g.c

@@ -1,5 +1,5 @@
 -- Signs, and three half-spaces as one value.
-use Rattle.std.specs.Prelude.{Bool, true, false, ℤ, pos, ◌<ℤ◌}
+use Rattle.std.specs.Prelude.{◌≡◌, Bool, true, false, ℤ, pos, neg_ℤ, ◌+ℤ◌, ◌-ℤ◌, ◌*ℤ◌, ◌<ℤ◌, int_le}
 use Rattle.rp_algebra.specs.Integer.{is_positive, is_negative}
 use Rattle.rp_geometry.specs.Geometry.{HalfSpace}
 use Rattle.rp_geometry.specs.searches.Vertex.{meeting_weight}
@@ -9,14 +9,28 @@ abbrev pub has_sign : Bool → ℤ → Bool
 has_sign true v = is_positive v
 has_sign false v = is_negative v
 
--- four numbers with alternating signs are neither all above 0 nor all below 0
-pub record AreUnfit (x y z w : ℤ) : Type 0 where
-  pub up : pos 0 <ℤ x → y <ℤ pos 0 → pos 0 <ℤ z → w <ℤ pos 0 → ⊥
-  pub down : x <ℤ pos 0 → pos 0 <ℤ y → z <ℤ pos 0 → pos 0 <ℤ w → ⊥
+-- the number (true), or its negative (false)
+abbrev pub signed : Bool → ℤ → ℤ
+signed true v = v
+signed false v = neg_ℤ v
 
--- the four minors of half-spaces are such numbers, so the half-spaces do not refute in whatever order
-abbrev pub HaveMixedMinors : HalfSpace → HalfSpace → HalfSpace → HalfSpace → Type 0
-HaveMixedMinors e f g h = AreUnfit (meeting_weight f g h) (meeting_weight e g h) (meeting_weight e f h) (meeting_weight e f g)
+-- a sum of offsets is at most 0 (strict), or below 0 (weak)
+abbrev pub contradicts : Bool → ℤ → Bool
+contradicts true s = int_le s (pos 0)
+contradicts false s = is_negative s
+
+-- the offsets of four half-spaces, so many times with alternating signs
+abbrev pub four_offsets : ℤ → ℤ → ℤ → ℤ → HalfSpace → HalfSpace → HalfSpace → HalfSpace → ℤ
+four_offsets x y z w e f g h = x *ℤ e.d -ℤ y *ℤ f.d +ℤ z *ℤ g.d -ℤ w *ℤ h.d
+
+-- the offsets of four half-spaces, each times its minor
+abbrev pub offset_of_four : HalfSpace → HalfSpace → HalfSpace → HalfSpace → ℤ
+offset_of_four e f g h = four_offsets (meeting_weight f g h) (meeting_weight e g h) (meeting_weight e f h) (meeting_weight e f g) e f g h
+
+-- the four minors have not one sign but for their places, or so many times the offsets do not contradict: so the half-spaces do not refute, in whatever order
+pub record CannotRefute (strict : Bool) (e f g h : HalfSpace) : Type 0 where
+  pub up : pos 0 <ℤ meeting_weight f g h → meeting_weight e g h <ℤ pos 0 → pos 0 <ℤ meeting_weight e f h → meeting_weight e f g <ℤ pos 0 → contradicts strict (offset_of_four e f g h) ≡ true → ⊥
+  pub down : meeting_weight f g h <ℤ pos 0 → pos 0 <ℤ meeting_weight e g h → meeting_weight e f h <ℤ pos 0 → pos 0 <ℤ meeting_weight e f g → contradicts strict (neg_ℤ (offset_of_four e f g h)) ≡ true → ⊥
 
 -- three half-spaces
 pub record ThreeHalfSpaces : Type 0 where

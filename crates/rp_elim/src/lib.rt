@@ -14,8 +14,10 @@
 //! to a factor is never the first certificate, since a smaller set then is one. The signs are compared before the
 //! determinants: two normals that do not oppose each other on each axis never cancel, so most pairs cost a few
 //! comparisons. Of three the determinant comes first: where it is not 0 they never cancel, so most cost three products
-//! of one word each. What is found is written where the caller says, and each search answers whether it has found
-//! something: a list of terms is large, and most sets have none.
+//! of one word each, and of those whose determinant is 0 most have an axis on which no two coefficients oppose each
+//! other. Of four the signs of the minors come first, and then the sum of the offsets, so that terms are made where
+//! they refute and hardly elsewhere. What is found is written where the caller says, and each search answers whether it
+//! has found something: a list of terms is large, and most sets have none.
 //!
 //! Where all but one half-space have a solution, that one is in every certificate, and only the sets that contain it
 //! are tried ([`first_outside_through`]). Of the sets of one size that share a half-space the first is the one whose

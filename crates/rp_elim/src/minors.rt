@@ -4,7 +4,7 @@ ghost use Rattle.rp_algebra.specs.Integer.{is_zero};
 ghost use Rattle.rp_algebra.specs.Within.{IsWithin};
 ghost use Rattle.rp_geometry.specs.searches.Vertex.{det2, meeting_weight};
 ghost use Rattle.rp_geometry.specs.searches.Elimination.{minors_of_two, minors_on_axes, minors_of_four};
-ghost use Rattle.rp_elim.specs.Axes.{along, axes_of, minors_on_axis, is_without_normal, are_parallel, are_opposed, may_cancel};
+ghost use Rattle.rp_elim.specs.Axes.{along, axes_of, minors_on_axis, is_without_normal, are_parallel, are_opposed, may_cancel, are_mixed, may_three_cancel};
 ghost use Rattle.rp_elim.specs.Factors.{AreFactorsSmall};
 
 use rp_space::{Half, Term};
@@ -117,6 +117,24 @@ fn are_opposed(f: &Half, g: &Half, axis: Axis) -> bool
     let v = along(f, axis);
     let w = along(g, axis);
     (v > 0) == (w < 0) && (v < 0) == (w > 0)
+}
+
+/// Whether the normals of `f`, `g` and `h` may cancel: on each axis one coefficient is positive and one negative, or
+/// all are 0.
+pub fn may_three_cancel(f: &Half, g: &Half, h: &Half) -> bool
+    ensures { result ≡ may_three_cancel f.now g.now h.now }
+{
+    are_mixed(f, g, h, Axis::X) && are_mixed(f, g, h, Axis::Y) && are_mixed(f, g, h, Axis::Z)
+}
+
+/// Whether one of three coefficients is positive and one negative, or all are 0.
+fn are_mixed(f: &Half, g: &Half, h: &Half, axis: Axis) -> bool
+    ensures { result ≡ are_mixed (along axis f.now) (along axis g.now) (along axis h.now) }
+{
+    let u = along(f, axis);
+    let v = along(g, axis);
+    let w = along(h, axis);
+    ((u > 0) | (v > 0) | (w > 0)) == ((u < 0) | (v < 0) | (w < 0))
 }
 
 /// The multiples of `f` and `g` that cancel on the first axis on which the coefficient of `f` is not 0.

@@ -14,7 +14,7 @@ ghost use Rattle.rp_elim.specs.HeldFast.{placed_list, two_in_order, three_in_ord
 
 use crate::couple::Couple;
 use crate::cross::Cross;
-use crate::minors::minors_of_four;
+use crate::minors::{may_three_cancel, minors_of_four};
 use crate::placed::{Placed, place};
 use crate::refutation::{if_found, refutation};
 use crate::search::{are_passed_over, refutation_of_one, refutation_of_two};
@@ -217,10 +217,14 @@ fn three_in_order(strict: bool, k: &Half, p: &Placed, q: &Placed, found: &mut Ou
     refutation_of_three(strict, &p.half, &q.half, k, found)
 }
 
-/// The refutation by three half-spaces, if they refute. Where the normals of the first two are dependent they do not.
+/// The refutation by three half-spaces, if they refute. Where the signs of the coefficients tell that they do not
+/// cancel, or the normals of the first two are dependent, they do not.
 fn refutation_of_three(strict: bool, f: &Half, g: &Half, h: &Half, found: &mut Outside) -> bool
     ensures { if_found result found.new ≡ refutation_of_three strict f.now g.now h.now }
 {
+    if !may_three_cancel(f, g, h) {
+        return false;
+    }
     match Couple::new(f, g) {
         None => false,
         Some(couple) => couple.refutation(strict, h, found),
@@ -294,7 +298,8 @@ fn first_four_with_triple(
 }
 
 /// The refutation by a half-space and three others, in the order of their places, if they refute.
-/// The signs are tried first: where two differ the minors need not be taken.
+/// The signs and the sum of the offsets are tried first: where two signs differ, or the sum does not contradict, the
+/// minors need not be taken.
 fn four_if_one_sign(
     strict: bool,
     triple: &Triple,
@@ -307,7 +312,7 @@ fn four_if_one_sign(
     requires { triple.now ≡ three_of k.now p.now.half q.now.half }
     ensures { if_found result found.new ≡ four_in_order (refutation_of_four strict) k.now p.now q.now r.now }
 {
-    if !triple.has_one_sign(&r.half) {
+    if !triple.may_refute(strict, &r.half) {
         return false;
     }
     four_in_order(strict, k, p, q, r, found)

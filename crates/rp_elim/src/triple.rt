@@ -1,9 +1,10 @@
 //! Three half-spaces, with what the refutations by them and a further one share.
-ghost use Rattle.std.specs.Prelude.{◌≡◌, ◌&&◌, false, not, pos, MatchOption};
+ghost use Rattle.std.specs.Prelude.{◌≡◌, ◌&&◌, ◌*◌, ◌^◌, ◌*ℤ◌, false, not, pos, MatchOption};
+ghost use Rattle.rp_algebra.specs.Within.{IsWithin};
 ghost use Rattle.rp_geometry.specs.searches.Vertex.{meeting_weight};
 ghost use Rattle.rp_geometry.specs.searches.Elimination.{minors_of_four, refutation_of_four};
 ghost use Rattle.rp_elim.specs.Factors.{AreFactorsSmall};
-ghost use Rattle.rp_elim.specs.Sides.{has_sign, three_of, HaveMixedMinors};
+ghost use Rattle.rp_elim.specs.Sides.{has_sign, signed, contradicts, four_offsets, three_of, CannotRefute};
 ghost use Rattle.rp_elim.specs.Written.{if_found};
 
 use crate::cross::Cross;
@@ -49,20 +50,22 @@ impl<'a> Triple<'a> {
         }
     }
 
-    /// Whether the four minors of the three half-spaces and `h` have one sign but for their places. Where two differ
-    /// the four do not refute, in whatever order.
-    pub fn has_one_sign(&self, h: &Half) -> bool
-        ensures { result ≡ false → HaveMixedMinors self.now.first self.now.second self.now.third h.now }
+    /// Whether the four minors of the three half-spaces and `h` have one sign but for their places, and so many times
+    /// the offsets add up to a contradiction (`strict` or not). Else the four do not refute, in whatever order.
+    pub fn may_refute(&self, strict: bool, h: &Half) -> bool
+        ensures { result ≡ false → CannotRefute strict self.now.first self.now.second self.now.third h.now }
     {
         have_one_sign(self.positive, &self.ef, &self.eg, &self.fg, h)
+            && contradict(strict, self.positive, &self.ef, &self.eg, &self.fg, h)
     }
 
     /// Writes to `found` the refutation by the three half-spaces and `h`, if they refute that all four are positive
-    /// (`strict`), or that none is negative. The signs are tried first: where two differ the minors need not be taken.
+    /// (`strict`), or that none is negative. The signs and the sum of the offsets are tried first: where two signs
+    /// differ, or the sum does not contradict, the minors need not be taken.
     pub fn refutation(&self, strict: bool, h: &Half, found: &mut Outside) -> bool
         ensures { if_found result found.new ≡ refutation_of_four strict self.now.first self.now.second self.now.third h.now }
     {
-        if !self.has_one_sign(h) {
+        if !self.may_refute(strict, h) {
             return false;
         }
         refutation(strict, &minors_of_crosses(&self.ef, &self.eg, h), found)
@@ -83,4 +86,50 @@ fn have_one_sign(positive: bool, ef: &Cross, eg: &Cross, fg: &Cross, h: &Half) -
     ensures { result ≡ (has_sign positive (meeting_weight ef.now.first ef.now.second h.now) && has_sign (not positive) (meeting_weight eg.now.first eg.now.second h.now) && has_sign positive (meeting_weight fg.now.first fg.now.second h.now)) }
 {
     ef.has_sign(positive, h) & eg.has_sign(!positive, h) && fg.has_sign(positive, h)
+}
+
+/// Whether the offsets of four half-spaces, each times its minor, add up to a contradiction; where the last minor is
+/// not `positive`, the negative of their sum.
+fn contradict(strict: bool, positive: bool, ef: &Cross, eg: &Cross, fg: &Cross, h: &Half) -> bool
+    ensures { result ≡ contradicts strict (signed positive (four_offsets (meeting_weight fg.now.first fg.now.second h.now) (meeting_weight eg.now.first eg.now.second h.now) (meeting_weight ef.now.first ef.now.second h.now) (meeting_weight ef.now.first ef.now.second eg.now.second) ef.now.first ef.now.second eg.now.second h.now)) }
+{
+    contradicts(strict, signed(positive, offset(ef, eg, fg, h)))
+}
+
+/// The sum of the offsets of four half-spaces, each times its minor.
+fn offset(ef: &Cross, eg: &Cross, fg: &Cross, h: &Half) -> i128
+    ensures value { result ≡ four_offsets (meeting_weight fg.now.first fg.now.second h.now) (meeting_weight eg.now.first eg.now.second h.now) (meeting_weight ef.now.first ef.now.second h.now) (meeting_weight ef.now.first ef.now.second eg.now.second) ef.now.first ef.now.second eg.now.second h.now }
+    ensures small { IsWithin (72 * 2 ^ 120) result }
+{
+    let g = eg.second();
+    let x = times_offset(fg.weight(h), ef.first());
+    let y = times_offset(eg.weight(h), ef.second());
+    let z = times_offset(ef.weight(h), g);
+    let w = times_offset(ef.weight(g), h);
+    x - y + z - w
+}
+
+/// The offset of a half-space, so many times.
+fn times_offset(times: i128, half: &Half) -> i128
+    requires { IsWithin (6 * 2 ^ 72) times }
+    ensures value { result ≡ times *ℤ half.now.d }
+    ensures small { IsWithin (18 * 2 ^ 120) result }
+{
+    let (_, _, _, d) = half.numbers();
+    times * d as i128
+}
+
+/// A sum, or its negative.
+fn signed(positive: bool, sum: i128) -> i128
+    requires { IsWithin (72 * 2 ^ 120) sum }
+    ensures { result ≡ signed positive sum }
+{
+    if positive { sum } else { -sum }
+}
+
+/// Whether a sum of offsets is at most 0 (`strict`), or below 0.
+fn contradicts(strict: bool, sum: i128) -> bool
+    ensures { result ≡ contradicts strict sum }
+{
+    if strict { sum <= 0 } else { sum < 0 }
 }

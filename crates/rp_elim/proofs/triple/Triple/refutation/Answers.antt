@@ -4,10 +4,10 @@ use Rattle.rp_geometry.specs.searches.Elimination.{normal_terms, terms_if, refut
 use Rattle.rp_elim.proofs.Unfit.{k_first}
 use Rattle.rp_elim.proofs.triple.Triple.refutation.Goals as goal
 
-pub returns-then-not-has_one_sign : goal.returns-then-not-has_one_sign
-returns-then-not-has_one_sign c =
+pub returns-then-not-may_refute : goal.returns-then-not-may_refute
+returns-then-not-may_refute c =
     let t = c.args.self.now in
-    sym (k_first c.args.strict t.first t.second t.third c.args.h.now (c.has_one_sign.ensures c.if-not-has_one_sign.true))
+    sym (k_first c.args.strict t.first t.second t.third c.args.h.now (c.may_refute.ensures c.if-not-may_refute.true))
 
 pub returns : goal.returns
 unfolding refutation_of_four
