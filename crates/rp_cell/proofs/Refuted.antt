@@ -1,6 +1,6 @@
 -- The refutation of a cell through one of its half-spaces.
-use Rattle.std.proofs.Common.{◌≡◌, ℕ, ◌+◌, ◌-◌, ◌<◌, ⊎_elim, true, false, List, [], ◌∷◌, ◌++◌, length, get_or, take, drop, sym, ap, ◌∙◌, subst, arith}
-use Rattle.std.specs.Prelude.{Option, Some, IsNone, IsSome, IfSome, IsTrue, ◌↔◌}
+use Rattle.std.proofs.Common.{◌≡◌, ℕ, ◌+◌, ◌-◌, ◌<◌, ⊎_elim, true, false, List, [], ◌∷◌, ◌++◌, length, get_or, take, drop, append_assoc, sym, ap, ◌∙◌, subst, arith}
+use Rattle.std.specs.Prelude.{Option, Some, None, IsNone, IsSome, IfSome, IsTrue, ◌↔◌}
 use Rattle.std.proofs.Math.ListN.{drop_of_length-le}
 use Rattle.std.proofs.lemmas.List.{take-append-drop}
 use Rattle.rp_geometry.specs.Geometry.{RationalPoint, HalfSpace, IsHalfSpace}
@@ -15,7 +15,7 @@ use Rattle.rp_algebra.proofs.Lists.{drop_item}
 use Rattle.rp_algebra.proofs.Options.{of_some}
 use Rattle.rp_convex.proofs.InsideFound.{inside_is_found_spec}
 use Rattle.rp_convex.proofs.WeakPoint.{weak_point_is_found_spec}
-use Rattle.rp_cell.proofs.Answered.{none_unless, outside_is_some, apart_is_some, line_outside, line_apart}
+use Rattle.rp_cell.proofs.Answered.{none_unless, outside_is_some, apart_is_some, line_outside, line_apart, empty_without_solution, line_of_empty}
 use Rattle.rp_cell.proofs.Dropped.{of_front, of_rest}
 use Rattle.rp_cell.proofs.SlimSoFar.{slice_is}
 
@@ -50,6 +50,31 @@ refuted cell list o terms b empty e f k s =
       passes = subst (λ (hs : List HalfSpace). IsTrue (is_outside_certificate true hs terms)) e (of_some (λ ts. IsTrue (is_outside_certificate true list ts)) o terms s k);
       line = line_outside cell terms (none_unless _ (λ t. let m = found.0 t in empty m.0 m.1)) first;
     }
+
+-- what the search through a half-space tells of a cell that may have a point
+pub record IsFound (cell : List HalfSpace) (o : Option (List Multiple)) : Type 0 where
+  pub first : IfSome o (λ terms. first_outside true cell ≡ Some terms)
+  pub passes : IfSome o (λ terms. IsTrue (is_outside_certificate true cell terms))
+  pub empty : IfSome o (λ _. IsEmpty (shape_of_cell cell))
+  pub line : IfSome o (λ terms. out_line terms ≡ strict_line cell)
+
+-- what it finds is the first refutation of the cell, which has no point then
+pub found_through : (cell list : List HalfSpace) (o : Option (List Multiple)) → AreHalfSpaces cell → list ≡ cell → o ≡ first_outside true list → IfSome o (λ ts. IsTrue (is_outside_certificate true list ts))
+    → (IsNone o ↔ ((p : RationalPoint) × IsSolution true list p)) → IsFound cell o
+found_through cell list None b e f k n = record { first = k; passes = k; empty = k; line = k }
+found_through cell list (Some terms) b e f k n =
+    let first : first_outside true cell ≡ Some terms = sym (f ∙ ap (first_outside true) e) in
+    let empty = empty_without_solution cell b (λ p s. (let none = n.1 (p, subst (λ (hs : List HalfSpace). IsSolution true hs p) (sym e) s) in absurd (cc))) in
+    record {
+      first = first;
+      passes = subst (λ (hs : List HalfSpace). IsTrue (is_outside_certificate true hs terms)) e k;
+      empty = empty;
+      line = line_of_empty cell terms b empty first;
+    }
+
+-- a list behind another is what stands before a place of it, the item there, and what stands behind it
+pub split_behind : (first more : List HalfSpace) (i : ℕ) (h : HalfSpace) → i < length more → h ≡ get_or more i h → (first ++ take i more) ++ h ∷ take (length more - (i + 1)) (drop (i + 1) more) ≡ first ++ more
+split_behind first more i h l e = append_assoc first (take i more) (h ∷ take (length more - (i + 1)) (drop (i + 1) more)) ∙ ap (λ (hs : List HalfSpace). first ++ hs) (split_is more i h l e)
 
 -- the others keep their bounds
 pub others_bounds : (cell : List HalfSpace) (i : ℕ) → AreHalfSpaces cell → AreHalfSpaces (take i cell ++ drop (i + 1) cell)

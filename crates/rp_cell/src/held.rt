@@ -161,6 +161,21 @@ impl Held {
         }
     }
 
+    /// The place, behind so many half-spaces, of the one of `count` there that took the last point of the cell away.
+    /// `None` where the cell has a point, or another one took it, or the last of them.
+    pub(crate) fn taker(&self, behind: usize, count: usize) -> Option<usize>
+        ensures { IfSome result (λ place. place < count) }
+    {
+        if self.has_point() || self.inner < behind {
+            return None;
+        }
+        let place = self.inner - behind;
+        if place >= count || place == count - 1 {
+            return None;
+        }
+        Some(place)
+    }
+
     /// The half-spaces in order.
     pub fn halves(&self) -> &[Half]
         ensures value { result.now ≡ self.now }

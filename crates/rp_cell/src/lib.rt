@@ -34,6 +34,7 @@
 //! given is shown by the first certificate through its complement (`bounds.rt`). Calls that answer `AllocError` do so
 //! only for want of memory.
 
+mod beside;
 mod bounds;
 mod decide;
 mod held;

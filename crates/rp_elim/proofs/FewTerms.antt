@@ -11,7 +11,7 @@ use Rattle.rp_elim.specs.FewTerms.{first_of_two}
 use Rattle.rp_elim.proofs.Found.{found_passes, none_where_solution}
 
 -- the first of two searches that finds something is the first of three that does
-first_of_three : {A : Type 0} (one two more : Option A) (x : A) → elim one [ Some y ↦ Some y | None ↦ two ] ≡ Some x
+pub first_of_three : {A : Type 0} (one two more : Option A) (x : A) → elim one [ Some y ↦ Some y | None ↦ two ] ≡ Some x
     → elim one [ Some y ↦ Some y | None ↦ elim two [ Some y ↦ Some y | None ↦ more ] ] ≡ Some x
 first_of_three (Some y) two more x e = e
 first_of_three None (Some y) more x e = e

@@ -19,7 +19,7 @@ module _ {B : Type 0} where
 
   -- ---- the half-spaces behind
   -- a search of them
-  behind_one : (f : Placed → Option B) (ys : List HalfSpace) → first_of f (map (placed_at false) ys) ≡ first_of (λ h. f (placed_at false h)) ys
+  pub behind_one : (f : Placed → Option B) (ys : List HalfSpace) → first_of f (map (placed_at false) ys) ≡ first_of (λ h. f (placed_at false h)) ys
   behind_one f [] = refl
   behind_one f (y ∷ ys) = ap (λ o. or_else (f (placed_at false y)) o) (behind_one f ys)
 

@@ -10,3 +10,4 @@ pub mod Opposed
 pub mod Unfit
 pub mod InPlace
 pub mod Between
+pub mod LastTerms

@@ -23,10 +23,12 @@
 //! are tried ([`first_outside_through`]). Of the sets of one size that share a half-space the first is the one whose
 //! others come first, so what is found is the first of all. A certificate of at most two terms is found by itself
 //! ([`first_outside_of_two`]), where it is the first: two boxes apart always have one. Of two cells that have solutions
-//! it has one term of each ([`first_outside_between`]).
+//! it has one term of each ([`first_outside_between`]), and of a cell whose others have one it has a term of the last
+//! half-space ([`first_outside_with_last`]).
 
 mod couple;
 mod cross;
+mod last;
 mod lowest;
 mod minors;
 mod placed;
@@ -35,6 +37,7 @@ mod search;
 mod through;
 mod triple;
 
+pub use last::first_outside_with_last;
 pub use lowest::lowest_terms;
 pub use minors::{Axis, minors_of_two, minors_on_axes};
 pub use refutation::{are_multipliers, are_negated_multipliers, negated};

@@ -159,7 +159,7 @@ fn first_two(strict: bool, gs: &[Half], found: &mut Outside) -> bool
 }
 
 /// The first refutation by one half-space and one of several.
-fn first_two_with(strict: bool, g: &Half, hs: &[Half], found: &mut Outside) -> bool
+pub fn first_two_with(strict: bool, g: &Half, hs: &[Half], found: &mut Outside) -> bool
     ensures { if_found result found.new ≡ first_of (refutation_of_two strict g.now) hs.now }
 {
     for h in hs {

@@ -1,0 +1,80 @@
+//! Decisions about a cell of which a front is held already.
+ghost use Rattle.std.specs.Prelude.{◌≡◌, ◌+◌, ◌<◌, ◌≤◌, [], ◌∷◌, ◌++◌, true, length, IfSome, IsTrue, Some};
+ghost use Rattle.rp_geometry.specs.sets.Shape.{shape_of_cell};
+ghost use Rattle.rp_geometry.specs.sets.Sets.{IsEmpty};
+ghost use Rattle.rp_geometry.specs.searches.Certificate.{is_outside_certificate};
+ghost use Rattle.rp_geometry.specs.searches.Elimination.{first_outside};
+ghost use Rattle.rp_geometry.specs.searches.ProofLine.{strict_line, out_line};
+ghost use Rattle.rp_cell.specs.Decisions.{line_of_strict, DecidesStrict};
+
+use crate::decide::Strict;
+use crate::held::Held;
+use rp_elim::{first_outside_through, first_outside_with_last};
+use rp_space::{Half, Outside, joined, keep_bounds};
+
+impl Held {
+    /// Whether the cell of `first` with `more` half-spaces behind its own has a point, as `decide_strict` answers: at
+    /// most 64 together. It is held here for that, in place of what was held before. Where one of `more` takes the last
+    /// point away, and it is not their last one, the others are held instead: what they share with `first` is copied.
+    pub fn strict_beside(&mut self, first: &Held, more: &[Half]) -> Strict
+        requires { length first.now + length more.now ≤ 64 }
+        ensures decides { DecidesStrict (first.now ++ more.now) result }
+        ensures line { line_of_strict result ≡ strict_line (first.now ++ more.now) }
+    {
+        self.hold_behind(first, more);
+        if let Some(place) = self.taker(first.halves().len(), more.len()) {
+            if let Some(terms) = self.refute_through(first, more, place) {
+                return Strict::Outside(terms);
+            }
+            self.hold_behind(first, more);
+        }
+        self.strict()
+    }
+
+    /// The first outside certificate of the cell with `half` behind its own half-spaces, if it is seen that the cell
+    /// has a point, and `half` alone or with one other refutes. With `None` it isn't known whether there is a point.
+    pub fn refute_with_next(&self, half: &Half) -> Option<Outside>
+        ensures { IfSome result (λ terms. out_line terms ≡ strict_line (self.now ++ half.now ∷ [])) }
+    {
+        if !self.has_point() {
+            return None;
+        }
+        let cell = self.halves();
+        // Only so that it is known of all half-spaces that they keep their bounds.
+        keep_bounds(cell);
+        let _ = half.numbers();
+        first_outside_with_last(cell, half, true)
+    }
+
+    /// Holds the cell of `first` with `more` half-spaces behind its own: at most 64 together.
+    fn hold_behind(&mut self, first: &Held, more: &[Half])
+        requires { length first.now + length more.now ≤ 64 }
+        ensures { self.new ≡ first.now ++ more.now }
+    {
+        self.copy_from(first);
+        self.extend(more);
+    }
+
+    /// The first outside certificate of the cell of `first` and `more`, if the others have a point without the
+    /// half-space of `more` at a place. With `None` nothing is known.
+    fn refute_through(&mut self, first: &Held, more: &[Half], place: usize) -> Option<Outside>
+        requires few { length first.now + length more.now ≤ 64 }
+        requires place { place < length more.now }
+        ensures first { IfSome result (λ terms. first_outside true (first.now ++ more.now) ≡ Some terms) }
+        ensures passes { IfSome result (λ terms. IsTrue (is_outside_certificate true (first.now ++ more.now) terms)) }
+        ensures empty { IfSome result (λ _. IsEmpty (shape_of_cell (first.now ++ more.now))) }
+        ensures line { IfSome result (λ terms. out_line terms ≡ strict_line (first.now ++ more.now)) }
+    {
+        self.hold_behind(first, &more[..place]);
+        self.extend(&more[place + 1..]);
+        if !self.has_point() {
+            return None;
+        }
+        // Only so that it is known of all half-spaces that they keep their bounds.
+        keep_bounds(self.halves());
+        keep_bounds(first.halves());
+        keep_bounds(more);
+        let before = joined(first.halves(), &more[..place]);
+        first_outside_through(before.as_slice(), &more[place], &more[place + 1..], true)
+    }
+}
