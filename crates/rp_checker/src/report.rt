@@ -14,11 +14,9 @@ use crate::halt::Halt;
 use rp_command::Version;
 use rp_register::Register;
 use rp_run_laws::every_report_is_accepted;
+use rp_text::REPORT_MARK;
 use rp_trail::Trail;
 use std::alloc::{AllocError, Global};
-
-/// The line that begins a report of the second version. It is no answer.
-const MARK: &[u8] = b"> 0 rp 2";
 
 /// What the check of a report finds.
 #[derive(Clone, Copy, Debug, PartialEq, Eq)]
@@ -35,7 +33,10 @@ fn take_mark(trail: &mut Trail<'_>) -> Version
     ensures version { version_of result ≡ version_by report_mark trail.old.lines }
     ensures behind { trail.new ≡ behind_mark (version_of result) trail.old }
 {
-    if trail.peek().is_some_and(|line| line == MARK) {
+    if trail
+        .peek()
+        .is_some_and(|line| line == &REPORT_MARK[..REPORT_MARK.len() - 1])
+    {
         trail.take();
         return Version::Two;
     }

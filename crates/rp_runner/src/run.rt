@@ -11,6 +11,7 @@ ghost use Rattle.rp_scripts.specs.Output.{PutsAnswer, PutsFront, PutsOutput, Has
 use rp_io::Sink;
 use rp_machine::Machine;
 use rp_scripts::{OutputFault, next_line, put_answer, put_mark, split_mark};
+use rp_text::REPORT_MARK;
 use std::alloc::Global;
 use std::thread::Threads;
 
@@ -59,7 +60,7 @@ fn put_report<R: Threads + Sync, K: Sink>(
     ensures cause { IfErr result (HasOutputCause (K.faults sink.old) (K.faults sink.new)) }
 {
     let (version, body) = split_mark(script);
-    put_mark(version, b"> 0 rp 2\n", sink)?;
+    put_mark(version, REPORT_MARK, sink)?;
     let mut text = Vec::new(alloc);
     let mut rest = body;
     let mut number = 1;

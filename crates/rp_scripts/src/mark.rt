@@ -9,6 +9,7 @@ ghost use Rattle.rp_scripts.specs.Lines.{mark_text};
 use crate::lines::next_line;
 use rp_command::Version;
 use rp_io::{Failed, Sink};
+use rp_text::SCRIPT_MARK;
 
 /// The version of a script, and what stands behind the line that marks it: a script whose first line is `rp 2` is of
 /// version 2, and every other one of version 1.
@@ -20,7 +21,7 @@ pub fn split_mark(script: &[u8]) -> (Version, &[u8])
     let Some((first, body)) = next_line(script) else {
         return (Version::One, script);
     };
-    if first == b"rp 2".as_slice() {
+    if first == &SCRIPT_MARK[..SCRIPT_MARK.len() - 1] {
         (Version::Two, body)
     } else {
         (Version::One, script)

@@ -15,6 +15,7 @@ use rp_command::{Command, Line, Version};
 use rp_io::Sink;
 use rp_spelling::write_command;
 use rp_syntax::read_line;
+use rp_text::SCRIPT_MARK;
 use std::alloc::Global;
 
 /// Puts a command in its one spelling of a version, with a line end.
@@ -95,7 +96,7 @@ pub fn spell<K: Sink>(alloc: Global, script: &[u8], sink: &mut K) -> Result<bool
     ensures cause { IfErr result (HasOutputCause (K.faults sink.old) (K.faults sink.new)) }
 {
     let (version, body) = split_mark(script);
-    put_mark(version, b"rp 2\n", sink)?;
+    put_mark(version, SCRIPT_MARK, sink)?;
     let mut rest = body;
     let mut has_bad_line = false;
     while let Some((line, behind)) = next_line(rest) {

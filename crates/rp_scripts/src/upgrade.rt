@@ -14,6 +14,7 @@ use crate::mark::{put_mark, split_mark};
 use crate::upgraded::upgrade_line;
 use rp_command::Version;
 use rp_io::Sink;
+use rp_text::SCRIPT_MARK;
 use std::alloc::Global;
 
 /// Puts the line that takes the place of one line of a script of a version, by way of a buffer for its text. Answers
@@ -49,7 +50,7 @@ pub fn upgrade<K: Sink>(alloc: Global, script: &[u8], sink: &mut K) -> Result<bo
     ensures cause { IfErr result (HasOutputCause (K.faults sink.old) (K.faults sink.new)) }
 {
     let (version, body) = split_mark(script);
-    put_mark(Version::Two, b"rp 2\n", sink)?;
+    put_mark(Version::Two, SCRIPT_MARK, sink)?;
     let mut text = Vec::new(alloc);
     let mut rest = body;
     let mut has_bad_line = false;

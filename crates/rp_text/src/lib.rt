@@ -9,6 +9,7 @@
 mod echo;
 mod items;
 mod lot;
+mod mark;
 mod numbers;
 mod pieces;
 mod proof;
@@ -21,6 +22,7 @@ mod text;
 mod verdict;
 
 pub use echo::read_echo;
+pub use mark::{REPORT_MARK, SCRIPT_MARK};
 pub use proof_line::read_proof;
 pub use slice_line::read_slice;
 pub use text::{write_answer, write_verdict};
