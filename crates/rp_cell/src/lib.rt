@@ -24,7 +24,7 @@
 //! by Euler's formula. That is not proved, and nothing rests on it: a cell with more goes the plain way. The half-space
 //! that took the last point away is in all refutations if the others have a point without it, so only the sets with it
 //! are tried (`refute.rt`). A function makes room for all its values when it is entered, and fills it with zeros: so
-//! whatever makes a held cell, of 26 KB, is a function of its own.
+//! whatever makes a held cell, of 28 KB, is a function of its own.
 //!
 //! A cell is slimmed as the definition says, and keeps its members (`slimming.rt`). Where the vertices on a
 //! half-space's plane share no other plane, a point of the plane lies strictly inside the others, and so one beyond it
