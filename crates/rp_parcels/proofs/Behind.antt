@@ -7,7 +7,7 @@ use Rattle.rp_geometry.specs.sets.Shape.{Part, shape_of_parts}
 use Rattle.rp_geometry.specs.sets.Sets.{Overlaps}
 use Rattle.rp_geometry.specs.parts.Parts.{IsRegion}
 use Rattle.rp_language.specs.Name.{Label, label_eq}
-use Rattle.rp_walks.specs.Walk.{Outcome, done, stopped, taken_wrong, Walk, Work, stop, first_tester}
+use Rattle.rp_walks.specs.Walk.{Outcome, done, stopped, Walk, Work, first_tester}
 use Rattle.rp_walks.specs.Form.{near_pair, common_nearby}
 use Rattle.rp_walks.specs.FormLaws.{IfDone}
 use Rattle.rp_walks.proofs.Outcomes.{weaker_done}
@@ -23,7 +23,7 @@ use Rattle.rp_region.proofs.Behind.{ComesBehind}
 use Rattle.rp_accepted.proofs.Kept.{FormedHave, ReplyHas}
 use Rattle.rp_accepted.proofs.Commands.{Any, AnyLabel, any_parts, any_labels, any_state}
 use Rattle.rp_accepted.proofs.Rows.{register_alike, cut_alike, subdivide_alike, consolidate_alike, neighbours_alike, access_alike}
-use Rattle.rp_accepted.proofs.Likeness.{Anything, Related}
+use Rattle.rp_accepted.proofs.Likeness.{Anything}
 use Rattle.rp_accepted.proofs.Forms.{after, common_nearby_alike}
 use Rattle.rp_queries.proofs.Appended.{behind, Again, Appended, appended, binds_appended, related_appended, ends_behind, stops_behind}
 use Rattle.rp_parcels.specs.Kept.{AreSound}

@@ -1,6 +1,6 @@
 -- The row of a change or of a question about lots shows its refusal: by the points of the last line, or it wants no points.
-use Rattle.std.proofs.Common.{◌≡◌, ℕ, ◌+◌, ◌==◌, Bool, true, false, not, List, [], ◌∷◌, ◌++◌, map, length, Option, Some, None, refl, sym, ap, ◌∙◌, subst}
-use Rattle.std.specs.Prelude.{IfSome, IsTrue, nat_le, nat_lt, option_map, is_some}
+use Rattle.std.proofs.Common.{◌≡◌, ℕ, ◌+◌, ◌==◌, Bool, true, false, not, List, [], ◌∷◌, ◌++◌, map, length, Option, Some, None, refl, sym, subst}
+use Rattle.std.specs.Prelude.{IfSome, nat_lt, option_map, is_some}
 use Rattle.std.specs.List.{AllByRecursion}
 use Rattle.rp_algebra.proofs.Listed.{all_append}
 use Rattle.rp_geometry.specs.Geometry.{HalfSpace, RationalPoint}
@@ -10,18 +10,18 @@ use Rattle.rp_geometry.specs.parts.Parts.{IsPart, IsRegion, AreOf, most_parts}
 use Rattle.rp_geometry.specs.searches.ProofLine.{ProofLine, in_line, out_line, strict_line, outside_terms}
 use Rattle.rp_geometry.specs.searches.Vertex.{first_inside}
 use Rattle.rp_language.specs.Name.{Label, is_among, label_eq}
-use Rattle.rp_walks.specs.Walk.{Outcome, done, stopped, limit_met, Walk, Work, pass, stop, after_first, strict_test, count_tests, first_tester}
-use Rattle.rp_walks.specs.Form.{near_pair, test_pair_if, first_with_part, common_nearby, join, subtract, touch_nearby}
+use Rattle.rp_walks.specs.Walk.{Outcome, done, stopped, Walk, Work, pass, after_first, strict_test, first_tester}
+use Rattle.rp_walks.specs.Form.{near_pair, test_pair_if, first_with_part, common_nearby, join, subtract}
 use Rattle.rp_walks.specs.Compare.{show_then_no, is_covered}
 use Rattle.rp_walks.specs.FormLaws.{IfDone}
-use Rattle.rp_model.specs.states.State.{Lot, StateOf, PlainState, present_lots, live_lots, layer_of_first, layer_lots, near_lots, ids_of, place_among, most_kept_parts, parts_under_lots}
+use Rattle.rp_model.specs.states.State.{Lot, StateOf, present_lots, live_lots, layer_of_first, layer_lots, near_lots, ids_of, place_among, most_kept_parts, parts_under_lots}
 use Rattle.rp_geometry.specs.parts.Levels.{levels_along, chain_along}
 use Rattle.rp_model.specs.commands.Verdict.{Refusal, Verdict, access_lines, neighbour_lines, clear, refused, known, unknown, repeated, layers, same_name, too_few, empty_region, overlaps, empty_side, empty_child, outside_lot, children_overlap, gap}
-use Rattle.rp_model.specs.commands.Checks.{refuse_if, and_then, check_new, check_live, check_each, check_repeated, check_layer, check_layers, check_cut, check_subdivide, check_consolidate, check_access}
-use Rattle.rp_model.specs.commands.Row.{Reply, refusal, accepted, reply, reply_lines, access_by_links, lot_parts, numbered_lists, links_among_lists, touched_lots, all_apart, check, check_size, FormedChild, parts_with_id, joined_parts, child_parts, first_overlapped, first_empty_child, first_outside_child, first_overlapping_child, first_overlapping_children, row_register, row_cut, row_subdivide, row_consolidate, row_neighbours, row_access, row_audit}
+use Rattle.rp_model.specs.commands.Checks.{refuse_if, and_then, check_new, check_live, check_each, check_repeated, check_layer, check_cut, check_subdivide, check_consolidate, check_access}
+use Rattle.rp_model.specs.commands.Row.{Reply, reply, reply_lines, access_by_links, lot_parts, numbered_lists, links_among_lists, touched_lots, all_apart, check, check_size, FormedChild, parts_with_id, joined_parts, child_parts, first_overlapped, first_empty_child, first_outside_child, first_overlapping_child, first_overlapping_children, row_register, row_cut, row_subdivide, row_consolidate, row_neighbours, row_access, row_audit}
 use Rattle.rp_verdicts.proofs.Parts.{difference_done}
 use Rattle.rp_verdicts.proofs.Right.{first_walks_are_right}
-use Rattle.rp_parcels.specs.Shown.{EndsInside, Kind, by_points, by_none, never, kind_of, IsShownBy, IsShown}
+use Rattle.rp_parcels.specs.Shown.{EndsInside, by_none, kind_of, IsShownBy, IsShown}
 
 -- ---- what a walk comes to, beside its lines
 

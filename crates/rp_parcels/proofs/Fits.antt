@@ -1,5 +1,5 @@
 -- What an accepted row changes is a fit change: by the one law of all rows.
-use Rattle.std.proofs.Common.{◌≡◌, ℕ, ◌+◌, ◌≤◌, Bool, true, false, List, [], ◌∷◌, map, length, Option, Some, None, nat_le, refl, sym, ap, ◌∙◌, subst, arith, append-nil}
+use Rattle.std.proofs.Common.{◌≡◌, ℕ, ◌+◌, ◌≤◌, Bool, true, false, List, [], ◌∷◌, map, length, Option, Some, None, nat_le, refl, ap, ◌∙◌, subst, arith, append-nil}
 use Rattle.std.specs.Prelude.{IsTrue, nat_lt}
 use Rattle.std.specs.List.{AllByRecursion}
 use Rattle.std.proofs.lemmas.Bool.{leb-true}
@@ -8,7 +8,7 @@ use Rattle.rp_geometry.specs.parts.Parts.{IsPart, IsRegion}
 use Rattle.rp_geometry.proofs.Kept.{part_is_checked}
 use Rattle.rp_language.specs.Name.{Label}
 use Rattle.rp_language.specs.Expression.{Command, IsKeptExpression, expressions_of, named, register, cut, subdivide, consolidate, retire}
-use Rattle.rp_walks.specs.Walk.{Outcome, done, stopped, limit_met, Walk, Work, no_work, pass, stop, after_first, first_tester}
+use Rattle.rp_walks.specs.Walk.{Outcome, done, limit_met, Walk, Work, no_work, pass, stop, after_first, first_tester}
 use Rattle.rp_walks.specs.FormLaws.{IfDone}
 use Rattle.rp_model.specs.states.State.{Lot, NewLot, PlainState, state_of_parts, parts_in, parts_under_lots, Change, lots_replaced, changed, most_kept_parts}
 use Rattle.rp_model.specs.states.Sound.{are_distinct, IsSound, IsLaterThan}

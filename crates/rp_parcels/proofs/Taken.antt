@@ -1,13 +1,12 @@
 -- What a row has come to on a work that was begun fresh, taken over, is what it makes of the work.
 use Rattle.std.proofs.Common.{◌≡◌, ℕ, List, [], ◌∷◌, map, ◌++◌, inl, inr, Result, Ok, Err, refl, sym, ap, ◌∙◌, subst, append_assoc}
-use Rattle.std.specs.Prelude.{IfOk, IsOk}
+use Rattle.std.specs.Prelude.{IsOk}
 use Rattle.rp_geometry.specs.searches.ProofLine.{ProofLine, in_line}
 use Rattle.rp_geometry.specs.sets.Shape.{Part}
-use Rattle.rp_walks.specs.Walk.{Outcome, done, stopped, limit_met, Walk, Work}
-use Rattle.rp_model.specs.states.State.{Lot, lots_replaced}
+use Rattle.rp_walks.specs.Walk.{Outcome, done, Walk, Work}
+use Rattle.rp_model.specs.states.State.{Lot}
 use Rattle.rp_model.specs.commands.Verdict.{Refusal as ModelRefusal}
 use Rattle.rp_model.specs.commands.Row.{Reply, refusal, accepted}
-use Rattle.rp_tester.specs.declared.stopped.Stopped.{Stopped}
 use Rattle.rp_tester.specs.Comes.{Comes}
 use Rattle.rp_region.specs.declared.fault.OpFault.{OpFault}
 use Rattle.rp_region.specs.declared.fault.OpFault.TheVariants.{Limit as OpLimit}

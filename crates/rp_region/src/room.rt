@@ -1,5 +1,4 @@
 //! Room that one work hands on to the next.
-ghost use Rattle.std.specs.Prelude.{◌≡◌};
 
 use crate::front::Front;
 use std::alloc::{AllocError, Global};

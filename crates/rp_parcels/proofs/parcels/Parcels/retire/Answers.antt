@@ -1,4 +1,4 @@
-use Rattle.std.proofs.Common.{◌≡◌, ◌+◌, List, [], ◌∷◌, refl, sym, ap, ◌∙◌, subst}
+use Rattle.std.proofs.Common.{◌+◌, List, [], ◌∷◌, refl, sym, ap, ◌∙◌, subst}
 use Rattle.rp_model.specs.states.State.{Lot, lots_replaced}
 use Rattle.rp_history.specs.Lots.{lots_in, lots_after, AreBornBefore}
 use Rattle.rp_ledger.proofs.Applied.{later_births}
