@@ -33,6 +33,11 @@
 //! the vertices of the cell, since cells with the same members have the same least box, and each side of it that is not
 //! given is shown by the first certificate through its complement (`bounds.rt`). Calls that answer `AllocError` do so
 //! only for want of memory.
+//!
+//! A cell that begins as a held one does is held behind a copy of that (`beside.rt`). Where it has no point, and the
+//! half-space that took the last one is not the last of all, the others are held in its place, in the same room. With
+//! one more half-space it is refuted by this alone or with one other before anything is copied: most pieces that are
+//! cut off a part are so.
 
 mod beside;
 mod bounds;

@@ -158,7 +158,7 @@ fn first_two(strict: bool, gs: &[Half], found: &mut Outside) -> bool
     false
 }
 
-/// The first refutation by one half-space and one of several.
+/// Writes to `found` the first refutation by `g` and one of `hs`, and answers whether there is one.
 pub fn first_two_with(strict: bool, g: &Half, hs: &[Half], found: &mut Outside) -> bool
     ensures { if_found result found.new ≡ first_of (refutation_of_two strict g.now) hs.now }
 {

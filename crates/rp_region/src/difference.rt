@@ -126,7 +126,7 @@ fn carve_one(
         → Makes (λ _. left.new.items) result work.old work.new (carve_one first_tester left.old.items cell before half.now) }
 {
     count_test(work)?;
-    if let Some(part) = front.part_with(alloc, &[half.not()], work)? {
+    if let Some(part) = front.part_behind(alloc, &half.not(), work)? {
         left.push(part)?;
     }
     Ok(())

@@ -114,9 +114,26 @@ impl Front {
             return Ok(false);
         }
         self.hold(part.halves());
-        self.longer.copy_from(&self.cell);
-        self.longer.extend(other.halves());
-        work.held_test(&self.longer)
+        work.held_test(&self.cell, other.halves(), &mut self.longer)
+    }
+
+    /// A part test of the cell with `half` behind its own half-spaces, of which there are fewer than 64, as `part_with`
+    /// makes it. Where `half` refutes alone or with one other, no further cell is held.
+    pub(crate) fn part_behind(
+        &mut self,
+        alloc: Global,
+        half: &Half,
+        work: &mut Work,
+    ) -> Result<Option<Part>, OpFault>
+        requires { length self.old < 64 }
+        ensures same { self.new ≡ self.old }
+        ensures makes { Makes (λ o. o) result work.old work.new (part_test (self.old ++ half.now ∷ [])) }
+    {
+        if let Some(terms) = self.cell.refute_with_next(half) {
+            work.tell(Proof::Out(terms))?;
+            return Ok(None);
+        }
+        self.part_with(alloc, &[*half], work)
     }
 
     /// A part test of the cell with further half-spaces behind its own: at most 64 together. The part of its slim cell,

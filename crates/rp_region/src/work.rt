@@ -421,11 +421,18 @@ impl Work {
         found
     }
 
-    /// A strict test of a cell that is held: whether it has a point. Its line is appended; it isn't counted.
-    pub(crate) fn held_test(&mut self, cell: &Held) -> Result<bool, AllocError>
-        ensures { Makes (λ has_one. has_one) (op_result result) self.old self.new (strict_test cell.now) }
+    /// A strict test of a cell that is held with `more` half-spaces behind its own, at most 64 together: whether it has
+    /// a point. It is made over `room`, whatever is held there. Its line is appended; it isn't counted.
+    pub(crate) fn held_test(
+        &mut self,
+        cell: &Held,
+        more: &[Half],
+        room: &mut Held,
+    ) -> Result<bool, AllocError>
+        requires { length cell.now + length more.now ≤ 64 }
+        ensures { Makes (λ has_one. has_one) (op_result result) self.old self.new (strict_test (cell.now ++ more.now)) }
     {
-        match cell.strict() {
+        match room.strict_beside(cell, more) {
             Strict::Inside(points) => {
                 self.tell(Proof::In(points))?;
                 Ok(true)
