@@ -113,6 +113,31 @@ fn a_held_box_is_asked_with_further_half_spaces(rt: HostRuntime) {
 }
 
 #[test]
+fn a_held_box_stands_before_other_half_spaces(rt: HostRuntime) {
+    let held = Held::new(&box_halves(&IntBox {
+        lo: [0, 0, 0],
+        hi: [10, 10, 10],
+    }));
+    // The first one takes the corner at the origin away, and the second one is below it.
+    let more = [half(&rt, (-1, -1, -1, -1)), half(&rt, (0, 0, -1, 5))];
+    let mut room = Held::new(&[]);
+    let Strict::Outside(terms) = room.strict_beside(&held, &more) else {
+        panic!(rt; "there are points beyond the corner");
+    };
+    let wanted = [
+        term(&rt, 1, (1, 0, 0, 0)),
+        term(&rt, 1, (0, 1, 0, 0)),
+        term(&rt, 1, (0, 0, 1, 0)),
+        term(&rt, 1, (-1, -1, -1, -1)),
+    ];
+    assert_eq!(rt; terms.items(), wanted.as_slice());
+    let behind = half(&rt, (-1, 0, 0, 0));
+    let terms = held.refute_with_next(&behind).expect(&rt, "no refutation");
+    let wanted = [term(&rt, 1, (1, 0, 0, 0)), term(&rt, 1, (-1, 0, 0, 0))];
+    assert_eq!(rt; terms.items(), wanted.as_slice());
+}
+
+#[test]
 fn a_held_cell_grows_and_is_slimmed(rt: HostRuntime) {
     let cell = tetrahedron(&rt);
     let mut held = Held::new(&cell[..3]);

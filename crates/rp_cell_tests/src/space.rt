@@ -1,6 +1,9 @@
 use crate::shapes::half;
 use rp_lists::{Copied, Name, Numbers};
-use rp_space::{Half, Inside, IntBox, Outside, Pair, Point, Term, box_halves, cube, greatest_common_divisor, is_balanced, is_contradiction, is_multiplier, joined, meet, quotient, with_cube};
+use rp_space::{
+    Half, Inside, IntBox, Outside, Pair, Point, Term, box_halves, cube, greatest_common_divisor,
+    is_balanced, is_contradiction, is_multiplier, joined, meet, quotient, with_cube,
+};
 
 #[test]
 fn a_name_gives_its_bytes(rt: HostRuntime) {

@@ -2,7 +2,10 @@ use rp_cell::{Cell, Drops, Held, SideProofs, Sides, Slimmed, Strict, Weak};
 use rp_cert::{Edge, Proof, Proofs, RingStep, RingSteps, Slice};
 use rp_clip::Clip;
 use rp_lists::{Name, Names, Numbers};
-use rp_space::{Corner, Corners, Half, HalfFault, Halves, Inside, IntBox, Meeting, Outside, Pair, Point, PointFault, Term};
+use rp_space::{
+    Corner, Corners, Half, HalfFault, Halves, Inside, IntBox, Meeting, Outside, Pair, Point,
+    PointFault, Term,
+};
 
 /// Shows that a type may be sent to other threads and shared with them.
 fn needs_send_sync<T: Send + Sync>() {}
