@@ -41,7 +41,7 @@ pub enum Weak {
 const FEW_FOR_PAIRS: usize = 7;
 
 /// The fewest half-spaces of a cell that is held with its vertices to be decided: with fewer the searches are as fast.
-const FEW: usize = 12;
+const FEW: usize = 10;
 
 /// The fewest half-spaces of a cell whose points are sought on polygons before all else, as long as its first plane has
 /// a vertex.
