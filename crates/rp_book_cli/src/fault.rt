@@ -1,7 +1,7 @@
 //! Why nothing was done.
 
+use crate::file::FileFault;
 use rp_book::BookFault;
-use rp_file_book::FileFault;
 use rp_registrar::{Length, Stop};
 use std::fmt;
 

@@ -6,6 +6,7 @@
 
 mod act;
 mod fault;
+mod file;
 mod work;
 
 use fault::{Fault, status_of};

@@ -2,14 +2,15 @@
 
 use crate::act::{Act, act_of};
 use crate::fault::Fault;
+use crate::file::{close, connect, make, open};
 use rp_book::{Book, Entry};
-use rp_file_book::{BookFile, make};
 use rp_io::{StdSink, StdSource};
 use rp_registrar::add::{Outcome, add};
 use rp_registrar::ask::ask;
 use rp_registrar::date::{as_of, last_line_by};
 use rp_registrar::history::history;
 use rp_registrar::{Stop, put_report, put_script};
+use sqlite::{Alter, Connection};
 use std::thread::Threads;
 
 /// What came of the words.
@@ -21,15 +22,18 @@ pub enum Done {
     Added(Outcome),
 }
 
-/// Adds the lines of standard input, and writes their answers.
-fn add_lines<T: Threads + Sync>(
+/// What came of the words, and the connection, if something was written through it.
+type DoneBy<S> = (Done, Option<Connection<S>>);
+
+/// Adds the lines of standard input to the book in a database, and writes their answers.
+fn add_lines<T: Threads + Sync, S: Alter + Drop>(
     rt: &HostRuntime,
     threads: &T,
-    path: &str,
+    conn: Connection<S>,
     who: Option<&str>,
     deed: Option<&str>,
-) -> Result<Outcome, Fault> {
-    let (mut file, time) = BookFile::open(rt, path)?;
+) -> Result<DoneBy<S>, Fault> {
+    let (mut book, time) = open(rt.alloc(), conn)?;
     let entry = Entry {
         added: time.as_str(),
         who,
@@ -38,13 +42,12 @@ fn add_lines<T: Threads + Sync>(
     let outcome = add(
         threads,
         rt.alloc(),
-        file.book_mut(),
+        &mut book,
         entry,
         &mut StdSource::new(rt.stdin()),
         &mut StdSink::new(rt.stdout()),
     )?;
-    file.close();
-    Ok(outcome)
+    Ok((Done::Added(outcome), Some(book.into_connection())))
 }
 
 /// Writes what is asked of a book, and answers whether a line of it is a refusal.
@@ -95,6 +98,27 @@ fn has_no_date(act: Act<'_>) -> bool {
     }
 }
 
+/// Does what is asked of a database. It names no store, so that nothing of one is dropped here.
+fn work_on<T: Threads + Sync, S: Alter + Drop>(
+    rt: &HostRuntime,
+    threads: &T,
+    conn: Connection<S>,
+    act: Act<'_>,
+) -> Result<DoneBy<S>, Fault> {
+    match act {
+        Act::New => {
+            let book = make(rt.alloc(), conn)?;
+            Ok((Done::Written(false), Some(book.into_connection())))
+        }
+        Act::Add { who, deed } => add_lines(rt, threads, conn, who, deed),
+        _ => {
+            let (book, _) = open(rt.alloc(), conn)?;
+            let refused = write_answer(rt, threads, &book, act)?;
+            Ok((Done::Written(refused), None))
+        }
+    }
+}
+
 /// Does what `words` ask for; lots are judged by `threads`.
 pub fn work<T: Threads + Sync>(
     rt: &HostRuntime,
@@ -107,16 +131,10 @@ pub fn work<T: Threads + Sync>(
     if has_no_date(act) {
         return Err(Fault::NoDate);
     }
-    match act {
-        Act::New => {
-            make(rt, path)?;
-            Ok(Done::Written(false))
-        }
-        Act::Add { who, deed } => add_lines(rt, threads, path, who, deed).map(Done::Added),
-        _ => {
-            let (file, _) = BookFile::open(rt, path)?;
-            let refused = write_answer(rt, threads, file.book(), act)?;
-            Ok(Done::Written(refused))
-        }
+    let conn = connect(rt, path, matches!(act, Act::New))?;
+    let (done, conn) = work_on(rt, threads, conn, act)?;
+    if let Some(conn) = conn {
+        close(conn);
     }
+    Ok(done)
 }

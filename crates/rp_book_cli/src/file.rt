@@ -1,0 +1,101 @@
+//! A file that is made a book, or opened as one.
+
+use rp_disk_book::{DiskBook, OpenFault};
+use sqlite::{Alter, Connection, Error, ErrorCode, FileFrom, FileStore, Wary};
+use std::alloc::Global;
+use std::fs;
+
+/// What SQLite keeps in a file and the log beside it. Of a write that the power cut off nothing is supposed.
+pub type FileStored = FileStore<FileFrom<Wary>>;
+
+/// Why a file was not made a book, or not opened as one, or not closed.
+#[derive(Clone, Copy, Debug, PartialEq, Eq)]
+pub enum FileFault {
+    /// The file is no book.
+    NoBook,
+    /// The file is a book of another layout.
+    Layout,
+    /// The database that is to be made a book has tables already.
+    Taken,
+    /// The file is not there, or cannot be opened for reading and writing.
+    CannotOpen,
+    /// Another process has the file open.
+    Busy,
+    /// Memory ran out.
+    Memory,
+    /// The disk is full.
+    Full,
+    /// The disk failed.
+    Disk,
+}
+
+impl From<Error> for FileFault {
+    fn from(error: Error) -> Self {
+        let Error::SqliteFailure(code) = error else {
+            return FileFault::Disk;
+        };
+        match code {
+            ErrorCode::OutOfMemory => FileFault::Memory,
+            ErrorCode::DatabaseBusy => FileFault::Busy,
+            ErrorCode::DiskFull => FileFault::Full,
+            ErrorCode::CannotOpen => FileFault::CannotOpen,
+            ErrorCode::NotADatabase | ErrorCode::DatabaseCorrupt => FileFault::NoBook,
+            _ => FileFault::Disk,
+        }
+    }
+}
+
+impl From<OpenFault> for FileFault {
+    fn from(fault: OpenFault) -> Self {
+        match fault {
+            OpenFault::NoBook => FileFault::NoBook,
+            OpenFault::Layout => FileFault::Layout,
+            OpenFault::Taken => FileFault::Taken,
+            OpenFault::Sqlite(error) => FileFault::from(error),
+        }
+    }
+}
+
+/// Opens the database in the file at `path` and the log beside it; unless it `is_new`, the file is there. Pages of a new
+/// file end in sums. No other process may open it until it is let go.
+pub fn connect(
+    rt: &HostRuntime,
+    path: &str,
+    is_new: bool,
+) -> Result<Connection<FileStored>, FileFault> {
+    if !is_new && fs::metadata(rt, path).is_err() {
+        return Err(FileFault::CannotOpen);
+    }
+    match Connection::open_from(rt, path, true, Wary) {
+        Ok(conn) => Ok(conn),
+        Err((error, _)) => Err(FileFault::from(error)),
+    }
+}
+
+/// Closes a connection. What its log has comes into the file; where the disk does not let it, it stays in the log, and the
+/// next one who opens the file finds it there.
+pub fn close(conn: Connection<FileStored>) {
+    let _ = conn.close();
+}
+
+/// The time, in UTC, as 2026-11-30 12:00:00.
+fn time_of<S: Alter>(conn: &mut Connection<S>) -> Result<String, FileFault> {
+    let time = conn.query_row("SELECT CURRENT_TIMESTAMP", &[])?.get(0)?;
+    Ok(time)
+}
+
+/// Makes a database that has no tables yet an empty book.
+pub fn make<S: Alter + Drop>(alloc: Global, conn: Connection<S>) -> Result<DiskBook<S>, FileFault> {
+    let book = DiskBook::create(alloc, conn)?;
+    Ok(book)
+}
+
+/// Opens the book in a database. Beside it answers the time, in UTC, as 2026-11-30 12:00:00.
+pub fn open<S: Alter + Drop>(
+    alloc: Global,
+    mut conn: Connection<S>,
+) -> Result<(DiskBook<S>, String), FileFault> {
+    let time = time_of(&mut conn)?;
+    let book = DiskBook::open(alloc, conn)?;
+    Ok((book, time))
+}
