@@ -10,14 +10,8 @@ use Rattle.rp_geometry.specs.sets.Prism.{Corner, Edge, edge_of, edges_along, edg
 use Rattle.rp_geometry.specs.parts.Trapezoid.{least_y}
 use Rattle.rp_space.specs.Corners.{polygon_corner, polygon_corners, prism_of}
 use Rattle.rp_space.specs.declared.corner.Corner.{Corner as Written}
-use Rattle.rp_footprint.specs.Cells.{no_corner, edge_at, trapezoid_by, trapezoid_at, cell_under, cell_by, AreNear, AreHeights}
+use Rattle.rp_footprint.specs.Cells.{no_corner, edge_at, trapezoid_by, trapezoid_at, cell_by, AreNear, AreHeights}
 use Rattle.rp_parts.proofs.Ends.{both_ends, least_is_near}
-
--- ---- left and right
-
--- the cell by the tests of the ends
-abbrev under_by : ℤ → ℤ → ℤ → Corner → Corner → Bool → List HalfSpace
-under_by low high least s e b = cell_under low high least (cond b s e) (cond b e s)
 
 -- ---- the edge with a number
 

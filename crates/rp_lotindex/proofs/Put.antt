@@ -231,10 +231,6 @@ pub record AreTaken (old new : Boxes) (k p : ℕ) : Type 0 where
   pub left : (g : ℕ) → p ≤ g → box_at new g ≡ box_at old g
   pub rest : (g : ℕ) → g < k → box_at new g ≡ box_at old g
 
--- at first none
-pub taken_first : (m : Boxes) (k : ℕ) → AreTaken m m k k
-taken_first m k = record { gone = λ g e f. absurd (omega (arith, e, f)); left = λ g f. refl; rest = λ g f. refl }
-
 -- one more
 pub taken_next : (old m new : Boxes) (k p : ℕ) → AreTaken old m k p → k ≤ p → new ≡ remove m p → AreTaken old new k (p + 1)
 taken_next old m new k p h up is = record {

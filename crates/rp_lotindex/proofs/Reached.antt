@@ -175,15 +175,6 @@ module _ (r : Reach) (y : Label) (from : ℕ) (boxes : Boxes) where
   place_met (d ∷ bs) b first c t k id m own f = listed_left k (places_each r from boxes (in_turns (cube_number y) b)) (places_met r y from boxes bs) (place_each (in_turns (cube_number y) b) c t k id m own f)
   place_met (d ∷ bs) b (later l) c t k id m own f = listed_right k (places_each r from boxes (in_turns (cube_number y) d)) (places_met r y from boxes bs) (place_met bs b l c t k id m own f)
 
--- the places of a box in the three turns, joined one behind the other
-pub met_in_turns : (r : Reach) (n from : ℕ) (boxes : Boxes) (b x y z : IntegerBox) (places beside above both all : List ℕ) → x ≡ moved_in X n b → y ≡ moved_in Y n b → z ≡ moved_in Z n b →
-    places ≡ places_by r from boxes x → beside ≡ places_by r from boxes y → above ≡ places_by r from boxes z → both ≡ places ++ beside → all ≡ both ++ above → all ≡ places_each r from boxes (in_turns n b)
-met_in_turns r n from boxes b x y z places beside above both all own_x own_y own_z found_x found_y found_z join_both join_all =
-    join_all ∙ ap (λ (ks : List ℕ). ks ++ above) join_both ∙ append_assoc places beside above
-    ∙ ap (λ (ks : List ℕ). ks ++ (beside ++ above)) (found_x ∙ ap (places_by r from boxes) own_x)
-    ∙ ap (λ (ks : List ℕ). places_by r from boxes (moved_in X n b) ++ (ks ++ above)) (found_y ∙ ap (places_by r from boxes) own_y)
-    ∙ ap (λ (ks : List ℕ). places_by r from boxes (moved_in X n b) ++ (places_by r from boxes (moved_in Y n b) ++ ks)) (found_z ∙ ap (places_by r from boxes) own_z ∙ sym (append-nil (places_by r from boxes (moved_in Z n b))))
-
 -- one box more
 pub met_next : (r : Reach) (y : Label) (from : ℕ) (boxes : Boxes) (bs : List IntegerBox) (i : ℕ) (b : IntegerBox) (places more new : List ℕ) → slice_get bs i ≡ Some b → more ≡ places_each r from boxes (in_turns (cube_number y) b) → new ≡ places ++ more →
     new ++ places_met r y from boxes (drop (i + 1) bs) ≡ places ++ places_met r y from boxes (drop i bs)

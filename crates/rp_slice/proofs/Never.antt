@@ -117,11 +117,6 @@ not_refuted v a b o w hw h e ho ea eb =
 
 -- ---- what a flat certificate says
 
--- the facts of a term
-pub record IsTerm (hs : List HalfSpace) (t : Multiple) : Type 0 where
-  pub positive : pos 0 <ℤ t.factor
-  pub listed : is_listed t.of hs ≡ true
-
 -- the facts of a flat certificate
 pub record IsFlat (z : ℤ) (cell : List HalfSpace) (ts : List Multiple) : Type 0 where
   pub many : is_one_to_three (length ts) ≡ true

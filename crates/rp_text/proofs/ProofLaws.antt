@@ -65,10 +65,6 @@ last_complete v e = ap (option_and_then side_of) (short_complete v (within_short
 six_text : (a b c d e f : List ℕ) → spaced (a ∷ b ∷ c ∷ d ∷ e ∷ f ∷ []) ≡ (a ++ codes " ") ++ ((b ++ codes " ") ++ ((c ++ codes " ") ++ ((d ++ codes " ") ++ ((e ++ codes " ") ++ f))))
 six_text a b c d e f = simp append_assoc refl
 
--- what is read behind numbers of a box
-abbrev to_box : Type 0
-to_box = ℤ → IntegerBox
-
 -- behind four
 abbrev fifth : ℤ → ℤ → ℤ → ℤ → Taker (ℤ → IntegerBox)
 fifth x1 y1 z1 x2 = side >>= λ y2. gives (box_of x1 y1 z1 x2 y2)
@@ -144,10 +140,6 @@ ended_is {A} (Some r) x e = by r.1 refl e
     by : (t : List ℕ) → r.1 ≡ t → elim t as (λ _. Option A) [ [] ↦ Some r.0 | b ∷ bs ↦ None ] ≡ Some x → Some r ≡ Some (x, [])
     by [] is e = let same = same_some r.0 x e in λ i. Some (same i, is i)
     by (b ∷ bs) is e = absurd (none_not_some x e)
-
--- the text of the line of a dropped half-space, behind its word
-abbrev dropped_text : HalfSpace → List Multiple → List ℕ
-dropped_text h terms = half_space_text h ++ items_text term_text terms
 
 -- a half-space and multiples that were read
 dropped_sound : (line : List ℕ) (p : ProofLine) → dropped line ≡ Some p → (codes "  drop " ++ line ≡ proof_text p) × (is_written p ≡ true)
