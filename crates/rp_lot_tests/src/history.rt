@@ -41,14 +41,12 @@ fn a_lot_that_ended_is_in_its_lineage(rt: HostRuntime) {
 fn names_are_checked(rt: HostRuntime) {
     let (plot, west, east) = (name(b"plot"), name(b"west"), name(b"east"));
     let history = with_plot(&rt, rt.alloc());
-    history.check_new(west).expect(&rt, "the id is not new");
-    let live = history.check_live(plot).expect(&rt, "no live lot");
-    assert_eq!(rt; live, 0);
-    let cut = history.check_cut(plot, west, east).expect(&rt, "no cut");
-    assert_eq!(rt; cut, 0);
+    assert!(rt; history.check_new(west).is_ok());
+    assert_eq!(rt; history.check_live(plot).ok(), Some(0));
+    assert_eq!(rt; history.check_cut(plot, west, east).ok(), Some(0));
     let divided = history.check_subdivide(rt.alloc(), plot, &[west, east]);
-    assert_eq!(rt; divided.expect(&rt, "no subdivision"), 0);
+    assert_eq!(rt; divided.ok(), Some(0));
     let layer = history.check_access(plot, plot);
-    assert_eq!(rt; layer.expect(&rt, "no access"), name(b"land"));
+    assert_eq!(rt; layer.ok(), Some(name(b"land")));
     assert_eq!(rt; history.layer_of(&plot), name(b"land"));
 }
