@@ -5,7 +5,7 @@ ghost use Rattle.rp_reports.specs.Text.{items_text};
 ghost use Rattle.rp_text.specs.Fronts.{Writes};
 ghost use Rattle.rp_text.specs.LineTexts.{lines_text};
 
-use crate::pieces::append;
+use crate::pieces::{append, append_byte};
 use std::alloc::AllocError;
 
 /// What has a text of its own in a report.
@@ -21,7 +21,7 @@ pub(crate) trait WriteText {
 pub(crate) fn write_item<T: WriteText>(item: &T, out: &mut Vec<u8>) -> Result<(), AllocError>
     ensures { Writes result out.old.items out.new.items (space ∷ T.text item.now) }
 {
-    append(b" ", out)?;
+    append_byte(b' ', out)?;
     item.write_text(out)
 }
 
@@ -41,7 +41,7 @@ pub(crate) fn write_lines<T: WriteText>(items: &[T], out: &mut Vec<u8>) -> Resul
 {
     for item in items {
         item.write_text(out)?;
-        append(b"\n", out)?;
+        append_byte(b'\n', out)?;
     }
     Ok(())
 }

@@ -6,7 +6,7 @@ ghost use Rattle.rp_reports.specs.Text.{in_parentheses};
 ghost use Rattle.rp_text.specs.Fronts.{Writes};
 
 use crate::items::{WriteText, write_items};
-use crate::pieces::append;
+use crate::pieces::{append, append_byte};
 use itoa::{Buffer, Integer};
 use std::alloc::AllocError;
 
@@ -70,7 +70,7 @@ pub(crate) fn write_in_parentheses<N: WriteText>(
 ) -> Result<(), AllocError>
     ensures { Writes result out.old.items out.new.items (in_parentheses (N.text first.now ∷ map N.text others.now)) }
 {
-    append(b"(", out)?;
+    append_byte(b'(', out)?;
     write_spaced(first, others, out)?;
-    append(b")", out)
+    append_byte(b')', out)
 }

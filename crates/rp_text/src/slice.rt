@@ -4,7 +4,7 @@ ghost use Rattle.rp_cert.specs.Section.{slice_shown};
 
 use crate::items::{WriteText, write_operands};
 use crate::numbers::write_in_parentheses;
-use crate::pieces::append;
+use crate::pieces::append_byte;
 use rp_cert::{Edge, RingStep, Slice};
 use std::alloc::AllocError;
 
@@ -21,7 +21,7 @@ impl WriteText for RingStep {
 
     fn write_text(&self, out: &mut Vec<u8>) -> Result<(), AllocError> {
         self.edge.write_text(out)?;
-        append(b" ", out)?;
+        append_byte(b' ', out)?;
         self.end.write_text(out)
     }
 }

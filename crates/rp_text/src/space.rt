@@ -5,7 +5,7 @@ ghost use Rattle.rp_space.specs.Boxes.{integer_box};
 
 use crate::items::WriteText;
 use crate::numbers::{write_in_parentheses, write_spaced};
-use crate::pieces::append;
+use crate::pieces::{append, append_byte};
 use rp_lists::Name;
 use rp_space::{Half, IntBox, Point, Term};
 use std::alloc::AllocError;
@@ -43,7 +43,7 @@ impl WriteText for Term {
 
     fn write_text(&self, out: &mut Vec<u8>) -> Result<(), AllocError> {
         self.by.write_text(out)?;
-        append(b"*", out)?;
+        append_byte(b'*', out)?;
         self.half.write_text(out)
     }
 }

@@ -5,11 +5,11 @@ use Rattle.rp_command.proofs.Fronts.{front_before}
 use Rattle.rp_text.proofs.FrontLemmas.{writes_behind}
 use Rattle.rp_text.proofs.items.write_item.Goals as goal
 
-pub returns-in_err-append : goal.returns-in_err-append
-returns-in_err-append g c =
+pub returns-in_err-append_byte : goal.returns-in_err-append_byte
+returns-in_err-append_byte g c =
     let p = err_from_is_err_and c.from_residual.result c.from_residual.ensures.1 in
-    rw (p.1) (front_before c.args.out.now.items c.append.new.out.items (space ∷ []) (g.T.WriteText.text c.args.item.now) c.in_err-append.ensures)
+    rw (p.1) (front_before c.args.out.now.items c.append_byte.new.out.items (space ∷ []) (g.T.WriteText.text c.args.item.now) c.in_err-append_byte.ensures)
 
 pub returns : goal.returns
 returns g c =
-    writes_behind c.write_text.result c.args.out.now.items c.append.new.out.items c.write_text.new.out.items (space ∷ []) (g.T.WriteText.text c.args.item.now) c.in_ok-append.ensures c.write_text.ensures
+    writes_behind c.write_text.result c.args.out.now.items c.append_byte.new.out.items c.write_text.new.out.items (space ∷ []) (g.T.WriteText.text c.args.item.now) c.in_ok-append_byte.ensures c.write_text.ensures

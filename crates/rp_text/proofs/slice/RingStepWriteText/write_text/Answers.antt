@@ -15,15 +15,15 @@ returns-in_err-write_text c =
     rw (p.1)
     (front_same old new _ _ (ap step_text c.self.view_is) (front_before old new (edge ++ 32 ∷ []) end (front_before old new edge (32 ∷ []) c.in_err-write_text.ensures)))
 
-pub returns-in_err-append : goal.returns-in_err-append
-returns-in_err-append c =
-    let p = err_from_is_err_and c.from_residual-in_err-append.result c.from_residual-in_err-append.ensures.1 in
+pub returns-in_err-append_byte : goal.returns-in_err-append_byte
+returns-in_err-append_byte c =
+    let p = err_from_is_err_and c.from_residual-in_err-append_byte.result c.from_residual-in_err-append_byte.ensures.1 in
     let edge = trace_text c.self.inside.edge in
     let end = point_text c.self.inside.end in
     let old = c.args.out.now.items in
-    let new = c.append.new.out.items in
+    let new = c.append_byte.new.out.items in
     rw (p.1)
-    (front_same old new _ _ (ap step_text c.self.view_is) (front_between old c.write_text.new.out.items new edge (32 ∷ []) end c.in_ok-write_text.ensures c.in_err-append.ensures))
+    (front_same old new _ _ (ap step_text c.self.view_is) (front_between old c.write_text.new.out.items new edge (32 ∷ []) end c.in_ok-write_text.ensures c.in_err-append_byte.ensures))
 
 pub returns : goal.returns
 returns c =
@@ -32,4 +32,4 @@ returns c =
     let old = c.args.out.now.items in
     let new = c.write_text-2.new.out.items in
     writes_same c.write_text-2.result old new _ _ (ap step_text c.self.view_is)
-    (writes_third c.write_text-2.result old c.write_text.new.out.items c.append.new.out.items new edge (32 ∷ []) end c.in_ok-write_text.ensures c.in_ok-append.ensures c.write_text-2.ensures)
+    (writes_third c.write_text-2.result old c.write_text.new.out.items c.append_byte.new.out.items new edge (32 ∷ []) end c.in_ok-write_text.ensures c.in_ok-append_byte.ensures c.write_text-2.ensures)

@@ -16,15 +16,15 @@ returns-in_err-write_text c =
     rw (p.1)
     (front_same old new _ _ (ap term_text c.self.view_is) (front_before old new (by ++ 42 ∷ []) half (front_before old new by (42 ∷ []) c.in_err-write_text.ensures)))
 
-pub returns-in_err-append : goal.returns-in_err-append
-returns-in_err-append c =
-    let p = err_from_is_err_and c.from_residual-in_err-append.result c.from_residual-in_err-append.ensures.1 in
+pub returns-in_err-append_byte : goal.returns-in_err-append_byte
+returns-in_err-append_byte c =
+    let p = err_from_is_err_and c.from_residual-in_err-append_byte.result c.from_residual-in_err-append_byte.ensures.1 in
     let by = signed_decimal c.self.inside.by in
     let half = half_space_text c.self.inside.half in
     let old = c.args.out.now.items in
-    let new = c.append.new.out.items in
+    let new = c.append_byte.new.out.items in
     rw (p.1)
-    (front_same old new _ _ (ap term_text c.self.view_is) (front_between old c.write_text.new.out.items new by (42 ∷ []) half c.in_ok-write_text.ensures c.in_err-append.ensures))
+    (front_same old new _ _ (ap term_text c.self.view_is) (front_between old c.write_text.new.out.items new by (42 ∷ []) half c.in_ok-write_text.ensures c.in_err-append_byte.ensures))
 
 pub returns : goal.returns
 returns c =
@@ -33,4 +33,4 @@ returns c =
     let old = c.args.out.now.items in
     let new = c.write_text-2.new.out.items in
     writes_same c.write_text-2.result old new _ _ (ap term_text c.self.view_is)
-    (writes_third c.write_text-2.result old c.write_text.new.out.items c.append.new.out.items new by (42 ∷ []) half c.in_ok-write_text.ensures c.in_ok-append.ensures c.write_text-2.ensures)
+    (writes_third c.write_text-2.result old c.write_text.new.out.items c.append_byte.new.out.items new by (42 ∷ []) half c.in_ok-write_text.ensures c.in_ok-append_byte.ensures c.write_text-2.ensures)
