@@ -1,18 +1,22 @@
 //! Commands that ask which lots are in contact, and whether all are apart.
+ghost use Rattle.std.specs.Prelude.{◌≡◌, length, map, IfOk};
 ghost use Rattle.rp_language.specs.Expression.{ask_access};
-ghost use Rattle.rp_model.specs.commands.Row.{row, row_audit, row_neighbours};
+ghost use Rattle.rp_model.specs.commands.Row.{access_by_links, row, row_audit, row_neighbours};
 ghost use Rattle.rp_reports.specs.Check.{line_tester};
 ghost use Rattle.rp_answer.specs.Replies.{Tells};
+ghost use Rattle.rp_answer.specs.Views.{verdict_of};
+ghost use Rattle.rp_contacts.specs.Asked.{IsReady};
+ghost use Rattle.rp_contacts.specs.Numbers.{links_met};
 
 use rp_answer::{RowEnd, Verdict, Verdicts, one_line};
-use rp_contacts::{access_left, access_told, audit_left, ids_met, touch_left};
+use rp_contacts::{AccessLeft, access_left, access_told, audit_left, ids_met, touch_left};
 use rp_lists::Name;
 use rp_lotindex::Reach;
 use rp_lots::Keeper;
 use rp_register::{Register, meet_in_turn, show_apart_in_turn};
 use rp_rows::{access_lines, neighbour_lines};
 use rp_trail::Trail;
-use std::alloc::Global;
+use std::alloc::{AllocError, Global};
 
 /// `neighbours`: the other live lots in contact with the lot `id`, of its layer, as the next lines of `trail` show.
 pub fn neighbours(
@@ -42,8 +46,17 @@ pub fn access(
 {
     let left = access_left::<Trail<'_>, Register>(alloc, register, from, to, trail)?;
     let met = meet_in_turn(alloc, register.forms(), &left.pairs, Reach::Touch, trail)?;
-    let access = access_told(alloc, &left, &met)?;
-    Ok(access_lines(alloc, &access)?)
+    Ok(access_answer(alloc, &left, &met)?)
+}
+
+/// The verdict lines of `access`, as `left` has it, where those of its pairs meet for which `met` says yes.
+fn access_answer(alloc: Global, left: &AccessLeft, met: &[bool]) -> Result<Verdicts, AllocError>
+    requires ready { IsReady left.now }
+    requires each { length met.now ≡ length left.now.pairs.items }
+    ensures { IfOk result (λ lines. map verdict_of lines.items ≡ access_by_links left.now.ids.items (links_met left.now.numbers.items met.now) left.now.from left.now.to) }
+{
+    let access = access_told(alloc, left, met)?;
+    access_lines(alloc, &access)
 }
 
 /// `audit`: how many live lots `register` has, of which no two of one layer share a point, as the next lines of `trail`

@@ -22,8 +22,8 @@ returns-in_err-met c =
     let p = err_from_is_err_and c.from_residual-in_err-met.result c.from_residual-in_err-met.ensures.1 in
     rw (p.1, p.2) (judged_stops (meet_pairs line_tester Touch) c.args.register.now.lots _ c.in_ok-left.left.pairs.items c.deref.result.now (access_reply c.in_ok-left.left) c.access_left.new.tests c.meet_in_turn.new.trail _ c.forms.ensures c.deref.ensures.value c.in_ok-left.ensures.left c.in_err-met.field-0.0 c.in_err-met.ensures.comes)
 
-pub access_told-requires-clause-each : goal.access_told-requires-clause-each
-access_told-requires-clause-each c = ap length c.deref-2.ensures.value ∙ c.in_ok-met.ensures.each ∙ ap length c.deref.ensures.value
+pub access_answer-requires-clause-each : goal.access_answer-requires-clause-each
+access_answer-requires-clause-each c = ap length c.deref-2.ensures.value ∙ c.in_ok-met.ensures.each ∙ ap length c.deref.ensures.value
 
 pub returns : goal.returns
 returns c =
@@ -31,4 +31,4 @@ returns c =
     let v = c.meet_in_turn.new.trail in
     judged_ends (meet_pairs line_tester Touch) c.args.register.now.lots _ left.pairs.items c.deref.result.now (access_reply left) c.access_left.new.tests v _ c.forms.ensures c.deref.ensures.value c.in_ok-left.ensures.left c.in_ok-met.met.items c.in_ok-met.ensures.comes
     ∙ ap (λ (bs : List Bool). done (access_reply left bs) v) (sym c.deref-2.ensures.value)
-    ∙ ap (λ (vs : List Verdict). done (reply_lines vs) v) (sym (c.in_ok-access_lines.ensures ∙ c.in_ok-access.ensures))
+    ∙ ap (λ (vs : List Verdict). done (reply_lines vs) v) (sym c.in_ok-access_answer.ensures)
