@@ -5,7 +5,7 @@ ghost use Rattle.rp_book.specs.Act.{act_at, act_of};
 use std::alloc::{AllocError, Global};
 
 /// When lines are added, by whom and under which deed, where that is told.
-#[derive(Clone, Copy, Debug)]
+#[derive(Clone, Copy)]
 pub struct Entry<'a> {
     pub added: &'a str,
     pub who: Option<&'a str>,

@@ -5,7 +5,7 @@ ghost use Rattle.rp_book.specs.declared.fault.BookFault.TheVariants.{Memory};
 use std::alloc::AllocError;
 
 /// Why lines were not added to a book.
-#[derive(Clone, Copy, Debug, PartialEq, Eq)]
+#[derive(Clone, Copy)]
 pub enum BookFault {
     /// Memory ran out.
     Memory(AllocError),

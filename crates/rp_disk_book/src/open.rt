@@ -17,7 +17,7 @@ use sqlite::{Alter, Connection, Error, Row};
 use std::alloc::{AllocError, Global};
 
 /// Why a connection is no book.
-#[derive(Clone, Copy, Debug, PartialEq, Eq)]
+#[derive(Clone, Copy)]
 pub enum OpenFault {
     /// The database has another schema, without a table `entry`, or its entries are none of a book.
     NoBook,

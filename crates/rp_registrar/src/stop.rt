@@ -9,7 +9,7 @@ use rp_scripts::OutputFault;
 use std::alloc::AllocError;
 
 /// How many bytes a script would have.
-#[derive(Clone, Copy, Debug, PartialEq, Eq)]
+#[derive(Clone, Copy)]
 pub enum Length {
     /// So many.
     Exactly(usize),
@@ -18,7 +18,7 @@ pub enum Length {
 }
 
 /// Why a call stopped before it was done. Nothing was added.
-#[derive(Clone, Copy, Debug, PartialEq, Eq)]
+#[derive(Clone, Copy)]
 pub enum Stop {
     /// A read of the input failed.
     Read,
