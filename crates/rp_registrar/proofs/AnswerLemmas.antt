@@ -139,13 +139,13 @@ put_elsewhere script lines said old new mark h put =
     record { before = h.before; told = h.told; report_before = h.report_before; report = h.report; text = subst (Appends old new) whole put; marks = h.marks }
 
 -- an answer that was kept, and something behind it
-pub history_put : (told : Option (List ℕ)) (text line id said more : List ℕ) (old between new : Option (List ℕ)) (mark : Bool) → IfSome told (λ kept. text ≡ kept) → line ≡ history_line id → PutsBehind text line (Some []) (Some said) mark
+pub history_put : (told : Option (List ℕ)) (text id said more : List ℕ) (old between new : Option (List ℕ)) (mark : Bool) → IfSome told (λ kept. text ≡ kept) → PutsBehind text (history_line id) (Some []) (Some said) mark
     → Appends old between said → Appends between new more → IfSome told (λ script. PutsHistory script id mark old new)
-history_put None text line id said more old between new mark same is h first second = tt
-history_put (Some kept) text line id said more old between new mark same is h first second =
+history_put None text id said more old between new mark same h first second = tt
+history_put (Some kept) text id said more old between new mark same h first second =
     record {
       between = between;
       behind = more;
-      answer = subst (λ l. PutsBehind kept l old between mark) is (subst (λ s. PutsBehind s line old between mark) same (put_elsewhere text line said old between mark h first));
+      answer = subst (λ s. PutsBehind s (history_line id) old between mark) same (put_elsewhere text (history_line id) said old between mark h first);
       others = second;
     }

@@ -74,6 +74,15 @@ fn act_of_line(acts: &[Act], line: u32) -> Option<&Act>
         .find(|act| act.first <= line && line <= act.last)
 }
 
+/// Writes what is told of an act, behind some words, if it is told.
+fn write_told(words: &str, told: &Option<String>, text: &mut String) -> Result<(), AllocError> {
+    let Some(told) = told else {
+        return Ok(());
+    };
+    text.push_str(words)?;
+    text.push_str(told.as_str())
+}
+
 /// Writes in which act a line came, of which a lot was born or ended.
 fn write_event(
     id: &str,
@@ -87,12 +96,8 @@ fn write_event(
     };
     let added = act.added.as_str();
     write!(text, "  {id} {event} {line}: added {added}")?;
-    if let Some(who) = &act.who {
-        write!(text, " by {who}")?;
-    }
-    if let Some(deed) = &act.deed {
-        write!(text, " under {deed}")?;
-    }
+    write_told(" by ", &act.who, text)?;
+    write_told(" under ", &act.deed, text)?;
     text.push('\n')
 }
 
@@ -111,6 +116,12 @@ fn events(alloc: Global, told: &str, acts: &[Act]) -> Result<String, AllocError>
     Ok(text)
 }
 
+/// The same, of the answer to `history` as it was put.
+fn events_of(alloc: Global, answer: &[u8], acts: &[Act]) -> Result<String, AllocError> {
+    let told = String::from_utf8_lossy(alloc, answer)?;
+    events(alloc, &told, acts)
+}
+
 /// The line that asks for a lot.
 fn question(alloc: Global, id: &str) -> Result<Vec<u8>, AllocError>
     ensures { IfOk result (λ text. text.items ≡ history_line id.now) }
@@ -121,23 +132,24 @@ fn question(alloc: Global, id: &str) -> Result<Vec<u8>, AllocError>
     Ok(text)
 }
 
-/// The answers to lines that stand behind a script, and whether one is refused.
+/// The answer to `history` for a lot, as if it stood behind a script, and whether it is a refusal.
 fn answer_text<R: Threads + Sync>(
     rt: &R,
     alloc: Global,
     script: &[u8],
-    lines: &[u8],
+    id: &str,
 ) -> Result<(Vec<u8>, bool), Stop>
     requires end { IsEnded script.now }
     requires short { length script.now ≤ most_script_bytes }
-    ensures answers { IfOk result (λ done. PutsBehind script.now lines.now (Some []) (Some done.0.items) done.1) }
-    ensures cause { IfErr result (HasQuestionCause 0 0 (λ n. n ≡ length script.now + length lines.now)) }
+    ensures answers { IfOk result (λ done. PutsBehind script.now (history_line id.now) (Some []) (Some done.0.items) done.1) }
+    ensures cause { IfErr result (HasQuestionCause 0 0 (λ n. n ≡ length script.now + length (history_line id.now))) }
 {
+    let question = question(alloc, id)?;
     let mut sink = TextSink {
         text: Vec::new(alloc),
         faults: 0,
     };
-    let refused = match answer(rt, alloc, script, lines, &mut sink) {
+    let refused = match answer(rt, alloc, script, &question, &mut sink) {
         Ok(refused) => refused,
         Err(Stop::Put) => return Err(Stop::Memory(AllocError)),
         Err(stop) => return Err(stop),
@@ -159,10 +171,9 @@ pub fn history<R: Threads + Sync, B: Book, K: Sink>(
     ensures answer { IfOk result (λ refused. IfSome (B.script book.now) (λ script. PutsHistory script id.now refused (K.said sink.old) (K.said sink.new))) }
     ensures cause { IfErr result (HasQuestionCause (K.faults sink.old) (K.faults sink.new) (λ n. IfSome (B.script book.now) (λ script. n ≡ length script + length (history_line id.now)))) }
 {
-    let question = question(alloc, id)?;
-    let (told, refused) = answer_text(rt, alloc, book.text(), &question)?;
+    let (told, refused) = answer_text(rt, alloc, book.text(), id)?;
     put_lines(sink, &told)?;
-    let events = events(alloc, &String::from_utf8_lossy(alloc, &told)?, book.acts())?;
+    let events = events_of(alloc, &told, book.acts())?;
     put_lines(sink, events.as_bytes())?;
     Ok(refused)
 }

@@ -1,4 +1,4 @@
-use Rattle.std.proofs.Common.{List, ℕ, ◌∙◌, subst}
+use Rattle.std.proofs.Common.{List, ℕ, subst}
 use Rattle.rp_io.specs.Bytes.{Appends}
 use Rattle.rp_registrar.proofs.AnswerLemmas.{history_put}
 use Rattle.rp_registrar.proofs.history.history.Goals as goal
@@ -8,5 +8,5 @@ returns-clause-answer g c =
     let old = g.K.Sink.said c.args.sink.now in
     let between = g.K.Sink.said c.put_lines.new.sink in
     let new = g.K.Sink.said c.put_lines-2.new.sink in
-    history_put (g.B.Book.script c.args.book.now) c.text.result.now c.deref.result.now c.args.id.now c.in_ok-told.told.items c.as_bytes.result.now old between new c.in_ok-told.refused c.text.ensures.bytes (c.deref.ensures.value ∙ c.in_ok-question.ensures)
-    c.in_ok-told.ensures.answers (subst (λ (piece : List ℕ). Appends old between piece) c.deref-2.ensures.value c.in_ok-put_lines.ensures.ok) c.in_ok-put_lines-2.ensures.ok
+    history_put (g.B.Book.script c.args.book.now) c.text.result.now c.args.id.now c.in_ok-told.told.items c.as_bytes.result.now old between new c.in_ok-told.refused c.text.ensures.bytes
+    c.in_ok-told.ensures.answers (subst (λ (piece : List ℕ). Appends old between piece) c.deref.ensures.value c.in_ok-put_lines.ensures.ok) c.in_ok-put_lines-2.ensures.ok
