@@ -84,17 +84,17 @@ fn message(fault: Fault) -> &'static str {
 
 impl fmt::Display for Fault {
     fn fmt<W: fmt::Write>(&self, f: &mut fmt::Formatter<W>) -> fmt::Result {
-        match *self {
-            Fault::Stopped(Stop::TooLong(Length::Exactly(bytes))) => write!(
-                f,
-                "the script of the book, with these lines, would have {bytes} bytes, and may have 16777216; the book is as it was"
-            ),
-            Fault::Stopped(Stop::TooLong(Length::MoreThan(bytes))) => write!(
-                f,
-                "the script of the book, with these lines, would have more than {bytes} bytes, and may have 16777216; the book is as it was"
-            ),
-            fault => f.write_str(message(fault)),
-        }
+        let Fault::Stopped(Stop::TooLong(length)) = *self else {
+            return f.write_str(message(*self));
+        };
+        let (than, bytes) = match length {
+            Length::Exactly(bytes) => ("", bytes),
+            Length::MoreThan(bytes) => ("more than ", bytes),
+        };
+        write!(
+            f,
+            "the script of the book, with these lines, would have {than}{bytes} bytes, and may have 16777216; the book is as it was"
+        )
     }
 }
 

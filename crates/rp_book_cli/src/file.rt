@@ -1,15 +1,13 @@
 //! A file that is made a book, or opened as one.
 
 use rp_disk_book::{DiskBook, OpenFault};
-use sqlite::{Alter, Connection, Error, ErrorCode, FileFrom, FileStore, Wary};
+use sqlite::{Alter, Connection, Error, ErrorCode, FileStore};
+use sqlite_disk::Disk;
 use std::alloc::Global;
 use std::fs;
 
-/// What SQLite keeps in a file and the log beside it. Of a write that the power cut off nothing is supposed.
-pub type FileStored = FileStore<FileFrom<Wary>>;
-
-/// Why a file was not made a book, or not opened as one, or not closed.
-#[derive(Clone, Copy, Debug, PartialEq, Eq)]
+/// Why a file was not made a book, or not opened as one.
+#[derive(Clone, Copy)]
 pub enum FileFault {
     /// The file is no book.
     NoBook,
@@ -56,25 +54,14 @@ impl From<OpenFault> for FileFault {
     }
 }
 
-/// Opens the database in the file at `path` and the log beside it; unless it `is_new`, the file is there. Pages of a new
-/// file end in sums. No other process may open it until it is let go.
-pub fn connect(
-    rt: &HostRuntime,
-    path: &str,
-    is_new: bool,
-) -> Result<Connection<FileStored>, FileFault> {
-    if !is_new && fs::metadata(rt, path).is_err() {
-        return Err(FileFault::CannotOpen);
-    }
-    match Connection::open_from(rt, path, true, Wary) {
-        Ok(conn) => Ok(conn),
-        Err((error, _)) => Err(FileFault::from(error)),
-    }
+/// Whether there is a file at `path`.
+pub fn is_there(rt: &HostRuntime, path: &str) -> bool {
+    fs::metadata(rt, path).is_ok()
 }
 
 /// Closes a connection. What its log has comes into the file; where the disk does not let it, it stays in the log, and the
 /// next one who opens the file finds it there.
-pub fn close(conn: Connection<FileStored>) {
+pub fn close<D: Disk + Drop>(conn: Connection<FileStore<D>>) {
     let _ = conn.close();
 }
 

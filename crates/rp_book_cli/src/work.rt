@@ -2,7 +2,7 @@
 
 use crate::act::{Act, act_of};
 use crate::fault::Fault;
-use crate::file::{close, connect, make, open};
+use crate::file::{FileFault, close, is_there, make, open};
 use rp_book::{Book, Entry};
 use rp_io::{StdSink, StdSource};
 use rp_registrar::add::{Outcome, add};
@@ -10,7 +10,8 @@ use rp_registrar::ask::ask;
 use rp_registrar::date::{as_of, last_line_by};
 use rp_registrar::history::history;
 use rp_registrar::{Stop, put_report, put_script};
-use sqlite::{Alter, Connection};
+use sqlite::{Alter, Connection, FileStore, Wary};
+use sqlite_disk::Disk;
 use std::thread::Threads;
 
 /// What came of the words.
@@ -119,7 +120,38 @@ fn work_on<T: Threads + Sync, S: Alter + Drop>(
     }
 }
 
-/// Does what `words` ask for; lots are judged by `threads`.
+/// Does what is asked of a database in files, and closes it where something was written.
+fn work_and_close<T: Threads + Sync, D: Disk + Drop>(
+    rt: &HostRuntime,
+    threads: &T,
+    conn: Connection<FileStore<D>>,
+    act: Act<'_>,
+) -> Result<Done, Fault> {
+    let (done, conn) = work_on(rt, threads, conn, act)?;
+    // Moved on, so that nothing of it is dropped here.
+    let _ = conn.map(close);
+    Ok(done)
+}
+
+/// Does what is asked of the database in the file at `path` and the log beside it. Of a write that the power cut off nothing
+/// is supposed, and pages of a new file end in sums. No other process may open it until it is let go. This alone names what
+/// SQLite keeps in a file.
+fn work_in<T: Threads + Sync>(
+    rt: &HostRuntime,
+    threads: &T,
+    path: &str,
+    act: Act<'_>,
+) -> Result<Done, Fault> {
+    match Connection::open_from(rt, path, true, Wary) {
+        Ok(conn) => work_and_close(rt, threads, conn, act),
+        Err((error, left)) => {
+            drop(left);
+            Err(Fault::File(FileFault::from(error)))
+        }
+    }
+}
+
+/// Does what `words` ask for; lots are judged by `threads`. Unless the file is to be made a book, it is there.
 pub fn work<T: Threads + Sync>(
     rt: &HostRuntime,
     threads: &T,
@@ -131,10 +163,8 @@ pub fn work<T: Threads + Sync>(
     if has_no_date(act) {
         return Err(Fault::NoDate);
     }
-    let conn = connect(rt, path, matches!(act, Act::New))?;
-    let (done, conn) = work_on(rt, threads, conn, act)?;
-    if let Some(conn) = conn {
-        close(conn);
+    if !matches!(act, Act::New) && !is_there(rt, path) {
+        return Err(Fault::File(FileFault::CannotOpen));
     }
-    Ok(done)
+    work_in(rt, threads, path, act)
 }
