@@ -29,24 +29,37 @@ above_is v e = positive_is v e
 below_is : (v : ℤ) → has_sign false v ≡ true → v <ℤ pos 0
 below_is v e = negative_is v e
 
--- one of the others has not the sign of the last one
+-- the third one has not the sign of the last one
+pub unfit_third : (strict s : Bool) (e f g h : HalfSpace) → has_sign s (neg_ℤ (meeting_weight e f g)) ≡ true → has_sign s (meeting_weight e f h) ≡ false → CannotRefute strict e f g h
+unfit_third strict true e f g h last n =
+    let z = meeting_weight e f h in
+    record {
+      up = λ a b c d k. false_not_true (is_positive z) (is_positive_true z c) n;
+      down = λ a b c d k. (let l = above_is (neg_ℤ (meeting_weight e f g)) last in omega (arith, ints, l, d));
+    }
+unfit_third strict false e f g h last n =
+    let z = meeting_weight e f h in
+    record {
+      up = λ a b c d k. (let l = below_is (neg_ℤ (meeting_weight e f g)) last in omega (arith, ints, l, d));
+      down = λ a b c d k. false_not_true (is_negative z) (is_negative_true z c) n;
+    }
+
+-- one of the first two has not the sign of the last one
 pub unfit_signs : (strict s : Bool) (e f g h : HalfSpace) → has_sign s (neg_ℤ (meeting_weight e f g)) ≡ true
-    → (has_sign s (meeting_weight e f h) && has_sign (not s) (meeting_weight e g h) && has_sign s (meeting_weight f g h)) ≡ false → CannotRefute strict e f g h
+    → (has_sign (not s) (meeting_weight e g h) && has_sign s (meeting_weight f g h)) ≡ false → CannotRefute strict e f g h
 unfit_signs strict true e f g h last n =
     let x = meeting_weight f g h in
     let y = meeting_weight e g h in
-    let z = meeting_weight e f h in
     record {
-      up = λ a b c d k. false_not_true (is_positive z && is_negative y && is_positive x) (and_true (is_positive z && is_negative y) (is_positive x) (and_true (is_positive z) (is_negative y) (is_positive_true z c) (is_negative_true y b)) (is_positive_true x a)) n;
+      up = λ a b c d k. false_not_true (is_negative y && is_positive x) (and_true (is_negative y) (is_positive x) (is_negative_true y b) (is_positive_true x a)) n;
       down = λ a b c d k. (let l = above_is (neg_ℤ (meeting_weight e f g)) last in omega (arith, ints, l, d));
     }
 unfit_signs strict false e f g h last n =
     let x = meeting_weight f g h in
     let y = meeting_weight e g h in
-    let z = meeting_weight e f h in
     record {
       up = λ a b c d k. (let l = below_is (neg_ℤ (meeting_weight e f g)) last in omega (arith, ints, l, d));
-      down = λ a b c d k. false_not_true (is_negative z && is_positive y && is_negative x) (and_true (is_negative z && is_positive y) (is_negative x) (and_true (is_negative z) (is_positive y) (is_negative_true z c) (is_positive_true y b)) (is_negative_true x a)) n;
+      down = λ a b c d k. false_not_true (is_positive y && is_negative x) (and_true (is_positive y) (is_negative x) (is_positive_true y b) (is_negative_true x a)) n;
     }
 
 -- the offsets do not contradict, with the sign of the last one

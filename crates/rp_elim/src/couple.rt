@@ -12,9 +12,6 @@ use crate::refutation::refutation;
 use rp_space::{Half, Outside};
 use std::marker::Model;
 
-/// The last 64 bits of a number.
-const LAST_WORD: i128 = 0xffff_ffff_ffff_ffff;
-
 /// Two half-spaces with independent normals. A contract sees the two.
 #[derive(Drop)]
 pub struct Couple<'a> {
@@ -53,12 +50,12 @@ impl<'a> Couple<'a> {
         }
     }
 
-    /// Whether the determinant with `h` as the third half-space is seen not to be 0 by its last 64 bits, which take one
-    /// product of a word for each coefficient: then the three do not refute, since their normals are independent.
+    /// Whether the normals of the two half-spaces and `h` are seen at once to be independent: then the three do not
+    /// refute.
     pub fn is_passed_over(&self, h: &Half) -> bool
         ensures { result ≡ true → (strict : Bool) → refutation_of_three strict self.now.first self.now.second h.now ≡ None }
     {
-        self.cross.weight(h) & LAST_WORD != 0
+        self.cross.is_seen_independent(h)
     }
 
     /// Writes to `found` the refutation by the two half-spaces and `h`, if they refute that all three are positive

@@ -1,5 +1,5 @@
 //! The cross product of the normals of two half-spaces: with it the determinant with a third one takes three products.
-ghost use Rattle.std.specs.Prelude.{◌≡◌, ◌*◌, ◌^◌, true, pos, neg_ℤ, MatchOption};
+ghost use Rattle.std.specs.Prelude.{◌≡◌, ◌≢◌, ◌*◌, ◌^◌, true, pos, neg_ℤ, MatchOption};
 ghost use Rattle.rp_algebra.specs.Within.{IsWithin};
 ghost use Rattle.rp_geometry.specs.searches.Vertex.{meeting_weight};
 ghost use Rattle.rp_space.specs.TwoHalfSpaces.{two_of};
@@ -7,6 +7,9 @@ ghost use Rattle.rp_elim.specs.Sides.{has_sign};
 
 use rp_space::Half;
 use std::marker::Model;
+
+/// The last 64 bits of a number.
+const LAST_WORD: i128 = 0xffff_ffff_ffff_ffff;
 
 /// The cross product of the normals of two half-spaces, as 2 by 2 minors. A contract sees the two half-spaces.
 #[derive(Drop)]
@@ -82,12 +85,19 @@ impl<'a> Cross<'a> {
         a as i128 * self.bc as i128 - b as i128 * self.ac as i128 + c as i128 * self.ab as i128
     }
 
+    /// Whether the determinant with `h` as the third half-space is seen not to be 0 by its last 64 bits, which take one
+    /// product of a word for each coefficient: then the three normals are independent.
+    pub fn is_seen_independent(&self, h: &Half) -> bool
+        ensures { result ≡ true → meeting_weight self.now.first self.now.second h.now ≢ pos 0 }
+    {
+        self.weight(h) & LAST_WORD != 0
+    }
+
     /// Whether the determinant with a third half-space is above 0 (`positive`), or below 0.
     pub fn has_sign(&self, positive: bool, h: &Half) -> bool
         ensures { result ≡ has_sign positive (meeting_weight self.now.first self.now.second h.now) }
     {
-        let weight = self.weight(h);
-        if positive { weight > 0 } else { weight < 0 }
+        has_sign(positive, self.weight(h))
     }
 
     /// Whether the negative of the determinant with `h` is above 0. `None` where it is 0.
@@ -102,4 +112,11 @@ impl<'a> Cross<'a> {
         }
         None
     }
+}
+
+/// Whether a number is above 0 (`positive`), or below 0.
+pub fn has_sign(positive: bool, v: i128) -> bool
+    ensures { result ≡ has_sign positive v }
+{
+    if positive { v > 0 } else { v < 0 }
 }

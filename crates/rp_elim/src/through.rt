@@ -10,7 +10,7 @@ ghost use Rattle.rp_geometry.specs.searches.Elimination.{refutation_of_two, refu
 ghost use Rattle.rp_space.specs.TwoHalfSpaces.{two_of};
 ghost use Rattle.rp_elim.specs.Sides.{three_of};
 ghost use Rattle.rp_elim.specs.Written.{if_found};
-ghost use Rattle.rp_elim.specs.HeldFast.{placed_list, two_in_order, three_in_order, four_in_order, first_through};
+ghost use Rattle.rp_elim.specs.HeldFast.{placed_list, two_in_order, three_in_order, four_in_order, first_through, weights_with};
 
 use crate::couple::Couple;
 use crate::cross::Cross;
@@ -88,8 +88,9 @@ fn first_beside_few(
     ensures { if_found result found.new ≡ first_through strict half.now (placed_list before.now (with_cube after.now)) }
 {
     let mut others = ArrayVec::<Placed, FEW_PLACES>::new();
+    let mut weights = ArrayVec::<i128, FEW_PLACES>::new();
     place(&mut others, before, after);
-    first_through(strict, half, others.as_slice(), found)
+    first_through(strict, half, others.as_slice(), &mut weights, found)
 }
 
 /// The first refutation by `half` and the others, which stand in a long list.
@@ -104,12 +105,21 @@ fn first_beside_many(
     ensures { if_found result found.new ≡ first_through strict half.now (placed_list before.now (with_cube after.now)) }
 {
     let mut others = ArrayVec::<Placed, MOST_PLACES>::new();
+    let mut weights = ArrayVec::<i128, MOST_PLACES>::new();
     place(&mut others, before, after);
-    first_through(strict, half, others.as_slice(), found)
+    first_through(strict, half, others.as_slice(), &mut weights, found)
 }
 
-/// The first refutation by a half-space and others, by number of terms and then by places.
-fn first_through(strict: bool, k: &Half, others: &[Placed], found: &mut Outside) -> bool
+/// The first refutation by a half-space and others, by number of terms and then by places. `weights` is room for as many
+/// determinants.
+fn first_through<const MOST: usize>(
+    strict: bool,
+    k: &Half,
+    others: &[Placed],
+    weights: &mut ArrayVec<i128, MOST>,
+    found: &mut Outside,
+) -> bool
+    requires { length others.now ≤ MOST }
     ensures { if_found result found.new ≡ first_through strict k.now others.now }
 {
     if refutation_of_one(strict, k, found) {
@@ -121,7 +131,7 @@ fn first_through(strict: bool, k: &Half, others: &[Placed], found: &mut Outside)
     if first_three(strict, k, others, found) {
         return true;
     }
-    first_four(strict, k, others, found)
+    first_four(strict, k, others, weights, found)
 }
 
 /// The first refutation by a half-space and one of several.
@@ -198,7 +208,7 @@ fn three_if_dependent(
     requires { kp.now ≡ two_of k.now p.now.half }
     ensures { if_found result found.new ≡ three_in_order (refutation_of_three strict) k.now p.now q.now }
 {
-    if kp.weight(&q.half) != 0 {
+    if kp.is_seen_independent(&q.half) {
         return false;
     }
     three_in_order(strict, k, p, q, found)
@@ -232,28 +242,67 @@ fn refutation_of_three(strict: bool, f: &Half, g: &Half, h: &Half, found: &mut O
 }
 
 /// The first refutation by a half-space and three of several.
-fn first_four(strict: bool, k: &Half, ps: &[Placed], found: &mut Outside) -> bool
+fn first_four<const MOST: usize>(
+    strict: bool,
+    k: &Half,
+    ps: &[Placed],
+    weights: &mut ArrayVec<i128, MOST>,
+    found: &mut Outside,
+) -> bool
+    requires { length ps.now ≤ MOST }
     ensures { if_found result found.new ≡ first_of_triples (four_in_order (refutation_of_four strict) k.now) ps.now }
 {
     for i in 0..ps.len() {
-        if first_four_with(strict, k, &ps[i], &ps[i + 1..], found) {
+        if first_four_with(strict, k, &ps[i], &ps[i + 1..], weights, found) {
             return true;
         }
     }
     false
 }
 
-/// The first refutation by a half-space, a second one and two of several.
-fn first_four_with(strict: bool, k: &Half, p: &Placed, qs: &[Placed], found: &mut Outside) -> bool
+/// The first refutation by a half-space, a second one and two of several. The determinants of the first two with each
+/// of them are taken once.
+fn first_four_with<const MOST: usize>(
+    strict: bool,
+    k: &Half,
+    p: &Placed,
+    qs: &[Placed],
+    weights: &mut ArrayVec<i128, MOST>,
+    found: &mut Outside,
+) -> bool
+    requires { length qs.now ≤ MOST }
     ensures { if_found result found.new ≡ first_of_pairs (four_in_order (refutation_of_four strict) k.now p.now) qs.now }
 {
     let kp = Cross::new(k, &p.half);
+    weigh(&kp, qs, weights);
+    let weights = weights.as_slice();
     for i in 0..qs.len() {
-        if first_four_with_two(strict, &kp, k, p, &qs[i], &qs[i + 1..], found) {
+        let behind = i + 1;
+        if first_four_with_two(
+            strict,
+            &kp,
+            k,
+            p,
+            &qs[i],
+            &qs[behind..],
+            &weights[behind..],
+            found,
+        ) {
             return true;
         }
     }
     false
+}
+
+/// Writes down the determinants of two half-spaces and each of several.
+fn weigh<const MOST: usize>(kp: &Cross, qs: &[Placed], weights: &mut ArrayVec<i128, MOST>)
+    requires { length qs.now ≤ MOST }
+    ensures { weights.new.items ≡ weights_with kp.now.first kp.now.second qs.now }
+{
+    weights.clear();
+    for q in qs {
+        weights.push(kp.weight(&q.half));
+    }
 }
 
 /// The first refutation by a half-space, two more and one of several. The determinant of the three is the multiplier of
@@ -265,14 +314,16 @@ fn first_four_with_two(
     p: &Placed,
     q: &Placed,
     rs: &[Placed],
+    weights: &[i128],
     found: &mut Outside,
 ) -> bool
-    requires { kp.now ≡ two_of k.now p.now.half }
+    requires pair { kp.now ≡ two_of k.now p.now.half }
+    requires weights { weights.now ≡ weights_with k.now p.now.half rs.now }
     ensures { if_found result found.new ≡ first_of (four_in_order (refutation_of_four strict) k.now p.now q.now) rs.now }
 {
     match Triple::new(kp, &q.half) {
         None => false,
-        Some(triple) => first_four_with_triple(strict, &triple, k, p, q, rs, found),
+        Some(triple) => first_four_with_triple(strict, &triple, k, p, q, rs, weights, found),
     }
 }
 
@@ -284,13 +335,15 @@ fn first_four_with_triple(
     p: &Placed,
     q: &Placed,
     rs: &[Placed],
+    weights: &[i128],
     found: &mut Outside,
 ) -> bool
-    requires { triple.now ≡ three_of k.now p.now.half q.now.half }
+    requires triple { triple.now ≡ three_of k.now p.now.half q.now.half }
+    requires weights { weights.now ≡ weights_with k.now p.now.half rs.now }
     ensures { if_found result found.new ≡ first_of (four_in_order (refutation_of_four strict) k.now p.now q.now) rs.now }
 {
     for i in 0..rs.len() {
-        if four_if_one_sign(strict, triple, k, p, q, &rs[i], found) {
+        if four_if_one_sign(strict, triple, k, p, q, &rs[i], weights[i], found) {
             return true;
         }
     }
@@ -307,12 +360,17 @@ fn four_if_one_sign(
     p: &Placed,
     q: &Placed,
     r: &Placed,
+    weight: i128,
     found: &mut Outside,
 ) -> bool
-    requires { triple.now ≡ three_of k.now p.now.half q.now.half }
+    requires triple { triple.now ≡ three_of k.now p.now.half q.now.half }
+    requires weight { weight ≡ meeting_weight k.now p.now.half r.now.half }
     ensures { if_found result found.new ≡ four_in_order (refutation_of_four strict) k.now p.now q.now r.now }
 {
-    if !triple.may_refute(strict, &r.half) {
+    if triple.is_passed_over(weight) {
+        return false;
+    }
+    if !triple.may_refute_beside(strict, &r.half) {
         return false;
     }
     four_in_order(strict, k, p, q, r, found)

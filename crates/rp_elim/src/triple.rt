@@ -1,13 +1,14 @@
 //! Three half-spaces, with what the refutations by them and a further one share.
-ghost use Rattle.std.specs.Prelude.{◌≡◌, ◌&&◌, ◌*◌, ◌^◌, ◌*ℤ◌, false, not, pos, MatchOption};
+ghost use Rattle.std.specs.Prelude.{◌≡◌, ◌&&◌, ◌*◌, ◌^◌, ◌*ℤ◌, Bool, true, false, not, pos, MatchOption};
 ghost use Rattle.rp_algebra.specs.Within.{IsWithin};
+ghost use Rattle.rp_geometry.specs.Geometry.{HalfSpace};
 ghost use Rattle.rp_geometry.specs.searches.Vertex.{meeting_weight};
 ghost use Rattle.rp_geometry.specs.searches.Elimination.{minors_of_four, refutation_of_four};
 ghost use Rattle.rp_elim.specs.Factors.{AreFactorsSmall};
 ghost use Rattle.rp_elim.specs.Sides.{has_sign, signed, contradicts, four_offsets, three_of, CannotRefute};
 ghost use Rattle.rp_elim.specs.Written.{if_found};
 
-use crate::cross::Cross;
+use crate::cross::{Cross, has_sign};
 use crate::minors::minors_of_four;
 use crate::refutation::refutation;
 use rp_space::{Half, Outside, Term};
@@ -55,8 +56,23 @@ impl<'a> Triple<'a> {
     pub fn may_refute(&self, strict: bool, h: &Half) -> bool
         ensures { result ≡ false → CannotRefute strict self.now.first self.now.second self.now.third h.now }
     {
-        have_one_sign(self.positive, &self.ef, &self.eg, &self.fg, h)
+        self.ef.has_sign(self.positive, h) && self.may_refute_beside(strict, h)
+    }
+
+    /// The same, where it is known of the first two half-spaces and `h` that their minor has the sign.
+    pub fn may_refute_beside(&self, strict: bool, h: &Half) -> bool
+        ensures { result ≡ false → CannotRefute strict self.now.first self.now.second self.now.third h.now }
+    {
+        have_one_sign(self.positive, &self.eg, &self.fg, h)
             && contradict(strict, self.positive, &self.ef, &self.eg, &self.fg, h)
+    }
+
+    /// Whether the determinant of the first two half-spaces and a fourth one, which is `weight`, has not the sign of
+    /// the last minor: then the four do not refute, in whatever order.
+    pub fn is_passed_over(&self, weight: i128) -> bool
+        ensures { result ≡ true → (h : HalfSpace) → weight ≡ meeting_weight self.now.first self.now.second h → (strict : Bool) → CannotRefute strict self.now.first self.now.second self.now.third h }
+    {
+        !has_sign(self.positive, weight)
     }
 
     /// Writes to `found` the refutation by the three half-spaces and `h`, if they refute that all four are positive
@@ -80,12 +96,12 @@ fn minors_of_crosses(ef: &Cross, eg: &Cross, h: &Half) -> [Term; 4]
     minors_of_four(ef.first(), ef.second(), eg.second(), h)
 }
 
-/// Whether the first three of the four minors have the sign of the last one. Two are taken at once, since which of them
+/// Whether the first two of the four minors have the sign of the last one. They are taken at once, since which of them
 /// has another sign cannot be foreseen.
-fn have_one_sign(positive: bool, ef: &Cross, eg: &Cross, fg: &Cross, h: &Half) -> bool
-    ensures { result ≡ (has_sign positive (meeting_weight ef.now.first ef.now.second h.now) && has_sign (not positive) (meeting_weight eg.now.first eg.now.second h.now) && has_sign positive (meeting_weight fg.now.first fg.now.second h.now)) }
+fn have_one_sign(positive: bool, eg: &Cross, fg: &Cross, h: &Half) -> bool
+    ensures { result ≡ (has_sign (not positive) (meeting_weight eg.now.first eg.now.second h.now) && has_sign positive (meeting_weight fg.now.first fg.now.second h.now)) }
 {
-    ef.has_sign(positive, h) & eg.has_sign(!positive, h) && fg.has_sign(positive, h)
+    eg.has_sign(!positive, h) & fg.has_sign(positive, h)
 }
 
 /// Whether the offsets of four half-spaces, each times its minor, add up to a contradiction; where the last minor is

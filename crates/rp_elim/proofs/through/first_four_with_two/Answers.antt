@@ -6,4 +6,4 @@ use Rattle.rp_elim.proofs.through.first_four_with_two.Goals as goal
 pub returns-in-None : goal.returns-in-None
 returns-in-None c =
     let q = c.args.q.now in
-    sym (none_with_plane c.args.strict c.args.k.now c.args.p.now q (sym (λ i. meeting_weight (c.requires i).first (c.requires i).second q.half) ∙ c.in-None.ensures) c.args.rs.now)
+    sym (none_with_plane c.args.strict c.args.k.now c.args.p.now q (sym (λ i. meeting_weight (c.requires.pair i).first (c.requires.pair i).second q.half) ∙ c.in-None.ensures) c.args.rs.now)
