@@ -1,5 +1,6 @@
 mod MadeLemmas
 mod NumberLemmas
 mod ManyLemmas
+mod ReadLemmas
 mod WordLemmas
 mod KeywordLemmas

@@ -1,8 +1,8 @@
 //! Expressions in prefix form.
 ghost use Rattle.rp_command.specs.Versions.{version_of};
 ghost use Rattle.rp_command.specs.Views.{expression_of};
-ghost use Rattle.rp_language.specs.Expression.{Expression, intersection, union, difference, opposite};
-ghost use Rattle.rp_language.specs.Grammar.{keyword, node_table, expression, expression_within, node_words, one_operand, two_operands};
+ghost use Rattle.rp_language.specs.Expression.{Expression, intersection, union, difference};
+ghost use Rattle.rp_language.specs.Grammar.{keyword, node_table, expression, expression_within, node_words, two_operands};
 ghost use Rattle.rp_syntax.specs.Keywords.{node_of};
 ghost use Rattle.rp_syntax.specs.Reads.{Reads};
 
@@ -75,8 +75,22 @@ impl<'a> Words<'a> {
             Node::And => self.intersection(alloc, version, room),
             Node::Or => self.union(alloc, version, room),
             Node::Minus => self.difference(alloc, version, room),
-            Node::Not => self.opposite(alloc, version, room),
+            Node::Not => self.operand(alloc, version, room).map(Expr::Not),
         }
+    }
+
+    /// An operand of less than so many levels.
+    #[cycle(expression)]
+    fn operand(
+        &mut self,
+        alloc: Global,
+        version: Version,
+        room: u32,
+    ) -> Result<Box<Expr>, ReadFault>
+        ensures { Reads (λ operand. expression_of operand.value) result self.new (expression_within (version_of version) room self.old) }
+    {
+        let operand = self.expression_within(alloc, version, room)?;
+        Ok(Box::new(alloc, operand)?)
     }
 
     /// Two operands of less than so many levels, of which a node may be made.
@@ -86,11 +100,11 @@ impl<'a> Words<'a> {
         alloc: Global,
         version: Version,
         room: u32,
-    ) -> Result<(Expr, Expr), ReadFault>
-        ensures { (of : Expression → Expression → Expression) → Reads (λ both. of (expression_of both.0) (expression_of both.1)) result self.new (two_operands (expression_within (version_of version) room) of self.old) }
+    ) -> Result<(Box<Expr>, Box<Expr>), ReadFault>
+        ensures { (of : Expression → Expression → Expression) → Reads (λ both. of (expression_of both.0.value) (expression_of both.1.value)) result self.new (two_operands (expression_within (version_of version) room) of self.old) }
     {
-        let first = self.expression_within(alloc, version, room)?;
-        let second = self.expression_within(alloc, version, room)?;
+        let first = self.operand(alloc, version, room)?;
+        let second = self.operand(alloc, version, room)?;
         Ok((first, second))
     }
 
@@ -105,7 +119,7 @@ impl<'a> Words<'a> {
         ensures { Reads expression_of result self.new (two_operands (expression_within (version_of version) room) intersection self.old) }
     {
         let (first, second) = self.operands(alloc, version, room)?;
-        Ok(Expr::And(Box::new(alloc, first)?, Box::new(alloc, second)?))
+        Ok(Expr::And(first, second))
     }
 
     /// The points of either operand.
@@ -114,7 +128,7 @@ impl<'a> Words<'a> {
         ensures { Reads expression_of result self.new (two_operands (expression_within (version_of version) room) union self.old) }
     {
         let (first, second) = self.operands(alloc, version, room)?;
-        Ok(Expr::Or(Box::new(alloc, first)?, Box::new(alloc, second)?))
+        Ok(Expr::Or(first, second))
     }
 
     /// The rest of an operand outside the other one.
@@ -123,15 +137,6 @@ impl<'a> Words<'a> {
         ensures { Reads expression_of result self.new (two_operands (expression_within (version_of version) room) difference self.old) }
     {
         let (first, second) = self.operands(alloc, version, room)?;
-        Ok(Expr::Minus(Box::new(alloc, first)?, Box::new(alloc, second)?))
-    }
-
-    /// The points that are not in an operand.
-    #[cycle(expression)]
-    fn opposite(&mut self, alloc: Global, version: Version, room: u32) -> Result<Expr, ReadFault>
-        ensures { Reads expression_of result self.new (one_operand (expression_within (version_of version) room) opposite self.old) }
-    {
-        let operand = self.expression_within(alloc, version, room)?;
-        Ok(Expr::Not(Box::new(alloc, operand)?))
+        Ok(Expr::Minus(first, second))
     }
 }

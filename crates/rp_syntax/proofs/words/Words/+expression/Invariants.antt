@@ -2,22 +2,22 @@ use Rattle.std.proofs.Common.{◌+◌, ◌*◌}
 use Rattle.rp_syntax.proofs.words.Words.+expression.Given as goal
 
 abbrev pub decreases-expression_within : goal.decreases-expression_within
-decreases-expression_within l = 4 * l.room
+decreases-expression_within l = 5 * l.room
+
+abbrev pub decreases-operand : goal.decreases-operand
+decreases-operand l = 5 * l.room + 1
 
 abbrev pub decreases-operands : goal.decreases-operands
-decreases-operands l = 4 * l.room + 1
+decreases-operands l = 5 * l.room + 2
 
 abbrev pub decreases-intersection : goal.decreases-intersection
-decreases-intersection l = 4 * l.room + 2
+decreases-intersection l = 5 * l.room + 3
 
 abbrev pub decreases-union : goal.decreases-union
-decreases-union l = 4 * l.room + 2
+decreases-union l = 5 * l.room + 3
 
 abbrev pub decreases-difference : goal.decreases-difference
-decreases-difference l = 4 * l.room + 2
-
-abbrev pub decreases-opposite : goal.decreases-opposite
-decreases-opposite l = 4 * l.room + 2
+decreases-difference l = 5 * l.room + 3
 
 abbrev pub decreases-behind : goal.decreases-behind
-decreases-behind l = 4 * l.room + 3
+decreases-behind l = 5 * l.room + 4
