@@ -4,11 +4,13 @@ ghost use Rattle.rp_reports.specs.Report.{script_lines, without_return};
 ghost use Rattle.std.specs.List.{position};
 ghost use Rattle.rp_scripts.specs.Lines.{first_line, behind_first_line, is_line_end};
 
+use memchr::memchr;
+
 /// The place of the first line end.
 fn line_end(text: &[u8]) -> Option<usize>
     ensures { result ≡ position is_line_end text.now }
 {
-    text.iter().position(|b| *b == b'\n')
+    memchr(b'\n', text)
 }
 
 /// A line without the one carriage return at its end.
