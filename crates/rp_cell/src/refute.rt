@@ -15,7 +15,7 @@ use rp_space::{Half, Outside, keep_bounds};
 
 /// The fewest half-spaces of a cell whose others are held with their vertices to see that they have a point: with fewer
 /// the search among all of them is as fast.
-const FEW: usize = 12;
+const FEW: usize = 16;
 
 /// The first outside certificate of a cell that is known to have no point, as `refute_strict` answers. Where the others
 /// have a point without the half-space at a place, that one is in every refutation, and the search is through it.
