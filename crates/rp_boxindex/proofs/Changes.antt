@@ -69,6 +69,23 @@ split_left {t} {left} {right} {rest} {e} {first} r parts split is low high =
       at_most_one_lower = high;
     }
 
+-- the node's entry stays between its sides where one of them has an entry less
+pub between_less_left : {t left right : TreeView} {e : Entry} (gone : Option Entry) (less : List Entry) → AreParts t left e right → SameCounts left.entries (option_to_list gone ++ less) → IsBetween less e right.entries
+between_less_left {t} {left} {right} {e} gone less parts shrunk =
+    let late = λ (y : Entry). not (is_before y e) in
+    let side = shrunk late in
+    let parted = count-append late (option_to_list gone) less in
+    let old = parts.between.before in
+    record { before = omega arith; after = parts.between.after }
+
+pub between_less_right : {t left right : TreeView} {e : Entry} (gone : Option Entry) (less : List Entry) → AreParts t left e right → SameCounts right.entries (option_to_list gone ++ less) → IsBetween left.entries e less
+between_less_right {t} {left} {right} {e} gone less parts shrunk =
+    let early = λ (y : Entry). not (is_before e y) in
+    let side = shrunk early in
+    let parted = count-append early (option_to_list gone) less in
+    let old = parts.between.after in
+    record { before = parts.between.before; after = omega arith }
+
 -- what is gone on one side is gone from the tree
 pub gone_left : {t left right : TreeView} {e : Entry} (gone : Option Entry) (less r : List Entry) → AreParts t left e right → SameCounts left.entries (option_to_list gone ++ less) → r ≡ less ++ e ∷ right.entries → SameCounts t.entries (option_to_list gone ++ r)
 gone_left {t} {left} {right} {e} gone less r parts shrunk is p =

@@ -1,11 +1,31 @@
-use Rattle.std.proofs.Common.{◌≡◌, Bool, true, false, rules, ℤ}
+use Rattle.std.proofs.Common.{◌≡◌, ℕ, ◌+◌, ◌≤◌, Bool, true, false, rules, arith, ℤ}
 use Rattle.rp_geometry.specs.Geometry.{IntegerBox}
 use Rattle.rp_space.specs.Boxes.{integer_box}
 use Rattle.rp_boxindex.specs.Meeting.{is_below, do_meet}
+use Rattle.rp_boxindex.specs.tree.Cost.{most_steps, most_steps_low}
 use Rattle.rp_boxindex.specs.tree.Order.{low}
 use Rattle.rp_boxindex.proofs.Visits.{only_left, only_left_low, both_sides, both_sides_low, found_none, found_none_in_hull, found_left, found_all}
 use Rattle.std.proofs.lemmas.Result.{on_ok_weaker}
 use Rattle.rp_boxindex.proofs.search.+collect.Goals as goal
+
+-- ---- s, t, u and v are counts of steps, in order
+
+one_step : (s t k h : ℕ) → t ≡ s + 1 → t ≤ s + most_steps k h
+one_step s t k h step = omega arith
+
+one_step_low : (s t k h : ℕ) → t ≡ s + 1 → t ≤ s + most_steps_low k h
+one_step_low s t k h step = omega arith
+
+begun : (s t : ℕ) → t ≡ s + 1 → s ≤ t
+begun s t step = omega arith
+
+risen : (s t u : ℕ) → t ≡ s + 1 → t ≤ u → s ≤ u
+risen s t u step rises = omega arith
+
+risen_twice : (s t u v : ℕ) → t ≡ s + 1 → t ≤ u → u ≤ v → s ≤ v
+risen_twice s t u v step rises more = omega arith
+
+-- ---- what is returned
 
 pub returns-then-not-is_reached_from-clause-found : goal.returns-then-not-is_reached_from-clause-found
 returns-then-not-is_reached_from-clause-found g t c =
@@ -86,3 +106,51 @@ returns-clause-most_low g t c =
     let top : ℤ = c.visit-node.result.top in
     let reach : is_below closed b.x1 top ≡ true = search rules in
     both_sides_low closed b top c.visit-node.ensures.parts c.visit-node.ensures.top reach c.args.steps.now c.visit-node.new.steps c.collect.new.steps c.collect-2.new.steps c.visit-node.ensures.step c.collect.ensures.most_low c.collect-2.ensures.most_low
+
+pub returns-then-not-is_reached_from-clause-slender : goal.returns-then-not-is_reached_from-clause-slender
+returns-then-not-is_reached_from-clause-slender g t c = c.is_empty.ensures.slender
+
+pub returns-then-not-is_reached_from-clause-rises : goal.returns-then-not-is_reached_from-clause-rises
+returns-then-not-is_reached_from-clause-rises g t c = begun c.args.steps.now c.visit-node.new.steps c.visit-node.ensures.step
+
+pub returns-then-not-is_reached_from-clause-most : goal.returns-then-not-is_reached_from-clause-most
+returns-then-not-is_reached_from-clause-most g t c = one_step c.args.steps.now c.visit-node.new.steps _ _ c.visit-node.ensures.step
+
+pub returns-then-not-is_reached_from-clause-most_low : goal.returns-then-not-is_reached_from-clause-most_low
+returns-then-not-is_reached_from-clause-most_low g t c = λ _. one_step_low c.args.steps.now c.visit-node.new.steps _ _ c.visit-node.ensures.step
+
+pub returns-then-not-is_met_by-clause-slender : goal.returns-then-not-is_met_by-clause-slender
+returns-then-not-is_met_by-clause-slender g t c = c.is_empty.ensures.slender
+
+pub returns-then-not-is_met_by-clause-rises : goal.returns-then-not-is_met_by-clause-rises
+returns-then-not-is_met_by-clause-rises g t c = begun c.args.steps.now c.visit-node.new.steps c.visit-node.ensures.step
+
+pub returns-then-not-is_met_by-clause-most : goal.returns-then-not-is_met_by-clause-most
+returns-then-not-is_met_by-clause-most g t c = one_step c.args.steps.now c.visit-node.new.steps _ _ c.visit-node.ensures.step
+
+pub returns-then-not-is_met_by-clause-most_low : goal.returns-then-not-is_met_by-clause-most_low
+returns-then-not-is_met_by-clause-most_low g t c = λ _. one_step_low c.args.steps.now c.visit-node.new.steps _ _ c.visit-node.ensures.step
+
+pub returns-in_err-collect-clause-slender : goal.returns-in_err-collect-clause-slender
+returns-in_err-collect-clause-slender g t c = c.is_empty.ensures.slender
+
+pub returns-in_err-collect-clause-rises : goal.returns-in_err-collect-clause-rises
+returns-in_err-collect-clause-rises g t c = risen c.args.steps.now c.visit-node.new.steps c.collect.new.steps c.visit-node.ensures.step c.collect.ensures.rises
+
+pub returns-then-not-reaches-clause-slender : goal.returns-then-not-reaches-clause-slender
+returns-then-not-reaches-clause-slender g t c = c.is_empty.ensures.slender
+
+pub returns-then-not-reaches-clause-rises : goal.returns-then-not-reaches-clause-rises
+returns-then-not-reaches-clause-rises g t c = risen c.args.steps.now c.visit-node.new.steps c.collect.new.steps c.visit-node.ensures.step c.collect.ensures.rises
+
+pub returns-in_err-collect_one-clause-slender : goal.returns-in_err-collect_one-clause-slender
+returns-in_err-collect_one-clause-slender g t c = c.is_empty.ensures.slender
+
+pub returns-in_err-collect_one-clause-rises : goal.returns-in_err-collect_one-clause-rises
+returns-in_err-collect_one-clause-rises g t c = risen c.args.steps.now c.visit-node.new.steps c.collect.new.steps c.visit-node.ensures.step c.collect.ensures.rises
+
+pub returns-clause-slender : goal.returns-clause-slender
+returns-clause-slender g t c = c.is_empty.ensures.slender
+
+pub returns-clause-rises : goal.returns-clause-rises
+returns-clause-rises g t c = risen_twice c.args.steps.now c.visit-node.new.steps c.collect.new.steps c.collect-2.new.steps c.visit-node.ensures.step c.collect.ensures.rises c.collect-2.ensures.rises
