@@ -1,5 +1,5 @@
 //! The lots that may meet a shape, found by their boxes.
-ghost use Rattle.std.specs.Prelude.{◌≡◌, ◌<◌, ◌≤◌, filter, length, IfOk};
+ghost use Rattle.std.specs.Prelude.{◌≡◌, ◌/◌, ◌<◌, ◌≤◌, nat_le, filter, length, map, IfOk};
 ghost use Rattle.std.specs.List.Sorted.{IsStrictlySortedBy};
 ghost use Rattle.std.specs.Ordering.{nat_cmp};
 ghost use Rattle.rp_space.specs.Boxes.{integer_box};
@@ -123,11 +123,18 @@ impl LotBoxes {
         let ids = self
             .index
             .meeting(alloc, bounds, closed, watch, &mut steps)?;
-        ids.iter()
-            .map(|id| place_of(*id))
-            .filter(|place| from <= *place)
-            .collect(alloc)
+        places_from(alloc, &ids, from)
     }
+}
+
+/// The places from one on of the lots whose boxes have some ids.
+fn places_from(alloc: Global, ids: &[u32], from: usize) -> Result<Vec<usize>, AllocError>
+    ensures { IfOk result (λ places. places.items ≡ filter (λ k. nat_le from k) (map (λ id. id / 16) ids.now)) }
+{
+    ids.iter()
+        .map(|id| place_of(*id))
+        .filter(|place| from <= *place)
+        .collect(alloc)
 }
 
 /// Whether a lot is live, of the layer and has another id.
