@@ -1,11 +1,17 @@
 -- The verdict lines of parts and of pieces.
-use Rattle.std.proofs.Common.{◌≡◌, ℕ, List, [], ◌∷◌, ◌++◌, suc, length, map, refl, ap}
+use Rattle.std.proofs.Common.{◌≡◌, ℕ, ◌≤◌, w32, rules, List, [], ◌∷◌, ◌++◌, suc, length, map, refl, ap}
+use mir.Val.{Fits}
+use Rattle.rp_geometry.specs.parts.Parts.{most_parts}
 use Rattle.rp_geometry.specs.sets.Shape.{Part}
 use Rattle.rp_model.specs.commands.Verdict.{Verdict, part_lines_of, piece_lines}
 use Rattle.rp_lists.specs.Listed.{Listed}
 use Rattle.rp_unionfind.specs.Lists.{lists_of}
 use Rattle.rp_answer.specs.declared.answer.Verdict.{Verdict as CodeVerdict}
 use Rattle.rp_answer.specs.Views.{verdict_of}
+
+-- so many parts fit into the word that tells their number
+pub few_fit : (n : ℕ) → n ≤ most_parts → Fits w32 n
+few_fit n few = search rules
 
 -- a line behind others
 pub line_told : (vs : List CodeVerdict) (v : CodeVerdict) (rest : List Verdict) → map verdict_of (vs ++ v ∷ []) ++ rest ≡ map verdict_of vs ++ verdict_of v ∷ rest

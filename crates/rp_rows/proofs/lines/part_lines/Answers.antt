@@ -1,11 +1,12 @@
-use Rattle.std.proofs.Common.{◌≡◌, ◌∷◌, [], ◌++◌, ℕ, List, length, map, ap, ◌∙◌, sym}
+use Rattle.std.proofs.Common.{◌≡◌, ◌≤◌, ◌∷◌, [], ◌++◌, ℕ, List, length, map, ap, ◌∙◌, sym, subst}
 use Rattle.std.proofs.lemmas.List.{length-map}
 use Rattle.std.specs.Vec.Iter.{into_iter_items}
+use Rattle.rp_geometry.specs.parts.Parts.{most_parts}
 use Rattle.rp_model.specs.commands.Verdict.{Verdict, part_lines_of}
 use Rattle.rp_answer.specs.declared.answer.Verdict.{Verdict as CodeVerdict}
 use Rattle.rp_answer.specs.declared.answer.Verdict.TheVariants.{Parts, Part}
 use Rattle.rp_answer.specs.Views.{verdict_of}
-use Rattle.rp_rows.proofs.ToldLines.{line_told, lines_of_parts}
+use Rattle.rp_rows.proofs.ToldLines.{few_fit, line_told, lines_of_parts}
 use Rattle.rp_rows.proofs.lines.part_lines.Goals as goal
 
 -- the first line was pushed, and those of all parts are to come
@@ -33,3 +34,10 @@ loop-part-preserved g c =
     ∙ (λ i. map verdict_of before ++ Verdict.part (c.into_halves.ensures i) ∷ rest)
     ∙ ap (λ ps. map verdict_of before ++ map (λ p. Verdict.part (seen p).cell) ps) (sym c.in-Some.ensures.steps.0)
     ∙ c.loop-part.invariant
+
+-- as many parts as the form has fit
+pub overflow_cast-parts : goal.overflow_cast-parts
+overflow_cast-parts g c =
+    let shown = c.parts.result.now in
+    let many : length shown ≡ length (g.T.Tests.parts_of c.args.form) = sym (length-map shown g.T.Tests.seen) ∙ ap length c.parts.ensures in
+    few_fit (length shown) (subst (λ (n : ℕ). n ≤ most_parts) (sym many) c.requires)

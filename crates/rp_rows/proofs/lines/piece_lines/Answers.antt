@@ -1,11 +1,12 @@
-use Rattle.std.proofs.Common.{◌≡◌, ◌∷◌, [], ◌++◌, ℕ, List, length, map, sym, ap, ◌∙◌}
+use Rattle.std.proofs.Common.{◌≡◌, ◌∷◌, [], ◌++◌, ℕ, List, length, map, sym, ap, ◌∙◌, ◌≤◌, subst}
 use Rattle.std.specs.Vec.Iter.{into_iter_items}
+use Rattle.rp_geometry.specs.parts.Parts.{most_parts}
 use Rattle.rp_model.specs.commands.Verdict.{Verdict}
 use Rattle.rp_answer.specs.declared.answer.Verdict.{Verdict as CodeVerdict}
 use Rattle.rp_answer.specs.declared.answer.Verdict.TheVariants.{Pieces, Piece}
 use Rattle.rp_answer.specs.Views.{verdict_of}
 use Rattle.rp_lists.specs.Listed.{Listed}
-use Rattle.rp_rows.proofs.ToldLines.{line_told, lines_of_pieces}
+use Rattle.rp_rows.proofs.ToldLines.{few_fit, line_told, lines_of_pieces}
 use Rattle.rp_rows.proofs.lines.piece_lines.Goals as goal
 
 -- the first line was pushed, and those of all pieces are to come
@@ -27,3 +28,7 @@ loop-numbers-preserved c =
     ∙ line_told before (Piece c.in-Some.numbers) rest
     ∙ ap (λ (lists : List (Listed ℕ)). map verdict_of before ++ map (λ (ns : Listed ℕ). Verdict.piece ns.items) lists) (sym c.in-Some.ensures.steps.0)
     ∙ c.loop-numbers.invariant
+
+-- as many pieces as there may be fit
+pub overflow_cast-items : goal.overflow_cast-items
+overflow_cast-items c = few_fit (length c.items.result.now) (subst (λ (lists : List (Listed ℕ)). length lists ≤ most_parts) (sym c.items.ensures) c.requires)
