@@ -1,6 +1,7 @@
 -- The parts of several lots one after the other, and the row of a consolidation.
-use Rattle.std.proofs.Common.{◌≡◌, ◌+◌, ◌≤◌, Bool, true, false, List, [], ◌∷◌, ◌++◌, map, length, Option, Some, None, IfSome, refl, sym, ap, ◌∙◌, subst, append-nil, arith}
+use Rattle.std.proofs.Common.{◌≡◌, ℕ, ◌+◌, ◌<◌, ◌≤◌, Bool, true, false, List, [], ◌∷◌, ◌++◌, map, length, Option, Some, None, IfSome, refl, sym, ap, ◌∙◌, subst, append_assoc, append-nil, drop, get_or, arith}
 use Rattle.std.specs.Prelude.{nat_le}
+use Rattle.rp_algebra.proofs.Lists.{drop_item}
 use Rattle.rp_geometry.specs.sets.Shape.{Part}
 use Rattle.rp_geometry.specs.parts.Parts.{most_parts}
 use Rattle.rp_language.specs.Name.{Label}
@@ -77,6 +78,19 @@ joined_of s ids = joined_parts (map (λ x. parts_with_id s x) ids)
 pub record IsUniting (s : PlainState) (made : List Part) (rest whole : List Label) : Type 0 where
   pub all : made ++ joined_of s rest ≡ joined_of s whole
   pub few : length made ≤ most_parts
+
+-- the parts of one more id are joined
+pub united_next : (s : PlainState) (made new own : List Part) (ids : List Label) (i : ℕ) (x : Label) → i < length ids → x ≡ get_or ids i x → parts_with_id s x ≡ own → new ≡ made ++ own → length new ≤ most_parts → IsUniting s made (drop i ids) ids → IsUniting s new (drop (i + 1) ids) ids
+united_next s made new own ids i x here is parts grown few h =
+    let rest = joined_of s (drop (i + 1) ids) in
+    record {
+      all =
+          ap (λ (qs : List Part). qs ++ rest) (grown ∙ ap (λ (qs : List Part). made ++ qs) (sym parts))
+          ∙ append_assoc made (parts_with_id s x) rest
+          ∙ ap (λ (xs : List Label). made ++ joined_of s xs) (sym (drop_item ids i x here is))
+          ∙ h.all;
+      few = few;
+    }
 
 -- all are joined
 pub united : {W : Type 0} (s : PlainState) (made : List Part) (rest whole : List Label) → IsUniting s made rest whole → rest ≡ [] → (t : W) → if_at_most most_parts (joined_of s whole) t ≡ done made t
