@@ -2,11 +2,12 @@
 ghost use Rattle.std.specs.Prelude.{◌≡◌, ◌+◌, ◌≤◌, ◌↔◌, ◌++◌, ◌∷◌, [], false, length, map, is_some, Some, IfOk, IfSome, OnOk, OnErr, IsNone};
 ghost use Rattle.rp_geometry.specs.Geometry.{RationalPoint};
 ghost use Rattle.rp_geometry.specs.sets.Shape.{shape_of_cell};
-ghost use Rattle.rp_geometry.specs.sets.Sets.{IsNonempty, IsEmpty};
+ghost use Rattle.rp_geometry.specs.sets.Sets.{IsNonempty, IsEmpty, SameMembers};
 ghost use Rattle.rp_geometry.specs.searches.ProofLine.{in_line, at_line, strict_line, weak_line};
 ghost use Rattle.rp_geometry.specs.searches.Vertex.{first_inside, first_weak_point};
 ghost use Rattle.rp_geometry.specs.laws.CellLaws.{IsSolution};
-ghost use Rattle.rp_geometry.specs.parts.Parts.{IsPart};
+ghost use Rattle.rp_geometry.specs.parts.Parts.{IsPart, most_half_spaces};
+ghost use Rattle.rp_geometry.specs.parts.PartTest.{part_of, slimmed};
 ghost use Rattle.rp_walks.specs.FormLaws.{IsMadeOf};
 ghost use Rattle.rp_walks.specs.Walk.{most_tests, no_work, with_lines, count_tests, strict_test, weak_test, part_test};
 ghost use Rattle.rp_cert.specs.Lines.{line_of};
@@ -21,8 +22,8 @@ use crate::front::Front;
 use crate::part::Part;
 use crate::room::Room;
 use rp_cell::{
-    DroppedHalf, Drops, Held, SideProofs, Sides, Slimmed, Strict, Weak, hold_strict, hold_weak,
-    refute_strict, refute_weak, strict_soon, weak_soon,
+    Cell, DroppedHalf, Drops, Held, SideProofs, Sides, Slimmed, Strict, Weak, hold_strict,
+    hold_weak, refute_strict, refute_weak, strict_soon, weak_soon,
 };
 use rp_cert::{Proof, Proofs};
 use rp_lists::Copied;
@@ -487,7 +488,7 @@ impl Work {
         ensures makes { Makes Some result self.old self.new (part_test cell.now) }
         ensures made { IfOk result (λ part. IsMadeOf IsPart cell.now (Some part)) }
     {
-        let Slimmed { kept, dropped } = cell.slim(alloc)?;
+        let Slimmed { kept, dropped } = slim_exactly(alloc, cell)?;
         if kept.items().len() > MAX_HALVES {
             return Err(OpFault::Limit);
         }
@@ -518,4 +519,18 @@ impl Work {
         }
         Ok(())
     }
+}
+
+/// The slim cell of a cell, as `Held::slim` answers, in a list with room for no more: a part is kept for long.
+fn slim_exactly(alloc: Global, cell: &Held) -> Result<Slimmed, AllocError>
+    ensures kept { IfOk result (λ slim. slim.kept.items ≡ (slimmed cell.now).kept) }
+    ensures lines { IfOk result (λ slim. map drop_line_of slim.dropped.items ≡ (slimmed cell.now).lines) }
+    ensures members { IfOk result (λ slim. SameMembers (shape_of_cell slim.kept.items) (shape_of_cell cell.now)) }
+    ensures part { IfOk result (λ slim. IsNonempty (shape_of_cell cell.now) → length slim.kept.items ≤ most_half_spaces → IsPart (part_of (slimmed cell.now))) }
+{
+    let Slimmed { kept, dropped } = cell.slim(alloc)?;
+    Ok(Slimmed {
+        kept: Cell::copy_of(alloc, kept.items())?,
+        dropped,
+    })
 }
