@@ -3,7 +3,7 @@ use Rattle.std.proofs.Common.{◌≡◌, List, [], map, Option, Some, None, sym,
 use Rattle.std.specs.Prelude.{option_map}
 use Rattle.rp_language.specs.Name.{Label}
 use Rattle.rp_language.specs.Expression.{Expression, subdivide, first_unknown_among}
-use Rattle.rp_walks.specs.Walk.{Outcome, done, Walk, Tester, after_first, ◌>>=◌}
+use Rattle.rp_walks.specs.Walk.{done, Walk, Tester, after_first, ◌>>=◌}
 use Rattle.rp_model.specs.states.State.{PlainState, parts_in}
 use Rattle.rp_model.specs.commands.Verdict.{unknown}
 use Rattle.rp_model.specs.commands.Row.{Reply, refusal, check, FormedChild, form_children, row_subdivide, row}

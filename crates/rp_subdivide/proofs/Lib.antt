@@ -1,3 +1,4 @@
 pub mod TakenAway
 pub mod ChildLemmas
 pub mod ChildBorn
+pub mod Searched

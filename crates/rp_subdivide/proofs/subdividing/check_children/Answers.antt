@@ -1,4 +1,4 @@
-use Rattle.std.proofs.Common.{◌≡◌, Some, None, List, map, length, sym, ap, ◌∙◌}
+use Rattle.std.proofs.Common.{map, length, sym, ap, ◌∙◌}
 use Rattle.std.specs.Prelude.{option_map}
 use Rattle.std.proofs.lemmas.Result.{err_from_is_err_and}
 use Rattle.rp_model.specs.states.State.{parts_under_lots}

@@ -1,4 +1,4 @@
-use Rattle.std.proofs.Common.{◌≡◌, List, [], ◌∷◌, map, length, ap, sym, ◌∙◌, subst}
+use Rattle.std.proofs.Common.{◌≡◌, List, [], ◌∷◌, map, ap, sym, ◌∙◌, subst}
 use Rattle.std.proofs.lemmas.Result.{err_from_is_err_and}
 use Rattle.rp_geometry.specs.sets.Shape.{Part}
 use Rattle.rp_language.specs.Name.{Label}
@@ -8,7 +8,7 @@ use Rattle.rp_model.specs.commands.Row.{Reply, FormedChild, accepted, new_lot, p
 use Rattle.rp_answer.specs.Replies.{EndsBy}
 use Rattle.rp_lots.proofs.Names.{parts_here}
 use Rattle.rp_subdivide.specs.Children.{formed_child, formed_children}
-use Rattle.rp_subdivide.specs.Steps.{inside_tested, apart_tested, cover_tested, children_checked}
+use Rattle.rp_subdivide.specs.Steps.{inside_tested, apart_tested, cover_tested}
 use Rattle.rp_subdivide.proofs.subdividing.subdivide.Goals as goal
 
 -- the lots that are made
