@@ -1,5 +1,4 @@
 use Rattle.std.proofs.Common.{true, false, sym, ap, ◌∙◌}
-use Rattle.rp_language.specs.Expression.{Meaning}
 use Rattle.rp_store.proofs.KeptNames.{there_as_found}
 use Rattle.rp_store.proofs.Defined.{known_name, no_room, new_name}
 use Rattle.rp_changes.proofs.joining.define.Goals as goal

@@ -1,14 +1,15 @@
-use Rattle.std.proofs.Common.{◌+◌, Some, drop, refl, ap, sym, ◌∙◌, slice_index_or}
-use Rattle.std.proofs.lemmas.List.{drop_all}
+use Rattle.std.proofs.Common.{◌+◌, Some, drop, length, refl, ap, sym, ◌∙◌, slice_index_or, rules, arith}
+use Rattle.std.proofs.lemmas.List.{drop_all, length-map}
 use Rattle.std.proofs.lemmas.Result.{err_from_is_err_and}
 use Rattle.rp_algebra.proofs.Lists.{get_some}
 use Rattle.rp_language.specs.Name.{Label}
 use Rattle.rp_walks.specs.Walk.{done}
 use Rattle.rp_walks.specs.Form.{common_nearby}
-use Rattle.rp_model.specs.states.State.{Lot}
+use Rattle.rp_model.specs.states.State.{Lot, bare_lot}
 use Rattle.rp_model.specs.commands.Row.{first_overlapped}
 use Rattle.rp_tester.proofs.Left.{all_left, left_as, stop_left}
 use Rattle.rp_history.specs.declared.lot.LotLine.{LotLine}
+use Rattle.rp_history.specs.Lots.{lot_of}
 use Rattle.rp_history.proofs.Bare.{line_at}
 use Rattle.rp_lotindex.specs.Near.{lots_at}
 use Rattle.rp_lotindex.proofs.Places.{place_within}
@@ -19,6 +20,22 @@ use Rattle.rp_changes.proofs.making.first_overlapped.Goals as goal
 
 pub loop-place-init : goal.loop-place-init
 loop-place-init g c = all_left c.args.tests.now (first_overlapped g.T.Tests.tester (g.T.Tests.parts_of c.args.form.now) (lots_at (g.K.Keeper.state c.args.keeper.now).lots c.args.places.now))
+
+pub form_at-other-requires : goal.form_at-other-requires
+form_at-other-requires g c = place_within (g.K.Keeper.state c.args.keeper.now).lots c.args.places.now c.requires c.loop-place.place-index (slice_index_or c.args.places.now c.loop-place.place-index 0) c.loop-place-test.true refl
+
+pub bounds-lots-place : goal.bounds-lots-place
+bounds-lots-place g c =
+    let lots = (g.K.Keeper.state c.args.keeper.now).lots in
+    let i = c.loop-place.place-index in
+    let within = place_within lots c.args.places.now c.requires i (slice_index_or c.args.places.now i 0) c.loop-place-test.true refl in
+    let all = ap length c.history.ensures.value ∙ length-map lots bare_lot in
+    let many = length-map c.lots.result.now lot_of in
+    let same = ap length c.lots.ensures.value in
+    omega (arith, within, all, many, same)
+
+pub offset_bounds-lots-place : goal.offset_bounds-lots-place
+offset_bounds-lots-place g c = search (rules, bounds-lots-place g c)
 
 pub returns-in_err-overlap : goal.returns-in_err-overlap
 returns-in_err-overlap g c =
