@@ -1,10 +1,9 @@
 -- What the rows of commands come to, as replies.
 use Rattle.std.proofs.Common.{◌≡◌, List, Result, Ok, Err, sym, subst}
 use Rattle.rp_geometry.specs.sets.Shape.{Part}
-use Rattle.rp_language.specs.Expression.{Command}
 use Rattle.rp_walks.specs.Walk.{Outcome, Tester}
 use Rattle.rp_model.specs.states.State.{PlainState}
-use Rattle.rp_model.specs.commands.Row.{Reply as ModelReply, row}
+use Rattle.rp_model.specs.commands.Row.{Reply as ModelReply}
 use Rattle.rp_answer.specs.declared.answer.Verdict.{Verdict as CodeVerdict}
 use Rattle.rp_lists.specs.Listed.{Listed}
 use Rattle.rp_answer.specs.declared.reply.RowEnd.{RowEnd}
@@ -18,26 +17,14 @@ use Rattle.std.specs.Prelude.{IfOk}
 
 module _ {W F : Type 0} (tester : Tester W) (view : F → List Part) (s : PlainState) where
   -- the row of a question
-  told_goes_on : (q : Result (Listed CodeVerdict) RowEnd) (w : W) (o : Outcome W ModelReply) → Tells q w o → GoesOn (λ x. x) (row_told {F = F} q) w (rest_of tester view s) o
+  pub told_goes_on : (q : Result (Listed CodeVerdict) RowEnd) (w : W) (o : Outcome W ModelReply) → Tells q w o → GoesOn (λ x. x) (row_told {F = F} q) w (rest_of tester view s) o
   told_goes_on (Ok lines) w o h = h
   told_goes_on (Err e) w o h = h
 
-  -- a question that the command asks, from one work to another
-  pub question_told : (r : Result (CodeRow F) RowEnd) (q : Result (Listed CodeVerdict) RowEnd) (old new : W) (asked asks : Command) → asked ≡ asks → r ≡ row_told q → Tells q new (row tester s asks old) → GoesOn (λ x. x) r new (rest_of tester view s) (row tester s asked old)
-  question_told r q old new asked asks same is h =
-      subst (λ (x : Result (CodeRow F) RowEnd). GoesOn (λ x. x) x new (rest_of tester view s) (row tester s asked old)) (sym is)
-      (told_goes_on q new (row tester s asked old) (subst (λ (c : Command). Tells q new (row tester s c old)) (sym same) h))
-
   -- the row of a command that changes something
-  changed_goes_on : (q : Result (Change F) RowEnd) (w : W) (o : Outcome W ModelReply) → Changes (change_of view) q w o → GoesOn (λ x. x) (row_changed q) w (rest_of tester view s) o
+  pub changed_goes_on : (q : Result (Change F) RowEnd) (w : W) (o : Outcome W ModelReply) → Changes (change_of view) q w o → GoesOn (λ x. x) (row_changed q) w (rest_of tester view s) o
   changed_goes_on (Ok d) w o h = h
   changed_goes_on (Err e) w o h = h
-
-  -- a change that the command wants, from one work to another
-  pub change_told : (r : Result (CodeRow F) RowEnd) (q : Result (Change F) RowEnd) (old new : W) (asked asks : Command) → asked ≡ asks → r ≡ row_changed q → Changes (change_of view) q new (row tester s asks old) → GoesOn (λ x. x) r new (rest_of tester view s) (row tester s asked old)
-  change_told r q old new asked asks same is h =
-      subst (λ (x : Result (CodeRow F) RowEnd). GoesOn (λ x. x) x new (rest_of tester view s) (row tester s asked old)) (sym is)
-      (changed_goes_on q new (row tester s asked old) (subst (λ (c : Command). Changes (change_of view) q new (row tester s c old)) (sym same) h))
 
 -- rows that are at their end are ready
 pub told_ready : {F : Type 0} (view : F → List Part) (r : Result (CodeRow F) RowEnd) (q : Result (Listed CodeVerdict) RowEnd) → r ≡ row_told q → IfOk r (IsReadyRow view)
