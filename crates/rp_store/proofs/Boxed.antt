@@ -15,7 +15,7 @@ use Rattle.rp_history.specs.Parts.{lots_with_parts, new_lots}
 use Rattle.rp_history.proofs.Together.{length-with_parts}
 use Rattle.rp_boxindex.specs.Boxes.{Boxes}
 use Rattle.rp_lotindex.specs.Indexed.{joined, hull_of_parts, boxes_of, boxes_of_parts, NoneBehind, ArePut, StaySame, AreSettled, IsIndexOf}
-use Rattle.rp_lotindex.proofs.Boxed.{indexed_after, indexed_again, indexed_back, indexed_none, none_behind_lots}
+use Rattle.rp_lotindex.proofs.Boxed.{indexed_after, indexed_again, indexed_none, none_behind_lots}
 use Rattle.rp_lotindex.proofs.Hulls.{boxes_few}
 use Rattle.rp_lotindex.proofs.Put.{put_first, put_both, put_back, none_behind_put}
 use Rattle.rp_store.specs.Kept.{AreFew, AreLots}
@@ -115,10 +115,6 @@ module _ (history : List (Lot (Unit {0}))) (lists : List (List Part)) (parts : �
   -- where every place has what it had, all is as before
   pub lots_stay : (new : Boxes) → StaySame boxes new → AreLots history lists parts new
   lots_stay new s = kept_over new (indexed_again lots boxes h.indexed new s)
-
-  -- so it is where boxes were put in behind the lots and are taken out again
-  pub lots_restored : (bs : List (List IntegerBox)) (m new : Boxes) → ArePut boxes m count bs → ArePut m new count [] → AreLots history lists parts new
-  lots_restored bs m new p s = kept_over new (indexed_back lots boxes h.indexed count bs m new counted p s)
 
   -- boxes were put in behind the lots, and those of the lots that end were moved
   pub indexed_replaced : (n : ℕ) (ids : List Label) (births : List Birth) (more : List (List Part)) (m new : Boxes) → ArePut boxes m count (boxes_of_new births more) → AreSettled (lots_after n lots (lots_replaced ids (new_lots births more))) (λ y. is_among y ids) m new

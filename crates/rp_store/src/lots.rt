@@ -3,8 +3,9 @@ ghost use Rattle.std.specs.Prelude.{◌≡◌, ◌+◌, ◌<◌, ◌≤◌, [], 
 ghost use Rattle.rp_model.specs.states.State.{live_lot, lots_of_layer, parts_of_lot, bare_lot, ids_of, lots_replaced, parts_under_lots, most_kept_parts};
 ghost use Rattle.rp_model.specs.states.Sound.{are_distinct};
 ghost use Rattle.rp_model.specs.commands.Row.{lot_parts, owner_line};
-ghost use Rattle.rp_history.specs.Lots.{lots_after, AreBornBefore, AreNew};
+ghost use Rattle.rp_history.specs.Lots.{new_lot_of, lots_after, AreBornBefore, AreKeptWell, AreNew};
 ghost use Rattle.rp_history.specs.Parts.{new_lots};
+ghost use Rattle.rp_lotindex.specs.Indexed.{boxes_of, NoneBehind, ArePut, StaySame};
 ghost use Rattle.rp_lotindex.specs.Near.{others_in, is_near, lots_at, AreWithin};
 ghost use Rattle.rp_lotindex.specs.Owner.{is_there, owner_verdict, BoxesHold};
 ghost use Rattle.rp_store.specs.Kept.{AreFew, has_point};
@@ -171,13 +172,16 @@ impl<F: Forms> Lots<F> {
     {
         let added = forms.items();
         let parts = count_parts::<F>(added);
-        let first = self.forms.items().len();
-        self.forms.reserve(added.len())?;
-        add_all::<F>(&mut self.boxes, alloc, first, births, added)?;
-        if let Err(error) = self.history.note(alloc, line, births, ends) {
-            self.boxes.remove_all(first, added.len());
-            return Err(error);
-        }
+        take_in::<F>(
+            &mut self.history,
+            &mut self.forms,
+            &mut self.boxes,
+            alloc,
+            line,
+            ends,
+            births,
+            added,
+        )?;
         self.forms.append(forms).unwrap();
         self.parts += parts;
         settle_all::<F>(&mut self.boxes, &self.history, self.forms.items(), ends);
@@ -210,6 +214,41 @@ impl<F: Forms> Holder for HasPoint<'_, F> {
             Some(form) => F::holds(form, self.point),
         }
     }
+}
+
+/// Ends lots of a history and lets others be born, takes in the boxes of these, and makes room for their forms among
+/// those that are kept. After `AllocError` history and boxes are as before.
+fn take_in<F: Forms>(
+    history: &mut History,
+    kept: &mut Listed<F::Form>,
+    boxes: &mut LotBoxes,
+    alloc: Global,
+    line: u32,
+    ends: &[Name],
+    births: &[Birth],
+    forms: &[F::Form],
+) -> Result<(), AllocError>
+    requires each { length births.now ≡ length forms.now }
+    requires small { length kept.old.items + length forms.now ≤ most_kept_parts }
+    requires free { NoneBehind boxes.old.index (length kept.old.items) }
+    requires later { AreBornBefore line history.old }
+    requires new { AreNew history.old (map new_lot_of births.now) }
+    ensures kept { kept.new.items ≡ kept.old.items }
+    ensures room { OnOk result (length forms.now ≤ kept.new.spare) }
+    ensures lots { OnOk result (history.new ≡ lots_after line history.old (lots_replaced ends.now (map new_lot_of births.now))) }
+    ensures well { OnOk result (AreKeptWell history.new) }
+    ensures put { OnOk result (ArePut boxes.old.index boxes.new.index (length kept.old.items) (map (λ a. boxes_of a.layer a.parts) (new_lots births.now (map F.parts_of forms.now)))) }
+    ensures stays { OnErr result (history.new ≡ history.old) }
+    ensures same { OnErr result (StaySame boxes.old.index boxes.new.index) }
+{
+    let first = kept.items().len();
+    kept.reserve(forms.len())?;
+    add_all::<F>(boxes, alloc, first, births, forms)?;
+    if let Err(error) = history.note(alloc, line, births, ends) {
+        boxes.remove_all(first, forms.len());
+        return Err(error);
+    }
+    Ok(())
 }
 
 /// How many parts the forms have together.

@@ -1,4 +1,4 @@
-use Rattle.std.proofs.Common.{ℕ, ◌+◌, ◌++◌, List, map, length, sum_by, sym, ap, ap₂, ◌∙◌, subst, arith}
+use Rattle.std.proofs.Common.{◌≤◌, ◌++◌, List, map, length, sum_by, sym, ap, ap₂, ◌∙◌, subst, arith}
 use Rattle.std.proofs.lemmas.List.{length-append, length-map, map-append}
 use Rattle.rp_geometry.specs.sets.Shape.{Part}
 use Rattle.rp_language.specs.Name.{is_among}
@@ -8,10 +8,9 @@ use Rattle.rp_history.specs.Lots.{new_lot_of, lots_after, AreBornBefore, AreNew}
 use Rattle.rp_history.specs.Parts.{lots_with_parts, new_lots}
 use Rattle.rp_history.proofs.Together.{born_before, new_to_history, after_with_parts, parts_after, new_parts}
 use Rattle.rp_lotindex.specs.Indexed.{ArePut, AreSettled}
-use Rattle.rp_lotindex.proofs.Put.{none_behind_put}
 use Rattle.rp_store.specs.Kept.{AreFew, AreLots}
 use Rattle.rp_store.proofs.Together.{lots_parts, lots_kept_after}
-use Rattle.rp_store.proofs.Boxed.{boxes_of_new, boxes_counted, room_for, free_behind, lots_stay, lots_restored, indexed_replaced}
+use Rattle.rp_store.proofs.Boxed.{boxes_of_new, room_for, free_behind, lots_stay, indexed_replaced}
 use Rattle.rp_store.proofs.lots.Lots.replace.Goals as goal
 
 pub count_parts-parts-requires : goal.count_parts-parts-requires
@@ -23,74 +22,50 @@ count_parts-parts-requires g c =
     let own = new_parts c.args.births.now (map parts c.args.forms.items) (c.requires.each ∙ sym (length-map c.args.forms.items parts)) ∙ image_sums parts (λ (ps : List Part). length ps) c.args.forms.items ∙ ap (sum_by (λ f. length (parts f))) (sym c.items-added.ensures) in
     omega (arith, few, all, own)
 
-pub add_all-requires-clause-each : goal.add_all-requires-clause-each
-add_all-requires-clause-each g c = c.requires.each ∙ sym (ap length c.items-added.ensures)
+pub take_in-requires-clause-each : goal.take_in-requires-clause-each
+take_in-requires-clause-each g c = c.requires.each ∙ sym (ap length c.items-added.ensures)
 
-pub add_all-requires-clause-small : goal.add_all-requires-clause-small
-add_all-requires-clause-small g c =
+pub take_in-requires-clause-small : goal.take_in-requires-clause-small
+take_in-requires-clause-small g c =
     let i = c.self.inside in
     let parts = g.F.Forms.parts_of in
     let more = map parts c.args.forms.items in
-    let first = ap length c.items-first.ensures ∙ sym (length-map i.forms.items parts) in
-    let room = room_for i.history (map parts i.forms.items) i.parts i.boxes.index c.self.invariant (length c.items-first.result.now) first c.args.line c.args.ends.now c.args.births.now more (c.requires.each ∙ sym (length-map c.args.forms.items parts))
+    let room = room_for i.history (map parts i.forms.items) i.parts i.boxes.index c.self.invariant (length i.forms.items) (sym (length-map i.forms.items parts)) c.args.line c.args.ends.now c.args.births.now more (c.requires.each ∙ sym (length-map c.args.forms.items parts))
     (subst (λ (ls : List (Lot (Unit {0}))). AreFew (lots_after c.args.line ls (lots_replaced c.args.ends.now (new_lots c.args.births.now more)))) (sym c.self.view_is) c.requires.few) in
     let new = ap length c.items-added.ensures in
     let many = length-map c.args.forms.items parts in
     omega (arith, room, new, many)
 
-pub add_all-requires-clause-free : goal.add_all-requires-clause-free
-add_all-requires-clause-free g c =
+pub take_in-requires-clause-free : goal.take_in-requires-clause-free
+take_in-requires-clause-free g c =
     let i = c.self.inside in
     let parts = g.F.Forms.parts_of in
-    free_behind i.history (map parts i.forms.items) i.parts i.boxes.index c.self.invariant (length c.items-first.result.now) (ap length c.items-first.ensures ∙ sym (length-map i.forms.items parts))
+    free_behind i.history (map parts i.forms.items) i.parts i.boxes.index c.self.invariant (length i.forms.items) (sym (length-map i.forms.items parts))
 
-pub invariant_of-self-in_err-add_all : goal.invariant_of-self-in_err-add_all
-invariant_of-self-in_err-add_all g c =
-    let i = c.self.inside in
-    let parts = g.F.Forms.parts_of in
-    subst (λ (forms : List _). AreLots i.history (map parts forms) i.parts c.add_all.new.boxes.index) (sym c.in_ok-reserve.ensures.items)
-    (lots_stay i.history (map parts i.forms.items) i.parts i.boxes.index c.self.invariant (length c.items-first.result.now) (ap length c.items-first.ensures ∙ sym (length-map i.forms.items parts))
-    c.add_all.new.boxes.index c.in_err-add_all.ensures.err)
-
-pub note-requires-clause-later : goal.note-requires-clause-later
-note-requires-clause-later g c =
+pub take_in-requires-clause-later : goal.take_in-requires-clause-later
+take_in-requires-clause-later g c =
     let i = c.self.inside in
     born_before c.args.line i.history (map g.F.Forms.parts_of i.forms.items) c.self.invariant.each (subst (AreBornBefore c.args.line) (sym c.self.view_is) c.requires.later)
 
-pub note-requires-clause-new : goal.note-requires-clause-new
-note-requires-clause-new g c =
+pub take_in-requires-clause-new : goal.take_in-requires-clause-new
+take_in-requires-clause-new g c =
     let i = c.self.inside in
     let parts = g.F.Forms.parts_of in
     let more = map parts c.args.forms.items in
     new_to_history i.history (map parts i.forms.items) c.args.births.now more c.self.invariant.each (c.requires.each ∙ sym (length-map c.args.forms.items parts))
     (subst (λ (ls : List (Lot (Unit {0}))). AreNew ls (new_lots c.args.births.now more)) (sym c.self.view_is) c.requires.new)
 
-pub remove_all-requires-clause-small : goal.remove_all-requires-clause-small
-remove_all-requires-clause-small g c =
+pub invariant_of-self : goal.invariant_of-self
+invariant_of-self g c =
     let i = c.self.inside in
     let parts = g.F.Forms.parts_of in
-    let more = map parts c.args.forms.items in
-    let first = ap length c.items-first.ensures ∙ sym (length-map i.forms.items parts) in
-    let room = room_for i.history (map parts i.forms.items) i.parts i.boxes.index c.self.invariant (length c.items-first.result.now) first c.args.line c.args.ends.now c.args.births.now more (c.requires.each ∙ sym (length-map c.args.forms.items parts))
-    (subst (λ (ls : List (Lot (Unit {0}))). AreFew (lots_after c.args.line ls (lots_replaced c.args.ends.now (new_lots c.args.births.now more)))) (sym c.self.view_is) c.requires.few) in
-    let new = ap length c.items-added.ensures in
-    let many = length-map c.args.forms.items parts in
-    omega (arith, room, new, many)
+    let new = c.take_in.new in
+    subst (λ (history : List (Lot (Unit {0}))). AreLots history (map parts new.kept.items) i.parts new.boxes.index) (sym c.in_err-take_in.ensures.stays)
+    (subst (λ (forms : List _). AreLots i.history (map parts forms) i.parts new.boxes.index) (sym c.in_err-take_in.ensures.kept)
+    (lots_stay i.history (map parts i.forms.items) i.parts i.boxes.index c.self.invariant (length i.forms.items) (sym (length-map i.forms.items parts)) new.boxes.index c.in_err-take_in.ensures.same))
 
-pub remove_all-requires-clause-behind : goal.remove_all-requires-clause-behind
-remove_all-requires-clause-behind g c =
-    let parts = g.F.Forms.parts_of in
-    let many = boxes_counted c.args.births.now (map parts c.items-added.result.now) (c.requires.each ∙ sym (ap length c.items-added.ensures) ∙ sym (length-map c.items-added.result.now parts)) ∙ length-map c.items-added.result.now parts in
-    none_behind_put c.self.inside.boxes.index c.add_all.new.boxes.index (length c.items-first.result.now) _ (boxes_of_new c.args.births.now (map parts c.items-added.result.now)) c.in_ok-add_all.ensures.ok (ap (λ (n : ℕ). length c.items-first.result.now + n) (sym many))
-
-pub invariant_of-self-in-Err : goal.invariant_of-self-in-Err
-invariant_of-self-in-Err g c =
-    let i = c.self.inside in
-    let parts = g.F.Forms.parts_of in
-    subst (λ (history : List (Lot (Unit {0}))). AreLots history (map parts c.reserve.new.self.items) i.parts c.remove_all.new.self.index) (sym c.in-Err.ensures.err)
-    (subst (λ (forms : List _). AreLots i.history (map parts forms) i.parts c.remove_all.new.self.index) (sym c.in_ok-reserve.ensures.items)
-    (lots_restored i.history (map parts i.forms.items) i.parts i.boxes.index c.self.invariant (length c.items-first.result.now) (ap length c.items-first.ensures ∙ sym (length-map i.forms.items parts)) (boxes_of_new c.args.births.now (map parts c.items-added.result.now)) c.add_all.new.boxes.index c.remove_all.new.self.index
-    c.in_ok-add_all.ensures.ok c.remove_all.ensures))
+pub unwrap-requires : goal.unwrap-requires
+unwrap-requires g c = c.append.ensures.room (subst (λ (fs : List _). length fs ≤ c.take_in.new.kept.spare) c.items-added.ensures c.in_ok-take_in.ensures.room)
 
 pub settle_all-requires-clause-each : goal.settle_all-requires-clause-each
 settle_all-requires-clause-each g c =
@@ -98,8 +73,8 @@ settle_all-requires-clause-each g c =
     let parts = g.F.Forms.parts_of in
     let new = c.args.births.now in
     let appended = rw c.unwrap.ensures at c.append.ensures.ok in
-    let forms = ap length c.items.ensures ∙ ap length (appended ∙ ap (λ (fs : List _). fs ++ c.args.forms.items) c.in_ok-reserve.ensures.items) ∙ length-append i.forms.items c.args.forms.items in
-    let lots = ap length c.in_default.ensures.ok ∙ length-append (map (ended_at c.args.line c.args.ends.now) i.history) (map (born_at c.args.line) (map new_lot_of new)) in
+    let forms = ap length c.items.ensures ∙ ap length (appended ∙ ap (λ (fs : List _). fs ++ c.args.forms.items) c.in_ok-take_in.ensures.kept) ∙ length-append i.forms.items c.args.forms.items in
+    let lots = ap length c.in_ok-take_in.ensures.lots ∙ length-append (map (ended_at c.args.line c.args.ends.now) i.history) (map (born_at c.args.line) (map new_lot_of new)) in
     let old = length-map i.history (ended_at c.args.line c.args.ends.now) in
     let born = length-map (map new_lot_of new) (born_at c.args.line) ∙ length-map new new_lot_of in
     let before = c.self.invariant.each ∙ length-map i.forms.items parts in
@@ -112,10 +87,10 @@ settle_all-requires-clause-few g c =
     let parts = g.F.Forms.parts_of in
     let more = map parts c.args.forms.items in
     let new = c.args.births.now in
-    let first = ap length c.items-first.ensures ∙ sym (length-map i.forms.items parts) in
-    let room = room_for i.history (map parts i.forms.items) i.parts i.boxes.index c.self.invariant (length c.items-first.result.now) first c.args.line c.args.ends.now new more (c.requires.each ∙ sym (length-map c.args.forms.items parts))
+    let first = sym (length-map i.forms.items parts) in
+    let room = room_for i.history (map parts i.forms.items) i.parts i.boxes.index c.self.invariant (length i.forms.items) first c.args.line c.args.ends.now new more (c.requires.each ∙ sym (length-map c.args.forms.items parts))
     (subst (λ (ls : List (Lot (Unit {0}))). AreFew (lots_after c.args.line ls (lots_replaced c.args.ends.now (new_lots new more)))) (sym c.self.view_is) c.requires.few) in
-    let lots = ap length c.in_default.ensures.ok ∙ length-append (map (ended_at c.args.line c.args.ends.now) i.history) (map (born_at c.args.line) (map new_lot_of new)) in
+    let lots = ap length c.in_ok-take_in.ensures.lots ∙ length-append (map (ended_at c.args.line c.args.ends.now) i.history) (map (born_at c.args.line) (map new_lot_of new)) in
     let old = length-map i.history (ended_at c.args.line c.args.ends.now) in
     let born = length-map (map new_lot_of new) (born_at c.args.line) ∙ length-map new new_lot_of in
     let before = c.self.invariant.each in
@@ -139,17 +114,17 @@ invariant_of-self-2 g c =
     let parts = g.F.Forms.parts_of in
     let more = map parts c.args.forms.items in
     let each = c.requires.each ∙ sym (length-map c.args.forms.items parts) in
-    let first = ap length c.items-first.ensures ∙ sym (length-map i.forms.items parts) in
+    let first = sym (length-map i.forms.items parts) in
     let appended = rw c.unwrap.ensures at c.append.ensures.ok in
-    let all = ap (map parts) (appended ∙ ap (λ (fs : List _). fs ++ c.args.forms.items) c.in_ok-reserve.ensures.items) ∙ map-append parts i.forms.items c.args.forms.items in
-    let put = subst (λ (fs : List _). ArePut i.boxes.index c.add_all.new.boxes.index (length c.items-first.result.now) (boxes_of_new c.args.births.now (map parts fs))) c.items-added.ensures c.in_ok-add_all.ensures.ok in
-    let together = ap₂ lots_with_parts c.in_default.ensures.ok (ap (map parts) c.items.ensures ∙ all) ∙ after_with_parts c.args.line c.args.ends.now c.args.births.now i.history (map parts i.forms.items) more c.self.invariant.each in
-    let settled = subst (λ (ls : List (Lot (Unit {0}))). AreSettled ls (λ y. is_among y c.args.ends.now) c.add_all.new.boxes.index c.settle_all.new.boxes.index) together c.settle_all.ensures in
-    let indexed = indexed_replaced i.history (map parts i.forms.items) i.parts i.boxes.index c.self.invariant (length c.items-first.result.now) first c.args.line c.args.ends.now c.args.births.now more
-    c.add_all.new.boxes.index c.settle_all.new.boxes.index put settled in
-    lots_kept_after c.args.line c.args.ends.now c.args.births.now i.history c.note.new.self (map parts i.forms.items) more (map parts c.append.new.self.items) i.parts c.count_parts-parts.result i.boxes.index c.settle_all.new.boxes.index c.self.invariant each
+    let all = ap (map parts) (appended ∙ ap (λ (fs : List _). fs ++ c.args.forms.items) c.in_ok-take_in.ensures.kept) ∙ map-append parts i.forms.items c.args.forms.items in
+    let put = subst (λ (fs : List _). ArePut i.boxes.index c.take_in.new.boxes.index (length i.forms.items) (boxes_of_new c.args.births.now (map parts fs))) c.items-added.ensures c.in_ok-take_in.ensures.put in
+    let together = ap₂ lots_with_parts c.in_ok-take_in.ensures.lots (ap (map parts) c.items.ensures ∙ all) ∙ after_with_parts c.args.line c.args.ends.now c.args.births.now i.history (map parts i.forms.items) more c.self.invariant.each in
+    let settled = subst (λ (ls : List (Lot (Unit {0}))). AreSettled ls (λ y. is_among y c.args.ends.now) c.take_in.new.boxes.index c.settle_all.new.boxes.index) together c.settle_all.ensures in
+    let indexed = indexed_replaced i.history (map parts i.forms.items) i.parts i.boxes.index c.self.invariant (length i.forms.items) first c.args.line c.args.ends.now c.args.births.now more
+    c.take_in.new.boxes.index c.settle_all.new.boxes.index put settled in
+    lots_kept_after c.args.line c.args.ends.now c.args.births.now i.history c.take_in.new.history (map parts i.forms.items) more (map parts c.append.new.self.items) i.parts c.count_parts-parts.result i.boxes.index c.settle_all.new.boxes.index c.self.invariant each
     (subst (λ (ls : List (Lot (Unit {0}))). AreFew (lots_after c.args.line ls (lots_replaced c.args.ends.now (new_lots c.args.births.now more)))) (sym c.self.view_is) c.requires.few)
-    c.in_default.ensures.well.distinct c.in_default.ensures.ok all
+    c.in_ok-take_in.ensures.well.distinct c.in_ok-take_in.ensures.lots all
     (c.count_parts-parts.ensures ∙ ap (sum_by (λ f. length (parts f))) c.items-added.ensures ∙ sym (image_sums parts (λ (ps : List Part). length ps) c.args.forms.items)) indexed
 
 pub returns-clause-ok : goal.returns-clause-ok
@@ -158,7 +133,7 @@ returns-clause-ok g c =
     let parts = g.F.Forms.parts_of in
     let more = map parts c.args.forms.items in
     let appended = rw c.unwrap.ensures at c.append.ensures.ok in
-    let all = ap (map parts) (appended ∙ ap (λ (fs : List _). fs ++ c.args.forms.items) c.in_ok-reserve.ensures.items) ∙ map-append parts i.forms.items c.args.forms.items in
-    ap₂ lots_with_parts c.in_default.ensures.ok all
+    let all = ap (map parts) (appended ∙ ap (λ (fs : List _). fs ++ c.args.forms.items) c.in_ok-take_in.ensures.kept) ∙ map-append parts i.forms.items c.args.forms.items in
+    ap₂ lots_with_parts c.in_ok-take_in.ensures.lots all
     ∙ after_with_parts c.args.line c.args.ends.now c.args.births.now i.history (map parts i.forms.items) more c.self.invariant.each
     ∙ ap (λ (ls : List (Lot (Unit {0}))). lots_after c.args.line ls (lots_replaced c.args.ends.now (new_lots c.args.births.now more))) c.self.view_is
