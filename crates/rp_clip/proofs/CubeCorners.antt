@@ -1,51 +1,35 @@
 -- The corners of the cube are the vertices of a cell with no half-spaces.
 use Rattle.std.proofs.Common.{◌≡◌, ℕ, ℤ, Bool, true, false, List, [], ◌∷◌, ◌++◌, ◌≤◌, length, map, refl, sym, ap, ◌∙◌, subst, arith}
-use Rattle.std.specs.Prelude.{Option, Some, None, option_map, not, ◌&&◌}
-use Rattle.std.specs.Option.{UnwrapsOrElse}
+use Rattle.std.specs.Prelude.{not, ◌&&◌}
 use Rattle.std.specs.List.{Contains, list_any}
 use Rattle.std.proofs.lemmas.Bool.Decides.{Decides-int_eq}
 use Rattle.rp_algebra.specs.Integer.{int_eq, gcd_of, gcd}
-use Rattle.rp_algebra.proofs.Options.{none_not_some, same_some}
 use Rattle.rp_algebra.proofs.Tests.{false_not_true, and_true, and_first, and_second}
 use Rattle.rp_algebra.proofs.Filter.{passes_some}
 use Rattle.rp_convex.proofs.Standing.{contains_listed}
 use Rattle.rp_clip.specs.Clipped.{HasVertices}
 use Rattle.rp_clip.specs.Masks.{mask_of}
 use Rattle.rp_clip.specs.Tables.{Rows, AreDistinct, AreDifferentVertices}
-use Rattle.rp_geometry.specs.Geometry.{RationalPoint, HalfSpace, reduced_point}
+use Rattle.rp_geometry.specs.Geometry.{RationalPoint, reduced_point}
 use Rattle.rp_geometry.specs.searches.Vertex.{vertices, meeting_point}
-use Rattle.rp_clip.specs.CubeCorners.{cube_side, cube_corner, cube_corners}
+use Rattle.rp_clip.specs.CubeCorners.{cube_corner, cube_corners}
 
 -- they are, by computing all meeting points
 cube_vertices : vertices [] ≡ cube_corners
 unfolding vertices meeting_point reduced_point gcd_of gcd
 cube_vertices = refl
 
--- the meeting point of three sides, where they are there
-abbrev meeting_of : Option HalfSpace → Option HalfSpace → Option HalfSpace → Option RationalPoint
-meeting_of (Some f) (Some g) (Some h) = meeting_point f g h
-meeting_of (Some f) (Some g) None = None
-meeting_of (Some f) None o = None
-meeting_of None p o = None
-
--- it is the corner
-sides_meet : (x y z : Bool) → meeting_of (cube_side 0 x) (cube_side 1 y) (cube_side 2 z) ≡ Some (cube_corner x y z)
-unfolding meeting_point reduced_point gcd_of gcd
-sides_meet false false false = refl
-sides_meet false false true = refl
-sides_meet false true false = refl
-sides_meet false true true = refl
-sides_meet true false false = refl
-sides_meet true false true = refl
-sides_meet true true false = refl
-sides_meet true true true = refl
-
--- what the code makes of the answer
-pub corner_is : (P : RationalPoint → Type 0) (x y z : Bool) (f g h : HalfSpace) (o : Option RationalPoint) (p : RationalPoint) → Some f ≡ cube_side 0 x → Some g ≡ cube_side 1 y → Some h ≡ cube_side 2 z
-    → option_map reduced_point o ≡ meeting_point f g h → UnwrapsOrElse o P p → reduced_point p ≡ cube_corner x y z
-corner_is P x y z f g h None p ef eg eh e u = absurd (none_not_some (cube_corner x y z) (e ∙ (λ i. meeting_of (ef i) (eg i) (eh i)) ∙ sides_meet x y z))
-corner_is P x y z f g h (Some q) p ef eg eh e u =
-    same_some (reduced_point p) (cube_corner x y z) (ap (λ (r : RationalPoint). Some (reduced_point r)) u ∙ e ∙ (λ i. meeting_of (ef i) (eg i) (eh i)) ∙ sides_meet x y z)
+-- a corner is in lowest terms
+pub corner_is : (x y z : Bool) → reduced_point (cube_corner x y z) ≡ cube_corner x y z
+unfolding reduced_point gcd_of gcd
+corner_is false false false = refl
+corner_is false false true = refl
+corner_is false true false = refl
+corner_is false true true = refl
+corner_is true false false = refl
+corner_is true false true = refl
+corner_is true true false = refl
+corner_is true true true = refl
 
 -- a list with one item more, where both are known
 pub pushed : {A : Type 0} {old new xs : List A} {x y : A} → old ≡ xs → new ≡ old ++ x ∷ [] → x ≡ y → new ≡ xs ++ y ∷ []

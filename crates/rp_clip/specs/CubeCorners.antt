@@ -1,11 +1,6 @@
--- The eight corners of the closed cube, in the order of the cube's half-spaces, with the places of the planes through each.
-use Rattle.std.specs.Prelude.{ℕ, ◌+◌, ◌*◌, Option, Bool, true, false, ℤ, pos, neg_ℤ, cond, List, [], ◌∷◌}
-use Rattle.rp_geometry.specs.Geometry.{RationalPoint, HalfSpace, point_of, cube_bound, cube_half_spaces}
-use Rattle.std.specs.List.{slice_get}
-
--- the lower or the upper side along x, y or z
-abbrev pub cube_side : ℕ → Bool → Option HalfSpace
-cube_side axis is_upper = slice_get cube_half_spaces (2 * axis + cond is_upper 1 0)
+-- The eight corners of the closed cube, in the order of the cube's half-spaces.
+use Rattle.std.specs.Prelude.{Bool, true, false, ℤ, pos, neg_ℤ, cond, List, [], ◌∷◌}
+use Rattle.rp_geometry.specs.Geometry.{RationalPoint, point_of, cube_bound}
 
 -- the lower or the upper edge
 abbrev pub edge_of : Bool → ℤ

@@ -31,14 +31,15 @@ impl<T: Drop> Listed<T> {
     }
 
     /// Appends an item. After `AllocError` the items are as they were. Where there is room to spare it succeeds, and
-    /// takes one place of it at most. The first item takes room for itself alone, since most lists have one.
+    /// takes one place of it at most. Each of the first two items takes room for itself alone, since most lists have no
+    /// more.
     pub fn push(&mut self, x: T) -> Result<(), AllocError>
         ensures ok { OnOk result (self.new.items ≡ self.old.items ++ x ∷ []) }
         ensures err { OnErr result (self.new.items ≡ self.old.items) }
         ensures room { 0 < self.old.spare → IsOk result }
         ensures spare { OnOk result (self.old.spare ≤ self.new.spare + 1) }
     {
-        if self.items.capacity() == 0 {
+        if self.items.capacity() < 2 {
             self.items.reserve_exact(1)?;
         }
         self.items.push(x)?;

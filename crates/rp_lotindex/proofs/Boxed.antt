@@ -1,5 +1,5 @@
 -- The index of a register, at rest and through a change.
-use Rattle.std.proofs.Common.{◌≡◌, ℕ, ◌+◌, ◌-◌, ◌*◌, ◌/◌, ◌%◌, ◌<◌, ◌≤◌, Bool, true, false, ◌&&◌, List, [], ◌++◌, ⊎_elim, map, length, Option, Some, None, is_none, is_some, slice_get, refl, sym, ap, ◌∙◌, subst, arith}
+use Rattle.std.proofs.Common.{◌≡◌, ℕ, ◌+◌, ◌-◌, ◌*◌, ◌/◌, ◌%◌, ◌<◌, ◌≤◌, Bool, true, false, ◌&&◌, List, [], ◌++◌, ⊎_elim, map, length, Option, Some, None, is_none, is_some, slice_get, refl, sym, ap, ◌∙◌, arith}
 use Rattle.std.specs.Prelude.{option_map}
 use Rattle.std.specs.FinMap.{empty, get-empty}
 use Rattle.std.specs.Ordering.{nat_cmp}
@@ -21,7 +21,7 @@ use Rattle.rp_lotindex.specs.Indexed.{boxes_of_parts, boxes_of, box_at, box_in, 
 use Rattle.rp_lotindex.specs.Layers.{moved, moved_past}
 use Rattle.rp_lotindex.specs.Stretches.{stretch_of}
 use Rattle.rp_lotindex.proofs.Hulls.{few_boxes}
-use Rattle.rp_lotindex.proofs.Put.{among_past, among_right, put_back}
+use Rattle.rp_lotindex.proofs.Put.{among_past, among_right}
 
 -- ---- lists
 
@@ -71,10 +71,6 @@ module _ (lots : List (Lot (Unit {0}))) (boxes : Boxes) (h : IsIndexOf lots boxe
   -- where every place has what it had, all is as before
   pub indexed_again : (new : Boxes) → StaySame boxes new → IsIndexOf lots new
   indexed_again new s id = s id ∙ h id
-
-  -- so it is where boxes were put in behind the lots and are taken out again
-  pub indexed_back : (n : ℕ) (lists : List (List IntegerBox)) (m new : Boxes) → n ≡ length lots → ArePut boxes m n lists → ArePut m new n [] → IsIndexOf lots new
-  indexed_back n lists m new same p s = indexed_again new (put_back boxes m new n lists (subst (NoneBehind boxes) (sym same) none_behind_lots) p s)
 
   -- the lots stand in a history without their parts, and their boxes in the index
   pub kept_in : (history : List (Lot (Unit {0}))) → history ≡ map bare_lot lots → AreKeptIn history boxes lots

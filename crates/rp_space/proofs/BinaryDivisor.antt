@@ -1,7 +1,7 @@
 -- The binary method for greatest common divisors: factors 2 are taken out, and the less of two odd numbers away from the other.
 use Rattle.std.proofs.Common.{◌≡◌, ℕ, ℤ, zero, suc, ◌+◌, ◌-◌, ◌*◌, ◌/◌, ◌%◌, ◌^◌, ◌<◌, ◌≤◌, sym, ap, ◌∙◌, subst, arith}
 use Rattle.std.specs.Int.{◌∣◌, Width, bit_at, trailing_zeros}
-use Rattle.std.proofs.Math.Nat.{dvd-add, dvd-add_iff_right, dvd-mul_left_of_dvd, mul-dvd-mul_left}
+use Rattle.std.proofs.Math.Nat.{one-dvd, dvd-add, dvd-add_iff_right, dvd-mul_left_of_dvd, mul-dvd-mul_left}
 use Rattle.std.proofs.lemmas.Int.{ints}
 use Rattle.std.proofs.lemmas.Nat.{shr-shr}
 use Rattle.std.proofs.lemmas.Nat.Bits.{bit_at_lowest, bit_at-suc, bit_at-trailing_zeros}
@@ -10,6 +10,10 @@ use Rattle.rp_algebra.specs.Integer.{gcd, reduced_by}
 use Rattle.rp_algebra.proofs.Divisors.{gcd-is, gcd-unique, gcd-comm, gcd-mod, gcd-zero, gcd-times, gcd-greatest}
 
 -- ---- one number less the other
+
+-- 1 has no other divisor
+pub gcd-one : (n : ℕ) → gcd 1 n ≡ 1
+gcd-one n = gcd-unique 1 n 1 (one-dvd 1, one-dvd n, λ d h l. h)
 
 -- a sum and one of its parts
 gcd-add : (p r : ℕ) → gcd (p + r) p ≡ gcd p r

@@ -8,7 +8,7 @@ use crate::half::Half;
 use crate::point::Point;
 
 /// Half the edge of the domain cube, 2^24 units.
-const HALF_EDGE: i32 = 16777216;
+pub const HALF_EDGE: i32 = 16777216;
 
 /// A box with whole corners, in the units of coordinates. It holds the points from `lo` to below `hi` on each axis.
 #[derive(Clone, Copy, Debug, PartialEq, Eq)]

@@ -2,11 +2,15 @@
 ghost use Rattle.std.specs.Prelude.{◌≡◌, ◌<◌, ◌≤◌, ◌%◌, ◌^◌, ℕ, [], ◌∷◌};
 ghost use Rattle.rp_algebra.specs.Integer.{gcd, gcd_of, reduced_by};
 
-/// The greatest common divisor of `a` and `b`, by Euclid's rule until the numbers fit in 64 bits.
+/// The greatest common divisor of `a` and `b`, by Euclid's rule until the numbers fit in 64 bits. Where `a` is 1, which
+/// the divisor of several numbers soon is, nothing is divided.
 #[tactic(auto, using(rp_algebra::proofs::Divisors::euclid))]
 pub fn greatest_common_divisor(a: u128, b: u128) -> u128
     ensures { result ≡ gcd a b }
 {
+    if a == 1 {
+        return 1;
+    }
     let mut high = a;
     let mut low = b;
     while low > u64::MAX as u128 {
@@ -44,7 +48,7 @@ fn odd_divisor(odd: u64, other: u64) -> u64
 {
     let mut high = odd;
     let mut low = other;
-    while low != 0 {
+    while low != 0 && high != 1 {
         let part = odd_part(low);
         if part < high {
             low = high - part;

@@ -18,7 +18,7 @@ mod outside;
 mod point;
 mod system;
 
-pub use bounds::{IntBox, box_halves, cube};
+pub use bounds::{HALF_EDGE, IntBox, box_halves, cube};
 pub use corner::{Corner, Corners};
 pub use divisor::{greatest_common_divisor, quotient};
 pub use half::{Half, HalfFault, Halves};

@@ -1,5 +1,5 @@
 //! The common point of three planes, by Cramer's rule.
-ghost use Rattle.std.specs.Prelude.{◌≡◌, ◌*◌, ◌^◌, false, Some, IfSome, option_map};
+ghost use Rattle.std.specs.Prelude.{◌≡◌, ◌*◌, ◌^◌, false, pos, Some, IfSome, option_map};
 ghost use Rattle.rp_algebra.specs.Integer.{is_zero};
 ghost use Rattle.rp_algebra.specs.Within.{IsWithin};
 ghost use Rattle.rp_geometry.specs.Geometry.{IsPoint, IsSmallPoint, point_of, reduced_point, side_value};
@@ -55,6 +55,18 @@ impl Default for Meeting {
 }
 
 impl Meeting {
+    /// The point with the whole coordinates `x`, `y` and `z`.
+    pub fn whole(x: i32, y: i32, z: i32) -> Meeting
+        ensures { result ≡ point_of x y z (pos 1) }
+    {
+        Meeting {
+            x: x as i128,
+            y: y as i128,
+            z: z as i128,
+            w: 1,
+        }
+    }
+
     /// The four numbers of the point, not yet in lowest terms.
     pub fn numbers(&self) -> (i128, i128, i128, i128)
         ensures numbers { point_of result.0 result.1 result.2 result.3 ≡ self.now }

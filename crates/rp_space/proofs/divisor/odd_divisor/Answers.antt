@@ -1,7 +1,7 @@
-use Rattle.std.proofs.Common.{sym, ap, ◌∙◌, arith}
+use Rattle.std.proofs.Common.{ℕ, sym, ap, ◌∙◌, arith}
 use Rattle.rp_algebra.specs.Integer.{gcd}
 use Rattle.rp_algebra.proofs.Divisors.{gcd-zero}
-use Rattle.rp_space.proofs.BinaryDivisor.{gcd-less, gcd-more}
+use Rattle.rp_space.proofs.BinaryDivisor.{gcd-one, gcd-less, gcd-more}
 use Rattle.rp_space.proofs.divisor.odd_divisor.Goals as goal
 
 pub loop-low-preserved-then-part-high : goal.loop-low-preserved-then-part-high
@@ -20,5 +20,9 @@ loop-low-preserved c = (
       ∙ c.loop-low.invariant.1,
 )
 
-pub returns : goal.returns
-returns c = sym (ap (gcd c.loop-low.high) c.loop-low-test.false ∙ gcd-zero c.loop-low.high) ∙ c.loop-low.invariant.1
+pub returns-else-high-ne1 : goal.returns-else-high-ne1
+returns-else-high-ne1 c =
+    c.if-high-ne1.false ∙ sym (ap (λ (n : ℕ). gcd n c.loop-low.low) c.if-high-ne1.false ∙ gcd-one c.loop-low.low) ∙ c.loop-low.invariant.1
+
+pub returns-after-loop-low : goal.returns-after-loop-low
+returns-after-loop-low c = sym (ap (gcd c.loop-low.high) c.loop-low-test.false ∙ gcd-zero c.loop-low.high) ∙ c.loop-low.invariant.1
