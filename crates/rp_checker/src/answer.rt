@@ -1,5 +1,5 @@
 //! Whole answers of a report, and what each changes.
-ghost use Rattle.std.specs.Prelude.{◌≡◌, ◌+◌, ◌<◌, ◌∷◌, [], ℕ, Ok, length, map, IfOk, is_none, option_map};
+ghost use Rattle.std.specs.Prelude.{◌≡◌, ◌+◌, ◌<◌, ◌∷◌, [], ℕ, false, Ok, length, map, IfOk, is_none, option_map};
 ghost use Rattle.std.specs.List.{AllByRecursion};
 ghost use Rattle.rp_command.specs.Versions.{version_of};
 ghost use Rattle.rp_command.specs.Views.{child_of, command_of, expression_of, fault_of, line_of};
@@ -7,15 +7,15 @@ ghost use Rattle.rp_geometry.specs.parts.Parts.{IsCheckedPart};
 ghost use Rattle.rp_geometry.specs.sections.Trace.{IsHeight};
 ghost use Rattle.rp_language.specs.Expression.{IsKeptExpression, expressions_of, first_unknown_among, heights_of, HasFewChildren};
 ghost use Rattle.rp_language.specs.Grammar.{bad, reading};
-ghost use Rattle.rp_model.specs.commands.Row.{Reply as ModelReply};
+ghost use Rattle.rp_model.specs.commands.Row.{Reply as ModelReply, accepted};
 ghost use Rattle.rp_model.specs.states.State.{PlainState, changed, parts_in, state_of_parts};
 ghost use Rattle.rp_model.specs.states.Sound.{IsLaterThan};
-ghost use Rattle.rp_reports.specs.Check.{Trail as ModelTrail, limit_allowed, follow_walk, follow_command, follow_fault, follow_text, follow_echo, next_echo, follow_answer};
+ghost use Rattle.rp_reports.specs.Check.{Trail as ModelTrail, limit_allowed, follow_walk, follow_reply, follow_command, follow_fault, follow_text, follow_echo, next_echo, follow_answer};
 ghost use Rattle.rp_walks.specs.Walk.{Outcome};
 ghost use Rattle.rp_tester.specs.Comes.{StopsBy};
 ghost use Rattle.rp_checker.specs.Answers.{Answers, IsRead, echo_with};
 ghost use Rattle.rp_ledger.specs.Taken.{IsTaken};
-ghost use Rattle.rp_register.specs.Followed.{change_followed, IsFollowed};
+ghost use Rattle.rp_register.specs.Followed.{change_followed, shown_change, IsFollowed};
 
 use crate::halt::Halt;
 use crate::lines::{follow_limit, follow_verdict, follow_verdicts};
@@ -24,11 +24,12 @@ use rp_answer::{Refusal, RowEnd, Verdict, one_line};
 use rp_command::{Command, Expr, Line, Version, Why};
 use rp_ledger::Reply;
 use rp_lists::Name;
+use rp_lots::Change;
 use rp_register::{Followed, Register};
 use rp_syntax::read_line;
 use rp_tester::Stopped;
 use rp_text::read_echo;
-use rp_trail::Trail;
+use rp_trail::{Form, Trail};
 use std::alloc::Global;
 
 /// What becomes of an answer whose row is stopped: the report may tell of a limit where one is met, and instead of a
@@ -156,17 +157,51 @@ fn follow_reply(
     ensures { (o : Outcome ModelTrail ModelReply) → IsFollowed (Ok followed) trail.old o → Answers (λ _. register.new) result trail.new (follow_walk n register.old allowed o) }
 {
     if allowed && trail.tells_limit() {
+        drop(followed);
         return follow_limit(trail);
     }
+    follow_shown(alloc, register, n, followed, trail)
+}
+
+/// Takes the verdict lines of a reply, where no limit is told in their place, and then makes its change.
+fn follow_shown(
+    alloc: Global,
+    register: &mut Register,
+    n: u32,
+    followed: Followed,
+    trail: &mut Trail<'_>,
+) -> Result<(), Halt>
+    requires later { IsLaterThan n (state_of_parts register.old) }
+    requires taken { IsTaken IsCheckedPart n register.old (change_followed followed) }
+    ensures { (o : Outcome ModelTrail ModelReply) → IsFollowed (Ok followed) trail.old o → Answers (λ _. register.new) result trail.new (follow_walk n register.old false o) }
+{
     match followed {
         Followed::Replied(Reply::Told(lines)) => follow_verdicts(alloc, lines.items(), trail),
         Followed::Unshown(number) => Err(Halt::Wrong(number)),
         Followed::Replied(Reply::Changed(change)) => {
-            follow_verdict(alloc, &Verdict::Ok, trail)?;
-            register.apply(alloc, n, change)?;
-            Ok(())
+            follow_change(alloc, register, n, change, trail)
         }
     }
+}
+
+/// Takes the verdict line of a change, and then makes it.
+fn follow_change(
+    alloc: Global,
+    register: &mut Register,
+    n: u32,
+    change: Change<Form>,
+    trail: &mut Trail<'_>,
+) -> Result<(), Halt>
+    requires later { IsLaterThan n (state_of_parts register.old) }
+    requires taken { IsTaken IsCheckedPart n register.old (shown_change change) }
+    ensures { Answers (λ _. register.new) result trail.new (follow_reply n register.old (accepted (shown_change change)) trail.old) }
+{
+    if let Err(halt) = follow_verdict(alloc, &Verdict::Ok, trail) {
+        drop(change);
+        return Err(halt);
+    }
+    register.apply(alloc, n, change)?;
+    Ok(())
 }
 
 /// The rest of an answer, once the row of its command was followed.
