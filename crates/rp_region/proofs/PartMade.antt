@@ -1,6 +1,7 @@
--- What is left of a part test of a cell with a member after each of its lines.
-use Rattle.std.proofs.Common.{◌≡◌, ℕ, ◌<◌, ◌≤◌, Bool, true, false, List, [], ◌∷◌, ◌++◌, length, refl, sym, ap, ◌∙◌, append_assoc, arith}
+-- What is left of a part test of a cell with a member after some of its lines.
+use Rattle.std.proofs.Common.{◌≡◌, ℕ, ◌<◌, ◌≤◌, Bool, true, false, List, [], ◌∷◌, ◌++◌, length, refl, sym, ap, ◌∙◌, append_assoc, subst, arith}
 use Rattle.std.specs.Prelude.{nat_le, Option, Some, None, is_some}
+use Rattle.std.proofs.lemmas.List.{append-nil}
 use Rattle.rp_geometry.specs.Geometry.{RationalPoint, HalfSpace, box_half_spaces}
 use Rattle.rp_geometry.specs.sets.Shape.{Part}
 use Rattle.rp_geometry.specs.searches.Vertex.{first_inside}
@@ -11,7 +12,7 @@ use Rattle.rp_geometry.specs.parts.PartTest.{has_member, slimmed, part_lines, pa
 use Rattle.rp_walks.specs.Walk.{Outcome, done, stopped, limit_met, Walk, pass, ◌>>=◌, Work, with_lines, part_test}
 use Rattle.rp_region.specs.Makes.{IsCutShort, telling, OnlyTells}
 use Rattle.rp_region.proofs.Grows.{pass_tells, then_tells}
-use Rattle.rp_region.proofs.Left.{IsLeft, all_left, left_as, next_left, cut_left, end_left, not_begun}
+use Rattle.rp_region.proofs.Left.{IsLeft, all_left, left_as, next_left, cut_left, end_left, given_up}
 
 -- ---- lines
 
@@ -20,12 +21,25 @@ pub telling_tells : (lines : List ProofLine) → OnlyTells (telling lines)
 telling_tells lines = record { tells = λ w. record { more = lines; lines = refl } }
 
 -- the work after a line
-pub line_told : (line : ProofLine) (w v : Work) → v ≡ with_lines w (line ∷ []) → telling (line ∷ []) w ≡ done tt v
+line_told : (line : ProofLine) (w v : Work) → v ≡ with_lines w (line ∷ []) → telling (line ∷ []) w ≡ done tt v
 line_told line w v e = ap (λ u. done tt u) (sym e)
 
 -- lines are told one after the other
 pub told_apart : {A : Type 0} (a b : List ProofLine) (next : Unit {0} → Walk Work A) → (telling (a ++ b) >>= next) ≡ (telling a >>= λ _. telling b >>= next)
 told_apart a b next = λ i w. next tt (record { tests = w.tests; proofs = sym (append_assoc w.proofs a b) i })
+
+-- the first line is told: the others are left
+pub line_passed : {start now : Work} {whole : Walk Work (Unit {0})} (line : ProofLine) (lines : List ProofLine) (v : Work) → v ≡ with_lines now (line ∷ []) → IsLeft start whole now (telling (line ∷ lines)) → IsLeft start whole v (telling lines)
+line_passed {now = now} line lines v e l =
+    next_left (telling (line ∷ [])) (λ _. telling lines) (telling_tells (line ∷ [])) (left_as (told_apart (line ∷ []) lines (λ u. pass u)) l) (line_told line now v e)
+
+-- no line is left
+pub lines_ended : {start now : Work} {whole : Walk Work (Unit {0})} (lines : List ProofLine) → lines ≡ [] → IsLeft start whole now (telling lines) → whole start ≡ done tt now
+lines_ended {now = now} lines e l = end_left (done tt now) (left_as (ap telling e) l) (λ i. done tt (record { tests = now.tests; proofs = append-nil now.proofs i }))
+
+-- memory is wanting for the next line
+pub lines_cut : {start now : Work} {whole : Walk Work (Unit {0})} (lines : List ProofLine) (v : Work) → v ≡ now → IsLeft start whole now (telling lines) → IsCutShort start v (whole start)
+lines_cut {start = start} {whole = whole} lines v e l = subst (λ x. IsCutShort start x (whole start)) (sym e) (given_up (telling lines) (telling_tells lines) l)
 
 -- ---- the part test of a cell with a member
 
@@ -50,7 +64,7 @@ part_too_long cell points w e h = λ i. (by_member cell points e ∙ ap (by_size
 
 -- the lines are told one after the other, and then the part is there
 part_by_lines : (cell : List HalfSpace) (points : List RationalPoint) → first_inside cell ≡ Some points → in_line points ≡ strict_line cell → length (slimmed cell).kept ≤ most_half_spaces
-    → part_test cell ≡ (telling ((in_line points ∷ []) ++ ((slimmed cell).lines ++ box_line (least_box (slimmed cell).kept) ∷ side_lines (slimmed cell).kept (box_half_spaces (least_box (slimmed cell).kept)))) >>= λ _. pass (Some (part_of (slimmed cell))))
+    → part_test cell ≡ (telling ((in_line points ∷ (slimmed cell).lines) ++ box_line (least_box (slimmed cell).kept) ∷ side_lines (slimmed cell).kept (box_half_spaces (least_box (slimmed cell).kept))) >>= λ _. pass (Some (part_of (slimmed cell))))
 unfolding part_lines
 part_by_lines cell points e l h =
     by_member cell points e ∙ ap (by_size cell) (below (length (slimmed cell).kept) h)
@@ -60,70 +74,42 @@ part_by_lines cell points e l h =
     below m h = grind arith
 
 module _ (cell : List HalfSpace) (points : List RationalPoint) (found : first_inside cell ≡ Some points) (line : in_line points ≡ strict_line cell) (few : length (slimmed cell).kept ≤ most_half_spaces) where
-  -- the slim cell, its box and the lines of both
-  abbrev kept : List HalfSpace
-  kept = (slimmed cell).kept
+  -- the lines of the member and of what was dropped
+  abbrev found_lines : List ProofLine
+  found_lines = in_line points ∷ (slimmed cell).lines
 
-  abbrev drops : List ProofLine
-  drops = (slimmed cell).lines
-
-  abbrev box : ProofLine
-  box = box_line (least_box kept)
-
-  abbrev sides : List ProofLine
-  sides = side_lines kept (box_half_spaces (least_box kept))
+  -- the lines of the box and of its sides
+  abbrev box_lines : List ProofLine
+  box_lines = box_line (least_box (slimmed cell).kept) ∷ side_lines (slimmed cell).kept (box_half_spaces (least_box (slimmed cell).kept))
 
   -- the part, at the end
   abbrev at_end : Unit {0} → Walk Work (Option Part)
   at_end _ = pass (Some (part_of (slimmed cell)))
 
-  -- the lines still to come, and then the part
-  abbrev then_lines : List ProofLine → Unit {0} → Walk Work (Option Part)
-  then_lines lines _ = telling lines >>= at_end
+  -- it is there without a line
+  at_end_tells : (u : Unit {0}) → OnlyTells (at_end u)
+  at_end_tells u = pass_tells (Some (part_of (slimmed cell)))
 
-  -- they are told in any case
-  later_tells : (lines : List ProofLine) (u : Unit {0}) → OnlyTells (then_lines lines u)
-  later_tells lines u = then_tells (telling lines) at_end (telling_tells lines) (λ _. pass_tells (Some (part_of (slimmed cell))))
+  -- the lines of the box, and then the part
+  abbrev then_box : Unit {0} → Walk Work (Option Part)
+  then_box _ = telling box_lines >>= at_end
 
-  -- the test has found a member: its line is left, and those of the part
-  test_left : (w : Work) → IsLeft w (part_test cell) w (telling (in_line points ∷ []) >>= then_lines (drops ++ box ∷ sides))
-  test_left w = left_as (part_by_lines cell points found line few ∙ told_apart (in_line points ∷ []) (drops ++ box ∷ sides) at_end) (all_left w (part_test cell))
+  -- the test has found a member: all lines are left
+  found_left : (w : Work) → IsLeft w (part_test cell) w (telling found_lines >>= then_box)
+  found_left w = left_as (part_by_lines cell points found line few ∙ told_apart found_lines box_lines at_end) (all_left w (part_test cell))
 
-  -- its line is told: those of the drops are left
-  drops_left : {w v : Work} → telling (in_line points ∷ []) w ≡ done tt v → IsLeft w (part_test cell) v (telling drops >>= then_lines (box ∷ sides))
-  drops_left {w = w} m =
-      left_as (told_apart drops (box ∷ sides) at_end) (next_left (telling (in_line points ∷ [])) (then_lines (drops ++ box ∷ sides)) (telling_tells (in_line points ∷ [])) (test_left w) m)
-
-  -- these are told: that of the box is left
-  box_left : {w u v : Work} → telling (in_line points ∷ []) w ≡ done tt u → telling drops u ≡ done tt v → IsLeft w (part_test cell) v (telling (box ∷ []) >>= then_lines sides)
-  box_left m n = left_as (told_apart (box ∷ []) sides at_end) (next_left (telling drops) (then_lines (box ∷ sides)) (telling_tells drops) (drops_left m) n)
-
-  -- it is told: those of the sides are left
-  sides_left : {w u v x : Work} → telling (in_line points ∷ []) w ≡ done tt u → telling drops u ≡ done tt v → telling (box ∷ []) v ≡ done tt x → IsLeft w (part_test cell) x (telling sides >>= at_end)
-  sides_left m n o = next_left (telling (box ∷ [])) (then_lines sides) (telling_tells (box ∷ [])) (box_left m n) o
+  -- the first are told: those of the box are left
+  box_left : {w v : Work} → telling found_lines w ≡ done tt v → IsLeft w (part_test cell) v (telling box_lines >>= at_end)
+  box_left {w = w} m = next_left (telling found_lines) then_box (telling_tells found_lines) (found_left w) m
 
   -- all are told: the part is there
-  pub part_told : (w u v x y : Work) → telling (in_line points ∷ []) w ≡ done tt u → telling drops u ≡ done tt v → telling (box ∷ []) v ≡ done tt x → telling sides x ≡ done tt y
-      → part_test cell w ≡ done (Some (part_of (slimmed cell))) y
-  part_told w u v x y m n o q = end_left (done (Some (part_of (slimmed cell))) y) (next_left (telling sides) at_end (telling_tells sides) (sides_left m n o) q) refl
+  pub part_told : (w v x : Work) → telling found_lines w ≡ done tt v → telling box_lines v ≡ done tt x → part_test cell w ≡ done (Some (part_of (slimmed cell))) x
+  part_told w v x m n = end_left (done (Some (part_of (slimmed cell))) x) (next_left (telling box_lines) at_end (telling_tells box_lines) (box_left m) n) refl
 
-  -- ---- where memory is wanting
+  -- memory is wanting for one of the first lines
+  pub found_cut : (w v : Work) → IsCutShort w v (telling found_lines w) → IsCutShort w v (part_test cell w)
+  found_cut w v k = cut_left (telling found_lines) then_box (λ _. then_tells (telling box_lines) at_end (telling_tells box_lines) at_end_tells) (found_left w) v k
 
-  -- for the line of the test
-  pub test_cut : {w v : Work} → v ≡ w → IsCutShort w v (part_test cell w)
-  test_cut {w = w} {v = v} e =
-      cut_left (telling (in_line points ∷ [])) (then_lines (drops ++ box ∷ sides)) (later_tells (drops ++ box ∷ sides)) (test_left w) v
-      (not_begun (telling (in_line points ∷ [])) w v (telling_tells (in_line points ∷ [])) e)
-
-  -- for one of the drops
-  pub drops_cut : {w u v : Work} → telling (in_line points ∷ []) w ≡ done tt u → IsCutShort u v (telling drops u) → IsCutShort w v (part_test cell w)
-  drops_cut {v = v} m k = cut_left (telling drops) (then_lines (box ∷ sides)) (later_tells (box ∷ sides)) (drops_left m) v k
-
-  -- for that of the box
-  pub box_cut : {w u v x : Work} → telling (in_line points ∷ []) w ≡ done tt u → telling drops u ≡ done tt v → x ≡ v → IsCutShort w x (part_test cell w)
-  box_cut {v = v} {x = x} m n e = cut_left (telling (box ∷ [])) (then_lines sides) (later_tells sides) (box_left m n) x (not_begun (telling (box ∷ [])) v x (telling_tells (box ∷ [])) e)
-
-  -- for one of the sides
-  pub sides_cut : {w u v x y : Work} → telling (in_line points ∷ []) w ≡ done tt u → telling drops u ≡ done tt v → telling (box ∷ []) v ≡ done tt x → IsCutShort x y (telling sides x)
-      → IsCutShort w y (part_test cell w)
-  sides_cut {y = y} m n o k = cut_left (telling sides) at_end (λ _. pass_tells (Some (part_of (slimmed cell)))) (sides_left m n o) y k
+  -- memory is wanting for one of those of the box
+  pub box_cut : (w v x : Work) → telling found_lines w ≡ done tt v → IsCutShort v x (telling box_lines v) → IsCutShort w x (part_test cell w)
+  box_cut w v x m k = cut_left (telling box_lines) at_end at_end_tells (box_left m) x k

@@ -3,8 +3,8 @@ use Rattle.std.specs.Prelude.{◌≡◌, ◌*◌, Bool, true, false, List, [], �
 use Rattle.rp_geometry.specs.Geometry.{HalfSpace}
 use Rattle.rp_geometry.specs.sets.Shape.{Part}
 use Rattle.rp_geometry.specs.searches.ProofLine.{ProofLine}
-use Rattle.rp_walks.specs.Walk.{Walk, Work, count_tests, first_tester, ◌>>◌}
-use Rattle.rp_walks.specs.Form.{every_pair, first_pair, common_in_full, common_nearby, touch_in_full, touch_nearby}
+use Rattle.rp_walks.specs.Walk.{Walk, Work, pass, count_tests, strict_test, first_tester, ◌>>◌}
+use Rattle.rp_walks.specs.Form.{every_pair, near_pair, first_pair, common_in_full, common_nearby, touch_in_full, touch_nearby}
 
 -- the pairs that are tested: those that may meet alone, or every pair
 abbrev pub chosen_pair : Bool → (Part → Part → Bool) → Part → Part → Bool
@@ -27,6 +27,15 @@ common_by false ps qs = common_in_full first_tester ps qs
 abbrev pub touch_by : Bool → List Part → List Part → Walk Work Bool
 touch_by true ps qs = touch_nearby first_tester ps qs
 touch_by false ps qs = touch_in_full first_tester ps qs
+
+-- whether two parts share a member: one test is counted and made where their boxes meet, and none where they do not
+abbrev pub meet_if_near : Part → Part → Walk Work Bool
+meet_if_near p q = elim (near_pair p q) [
+  | false ↦ pass false
+  | true ↦ do
+    count_tests 1
+    strict_test (p.cell ++ q.cell)
+]
 
 -- the line is the last one
 pub record IsLast (line : ProofLine) (lines : List ProofLine) : Type 0 where

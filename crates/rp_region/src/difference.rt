@@ -1,10 +1,11 @@
 //! What is left of a list of parts outside a second one, test by test.
-ghost use Rattle.std.specs.Prelude.{◌≡◌, ◌≤◌, ◌<◌, [], ◌++◌, length, List};
+ghost use Rattle.std.specs.Prelude.{◌≡◌, ◌≤◌, ◌<◌, [], ◌++◌, true, length, List, IfOk};
 ghost use Rattle.rp_geometry.specs.Geometry.{HalfSpace};
 ghost use Rattle.rp_geometry.specs.parts.Parts.{most_half_spaces};
 ghost use Rattle.rp_walks.specs.Walk.{count_tests, first_tester};
 ghost use Rattle.rp_walks.specs.Form.{carve_one, carve, carve_or_keep, subtract_pair, subtract_part, subtract};
 ghost use Rattle.rp_region.specs.Makes.{Makes};
+ghost use Rattle.rp_region.specs.Pairs.{meet_if_near};
 
 use crate::fault::OpFault;
 use crate::front::Front;
@@ -80,17 +81,29 @@ fn subtract_pair(
 ) -> Result<(), OpFault>
     ensures { Makes (λ _. left.new.items) result work.old work.new (subtract_pair first_tester left.old.items part other.now) }
 {
+    if meet_if_near(&part, other, front, work)? {
+        return carve(alloc, left, other.halves(), front, work);
+    }
+    left.push(part)?;
+    Ok(())
+}
+
+/// Whether two parts share a point, and then the cell of the first is held. One test is made, and counted, where their
+/// boxes meet.
+fn meet_if_near(
+    part: &Part,
+    other: &Part,
+    front: &mut Front,
+    work: &mut Work,
+) -> Result<bool, OpFault>
+    ensures makes { Makes (λ has_one. has_one) result work.old work.new (meet_if_near part.now other.now) }
+    ensures held { IfOk result (λ has_one. has_one ≡ true → front.new ≡ part.now.cell) }
+{
     if !part.may_overlap(other) {
-        left.push(part)?;
-        return Ok(());
+        return Ok(false);
     }
     count_test(work)?;
-    let meets = front.meets(&part, other, work)?;
-    if !meets {
-        left.push(part)?;
-        return Ok(());
-    }
-    carve(alloc, left, other.halves(), front, work)
+    Ok(front.meets(part, other, work)?)
 }
 
 /// What is left of the held cell outside some half-spaces, piece by piece: outside each of them, inside those before.

@@ -3,13 +3,14 @@ ghost use Rattle.std.specs.Prelude.{◌≡◌, ◌+◌, ◌≤◌, ◌↔◌, �
 ghost use Rattle.rp_geometry.specs.Geometry.{RationalPoint};
 ghost use Rattle.rp_geometry.specs.sets.Shape.{shape_of_cell};
 ghost use Rattle.rp_geometry.specs.sets.Sets.{IsNonempty, IsEmpty, SameMembers};
-ghost use Rattle.rp_geometry.specs.searches.ProofLine.{in_line, at_line, strict_line, weak_line};
+ghost use Rattle.rp_geometry.specs.searches.ProofLine.{in_line, at_line, box_line, strict_line, weak_line};
 ghost use Rattle.rp_geometry.specs.searches.Vertex.{first_inside, first_weak_point};
 ghost use Rattle.rp_geometry.specs.laws.CellLaws.{IsSolution};
 ghost use Rattle.rp_geometry.specs.parts.Parts.{IsPart, most_half_spaces};
 ghost use Rattle.rp_geometry.specs.parts.PartTest.{part_of, slimmed};
 ghost use Rattle.rp_walks.specs.FormLaws.{IsMadeOf};
 ghost use Rattle.rp_walks.specs.Walk.{most_tests, no_work, with_lines, count_tests, strict_test, weak_test, part_test};
+ghost use Rattle.rp_space.specs.Boxes.{integer_box};
 ghost use Rattle.rp_cert.specs.Lines.{line_of};
 ghost use Rattle.rp_cell.specs.Decisions.{line_of_strict, line_of_weak, DecidesStrict, DecidesWeak};
 ghost use Rattle.rp_cell.specs.Lines.{drop_line_of, side_line_of};
@@ -27,7 +28,7 @@ use rp_cell::{
 };
 use rp_cert::{Proof, Proofs};
 use rp_lists::Copied;
-use rp_space::{Half, Inside, Point, joined};
+use rp_space::{Half, Inside, IntBox, Point, joined};
 use rp_tester::{MAX_HALVES, MAX_TESTS, Stopped};
 use std::alloc::{AllocError, Global};
 use std::marker::Model;
@@ -492,28 +493,28 @@ impl Work {
         if kept.items().len() > MAX_HALVES {
             return Err(OpFault::Limit);
         }
-        self.tell(Proof::In(points))?;
-        self.tell_drops(dropped)?;
+        self.tell_found(points, dropped)?;
         let Sides { bounds, proofs } = cell.sides(kept.items());
-        self.tell(Proof::Bounds(bounds))?;
-        self.tell_sides(proofs)?;
+        self.tell_box(bounds, proofs)?;
         Ok(Part::of_slim(kept, bounds))
     }
 
-    /// Appends the lines of the half-spaces that were dropped from a cell.
-    fn tell_drops(&mut self, dropped: Drops) -> Result<(), AllocError>
-        ensures { Makes (λ x. x) (op_result result) self.old self.new (telling (map drop_line_of dropped.items)) }
+    /// Appends the line of the points that were found in a cell, and those of the half-spaces that were dropped from it.
+    fn tell_found(&mut self, points: Inside, dropped: Drops) -> Result<(), AllocError>
+        ensures { Makes (λ x. x) (op_result result) self.old self.new (telling (in_line points ∷ map drop_line_of dropped.items)) }
     {
+        self.tell(Proof::In(points))?;
         for DroppedHalf { half, terms } in dropped.into_items() {
             self.tell(Proof::Dropped(half, terms))?;
         }
         Ok(())
     }
 
-    /// Appends the lines of the sides of a box.
-    fn tell_sides(&mut self, proofs: SideProofs) -> Result<(), AllocError>
-        ensures { Makes (λ x. x) (op_result result) self.old self.new (telling (map side_line_of proofs)) }
+    /// Appends the line of a box, and those of its sides.
+    fn tell_box(&mut self, bounds: IntBox, proofs: SideProofs) -> Result<(), AllocError>
+        ensures { Makes (λ x. x) (op_result result) self.old self.new (telling (box_line (integer_box bounds) ∷ map side_line_of proofs)) }
     {
+        self.tell(Proof::Bounds(bounds))?;
         for terms in proofs.into_items() {
             self.tell(Proof::Out(terms))?;
         }
