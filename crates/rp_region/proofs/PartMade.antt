@@ -3,13 +3,17 @@ use Rattle.std.proofs.Common.{◌≡◌, ℕ, ◌<◌, ◌≤◌, Bool, true, fa
 use Rattle.std.specs.Prelude.{nat_le, Option, Some, None, is_some}
 use Rattle.std.proofs.lemmas.List.{append-nil}
 use Rattle.rp_geometry.specs.Geometry.{RationalPoint, HalfSpace, box_half_spaces}
-use Rattle.rp_geometry.specs.sets.Shape.{Part}
+use Rattle.rp_geometry.specs.sets.Shape.{Part, shape_of_cell, shape_of_parts}
+use Rattle.rp_geometry.specs.sets.Sets.{SameMembers}
 use Rattle.rp_geometry.specs.searches.Vertex.{first_inside}
 use Rattle.rp_geometry.specs.searches.ProofLine.{ProofLine, in_line, box_line, strict_line}
 use Rattle.rp_geometry.specs.parts.LeastBox.{least_box}
-use Rattle.rp_geometry.specs.parts.Parts.{most_half_spaces}
+use Rattle.rp_geometry.specs.parts.Parts.{most_half_spaces, IsPart}
 use Rattle.rp_geometry.specs.parts.PartTest.{has_member, slimmed, part_lines, part_of, side_lines}
 use Rattle.rp_walks.specs.Walk.{Outcome, done, stopped, limit_met, Walk, pass, ◌>>=◌, Work, with_lines, part_test}
+use Rattle.rp_geometry.proofs.SameMembers.{same_next}
+use Rattle.rp_walks.specs.FormLaws.{IsMadeOf}
+use Rattle.rp_forms.proofs.Alike.{same_of_alike, one_part}
 use Rattle.rp_region.specs.Makes.{IsCutShort, telling, OnlyTells}
 use Rattle.rp_region.proofs.Grows.{pass_tells, then_tells}
 use Rattle.rp_region.proofs.Left.{IsLeft, all_left, left_as, next_left, cut_left, end_left, given_up}
@@ -72,6 +76,14 @@ part_by_lines cell points e l h =
   where
     below : (m : ℕ) → m ≤ most_half_spaces → nat_le m most_half_spaces ≡ true
     below m h = grind arith
+
+-- the part of a slim cell is made of the cell
+pub made_of_slim : (cell slim : List HalfSpace) (p : Part) → p.cell ≡ slim → SameMembers (shape_of_cell slim) (shape_of_cell cell) → IsPart p → IsMadeOf IsPart cell (Some p)
+made_of_slim cell slim p e s k = record {
+  fact = k;
+  members = same_next (shape_of_parts (p ∷ [])) (shape_of_cell p.cell) (shape_of_cell cell) (same_of_alike (shape_of_parts (p ∷ [])) (shape_of_cell p.cell) (λ x w i. one_part p x))
+      (subst (λ hs. SameMembers (shape_of_cell hs) (shape_of_cell cell)) (sym e) s);
+}
 
 module _ (cell : List HalfSpace) (points : List RationalPoint) (found : first_inside cell ≡ Some points) (line : in_line points ≡ strict_line cell) (few : length (slimmed cell).kept ≤ most_half_spaces) where
   -- the lines of the member and of what was dropped

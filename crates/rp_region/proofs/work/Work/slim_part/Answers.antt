@@ -2,7 +2,8 @@ use Rattle.std.proofs.Common.{◌≡◌, ◌<◌, ◌≤◌, List, ◌∷◌, le
 use Rattle.std.specs.Prelude.{Some}
 use Rattle.std.proofs.lemmas.Result.{err_from_is_err_and}
 use Rattle.rp_geometry.specs.Geometry.{HalfSpace, box_half_spaces}
-use Rattle.rp_geometry.specs.sets.Shape.{Part}
+use Rattle.rp_geometry.specs.sets.Shape.{Part, shape_of_cell}
+use Rattle.rp_geometry.specs.sets.Sets.{SameMembers}
 use Rattle.rp_geometry.specs.parts.LeastBox.{least_box}
 use Rattle.rp_geometry.specs.parts.Parts.{most_half_spaces, IsPart}
 use Rattle.rp_geometry.specs.parts.PartTest.{slimmed, part_of, side_lines}
@@ -11,7 +12,7 @@ use Rattle.rp_walks.specs.Walk.{done, part_test}
 use Rattle.rp_region.specs.Makes.{IsCutShort, telling}
 use Rattle.rp_region.proofs.Grows.{part_tells}
 use Rattle.rp_region.proofs.Left.{not_begun}
-use Rattle.rp_region.proofs.PartMade.{part_too_long, part_told, found_cut, box_cut}
+use Rattle.rp_region.proofs.PartMade.{made_of_slim, part_too_long, part_told, found_cut, box_cut}
 use Rattle.rp_region.proofs.work.Work.slim_part.Goals as goal
 
 -- the slim cell is not too long, where its half-spaces are as many as were kept
@@ -82,3 +83,22 @@ returns-clause-makes c =
     ((λ i. telling (in_line points ∷ sym c.in_ok-kept.ensures.lines i) w) ∙ c.in_ok-tell_found.ensures)
     ((λ i. telling (box_line (sym bounds i) ∷ sym sides i) v) ∙ c.in_ok-tell_box.ensures)
     ∙ (λ i. done (Some (record { cell = sym slim i; bounds = sym bounds i })) x) ∙ ap (λ (p : Part). done (Some p) x) (sym c.of_slim.ensures)
+
+pub returns-clause-made : goal.returns-clause-made
+unfolding part_of
+returns-clause-made c =
+    let kept = c.in_ok-kept.ensures.kept in
+    let bounds = c.sides-proofs.ensures.value ∙ ap least_box (c.items-2.ensures ∙ kept) in
+    made_of_slim c.args.cell.now c.in_ok-kept.field-0.kept.items c.of_slim.result (ap (λ (p : Part). p.cell) c.of_slim.ensures) c.in_ok-kept.ensures.members
+    (subst (λ (p : Part). IsPart p) ((λ i. record { cell = sym kept i; bounds = sym bounds i }) ∙ sym c.of_slim.ensures)
+    (c.in_ok-kept.ensures.part c.requires.member (subst (λ (hs : List HalfSpace). length hs ≤ most_half_spaces) c.items.ensures c.if-items-gt-MAX_HALVES.false)))
+
+pub sides-proofs-requires : goal.sides-proofs-requires
+sides-proofs-requires c =
+    let member = c.requires.member in
+    let same = subst (λ (hs : List HalfSpace). SameMembers (shape_of_cell hs) (shape_of_cell c.args.cell.now)) (sym c.items-2.ensures) c.in_ok-kept.ensures.members in
+    record {
+      few = subst (λ (hs : List HalfSpace). length hs ≤ most_half_spaces) (c.items.ensures ∙ sym c.items-2.ensures) c.if-items-gt-MAX_HALVES.false;
+      member = (member.0, same.1 member.0 member.1);
+      same = same;
+    }
