@@ -1,11 +1,11 @@
--- The steps of a registration, each by what comes behind it.
-use Rattle.std.specs.Prelude.{◌+◌, ◌==◌, List, length, option_map}
+-- The steps of a registration and of a cut, each by what comes behind it.
+use Rattle.std.specs.Prelude.{ℕ, ◌+◌, ◌==◌, List, length, option_map}
 use Rattle.rp_geometry.specs.sets.Shape.{Part}
 use Rattle.rp_language.specs.Name.{Label}
 use Rattle.rp_walks.specs.Walk.{Walk, Tester, ◌>>=◌, ◌>>◌}
 use Rattle.rp_walks.specs.Form.{near_pair}
 use Rattle.rp_model.specs.states.State.{Lot, PlainState, parts_under_lots, most_kept_parts}
-use Rattle.rp_model.specs.commands.Verdict.{empty_region, overlaps}
+use Rattle.rp_model.specs.commands.Verdict.{empty_region, empty_side, overlaps}
 use Rattle.rp_model.specs.commands.Checks.{refuse_if, and_then, check_new}
 use Rattle.rp_model.specs.commands.Row.{Reply, check, check_size, lot_parts, count_with_each, first_overlapped}
 
@@ -16,3 +16,7 @@ lot_checked s x ps rest = check (and_then (check_new s x) (refuse_if (length ps 
 -- its pairs with some lots are counted, and none of these shares a member with it
 abbrev pub lots_tested : {W : Type 0} → Tester W → List Part → List (Lot (Unit {0})) → Walk W Reply → Walk W Reply
 lots_tested tester ps lots rest = tester.count (count_with_each near_pair ps (lot_parts lots)) >> (first_overlapped tester ps lots >>= λ found. check (option_map overlaps found) rest)
+
+-- one side of a cut is made, and refused by its number where it has no part
+abbrev pub with_side : {W : Type 0} → ℕ → Walk W (List Part) → (List Part → Walk W Reply) → Walk W Reply
+with_side n side next = side >>= λ ps. check (refuse_if (length ps == 0) (empty_side n)) (next ps)

@@ -1,14 +1,20 @@
 //! A lot is cut in two.
-ghost use Rattle.std.specs.Prelude.{◌≡◌, ◌+◌, ◌∷◌, [], List, IfOk};
+ghost use Rattle.std.specs.Prelude.{◌≡◌, ◌==◌, ◌+◌, ◌∷◌, [], List, IfOk, length};
 ghost use Rattle.rp_geometry.specs.sets.Shape.{Part};
 ghost use Rattle.rp_model.specs.states.State.{lots_replaced, parts_under_lots, most_kept_parts};
-ghost use Rattle.rp_model.specs.commands.Row.{check_size, new_lot, row_cut};
+ghost use Rattle.rp_model.specs.commands.Verdict.{empty_side};
+ghost use Rattle.rp_model.specs.commands.Checks.{refuse_if};
+ghost use Rattle.rp_model.specs.commands.Row.{Reply, check, check_size, new_lot, row_cut};
+ghost use Rattle.rp_walks.specs.Walk.{Walk};
+ghost use Rattle.rp_walks.specs.Form.{join, subtract};
+ghost use Rattle.rp_answer.specs.Replies.{GoesOn};
+ghost use Rattle.rp_changes.specs.Steps.{with_side};
 ghost use Rattle.rp_tester.specs.Comes.{Comes};
 ghost use Rattle.rp_lots.specs.Changes.{Changes, replaced_of};
 
 use rp_answer::{Refusal, RowEnd};
 use rp_lists::{Listed, Name, Names};
-use rp_lots::{Keeper, Replaced, born_of, count_parts, form_at};
+use rp_lots::{Keeper, Replaced, add_born, count_parts, form_at};
 use rp_store::MAX_KEPT_PARTS;
 use rp_tester::{Stopped, Tests};
 use std::alloc::{AllocError, Global};
@@ -28,29 +34,57 @@ pub fn cut<T: Tests, K: Keeper<T>>(
     let history = keeper.history();
     let place = history.check_cut(id, first, second)?;
     let whole = form_at::<T, K>(keeper, place);
-    let inner = tests.both(alloc, whole, by)?;
-    let inner_parts = count_parts::<T>(&inner);
-    if inner_parts == 0 {
-        return Err(RowEnd::Refused(Refusal::EmptySide(1)));
-    }
-    let outer = tests.minus(alloc, whole, by)?;
-    let outer_parts = count_parts::<T>(&outer);
-    if outer_parts == 0 {
-        return Err(RowEnd::Refused(Refusal::EmptySide(2)));
-    }
-    check_room_for_both::<T, K>(keeper, inner_parts, outer_parts)?;
+    let inner = inner_side::<T>(alloc, whole, by, tests)?;
+    let outer = outer_side::<T>(alloc, whole, by, tests)?;
+    check_room_for_both::<T, K>(keeper, &inner, &outer)?;
     let layer = history.layer_of(&id);
     Ok(in_two(alloc, layer, id, first, second, inner, outer)?)
 }
 
-/// `Limit` exactly where all lots together would keep more than 65,536 parts with so many more, and so many more again.
+/// What a form has inside the form `by`, refused where that is no part.
+fn inner_side<T: Tests>(
+    alloc: Global,
+    whole: &T::Form,
+    by: &T::Form,
+    tests: &mut T,
+) -> Result<T::Form, RowEnd>
+    ensures { (next : List Part → Walk T Reply) → GoesOn T.parts_of result tests.new next (with_side 1 (join T.tester (T.parts_of whole.now) (T.parts_of by.now)) next tests.old) }
+{
+    filled::<T>(1, tests.both(alloc, whole, by)?)
+}
+
+/// What a form has outside the form `by`, refused where that is no part.
+fn outer_side<T: Tests>(
+    alloc: Global,
+    whole: &T::Form,
+    by: &T::Form,
+    tests: &mut T,
+) -> Result<T::Form, RowEnd>
+    ensures { (next : List Part → Walk T Reply) → GoesOn T.parts_of result tests.new next (with_side 2 (subtract T.tester (T.parts_of whole.now) (T.parts_of by.now)) next tests.old) }
+{
+    filled::<T>(2, tests.minus(alloc, whole, by)?)
+}
+
+/// A side of a cut, refused by its number where it has no part.
+fn filled<T: Tests>(number: u8, form: T::Form) -> Result<T::Form, RowEnd>
+    ensures { (next : List Part → Walk T Reply) (w : T) → GoesOn T.parts_of result w next (check (refuse_if (length (T.parts_of form) == 0) (empty_side number)) (next (T.parts_of form)) w) }
+{
+    if count_parts::<T>(&form) == 0 {
+        return Err(RowEnd::Refused(Refusal::EmptySide(number)));
+    }
+    Ok(form)
+}
+
+/// `Limit` exactly where all lots together would keep more than 65,536 parts with those of two forms.
 fn check_room_for_both<T: Tests, K: Keeper<T>>(
     keeper: &K,
-    first: usize,
-    second: usize,
+    first: &T::Form,
+    second: &T::Form,
 ) -> Result<(), Stopped>
-    ensures { (w : T) → Comes (λ x. x) result w (check_size (parts_under_lots (K.state keeper.now).lots + (first + second)) most_kept_parts w) }
+    ensures { (w : T) → Comes (λ x. x) result w (check_size (parts_under_lots (K.state keeper.now).lots + (length (T.parts_of first.now) + length (T.parts_of second.now))) most_kept_parts w) }
 {
+    let first = count_parts::<T>(first);
+    let second = count_parts::<T>(second);
     if first > MAX_KEPT_PARTS || second > MAX_KEPT_PARTS {
         return Err(Stopped::Limit);
     }
@@ -73,11 +107,9 @@ fn in_two<F: Drop>(
     ensures { (view : F → List Part) → IfOk result (λ change. replaced_of view change ≡ lots_replaced (origin ∷ []) (new_lot layer first (view inner) (origin ∷ []) ∷ new_lot layer second (view outer) (origin ∷ []) ∷ [])) }
 {
     let mut births = Listed::new(alloc);
-    births.push(born_of(alloc, layer, origin, first)?)?;
-    births.push(born_of(alloc, layer, origin, second)?)?;
     let mut forms = Listed::new(alloc);
-    forms.push(inner)?;
-    forms.push(outer)?;
+    add_born(alloc, layer, origin, first, inner, &mut births, &mut forms)?;
+    add_born(alloc, layer, origin, second, outer, &mut births, &mut forms)?;
     let ends = Names::copy_of(alloc, &[origin])?;
     Ok(Replaced {
         ends,

@@ -13,7 +13,7 @@ mod keeper;
 mod near;
 mod registry;
 
-pub use births::{born_of, replacing};
+pub use births::{add_born, replacing};
 pub use change::{Change, Replaced};
 pub use checks::{check_room, count_parts};
 pub use keeper::Keeper;

@@ -1,5 +1,5 @@
 //! A lot is divided into children.
-ghost use Rattle.std.specs.Prelude.{◌≡◌, ◌<◌, ◌≤◌, ◌∷◌, ◌++◌, [], List, None, IfOk, OnOk, length, map, slice_get};
+ghost use Rattle.std.specs.Prelude.{◌≡◌, ◌<◌, ◌≤◌, ◌∷◌, [], List, None, IfOk, length, map, slice_get};
 ghost use Rattle.std.specs.List.{AllByRecursion};
 ghost use Rattle.rp_geometry.specs.sets.Shape.{Part};
 ghost use Rattle.rp_walks.specs.Walk.{Walk};
@@ -8,7 +8,6 @@ ghost use Rattle.rp_model.specs.commands.Checks.{check_live};
 ghost use Rattle.rp_model.specs.commands.Row.{Reply, new_lot, row_subdivide};
 ghost use Rattle.rp_answer.specs.Replies.{GoesOn};
 ghost use Rattle.rp_history.specs.Checks.{InEach};
-ghost use Rattle.rp_history.specs.declared.lot.Birth.{Birth};
 ghost use Rattle.rp_lots.specs.Changes.{Changes, replaced_of};
 ghost use Rattle.rp_subdivide.specs.Children.{formed_child, formed_children, IsShort};
 ghost use Rattle.rp_subdivide.specs.Steps.{children_checked, inside_tested, apart_tested, cover_tested};
@@ -18,9 +17,8 @@ use crate::children::{
     check_apart, check_covered, check_inside, child_ids, count_all, first_empty,
 };
 use rp_answer::{Refusal, RowEnd};
-use rp_history::Birth;
 use rp_lists::{Listed, Name, Names};
-use rp_lots::{Keeper, Overlaps, Replaced, born_of, check_room, form_at};
+use rp_lots::{Keeper, Overlaps, Replaced, add_born, check_room, form_at};
 use rp_tester::Tests;
 use std::alloc::{AllocError, Global};
 
@@ -96,8 +94,8 @@ fn children_born<F: Drop>(
 {
     let mut births = Listed::new(alloc);
     let mut forms = Listed::new(alloc);
-    for child in children.into_items() {
-        add_born(alloc, layer, origin, child, &mut births, &mut forms)?;
+    for Child { id, form } in children.into_items() {
+        add_born(alloc, layer, origin, id, form, &mut births, &mut forms)?;
     }
     let ends = Names::copy_of(alloc, &[origin])?;
     Ok(Replaced {
@@ -105,21 +103,4 @@ fn children_born<F: Drop>(
         births,
         forms,
     })
-}
-
-/// Puts the birth of a child of a lot behind others, and its form behind theirs.
-fn add_born<F: Drop>(
-    alloc: Global,
-    layer: Name,
-    origin: Name,
-    child: Child<F>,
-    births: &mut Listed<Birth>,
-    forms: &mut Listed<F>,
-) -> Result<(), AllocError>
-    ensures births { OnOk result ((b : Birth) × (births.new.items ≡ births.old.items ++ b ∷ []) × (b.id ≡ child.id) × (b.layer ≡ layer) × (b.origins.items ≡ origin ∷ [])) }
-    ensures forms { OnOk result (forms.new.items ≡ forms.old.items ++ child.form ∷ []) }
-{
-    births.push(born_of(alloc, layer, origin, child.id)?)?;
-    forms.push(child.form)?;
-    Ok(())
 }

@@ -1,15 +1,15 @@
-use Rattle.std.proofs.Common.{◌≡◌, ◌+◌, ℕ, [], ◌∷◌, length, refl, ap, ap₂, sym, ◌∙◌, subst}
+use Rattle.std.proofs.Common.{[], ◌∷◌, ap, sym, ◌∙◌, subst}
 use Rattle.std.proofs.lemmas.Result.{err_from_is_err_and}
 use Rattle.rp_language.specs.Name.{Label}
-use Rattle.rp_walks.specs.Walk.{done, pass}
-use Rattle.rp_model.specs.states.State.{Change, parts_under_lots, lots_replaced, most_kept_parts}
-use Rattle.rp_model.specs.commands.Row.{accepted, check_size, new_lot}
+use Rattle.rp_walks.specs.Walk.{Outcome, done, pass, after_first}
+use Rattle.rp_model.specs.states.State.{Change, lots_replaced}
+use Rattle.rp_model.specs.commands.Row.{Reply, accepted, new_lot}
 use Rattle.rp_tester.specs.Comes.{StopsBy}
-use Rattle.rp_tester.proofs.Left.{next_left, stop_left, end_left}
+use Rattle.rp_tester.proofs.Left.{stops_on}
+use Rattle.rp_answer.specs.Replies.{EndsBy}
 use Rattle.rp_history.proofs.Checked.{passes_first}
 use Rattle.rp_lots.proofs.Names.{names_end, parts_here}
-use Rattle.rp_changes.proofs.Divided.{cut_reply, cut_left}
-use Rattle.rp_changes.proofs.Counted.{are_some}
+use Rattle.rp_changes.proofs.Divided.{cut_reply, with_inner, with_outer, cut_begins, outer_begins, room_begins}
 use Rattle.rp_changes.proofs.dividing.cut.Goals as goal
 
 pub returns-in_err-place : goal.returns-in_err-place
@@ -24,46 +24,68 @@ form_at-whole-requires g c = c.in_ok-place.ensures.within (g.K.Keeper.state c.ar
 pub layer_of-layer-requires : goal.layer_of-layer-requires
 layer_of-layer-requires g c s same = passes_first _ _ (c.in_ok-place.ensures.checks s same)
 
+pub returns-in_err-inner : goal.returns-in_err-inner
+returns-in_err-inner g c =
+    let p = err_from_is_err_and c.from_residual-in_err-inner.result c.from_residual-in_err-inner.ensures.1 in
+    let s = g.K.Keeper.state c.args.keeper.now in
+    let tester = g.T.Tests.tester in
+    let whole = g.T.Tests.parts_of c.form_at-whole.result.now in
+    let ps = g.T.Tests.parts_of c.args.by.now in
+    let e = c.in_err-inner.field-0.0 in
+    let new = c.inner_side.new.tests in
+    let same = c.history-history.ensures.value in
+    rw (p.1, p.2)
+    (subst (λ (o : Outcome g.row.T.Denot Reply). EndsBy e new o)
+    (sym (cut_begins tester s c.args.id c.args.first c.args.second whole ps c.args.tests.now (c.in_ok-place.ensures.checks s same) (parts_here c.args.id s c.in_ok-place.place whole (c.in_ok-place.ensures.lot s same) c.form_at-whole.ensures)))
+    (c.in_err-inner.ensures (with_inner tester s c.args.id c.args.first c.args.second whole ps)))
+
+pub returns-in_err-outer : goal.returns-in_err-outer
+returns-in_err-outer g c =
+    let p = err_from_is_err_and c.from_residual-in_err-outer.result c.from_residual-in_err-outer.ensures.1 in
+    let s = g.K.Keeper.state c.args.keeper.now in
+    let tester = g.T.Tests.tester in
+    let whole = g.T.Tests.parts_of c.form_at-whole.result.now in
+    let ps = g.T.Tests.parts_of c.args.by.now in
+    let inner = g.T.Tests.parts_of c.in_ok-inner.inner in
+    let e = c.in_err-outer.field-0.0 in
+    let new = c.outer_side.new.tests in
+    let same = c.history-history.ensures.value in
+    rw (p.1, p.2)
+    (subst (λ (o : Outcome g.row.T.Denot Reply). EndsBy e new o)
+    (sym (outer_begins tester s c.args.id c.args.first c.args.second whole ps c.args.tests.now c.inner_side.new.tests inner (c.in_ok-place.ensures.checks s same) (parts_here c.args.id s c.in_ok-place.place whole (c.in_ok-place.ensures.lot s same) c.form_at-whole.ensures) (λ next. c.in_ok-inner.ensures next)))
+    (c.in_err-outer.ensures (with_outer tester s c.args.id c.args.first c.args.second whole ps inner)))
+
 pub returns-in_err-check_room_for_both : goal.returns-in_err-check_room_for_both
 returns-in_err-check_room_for_both g c =
     let p = err_from_is_err_and c.from_residual-in_err-check_room_for_both.result c.from_residual-in_err-check_room_for_both.ensures.1 in
     let s = g.K.Keeper.state c.args.keeper.now in
-    let parts_of = g.T.Tests.parts_of in
+    let tester = g.T.Tests.tester in
     let x = c.args.id in
-    let whole = parts_of c.form_at-whole.result.now in
-    let inner = parts_of c.in_ok-inner.inner in
-    let outer = parts_of c.in_ok-outer.outer in
-    let u = c.both.new.self in
-    let v = c.minus.new.self in
+    let whole = g.T.Tests.parts_of c.form_at-whole.result.now in
+    let ps = g.T.Tests.parts_of c.args.by.now in
+    let inner = g.T.Tests.parts_of c.in_ok-inner.inner in
+    let outer = g.T.Tests.parts_of c.in_ok-outer.outer in
+    let v = c.outer_side.new.tests in
     let e = c.in_err-check_room_for_both.field-0.0 in
-    let first = c.count_parts-inner_parts.ensures in
-    let second = c.count_parts-outer_parts.ensures in
-    let some = are_some c.count_parts-inner_parts.result (length inner) first c.if-inner_parts-eq0.false in
-    let more = are_some c.count_parts-outer_parts.result (length outer) second c.if-outer_parts-eq0.false in
+    let same = c.history-history.ensures.value in
     rw (p.1, p.2)
-    (stop_left (check_size (parts_under_lots s.lots + (length inner + length outer)) most_kept_parts) (λ _. pass (cut_reply s x c.args.first c.args.second inner outer))
-    (cut_left g.T.Tests.tester s x c.args.first c.args.second whole (parts_of c.args.by.now) inner outer c.args.tests.now u v (c.in_ok-place.ensures.checks s c.history-history.ensures.value) (parts_here x s c.in_ok-place.place whole (c.in_ok-place.ensures.lot s c.history-history.ensures.value) c.form_at-whole.ensures) c.in_ok-inner.ensures some c.in_ok-outer.ensures more)
-    e v (subst (λ (n : ℕ). StopsBy e v (check_size (parts_under_lots s.lots + n) most_kept_parts v)) (ap₂ ◌+◌ first second) (c.in_err-check_room_for_both.ensures v)))
+    (subst (λ (o : Outcome g.row.T.Denot Reply). StopsBy e v o)
+    (sym (room_begins tester s x c.args.first c.args.second whole ps c.args.tests.now c.inner_side.new.tests v inner outer (c.in_ok-place.ensures.checks s same) (parts_here x s c.in_ok-place.place whole (c.in_ok-place.ensures.lot s same) c.form_at-whole.ensures) (λ next. c.in_ok-inner.ensures next) (λ next. c.in_ok-outer.ensures next)))
+    (stops_on (λ _. pass (cut_reply s x c.args.first c.args.second inner outer)) e v _ (c.in_err-check_room_for_both.ensures v)))
 
 pub returns : goal.returns
 returns g c =
     let s = g.K.Keeper.state c.args.keeper.now in
-    let parts_of = g.T.Tests.parts_of in
+    let tester = g.T.Tests.tester in
     let x = c.args.id in
-    let whole = parts_of c.form_at-whole.result.now in
-    let inner = parts_of c.in_ok-inner.inner in
-    let outer = parts_of c.in_ok-outer.outer in
-    let u = c.both.new.self in
-    let v = c.minus.new.self in
-    let first = c.count_parts-inner_parts.ensures in
-    let second = c.count_parts-outer_parts.ensures in
-    let some = are_some c.count_parts-inner_parts.result (length inner) first c.if-inner_parts-eq0.false in
-    let more = are_some c.count_parts-outer_parts.result (length outer) second c.if-outer_parts-eq0.false in
-    let room = subst (λ (n : ℕ). check_size (parts_under_lots s.lots + n) most_kept_parts v ≡ done tt v) (ap₂ ◌+◌ first second) (c.in_ok-check_room_for_both.ensures v) in
-    let new = c.in_ok-in_two.ensures parts_of
-    ∙ ap (λ (y : Label). lots_replaced (x ∷ []) (new_lot y c.args.first inner (x ∷ []) ∷ new_lot y c.args.second outer (x ∷ []) ∷ [])) (c.layer_of-layer.ensures s c.history-history.ensures.value) in
-    end_left (done (cut_reply s x c.args.first c.args.second inner outer) v)
-    (next_left (check_size (parts_under_lots s.lots + (length inner + length outer)) most_kept_parts) (λ _. pass (cut_reply s x c.args.first c.args.second inner outer))
-    (cut_left g.T.Tests.tester s x c.args.first c.args.second whole (parts_of c.args.by.now) inner outer c.args.tests.now u v (c.in_ok-place.ensures.checks s c.history-history.ensures.value) (parts_here x s c.in_ok-place.place whole (c.in_ok-place.ensures.lot s c.history-history.ensures.value) c.form_at-whole.ensures) c.in_ok-inner.ensures some c.in_ok-outer.ensures more)
-    room) refl
+    let whole = g.T.Tests.parts_of c.form_at-whole.result.now in
+    let ps = g.T.Tests.parts_of c.args.by.now in
+    let inner = g.T.Tests.parts_of c.in_ok-inner.inner in
+    let outer = g.T.Tests.parts_of c.in_ok-outer.outer in
+    let v = c.outer_side.new.tests in
+    let same = c.history-history.ensures.value in
+    let new = c.in_ok-in_two.ensures g.T.Tests.parts_of
+    ∙ ap (λ (y : Label). lots_replaced (x ∷ []) (new_lot y c.args.first inner (x ∷ []) ∷ new_lot y c.args.second outer (x ∷ []) ∷ [])) (c.layer_of-layer.ensures s same) in
+    room_begins tester s x c.args.first c.args.second whole ps c.args.tests.now c.inner_side.new.tests v inner outer (c.in_ok-place.ensures.checks s same) (parts_here x s c.in_ok-place.place whole (c.in_ok-place.ensures.lot s same) c.form_at-whole.ensures) (λ next. c.in_ok-inner.ensures next) (λ next. c.in_ok-outer.ensures next)
+    ∙ ap (after_first (λ _. pass (cut_reply s x c.args.first c.args.second inner outer))) (c.in_ok-check_room_for_both.ensures v)
     ∙ ap (λ (d : Change (Unit {0})). done (accepted d) v) (sym new)

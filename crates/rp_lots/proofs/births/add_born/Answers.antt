@@ -1,4 +1,4 @@
-use Rattle.rp_subdivide.proofs.subdividing.add_born.Goals as goal
+use Rattle.rp_lots.proofs.births.add_born.Goals as goal
 
 pub returns-clause-births : goal.returns-clause-births
 returns-clause-births g c =
