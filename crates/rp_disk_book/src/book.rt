@@ -69,8 +69,8 @@ impl<S: Alter> Book for DiskBook<S> {
             self.faults = self.faults.saturating_add(1);
             return Err(BookFault::Disk);
         }
+        let number = self.contents.next_number();
         let act = self.contents.prepare(alloc, lines, entry)?;
-        let number = self.contents.acts.len() as u32 + 1;
         if let Err(error) = insert(
             &mut self.conn,
             number,

@@ -48,6 +48,23 @@ impl Contents {
         }
     }
 
+    /// The number of the entry that comes next.
+    pub fn next_number(&self) -> u32
+        requires { IsKept (contents_of self.now) }
+        ensures { result ≡ length (contents_of self.now).acts + 1 }
+    {
+        self.acts.len() as u32 + 1
+    }
+
+    /// Makes room for an act with its `lines`.
+    pub fn reserve(&mut self, lines: &[u8]) -> Result<(), AllocError>
+        ensures same { contents_of self.new ≡ contents_of self.old }
+        ensures room { OnOk result (HasRoom self.new lines.now) }
+    {
+        self.script.reserve(lines.len())?;
+        self.acts.reserve(1)
+    }
+
     /// The act of `lines` that are to come under `entry`; there is room for both then.
     pub fn prepare(
         &mut self,
@@ -64,8 +81,7 @@ impl Contents {
         ensures numbers { IfOk result (λ act. HasNumbers self.old.script.items lines.now (act_of act)) }
         ensures fits { IfOk result (λ act. act.last ≤ length self.old.script.items + length lines.now) }
     {
-        self.script.reserve(lines.len())?;
-        self.acts.reserve(1)?;
+        self.reserve(lines)?;
         let (first, last) = line_numbers(&self.script, self.lines, lines);
         Act::new(alloc, first, last, entry)
     }

@@ -1,6 +1,6 @@
 //! A database that is made a book, or opened as one.
 ghost use Rattle.std.specs.Prelude.{◌≡◌, [], Bool, IfOk, IfSome, IsTrue, List, OnOk, ℕ, pos};
-ghost use Rattle.sqlite.specs.declared.types.Value.TheVariants.{Text};
+ghost use Rattle.sqlite.specs.declared.types.Value.TheVariants.{Int, Text};
 ghost use Rattle.sqlite.specs.Order.{column};
 ghost use Rattle.sqlite.specs.State.{HasCleanDisk};
 ghost use Rattle.sqlite.specs.Held.{Held, state};
@@ -54,16 +54,26 @@ fn lines_of(row: &Row) -> Option<&[u8]>
     }
 }
 
-/// The act of an entry with the number.
-fn act_of(row: &Row, number: u32) -> Result<Act, OpenFault>
-    ensures { IfOk result (λ act. ShowsAct number row.now (act_of act)) }
+/// Refuses an entry that does not show the number in a column.
+fn expect_number(row: &Row, place: usize, number: u32) -> Result<(), OpenFault>
+    ensures { OnOk result (column row.now place ≡ Int (pos number)) }
 {
-    let found: u32 = row.get(0)?;
+    let found: u32 = row.get(place)?;
     if found != number {
         return Err(OpenFault::NoBook);
     }
-    let first = row.get(1)?;
-    let last = row.get(2)?;
+    Ok(())
+}
+
+/// The act of an entry with the number, whose lines have these numbers.
+fn act_of(row: &Row, number: u32, first: u32, last: u32) -> Result<Act, OpenFault>
+    ensures shows { IfOk result (λ act. ShowsAct number row.now (act_of act)) }
+    ensures first { IfOk result (λ act. act.first ≡ first) }
+    ensures last { IfOk result (λ act. act.last ≡ last) }
+{
+    expect_number(row, 0, number)?;
+    expect_number(row, 1, first)?;
+    expect_number(row, 2, last)?;
     let added = row.get(3)?;
     let who = row.get(4)?;
     let deed = row.get(5)?;
@@ -89,12 +99,9 @@ fn push_entry(row: &Row, contents: &mut Contents) -> Result<(), OpenFault>
         return Err(OpenFault::NoBook);
     }
     let (first, last) = line_numbers(&contents.script, contents.lines, lines);
-    contents.script.reserve(lines.len())?;
-    contents.acts.reserve(1)?;
-    let act = act_of(row, contents.acts.len() as u32 + 1)?;
-    if act.first != first || act.last != last {
-        return Err(OpenFault::NoBook);
-    }
+    let number = contents.next_number();
+    contents.reserve(lines)?;
+    let act = act_of(row, number, first, last)?;
     contents.push(act, lines);
     Ok(())
 }

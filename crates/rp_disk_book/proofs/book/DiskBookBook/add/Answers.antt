@@ -1,5 +1,4 @@
 use Rattle.std.proofs.Common.{◌≡◌, ◌+◌, ◌≤◌, ◌++◌, IsTrue, length, map, option_map, ap, sym, subst, arith, ◌∙◌}
-use Rattle.std.proofs.lemmas.List.{length-map}
 use Rattle.sqlite.specs.Held.{state}
 use Rattle.sqlite.specs.State.{Survives}
 use Rattle.rp_reports.specs.Output.{most_script_bytes}
@@ -21,9 +20,7 @@ returns-in-Err-clause-crash g c = λ test finds passes.
     let e = c.args.entry in
     let lines = c.args.lines.now in
     let none : book.faults ≡ 0 = omega (arith, c.if-self-gt0.false) in
-    let kept = c.prepare.new.self.acts in
-    let number : c.len.result + 1 ≡ length acts + 1 = omega (arith, c.len.ensures, kept.ok.0, length-map kept.items act_of, ap (λ (k : Kept). length k.acts) c.in_ok-act.ensures.same) in
-    let fields = fields_are (c.len.result + 1) (length acts + 1) a.first a.last e.added.now (option_map (λ t. t.now) e.who) (option_map (λ t. t.now) e.deed) (act_of a) lines number c.in_ok-act.ensures.act in
+    let fields = fields_are c.next_number-number.result (length acts + 1) a.first a.last e.added.now (option_map (λ t. t.now) e.who) (option_map (λ t. t.now) e.deed) (act_of a) lines c.next_number-number.ensures c.in_ok-act.ensures.act in
     finds_more old new acts (act_of a) book.contents.script.items lines c.requires.end c.in_ok-act.ensures.numbers (c.self.invariant.1 none) c.insert.ensures.clean
     (subst (λ (f : Fields). old.now.schema ≡ book_schema → Survives old new (λ db. GainsEntry (entries_in old.now.trees) (entries_in db) f)) fields c.insert.ensures.survives)
     test (subst (λ (o : Opened g.row.S.Denot). FindsInDatabase (state g.S.Store o.conn) test) (sym c.self.view_is) finds)
@@ -39,9 +36,7 @@ returns-clause-crash g c = λ test finds passes.
     let e = c.args.entry in
     let lines = c.args.lines.now in
     let none : book.faults ≡ 0 = omega (arith, c.if-self-gt0.false) in
-    let kept = c.prepare.new.self.acts in
-    let number : c.len.result + 1 ≡ length acts + 1 = omega (arith, c.len.ensures, kept.ok.0, length-map kept.items act_of, ap (λ (k : Kept). length k.acts) c.in_ok-act.ensures.same) in
-    let fields = fields_are (c.len.result + 1) (length acts + 1) a.first a.last e.added.now (option_map (λ t. t.now) e.who) (option_map (λ t. t.now) e.deed) (act_of a) lines number c.in_ok-act.ensures.act in
+    let fields = fields_are c.next_number-number.result (length acts + 1) a.first a.last e.added.now (option_map (λ t. t.now) e.who) (option_map (λ t. t.now) e.deed) (act_of a) lines c.next_number-number.ensures c.in_ok-act.ensures.act in
     finds_more old new acts (act_of a) book.contents.script.items lines c.requires.end c.in_ok-act.ensures.numbers (c.self.invariant.1 none) c.insert.ensures.clean
     (subst (λ (f : Fields). old.now.schema ≡ book_schema → Survives old new (λ db. GainsEntry (entries_in old.now.trees) (entries_in db) f)) fields c.insert.ensures.survives)
     test (subst (λ (o : Opened g.row.S.Denot). FindsInDatabase (state g.S.Store o.conn) test) (sym c.self.view_is) finds)
@@ -57,9 +52,7 @@ invariant_of-self-2 g c =
     let e = c.args.entry in
     let lines = c.args.lines.now in
     let short = subst (λ (o : Opened g.row.S.Denot). length o.script + length lines ≤ most_script_bytes) (sym c.self.view_is) c.requires.short in
-    let kept = c.prepare.new.self.acts in
-    let number : c.len.result + 1 ≡ length acts + 1 = omega (arith, c.len.ensures, kept.ok.0, length-map kept.items act_of, ap (λ (k : Kept). length k.acts) c.in_ok-act.ensures.same) in
-    let fields = fields_are (c.len.result + 1) (length acts + 1) a.first a.last e.added.now (option_map (λ t. t.now) e.who) (option_map (λ t. t.now) e.deed) (act_of a) lines number c.in_ok-act.ensures.act in
+    let fields = fields_are c.next_number-number.result (length acts + 1) a.first a.last e.added.now (option_map (λ t. t.now) e.who) (option_map (λ t. t.now) e.deed) (act_of a) lines c.next_number-number.ensures c.in_ok-act.ensures.act in
     let pushed : contents_of c.push.new.self ≡ with_act (contents_of book.contents) (act_of a) lines = c.push.ensures ∙ ap (λ (k : Kept). with_act k (act_of a) lines) c.in_ok-act.ensures.same in (
       subst IsKept (sym pushed) (IsKept-push (contents_of book.contents) (act_of a) lines c.self.invariant.0 c.requires.end short c.in_ok-act.ensures.numbers c.in_ok-act.ensures.fits),
       λ none clean.
