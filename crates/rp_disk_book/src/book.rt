@@ -81,6 +81,7 @@ impl<S: Alter> Book for DiskBook<S> {
             entry.deed,
             lines,
         ) {
+            drop(act);
             self.faults = 1;
             return Err(fault_of(error));
         }

@@ -1,4 +1,5 @@
-use Rattle.std.proofs.Common.{ℕ, suc, List, ◌∷◌, drop, drop-cons, add-one, subst, sym}
+use Rattle.std.proofs.Common.{ℕ, suc, List, ◌∷◌, drop, drop-cons, add-one, subst, sym, arith}
+use Rattle.std.proofs.lemmas.List.{drop_all}
 use Rattle.sqlite.specs.Order.{Row}
 use Rattle.rp_disk_book.specs.Kept.{contents_of}
 use Rattle.rp_disk_book.specs.Disk.{HasRead}
@@ -17,3 +18,8 @@ loop-row-preserved c =
       c.in_ok-push_entry.ensures.kept,
       subst (λ (k : ℕ). HasRead rows (drop k rows) new) (sym (add-one i)) (HasRead-more rows row (drop (suc i) rows) old new first c.in_ok-push_entry.ensures.gained),
     )
+
+pub returns-clause-read : goal.returns-clause-read
+returns-clause-read c =
+    let rows = c.args.rows.now in
+    subst (λ (rest : List Row). HasRead rows rest (contents_of c.loop-row.contents)) (drop_all c.loop-row.row-index rows (omega (arith, c.loop-row-test.false))) c.loop-row.invariant.1
