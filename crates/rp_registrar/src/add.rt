@@ -28,15 +28,16 @@ pub enum Outcome {
     Added(Vec<Name>),
 }
 
-/// Adds lines to a book, and nothing where there are none.
+/// Adds lines to a book, and nothing where there are none, and tells which layers they chose for the first time.
 fn keep<B: Book>(
     alloc: Global,
     book: &mut B,
     lines: &[u8],
     entry: Entry<'_>,
-) -> Result<(), BookFault>
+) -> Result<Outcome, BookFault>
     requires end { IsEnded lines.now }
     requires short { IfSome (B.script book.old) (λ kept. length kept + length lines.now ≤ most_script_bytes) }
+    ensures kept { IfOk result (λ done. is_refused done ≡ false) }
     ensures counts { B.faults book.old ≤ B.faults book.new }
     ensures ok { OnOk result (Appends (B.script book.old) (B.script book.new) lines.now) }
     ensures err { OnErr result (Stays (B.script book.old) (B.script book.new)) }
@@ -44,20 +45,11 @@ fn keep<B: Book>(
     ensures crash { FindsAllOrNone (B.finds book.old) (B.finds book.new) (B.script book.old) lines.now }
 {
     if lines.is_empty() {
-        return Ok(());
+        return Ok(Outcome::Empty);
     }
-    book.add(alloc, lines, entry)
-}
-
-/// What is said of lines that were kept.
-fn outcome_of(lines: &[u8], layers: Vec<Name>) -> Outcome
-    ensures { is_refused result ≡ false }
-{
-    if lines.is_empty() {
-        Outcome::Empty
-    } else {
-        Outcome::Added(layers)
-    }
+    let layers = first_chosen(alloc, book.text(), lines)?;
+    book.add(alloc, lines, entry)?;
+    Ok(Outcome::Added(layers))
 }
 
 /// Adds the lines of `source` to `book`, under `entry`, where none of them is refused, and puts their answers into `sink`.
@@ -91,7 +83,6 @@ pub fn add<R: Threads + Sync, B: Book, S: Source, K: Sink>(
     if put_behind(rt, alloc, script, &lines, sink)? {
         return Ok(Outcome::Refused);
     }
-    let layers = first_chosen(alloc, script, &lines)?;
-    keep(alloc, book, &lines, entry)?;
-    Ok(outcome_of(&lines, layers))
+    let done = keep(alloc, book, &lines, entry)?;
+    Ok(done)
 }
