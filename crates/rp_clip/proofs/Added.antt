@@ -14,7 +14,8 @@ use Rattle.rp_convex.proofs.Edges.{vertices_follow_edges_spec}
 use Rattle.rp_convex.proofs.Standing.{listed_contains, contains_listed}
 use Rattle.rp_clip.specs.Clipped.{Clipped, clipped, HasVertices}
 use Rattle.rp_clip.specs.Crossings.{HasMeetings, with_one, IsKeptTable, IsCrossedAll, IsRefilled}
-use Rattle.rp_clip.specs.Masks.{half_at, mask_of, IsIn}
+use Rattle.rp_space.specs.Places.{IsIn}
+use Rattle.rp_clip.specs.Masks.{half_at, mask_of}
 use Rattle.rp_clip.specs.Tables.{Rows, AreDistinct, AreVertices, HasMoreVertices}
 use Rattle.rp_clip.proofs.Crossed.{listed_at}
 use Rattle.rp_clip.proofs.Masks.{mask_in, both_in, one_longer}

@@ -27,7 +27,8 @@ use Rattle.rp_convex.proofs.Corners.{vertex_corner}
 use Rattle.rp_convex.proofs.Standing.{contains_listed, listed_contains}
 use Rattle.rp_clip.specs.Clipped.{HasVertices}
 use Rattle.rp_clip.specs.Faces.{common_with, common_of, HasSide}
-use Rattle.rp_clip.specs.Masks.{half_at, mask_of, IsIn}
+use Rattle.rp_space.specs.Places.{IsIn}
+use Rattle.rp_clip.specs.Masks.{half_at, mask_of}
 use Rattle.rp_clip.specs.Tables.{Rows}
 use Rattle.rp_clip.proofs.Crossed.{at_listed, listed_at}
 use Rattle.rp_clip.proofs.HalfAt.{at_cell, at_cube, get_below}

@@ -18,14 +18,16 @@ use Rattle.rp_convex.proofs.Between.{crossing, crossing_weak}
 use Rattle.rp_convex.proofs.Corners.{meeting_is, is_meeting, vertex_corner}
 use Rattle.rp_convex.proofs.Edges.{not_parallel, apart, at_crossing, vertices_follow_edges_spec, crossing_keeps_planes_spec}
 use Rattle.rp_convex.proofs.Standing.{listed_contains, contains_listed}
-use Rattle.rp_clip.specs.Masks.{half_at, is_through, mask_of, IsIn, HasHalfSpaces}
+use Rattle.rp_space.specs.Places.{IsIn}
+use Rattle.rp_clip.specs.Masks.{half_at, is_through, mask_of, HasHalfSpaces}
 use Rattle.rp_clip.specs.Meetings.{ArePlaces, IsFirstMet}
 use Rattle.rp_clip.specs.Tables.{Rows, AreDifferentVertices, HasMoreVertices, IsTable, IsPut}
 use Rattle.rp_clip.specs.Crossings.{IsBetween, with_one, IsGrown, IsCrossed}
 use Rattle.rp_clip.specs.declared.meet.Met.{Met}
 use Rattle.rp_clip.proofs.HalfAt.{at_cell, at_cube, get_below}
 use Rattle.rp_clip.proofs.Lists.{contains_map, map_contains, push_cases, push_keeps, push_has, push_distinct, map_push, get_contains}
-use Rattle.rp_clip.proofs.Masks.{bit_of, mask_bit, in_mask, mask_in, in_both, one_longer, new_place, mask_with}
+use Rattle.rp_space.proofs.Bits.{bit_of}
+use Rattle.rp_clip.proofs.Masks.{mask_bit, in_mask, mask_in, in_both, one_longer, new_place, mask_with}
 
 -- ---- half-spaces and places
 

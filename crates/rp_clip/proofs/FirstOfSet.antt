@@ -15,7 +15,8 @@ use Rattle.rp_convex.specs.Bases.{Places, IsBefore, PassesAt, IsBasis, IsGreedyB
 use Rattle.rp_convex.proofs.Bases.{vertex_has_greedy_basis_spec}
 use Rattle.rp_convex.proofs.Edges.{not_parallel}
 use Rattle.rp_clip.specs.Firsts.{IsBasisBefore}
-use Rattle.rp_clip.specs.Masks.{half_at, mask_of, IsIn, HasHalfSpaces, IsLowestFrom}
+use Rattle.rp_space.specs.Places.{IsIn, IsLowestFrom}
+use Rattle.rp_clip.specs.Masks.{half_at, mask_of, HasHalfSpaces}
 use Rattle.rp_clip.specs.Meetings.{ArePlaces, AreBefore, IsFirstOfSet, IsVertexSet, IsThree}
 use Rattle.rp_clip.specs.declared.meet.Basis.{Basis}
 use Rattle.rp_clip.proofs.HalfAt.{place_below}

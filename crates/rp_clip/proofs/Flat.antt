@@ -22,11 +22,13 @@ use Rattle.rp_convex.proofs.Vertex.{weak_is}
 use Rattle.rp_convex.proofs.Corners.{meeting_is}
 use Rattle.rp_convex.proofs.Standing.{listed_contains, contains_listed}
 use Rattle.rp_clip.specs.Firsts.{is_off_mask, is_off}
-use Rattle.rp_clip.specs.Masks.{half_at, bits_of, is_through, mask_of, IsIn, HasHalfSpaces}
+use Rattle.rp_space.specs.Places.{bits_of, IsIn}
+use Rattle.rp_clip.specs.Masks.{half_at, is_through, mask_of, HasHalfSpaces}
 use Rattle.rp_clip.proofs.Crossed.{listed_at, at_listed}
 use Rattle.rp_clip.proofs.FirstOfSet.{zero_unless}
 use Rattle.rp_clip.proofs.HalfAt.{place_below}
-use Rattle.rp_clip.proofs.Masks.{bits_of-small, IsThroughAt, in_mask, mask_in, in_both, both_in}
+use Rattle.rp_space.proofs.Bits.{bits_of-small}
+use Rattle.rp_clip.proofs.Masks.{IsThroughAt, in_mask, mask_in, in_both, both_in}
 use Rattle.rp_clip.proofs.Off.{off_true}
 use Rattle.rp_clip.proofs.Walks.{one_not_zero}
 

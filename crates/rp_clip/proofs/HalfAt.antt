@@ -6,7 +6,8 @@ use Rattle.std.proofs.lemmas.Bool.{cases_lt}
 use Rattle.std.proofs.lemmas.Bool.Decides.{nat_tests}
 use Rattle.rp_algebra.proofs.Options.{known_some, none_not_some, same_some}
 use Rattle.rp_geometry.specs.Geometry.{HalfSpace, cube_half_spaces}
-use Rattle.rp_clip.specs.Masks.{half_at, IsIn, HasHalfSpaces, HasLowPlaces}
+use Rattle.rp_space.specs.Places.{IsIn}
+use Rattle.rp_clip.specs.Masks.{half_at, HasHalfSpaces, HasLowPlaces}
 
 -- a number below another passes the test
 below_true : (a b : ℕ) → a < b → nat_lt a b ≡ true

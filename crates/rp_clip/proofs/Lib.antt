@@ -1,7 +1,6 @@
 -- lists
 pub mod Lists
 -- numbers and places
-pub mod Bits
 pub mod HalfAt
 pub mod Masks
 pub mod Walks

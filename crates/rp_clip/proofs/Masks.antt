@@ -1,49 +1,17 @@
 -- What the places of the planes through a point are.
-use Rattle.std.proofs.Common.{◌≡◌, ℕ, zero, suc, ◌+◌, ◌-◌, ◌*◌, ◌/◌, ◌%◌, ◌^◌, ◌<◌, ◌≤◌, ◌⊎◌, inl, inr, ⊎_elim, Bool, true, false, cond, pos, List, [], ◌∷◌, ◌++◌, length, refl, sym, ap, ◌∙◌, subst, arith, length-append}
+use Rattle.std.proofs.Common.{◌≡◌, ℕ, suc, ◌-◌, ◌*◌, ◌%◌, ◌^◌, ◌<◌, ◌≤◌, ◌⊎◌, inl, inr, ⊎_elim, Bool, true, false, cond, pos, List, [], ◌∷◌, ◌++◌, length, refl, sym, ap, ◌∙◌, subst, arith, length-append}
 use Rattle.std.specs.Prelude.{Option, Some, None, min, bit_and, bit_or}
 use Rattle.std.specs.Int.{bit_at, w128}
 use Rattle.std.specs.List.{slice_get}
 use Rattle.std.proofs.lemmas.Bool.{cases_lt, cases_order}
-use Rattle.std.proofs.Math.Nat.{pow-suc}
-use Rattle.std.proofs.lemmas.Nat.{pow_pos}
-use Rattle.std.proofs.lemmas.Nat.Bits.{bit_at_lowest, bit_at-suc, bit_at-zero, bit_at_cat_low, bit_at_cat_high, bit_at-lt, bit_at_and, same_from_bits, bit_at_set_same, bit_at_set_other}
+use Rattle.std.proofs.lemmas.Nat.Bits.{bit_at_cat_low, bit_at_cat_high, bit_at-lt, bit_at_and, same_from_bits, bit_at_set_same, bit_at_set_other}
 use Rattle.rp_algebra.proofs.Tests.{zero_is, is_zero_true, is_zero_false}
 use Rattle.rp_geometry.specs.Geometry.{RationalPoint, HalfSpace, side_value, cube_half_spaces}
-use Rattle.rp_clip.specs.Masks.{half_at, bits_of, is_through, mask_of, IsIn}
+use Rattle.rp_space.specs.Places.{bits_of, IsIn}
+use Rattle.rp_space.proofs.Bits.{bit_of, bits_of-bit, bits_of-small}
+use Rattle.rp_clip.specs.Masks.{half_at, is_through, mask_of}
 use Rattle.rp_clip.proofs.HalfAt.{at_cell, at_cube}
 use Rattle.rp_clip.proofs.Lists.{get_end, get_other}
-
--- the bit of a half-space, or of none
-abbrev pub bit_of : (HalfSpace → Bool) → Option HalfSpace → ℕ
-bit_of test None = 0
-bit_of test (Some h) = cond (test h) 1 0
-
--- twice a number and a bit, as the number and its lowest bit
-halved : (n : ℕ) (b : Bool) → (2 * n + cond b 1 0) / 2 ≡ n
-halved n true = omega arith
-halved n false = omega arith
-
--- the lowest bit
-lowest : (n : ℕ) (b : Bool) → (2 * n + cond b 1 0) % 2 ≡ cond b 1 0
-lowest n true = omega arith
-lowest n false = omega arith
-
--- the bits of a list
-bits_of-bit : (test : HalfSpace → Bool) (hs : List HalfSpace) (i : ℕ) → bit_at (bits_of test hs) i ≡ bit_of test (slice_get hs i)
-bits_of-bit test [] i = bit_at-zero i
-bits_of-bit test (h ∷ hs) zero = bit_at_lowest (2 * bits_of test hs + cond (test h) 1 0) ∙ lowest (bits_of test hs) (test h)
-bits_of-bit test (h ∷ hs) (suc i) =
-    bit_at-suc (2 * bits_of test hs + cond (test h) 1 0) i ∙ ap (λ (n : ℕ). bit_at n i) (halved (bits_of test hs) (test h)) ∙ bits_of-bit test hs i
-
--- a list has no bit from its length on
-pub bits_of-small : (test : HalfSpace → Bool) (hs : List HalfSpace) (k : ℕ) → length hs ≤ k → bits_of test hs < 2 ^ k
-bits_of-small test [] k h = pow_pos k
-bits_of-small test (x ∷ hs) zero h = absurd (omega (arith, h))
-bits_of-small test (x ∷ hs) (suc k) h = rw pow-suc (twice (bits_of test hs) (test x) (2 ^ k) (bits_of-small test hs k (omega (arith, h))))
-  where
-    twice : (n : ℕ) (b : Bool) (m : ℕ) → n < m → 2 * n + cond b 1 0 < m * 2
-    twice n true m h = omega arith
-    twice n false m h = omega arith
 
 -- the bit of a place is that of its half-space
 pub mask_bit : (cell : List HalfSpace) (p : RationalPoint) (i : ℕ) → length cell ≤ 64 → bit_at (mask_of cell p) i ≡ bit_of (is_through p) (half_at cell i)

@@ -11,11 +11,13 @@ use Rattle.rp_geometry.specs.Geometry.{RationalPoint, HalfSpace, IsHalfSpace, cu
 use Rattle.rp_geometry.specs.searches.Vertex.{vertices}
 use Rattle.rp_geometry.specs.laws.CellLaws.{AreHalfSpaces}
 use Rattle.rp_convex.proofs.Corners.{vertex_corner, corner_vertex}
-use Rattle.rp_clip.specs.Masks.{is_through, mask_of, IsIn}
+use Rattle.rp_space.specs.Places.{IsIn}
+use Rattle.rp_clip.specs.Masks.{is_through, mask_of}
 use Rattle.rp_clip.specs.Polygons.{Covers, IsSorted, IsRenamed}
 use Rattle.rp_clip.proofs.Filled.{place_in}
 use Rattle.rp_clip.proofs.HalfAt.{at_cell, at_cube, get_below}
-use Rattle.rp_clip.proofs.Masks.{bit_of, mask_bit, in_mask}
+use Rattle.rp_space.proofs.Bits.{bit_of}
+use Rattle.rp_clip.proofs.Masks.{mask_bit, in_mask}
 
 -- ---- the same half-spaces
 

@@ -9,11 +9,11 @@ use Rattle.std.proofs.lemmas.Nat.Bits.{bit_at-zero, bit_at_ones, bit_at_set_same
 use Rattle.rp_algebra.proofs.Options.{same_some}
 use Rattle.rp_algebra.proofs.Lists.{take_all}
 use Rattle.rp_convex.proofs.Standing.{contains_listed}
-use Rattle.rp_clip.specs.Masks.{IsIn}
+use Rattle.rp_space.specs.Places.{IsIn}
 use Rattle.rp_clip.specs.Polygons.{Covers, IsRenamed}
 use Rattle.rp_clip.proofs.HalfAt.{get_below}
 use Rattle.rp_clip.proofs.Lists.{push_cases, push_keeps, push_has, take_more}
-use Rattle.rp_clip.proofs.Bits.{bit_from}
+use Rattle.rp_space.proofs.Bits.{bit_from}
 use Rattle.rp_clip.proofs.Masks.{same_or_not}
 use Rattle.rp_clip.proofs.Meetings.{later_here}
 use Rattle.rp_clip.proofs.Walks.{IsPast, IsNextFrom, next_here, no_skip, one_not_zero, tried_from}

@@ -17,7 +17,8 @@ use Rattle.rp_convex.proofs.Edges.{vertices_follow_edges_spec, crossing_keeps_pl
 use Rattle.rp_convex.proofs.Standing.{listed_contains, contains_listed}
 use Rattle.rp_clip.specs.Clipped.{HasVertices}
 use Rattle.rp_clip.specs.Crossings.{with_one, IsCrossedAll, IsRefilled}
-use Rattle.rp_clip.specs.Masks.{mask_of, IsIn}
+use Rattle.rp_space.specs.Places.{IsIn}
+use Rattle.rp_clip.specs.Masks.{mask_of}
 use Rattle.rp_clip.specs.Polygons.{IsPolygon, AreOnPlane, Covers, IsSorted, IsPositiveAtAll}
 use Rattle.rp_clip.specs.Tables.{Rows, rows_of, IsTable, AreDifferentVertices}
 use Rattle.rp_clip.specs.declared.cross.Side.TheVariants.{Above}

@@ -9,7 +9,8 @@ use Rattle.rp_geometry.specs.Geometry.{RationalPoint, HalfSpace, cube_half_space
 use Rattle.rp_geometry.specs.searches.Vertex.{vertices}
 use Rattle.rp_convex.specs.Bases.{Places, IsBefore}
 use Rattle.rp_clip.specs.Firsts.{is_off, AreOn, IsBehind}
-use Rattle.rp_clip.specs.Masks.{mask_of, IsIn}
+use Rattle.rp_space.specs.Places.{IsIn}
+use Rattle.rp_clip.specs.Masks.{mask_of}
 use Rattle.rp_clip.specs.Polygons.{IsPolygon, AreOnPlane}
 use Rattle.rp_clip.specs.Tables.{Rows}
 use Rattle.rp_clip.specs.Taken.{IsWithin, HasFirsts}

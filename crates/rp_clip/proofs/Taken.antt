@@ -17,7 +17,7 @@ use Rattle.rp_convex.proofs.WeakPoint.{found_is_vertex}
 use Rattle.rp_clip.specs.Firsts.{is_off, HasFirst, IsFirstAt}
 use Rattle.rp_clip.specs.Masks.{mask_of}
 use Rattle.rp_clip.specs.Taken.{left_of, AreTaken, IsTakenTo, IsWithin}
-use Rattle.rp_clip.proofs.Bits.{set_below}
+use Rattle.rp_space.proofs.Bits.{set_below}
 use Rattle.rp_clip.proofs.Masks.{in_both}
 use Rattle.rp_clip.proofs.Off.{off_false}
 use Rattle.rp_clip.proofs.Flat.{AreSame, mask_small, off_place, place_off, lifts_off, tests_agree, first_off_whole, same_first, same_next, same_empty, same_some_flat, smaller}

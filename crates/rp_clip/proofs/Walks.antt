@@ -3,7 +3,7 @@ use Rattle.std.proofs.Common.{◌≡◌, ℕ, ◌+◌, ◌-◌, ◌<◌, ◌≤�
 use Rattle.std.specs.Prelude.{Option, Some, None, IfSome, IfNone}
 use Rattle.std.specs.Int.{bit_at}
 use Rattle.rp_algebra.proofs.Options.{of_some}
-use Rattle.rp_clip.specs.Masks.{IsIn, IsLowestFrom, HasNoneFrom}
+use Rattle.rp_space.specs.Places.{IsIn, IsLowestFrom, HasNoneFrom}
 
 -- the walk is past a place
 abbrev pub IsPast : Option ℕ → ℕ → Type 0

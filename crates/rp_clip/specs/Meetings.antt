@@ -4,7 +4,8 @@ use Rattle.std.specs.List.{Contains}
 use Rattle.rp_geometry.specs.Geometry.{RationalPoint, HalfSpace, IsPoint, reduced_point}
 use Rattle.rp_geometry.specs.searches.Vertex.{meeting_point, vertices}
 use Rattle.rp_geometry.specs.laws.CellLaws.{AreHalfSpaces}
-use Rattle.rp_clip.specs.Masks.{mask_of, IsIn, half_at, IsLowestFrom, HasNoneFrom}
+use Rattle.rp_space.specs.Places.{IsIn, IsLowestFrom, HasNoneFrom}
+use Rattle.rp_clip.specs.Masks.{mask_of, half_at}
 use Rattle.rp_clip.specs.declared.meet.Basis.{Basis}
 use Rattle.rp_clip.specs.declared.meet.Met.{Met}
 

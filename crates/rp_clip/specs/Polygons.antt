@@ -4,7 +4,8 @@ use Rattle.std.specs.List.{Contains, slice_get}
 use Rattle.rp_geometry.specs.Geometry.{RationalPoint, HalfSpace, reduced_point, side_value}
 use Rattle.rp_geometry.specs.searches.Vertex.{vertices}
 use Rattle.rp_geometry.specs.laws.CellLaws.{AreHalfSpaces}
-use Rattle.rp_clip.specs.Masks.{mask_of, IsIn}
+use Rattle.rp_space.specs.Places.{IsIn}
+use Rattle.rp_clip.specs.Masks.{mask_of}
 use Rattle.rp_clip.specs.Tables.{Rows, IsTable}
 
 -- half-spaces and a table

@@ -8,11 +8,10 @@ ghost use Rattle.rp_clip.specs.declared.cross.Side.TheVariants.{Above};
 ghost use Rattle.std.specs.List.{Contains};
 
 use crate::meet::first_meeting;
-use crate::places::has_two;
 use crate::planes::Planes;
 use crate::table::Table;
 use arrayvec::ArrayVec;
-use rp_space::{Half, Meeting};
+use rp_space::{Half, Meeting, has_two};
 
 /// On which side of a plane a point lies.
 #[derive(Clone, Copy)]

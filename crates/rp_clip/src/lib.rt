@@ -33,7 +33,6 @@ mod first;
 mod inside;
 mod meet;
 mod order;
-mod places;
 mod planes;
 mod polygon;
 mod search;

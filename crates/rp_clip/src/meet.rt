@@ -1,12 +1,12 @@
 //! The first two planes of a set that meet a third one in one point, and the first three of a set.
 ghost use Rattle.std.specs.Prelude.{◌≡◌, ◌<◌, ◌↔◌, true, IfSome, IfNone};
 ghost use Rattle.rp_clip.specs.Firsts.{IsBasisBefore};
-ghost use Rattle.rp_clip.specs.Masks.{HasHalfSpaces, HasLowPlaces, IsIn};
+ghost use Rattle.rp_space.specs.Places.{IsIn};
+ghost use Rattle.rp_clip.specs.Masks.{HasHalfSpaces, HasLowPlaces};
 ghost use Rattle.rp_clip.specs.Meetings.{IsFirstMet, MeetNowhere, IsFirstMetWith, MeetNowhereWith, IsFirstOfSet, HasNoBasis, IsVertexSet, IsThree};
 
-use crate::places::lowest_from;
 use crate::planes::Planes;
-use rp_space::{Half, Meeting, Pair};
+use rp_space::{Half, Meeting, Pair, lowest_from};
 
 /// Two places whose planes meet a third one in one point, and this point.
 #[derive(Drop)]

@@ -7,10 +7,9 @@ use crate::clip::refill;
 use crate::corners::fill_cube;
 use crate::cross::{Notes, cross_over};
 use crate::order::{covers, near_first};
-use crate::places::lowest_from;
 use crate::planes::Planes;
 use crate::table::Table;
-use rp_space::{Half, Meeting};
+use rp_space::{Half, Meeting, lowest_from};
 use std::marker::Model;
 
 /// The polygon of a cell on the plane of its first half-space: the vertices there, each once, in no stated order, of

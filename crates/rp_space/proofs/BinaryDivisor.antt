@@ -1,10 +1,11 @@
 -- The binary method for greatest common divisors: factors 2 are taken out, and the less of two odd numbers away from the other.
-use Rattle.std.proofs.Common.{◌≡◌, ℕ, ℤ, zero, suc, ◌+◌, ◌-◌, ◌*◌, ◌/◌, ◌%◌, ◌^◌, ◌<◌, ◌≤◌, sym, ap, ◌∙◌, subst, arith}
-use Rattle.std.specs.Int.{◌∣◌, Width, bit_at, trailing_zeros}
+use Rattle.std.proofs.Common.{◌≡◌, ℕ, ℤ, zero, suc, ◌+◌, ◌-◌, ◌*◌, ◌/◌, ◌%◌, ◌^◌, ◌<◌, ◌≤◌, ⊎_elim, sym, ap, ◌∙◌, subst, arith}
+use Rattle.std.specs.Int.{◌∣◌, Width, bit_at, trailing_zeros, w128}
+use Rattle.std.proofs.lemmas.Bool.{cases_lt}
 use Rattle.std.proofs.Math.Nat.{one-dvd, dvd-add, dvd-add_iff_right, dvd-mul_left_of_dvd, mul-dvd-mul_left}
 use Rattle.std.proofs.lemmas.Int.{ints}
-use Rattle.std.proofs.lemmas.Nat.{shr-shr}
-use Rattle.std.proofs.lemmas.Nat.Bits.{bit_at_lowest, bit_at-suc, bit_at-trailing_zeros}
+use Rattle.std.proofs.lemmas.Nat.{shr-shr, shr_le, pow_pos, div-add-mod'}
+use Rattle.std.proofs.lemmas.Nat.Bits.{bit_at_lowest, bit_at-suc, bit_at-trailing_zeros, bit_at_above, bit_at-zero, bit_at_cat_low, same_from_bits}
 use mir.Val.{bits}
 use Rattle.rp_algebra.specs.Integer.{gcd, reduced_by}
 use Rattle.rp_algebra.proofs.Divisors.{gcd-is, gcd-unique, gcd-comm, gcd-mod, gcd-zero, gcd-times, gcd-greatest}
@@ -79,6 +80,15 @@ module _ (w : Width) (n : ℕ) (some : 0 < n) (fits : n < 2 ^ bits w) where
   unfolding IsClearBelow
   gcd-odd_part m e = gcd-shifted (trailing_zeros w n) m n e (bit_at-trailing_zeros w n some fits).2
 
+-- one step of the method: the odd part of the second number, and what is left when the less of it and the first number
+-- is taken away
+module _ (w : Width) (h n : ℕ) (odd : h % 2 ≡ 1) (some : 0 < n) (fits : n < 2 ^ bits w) where
+  pub part_less : {g : ℕ} → n / 2 ^ trailing_zeros w n ≤ h → gcd h n ≡ g → (n / 2 ^ trailing_zeros w n % 2 ≡ 1) × (gcd (n / 2 ^ trailing_zeros w n) (h - n / 2 ^ trailing_zeros w n) ≡ g)
+  part_less l e = (odd_shifted w n some fits, gcd-less h (n / 2 ^ trailing_zeros w n) l ∙ gcd-odd_part w n some fits h odd ∙ e)
+
+  pub part_more : {g : ℕ} → h ≤ n / 2 ^ trailing_zeros w n → gcd h n ≡ g → (h % 2 ≡ 1) × (gcd h (n / 2 ^ trailing_zeros w n - h) ≡ g)
+  part_more l e = (odd, gcd-more h (n / 2 ^ trailing_zeros w n) l ∙ gcd-odd_part w n some fits h odd ∙ e)
+
 -- ---- two even numbers
 
 -- what two doubled numbers have in common is the double
@@ -99,3 +109,62 @@ gcd-both_even a b m n =
 -- the quotient by 1 is the number
 pub reduced_by-one : (v : ℤ) → v ≡ reduced_by 1 v
 reduced_by-one v = omega (arith, ints)
+
+-- half of a number of 128 bits, or less, is below 2 ^ 127
+pub halves_small : (n t : ℕ) → 0 < t → n < 2 ^ 128 → n / 2 ^ t < 2 ^ 127
+halves_small n zero p h = elim p [ ]
+halves_small n (suc t) p h =
+    let e : n / 2 ^ suc t ≡ n / 2 / 2 ^ t = ap (λ k. n / 2 ^ k) (let s : suc t ≡ 1 + t = omega arith in s) ∙ sym (shr-shr n 1 t) in
+    omega (arith, e, shr_le (n / 2) t, h)
+
+-- what stands above places that have no bit is the whole number
+clear_rest : (n t : ℕ) → IsClearBelow n t → n / 2 ^ t * 2 ^ t ≡ n
+unfolding IsClearBelow
+clear_rest n t c = omega (arith, div-add-mod' n (2 ^ t), rest)
+  where
+    bit : (i : ℕ) → bit_at (n % 2 ^ t) i ≡ bit_at 0 i
+    bit i =
+        ⊎_elim
+        (λ (l : i < t). sym (bit_at_cat_low (n / 2 ^ t) t (n % 2 ^ t) i l) ∙ ap (λ (m : ℕ). bit_at m i) (div-add-mod' n (2 ^ t)) ∙ c i l ∙ sym (bit_at-zero i))
+        (λ (l : t ≤ i). bit_at_above (n % 2 ^ t) t i (omega (arith, pow_pos t)) l ∙ sym (bit_at-zero i))
+        (cases_lt i t)
+
+    rest : n % 2 ^ t ≡ 0
+    rest = same_from_bits (n % 2 ^ t) 0 bit
+
+-- the trailing zeros of a number
+pub zeros_fit : (n : ℕ) → 0 < n → n < 2 ^ 127 → trailing_zeros w128 n < 128
+zeros_fit n some small = (bit_at-trailing_zeros w128 n some (omega (arith, small))).0
+
+-- a number below 2 ^ 127 of which a shift by its trailing zeros leaves 1
+module _ (n : ℕ) (some : 0 < n) (small : n < 2 ^ 127) (one : n / 2 ^ trailing_zeros w128 n ≡ 1) where
+  wide : n < 2 ^ 128
+  wide = omega (arith, small)
+
+  set_bit : bit_at n (trailing_zeros w128 n) ≡ 1
+  set_bit = (bit_at-trailing_zeros w128 n some wide).1
+
+  clear : IsClearBelow n (trailing_zeros w128 n)
+  unfolding IsClearBelow
+  clear = (bit_at-trailing_zeros w128 n some wide).2
+
+  pub is_power : 2 ^ trailing_zeros w128 n ≡ n
+  is_power =
+      let once : 1 * 2 ^ trailing_zeros w128 n ≡ n = ap (λ (k : ℕ). k * 2 ^ trailing_zeros w128 n) (sym one) ∙ clear_rest n (trailing_zeros w128 n) clear in
+      omega (arith, once)
+
+  pub power_few : trailing_zeros w128 n < 127
+  power_few =
+      ⊎_elim (λ (l : trailing_zeros w128 n < 127). l)
+      (λ (l : 127 ≤ trailing_zeros w128 n). absurd (one_not_zero (sym (bit_at_above n 127 (trailing_zeros w128 n) small l) ∙ set_bit)))
+      (cases_lt (trailing_zeros w128 n) 127)
+    where
+      one_not_zero : 0 ≡ suc 0 → ⊥
+      one_not_zero e = cc
+
+  pub power_some : (n ≡ 1 → ⊥) → 0 < trailing_zeros w128 n
+  power_some m = some_zeros (trailing_zeros w128 n) is_power
+    where
+      some_zeros : (t : ℕ) → 2 ^ t ≡ n → 0 < t
+      some_zeros zero e = absurd (m (sym e))
+      some_zeros (suc t) e = omega arith

@@ -1,5 +1,6 @@
 mod Between
 mod BinaryDivisor
+pub mod Bits
 mod Bounded
 mod Compared
 mod Cramer

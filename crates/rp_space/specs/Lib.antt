@@ -4,6 +4,7 @@ pub mod FourNumbers
 pub mod MadeHalfSpace
 pub mod MadePoint
 pub mod PairMinors
+pub mod Places
 pub mod PositivePoint
 pub mod ShortNumbers
 pub mod TwoHalfSpaces

@@ -2,31 +2,12 @@
 ghost use Rattle.std.specs.Prelude.{◌≡◌, ◌<◌, ◌≤◌, ◌%◌, ◌^◌, ℕ, [], ◌∷◌};
 ghost use Rattle.rp_algebra.specs.Integer.{gcd, gcd_of, reduced_by};
 
-/// The greatest common divisor of `a` and `b`, by Euclid's rule until the numbers fit in 64 bits. Where `a` is 1, which
-/// the divisor of several numbers soon is, nothing is divided.
-#[tactic(auto, using(rp_algebra::proofs::Divisors::euclid))]
-pub fn greatest_common_divisor(a: u128, b: u128) -> u128
-    ensures { result ≡ gcd a b }
-{
-    if a == 1 {
-        return 1;
-    }
-    let mut high = a;
-    let mut low = b;
-    while low > u64::MAX as u128 {
-        let rest = high % low;
-        high = low;
-        low = rest;
-    }
-    if low == 0 {
-        return high;
-    }
-    short_divisor(low as u64, (high % low) as u64) as u128
-}
+/// The greatest number of 64 bits.
+const SHORT: u128 = u64::MAX as u128;
 
-/// The greatest common divisor of two numbers of 64 bits, by the binary method (Stein 1967): halving and taking away,
-/// where Euclid's rule divides.
-fn short_divisor(a: u64, b: u64) -> u64
+/// The greatest common divisor of `a` and `b`, by the binary method (Stein 1967): halving and taking away, where Euclid's
+/// rule divides.
+pub fn greatest_common_divisor(a: u128, b: u128) -> u128
     ensures { result ≡ gcd a b }
 {
     if a % 2 == 1 {
@@ -38,18 +19,55 @@ fn short_divisor(a: u64, b: u64) -> u64
     if b == 0 {
         return a;
     }
-    2 * short_divisor(a / 2, b / 2)
+    2 * greatest_common_divisor(a / 2, b / 2)
 }
 
-/// The greatest common divisor of an odd number and another.
-fn odd_divisor(odd: u64, other: u64) -> u64
+/// The greatest common divisor of an odd number and another. Where the odd one is 1, which the divisor of several numbers
+/// soon is, there is nothing to do; where it is short, one division makes the other one short too.
+fn odd_divisor(odd: u128, other: u128) -> u128
+    requires { odd % 2 ≡ 1 }
+    ensures { result ≡ gcd odd other }
+{
+    if odd == 1 {
+        return 1;
+    }
+    if odd <= SHORT {
+        return short_divisor(odd as u64, (other % odd) as u64) as u128;
+    }
+    long_divisor(odd, other)
+}
+
+/// The same, whose steps are made in 128 bits until both numbers fit in 64.
+fn long_divisor(odd: u128, other: u128) -> u128
+    requires { odd % 2 ≡ 1 }
+    ensures { result ≡ gcd odd other }
+{
+    let mut high = odd;
+    let mut low = other;
+    while high > SHORT || low > SHORT {
+        if low == 0 {
+            return high;
+        }
+        let part = low >> low.trailing_zeros();
+        if part < high {
+            low = high - part;
+            high = part;
+        } else {
+            low = part - high;
+        }
+    }
+    short_divisor(high as u64, low as u64) as u128
+}
+
+/// The same for numbers of 64 bits.
+fn short_divisor(odd: u64, other: u64) -> u64
     requires { odd % 2 ≡ 1 }
     ensures { result ≡ gcd odd other }
 {
     let mut high = odd;
     let mut low = other;
     while low != 0 && high != 1 {
-        let part = odd_part(low);
+        let part = low >> low.trailing_zeros();
         if part < high {
             low = high - part;
             high = part;
@@ -58,16 +76,6 @@ fn odd_divisor(odd: u64, other: u64) -> u64
         }
     }
     high
-}
-
-/// A number above 0 without its factors 2.
-fn odd_part(n: u64) -> u64
-    requires { 0 < n }
-    ensures odd { result % 2 ≡ 1 }
-    ensures least { result ≤ n }
-    ensures same { (m : ℕ) → m % 2 ≡ 1 → gcd m result ≡ gcd m n }
-{
-    n >> n.trailing_zeros()
 }
 
 /// The greatest common divisor of `a`, `b`, `c` and `d`; 0 only where all are 0.
@@ -90,7 +98,22 @@ pub fn quotient(v: i128, divisor: u128) -> i128
     if divisor == 1 {
         return v;
     }
+    let twos = divisor.trailing_zeros();
+    if divisor >> twos == 1 {
+        return halved(v, twos);
+    }
     v / divisor as i128
+}
+
+/// A number halved so many times, which are from 1 to 126, and rounded towards 0: a power of two is the most frequent
+/// divisor, and shifting takes a part of the time of a division.
+fn halved(v: i128, times: u32) -> i128
+    requires some { 0 < times }
+    requires few { times < 127 }
+    ensures { result ≡ reduced_by (2 ^ times) v }
+{
+    let size = v.unsigned_abs() >> times;
+    if v < 0 { -(size as i128) } else { size as i128 }
 }
 
 /// The quotient of the coefficient `v` by `divisor`.

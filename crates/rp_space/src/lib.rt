@@ -6,7 +6,8 @@
 //! zeros; and a point, or are refused for a weight below 1, or else for a bound. `holds` is the sign rule, `side` its
 //! value, `not` the complement; no product leaves 128 bits. The half-spaces of a box and of the cube, which points a
 //! box holds, whether two boxes meet and the least box that holds both are those of the definitions; a box holds a
-//! point exactly where its six half-spaces do. Three planes meet in the point of Cramer's rule, or not in one point.
+//! point exactly where its six half-spaces do. Three planes meet in the point of Cramer's rule, or not in one point. A set
+//! of places in a list is a number whose bits tell them.
 
 mod bounds;
 mod corner;
@@ -15,6 +16,7 @@ mod half;
 mod meeting;
 mod multiples;
 mod outside;
+mod places;
 mod point;
 mod system;
 
@@ -25,5 +27,6 @@ pub use half::{Half, HalfFault, Halves};
 pub use meeting::{Meeting, Pair, meet};
 pub use multiples::{is_balanced, is_contradiction, is_multiplier};
 pub use outside::{Outside, Term};
+pub use places::{has_two, lowest_from};
 pub use point::{Inside, Point, PointFault};
 pub use system::{System, joined, keep_bounds, with_cube};

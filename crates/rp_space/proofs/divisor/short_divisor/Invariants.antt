@@ -1,6 +1,6 @@
 use Rattle.std.proofs.Common.{◌≡◌, ◌+◌, ◌%◌}
 use Rattle.rp_algebra.specs.Integer.{gcd}
-use Rattle.rp_space.proofs.divisor.odd_divisor.Given as goal
+use Rattle.rp_space.proofs.divisor.short_divisor.Given as goal
 
 abbrev pub invariant-loop-low : goal.invariant-loop-low
 invariant-loop-low l = (l.high % 2 ≡ 1) × (gcd l.high l.low ≡ gcd l.fn.odd l.fn.other)

@@ -1,11 +1,13 @@
--- The lowest bit of a number from some bit on.
-use Rattle.std.proofs.Common.{◌≡◌, ℕ, zero, suc, ◌+◌, ◌-◌, ◌*◌, ◌/◌, ◌%◌, ◌^◌, ◌<◌, ◌≤◌, ⊎_elim, refl, sym, ap, ◌∙◌, arith, lt_of_le_of_lt}
-use Rattle.std.proofs.lemmas.Bool.{cases_lt}
+-- The bits of numbers as sets of places.
+use Rattle.std.proofs.Common.{◌≡◌, ℕ, zero, suc, ◌+◌, ◌-◌, ◌*◌, ◌/◌, ◌%◌, ◌^◌, ◌<◌, ◌≤◌, ⊎_elim, Bool, true, false, cond, List, [], ◌∷◌, length, refl, sym, ap, ◌∙◌, arith, lt_of_le_of_lt}
+use Rattle.std.specs.Prelude.{Option, Some, None, bit_and, min}
 use Rattle.std.specs.Int.{bit_at, trailing_zeros, w128}
-use Rattle.rp_clip.specs.Masks.{IsLowestFrom}
-use Rattle.std.specs.Prelude.{bit_and, min}
+use Rattle.std.specs.List.{slice_get}
+use Rattle.std.proofs.lemmas.Bool.{cases_lt}
+use Rattle.std.proofs.Math.Nat.{pow-suc}
 use Rattle.std.proofs.lemmas.Nat.{shr-shr, shr_le, pow_pos, div-add-mod', div-mul-add}
-use Rattle.std.proofs.lemmas.Nat.Bits.{bit_at-trailing_zeros, bit_at_above, bit_at-zero, bit_at_and, bit_at_cat_low}
+use Rattle.std.proofs.lemmas.Nat.Bits.{bit_at-trailing_zeros, bit_at_above, bit_at-zero, bit_at_and, bit_at_cat_low, bit_at_lowest, bit_at-suc}
+use Rattle.rp_space.specs.Places.{bits_of, IsLowestFrom}
 
 -- a bit of a number that was moved down
 shifted_bit : (n k d : ℕ) → bit_at (n / 2 ^ k) d ≡ bit_at n (k + d)
@@ -71,3 +73,37 @@ two_bits n i j l ei ej z = one_not_zero (sym one ∙ ap (λ (m : ℕ). bit_at m 
 
     one : bit_at (bit_and n (n - 1)) j ≡ 1
     one = bit_at_and n (n - 1) j ∙ (λ t. min (ej t) ((same ∙ ej) t))
+
+-- ---- the places of a list whose members pass a test
+
+-- the bit of a member, or of none
+abbrev pub bit_of : {A : Type 0} → (A → Bool) → Option A → ℕ
+bit_of test None = 0
+bit_of test (Some x) = cond (test x) 1 0
+
+-- twice a number and a bit, as the number and its lowest bit
+halved : (n : ℕ) (b : Bool) → (2 * n + cond b 1 0) / 2 ≡ n
+halved n true = omega arith
+halved n false = omega arith
+
+-- the lowest bit
+lowest : (n : ℕ) (b : Bool) → (2 * n + cond b 1 0) % 2 ≡ cond b 1 0
+lowest n true = omega arith
+lowest n false = omega arith
+
+-- the bits of a list
+pub bits_of-bit : {A : Type 0} (test : A → Bool) (xs : List A) (i : ℕ) → bit_at (bits_of test xs) i ≡ bit_of test (slice_get xs i)
+bits_of-bit test [] i = bit_at-zero i
+bits_of-bit test (x ∷ xs) zero = bit_at_lowest (2 * bits_of test xs + cond (test x) 1 0) ∙ lowest (bits_of test xs) (test x)
+bits_of-bit test (x ∷ xs) (suc i) =
+    bit_at-suc (2 * bits_of test xs + cond (test x) 1 0) i ∙ ap (λ (n : ℕ). bit_at n i) (halved (bits_of test xs) (test x)) ∙ bits_of-bit test xs i
+
+-- a list has no bit from its length on
+pub bits_of-small : {A : Type 0} (test : A → Bool) (xs : List A) (k : ℕ) → length xs ≤ k → bits_of test xs < 2 ^ k
+bits_of-small test [] k h = pow_pos k
+bits_of-small test (x ∷ xs) zero h = absurd (omega (arith, h))
+bits_of-small test (x ∷ xs) (suc k) h = rw pow-suc (twice (bits_of test xs) (test x) (2 ^ k) (bits_of-small test xs k (omega (arith, h))))
+  where
+    twice : (n : ℕ) (b : Bool) (m : ℕ) → n < m → 2 * n + cond b 1 0 < m * 2
+    twice n true m h = omega arith
+    twice n false m h = omega arith

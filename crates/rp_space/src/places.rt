@@ -1,9 +1,9 @@
 //! Sets of places as the bits of a number.
 ghost use Rattle.std.specs.Prelude.{◌≡◌, ◌<◌, false, IfSome, IfNone};
-ghost use Rattle.rp_clip.specs.Masks.{IsLowestFrom, HasNoneFrom, HasNoTwo};
+ghost use Rattle.rp_space.specs.Places.{IsLowestFrom, HasNoneFrom, HasNoTwo};
 
-/// The lowest place of a set from a place on.
-pub(crate) fn lowest_from(places: u128, from: u32) -> Option<u32>
+/// The lowest of `places` from the place `from` on, which is below 128; `None` where there is none.
+pub fn lowest_from(places: u128, from: u32) -> Option<u32>
     requires { from < 128 }
     ensures some { IfSome result (λ place. IsLowestFrom places from place) }
     ensures none { IfNone result (HasNoneFrom places from) }
@@ -15,8 +15,8 @@ pub(crate) fn lowest_from(places: u128, from: u32) -> Option<u32>
     Some(from + rest.trailing_zeros())
 }
 
-/// Whether a set may have two places: false where it has none or one.
-pub(crate) fn has_two(places: u128) -> bool
+/// Whether `places` has two places or more: false where it has none or one.
+pub fn has_two(places: u128) -> bool
     ensures { result ≡ false → HasNoTwo places }
 {
     places != 0 && places & (places - 1) != 0

@@ -1,9 +1,0 @@
-use Rattle.std.proofs.Common.{◌≡◌}
-use Rattle.rp_algebra.specs.Integer.{gcd}
-use Rattle.rp_space.proofs.divisor.greatest_common_divisor.Given as goal
-
-abbrev pub invariant-loop-low : goal.invariant-loop-low
-invariant-loop-low l = gcd l.high l.low ≡ gcd l.fn.a l.fn.b
-
-abbrev pub decreases-loop-low : goal.decreases-loop-low
-decreases-loop-low l = l.low
