@@ -1,12 +1,13 @@
 //! The least box with whole corners that holds the vertices of a cell.
 ghost use Rattle.std.specs.Prelude.{◌≡◌, ◌≤◌, ◌<◌, ◌^◌, true, None, length, map, filter_map, option_map, pos, ◌<ℤ◌, unsigned_abs};
+ghost use Rattle.std.specs.Int.{int_max, int_min};
 ghost use Rattle.std.specs.List.{Contains};
 ghost use Rattle.std.specs.Option.{option_to_list};
 ghost use Rattle.rp_algebra.specs.Integer.{floor_of, ceiling_of};
 ghost use Rattle.rp_algebra.specs.Within.{IsWithin};
 ghost use Rattle.rp_geometry.specs.Geometry.{RationalPoint, half_edge, is_box_in_bounds, is_closed_cube_point, is_in_closed_range, reduced_point};
 ghost use Rattle.rp_geometry.specs.laws.CellLaws.{AreHalfSpaces};
-ghost use Rattle.rp_geometry.specs.parts.LeastBox.{box_of_vertex, box_of_vertices};
+ghost use Rattle.rp_geometry.specs.parts.LeastBox.{box_of_vertex, box_of_vertices, box_union};
 ghost use Rattle.rp_geometry.specs.searches.Search.{all_of_pairs, all_of_triples};
 ghost use Rattle.rp_geometry.specs.searches.Vertex.{any_point, vertex_at, vertices};
 ghost use Rattle.rp_space.specs.Boxes.{integer_box};
@@ -141,10 +142,53 @@ fn joined_with_point(bounds: Option<IntBox>, p: &Meeting) -> IntBox
 {
     // Only for what `numbers` ensures, that the weight is positive.
     let _ = p.numbers();
-    let vertex = box_of_vertex(p);
     match bounds {
-        Some(others) => others.union(&vertex),
-        None => vertex,
+        Some(others) => extended(&others, p),
+        None => box_of_vertex(p),
+    }
+}
+
+/// The least box that holds a box and a point of the closed cube.
+fn extended(others: &IntBox, p: &Meeting) -> IntBox
+    requires { is_closed_cube_point p.now ≡ true }
+    ensures { integer_box result ≡ box_union (integer_box others.now) (box_of_vertex p.now) }
+{
+    let (x, y, z, w) = p.numbers();
+    let [x1, y1, z1] = others.lo;
+    let [x2, y2, z2] = others.hi;
+    IntBox {
+        lo: [lower(x1, x, w), lower(y1, y, w), lower(z1, z, w)],
+        hi: [higher(x2, x, w), higher(y2, y, w), higher(z2, z, w)],
+    }
+}
+
+/// The lesser of `low` and the coordinate `v / w` rounded down. Most points move no side of a box, so a product tells
+/// first whether there is anything to divide.
+fn lower(low: i32, v: i128, w: i128) -> i32
+    requires weight { pos 0 <ℤ w }
+    requires size { unsigned_abs w < 2 ^ 75 }
+    requires range { is_in_closed_range v w ≡ true }
+    ensures { result ≡ int_min low (floor_of v w) }
+{
+    if low as i128 * w <= v {
+        low
+    } else {
+        floor(v, w)
+    }
+}
+
+/// The greater of `high` and the coordinate `v / w` rounded up.
+fn higher(high: i32, v: i128, w: i128) -> i32
+    requires weight { pos 0 <ℤ w }
+    requires weight_size { unsigned_abs w < 2 ^ 75 }
+    requires size { unsigned_abs v < 2 ^ 101 }
+    requires range { is_in_closed_range v w ≡ true }
+    ensures { result ≡ int_max high (ceiling_of v w) }
+{
+    if v <= high as i128 * w {
+        high
+    } else {
+        ceiling(v, w)
     }
 }
 

@@ -9,10 +9,10 @@ use Rattle.rp_vertex.proofs.bounds.joined_with_point.Goals as goal
 
 pub returns-in-Some : goal.returns-in-Some
 returns-in-Some c =
-    c.union.ensures ∙ ap (box_union (integer_box c.in-Some.others)) (c.box_of_vertex-vertex.ensures ∙ box_of_reduced c.args.p.now c.numbers.ensures.small.positive)
+    c.extended.ensures ∙ ap (box_union (integer_box c.in-Some.others)) (box_of_reduced c.args.p.now c.numbers.ensures.small.positive)
     ∙ (λ i. join_vertex (option_map integer_box (sym c.in-Some.is i)) (reduced_point c.args.p.now))
 
 pub returns-in-None : goal.returns-in-None
 returns-in-None c =
-    c.box_of_vertex-vertex.ensures ∙ box_of_reduced c.args.p.now c.numbers.ensures.small.positive
+    c.box_of_vertex.ensures ∙ box_of_reduced c.args.p.now c.numbers.ensures.small.positive
     ∙ (λ i. join_vertex (option_map integer_box (sym c.in-None.is i)) (reduced_point c.args.p.now))
