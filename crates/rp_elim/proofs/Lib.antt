@@ -11,3 +11,5 @@ pub mod Unfit
 pub mod InPlace
 pub mod Between
 pub mod LastTerms
+pub mod Walks
+pub mod SignSets

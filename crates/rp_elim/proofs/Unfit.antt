@@ -62,6 +62,14 @@ unfit_signs strict false e f g h last n =
       down = λ a b c d k. false_not_true (is_positive y && is_negative x) (and_true (is_positive y) (is_negative x) (is_positive_true y b) (is_negative_true x a)) n;
     }
 
+-- the first one has not the sign of the last one
+pub unfit_first : (strict s : Bool) (e f g h : HalfSpace) → has_sign s (neg_ℤ (meeting_weight e f g)) ≡ true → has_sign s (meeting_weight f g h) ≡ false → CannotRefute strict e f g h
+unfit_first strict s e f g h last n = unfit_signs strict s e f g h last (ap (λ b. has_sign (not s) (meeting_weight e g h) && b) n ∙ and_false (has_sign (not s) (meeting_weight e g h)))
+  where
+    and_false : (b : Bool) → (b && false) ≡ false
+    and_false true = refl
+    and_false false = refl
+
 -- the offsets do not contradict, with the sign of the last one
 pub unfit_offsets : (strict s : Bool) (e f g h : HalfSpace) → has_sign s (neg_ℤ (meeting_weight e f g)) ≡ true
     → contradicts strict (signed s (offset_of_four e f g h)) ≡ false → CannotRefute strict e f g h

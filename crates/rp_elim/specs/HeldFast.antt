@@ -1,9 +1,8 @@
 -- Searches among the sets of which one half-space of a list is held fast: the others follow one another by their places, and it stands in its place among them.
-use Rattle.std.specs.Prelude.{Bool, true, false, ℤ, List, ◌++◌, map, Option, Some, None}
+use Rattle.std.specs.Prelude.{Bool, true, false, List, ◌++◌, map, Option, Some, None}
 use Rattle.rp_geometry.specs.Geometry.{HalfSpace}
 use Rattle.rp_geometry.specs.searches.Certificate.{Multiple}
 use Rattle.rp_geometry.specs.searches.Search.{first_of, first_of_pairs, first_of_triples}
-use Rattle.rp_geometry.specs.searches.Vertex.{meeting_weight}
 use Rattle.rp_geometry.specs.searches.Elimination.{refutation_of_one, refutation_of_two, refutation_of_three, refutation_of_four}
 use Rattle.rp_elim.specs.declared.placed.Placed.{Placed}
 
@@ -14,10 +13,6 @@ placed_at b h = record { half = h; before = b }
 -- the half-spaces before it, then those behind it
 abbrev pub placed_list : List HalfSpace → List HalfSpace → List Placed
 placed_list before behind = map (placed_at true) before ++ map (placed_at false) behind
-
--- the determinants of two half-spaces and each of several
-abbrev pub weights_with : HalfSpace → HalfSpace → List Placed → List ℤ
-weights_with f g ps = map (λ p. meeting_weight f g p.half) ps
 
 -- ---- a function of half-spaces in the order of their places, where k is held fast
 -- k and one other

@@ -5,5 +5,6 @@ pub mod CrossMinors
 pub mod TripleSigns
 pub mod CoupleSign
 pub mod HeldFast
+pub mod SignSets
 pub mod FewTerms
 pub mod Written

@@ -115,7 +115,7 @@ impl<'a> Cross<'a> {
 }
 
 /// Whether a number is above 0 (`positive`), or below 0.
-pub fn has_sign(positive: bool, v: i128) -> bool
+fn has_sign(positive: bool, v: i128) -> bool
     ensures { result ≡ has_sign positive v }
 {
     if positive { v > 0 } else { v < 0 }

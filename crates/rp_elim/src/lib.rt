@@ -21,10 +21,12 @@
 //!
 //! Where all but one half-space have a solution, that one is in every certificate, and only the sets that contain it
 //! are tried ([`first_outside_through`]). Of the sets of one size that share a half-space the first is the one whose
-//! others come first, so what is found is the first of all. A certificate of at most two terms is found by itself
-//! ([`first_outside_of_two`]), where it is the first: two boxes apart always have one. Of two cells that have solutions
-//! it has one term of each ([`first_outside_between`]), and of a cell whose others have one it has a term of the last
-//! half-space ([`first_outside_with_last`]).
+//! others come first, so what is found is the first of all. The determinants of that half-space and two others are taken
+//! once, and their signs kept as sets of places (`sign_sets.rt`): of three those alone are tried whose determinant is 0,
+//! and of four those with three signs that fit, which are the places in two sets at once. A certificate of at most two
+//! terms is found by itself ([`first_outside_of_two`]), where it is the first: two boxes apart always have one. Of two
+//! cells that have solutions it has one term of each ([`first_outside_between`]), and of a cell whose others have one it
+//! has a term of the last half-space ([`first_outside_with_last`]).
 
 mod couple;
 mod cross;
@@ -34,6 +36,7 @@ mod minors;
 mod placed;
 mod refutation;
 mod search;
+mod sign_sets;
 mod through;
 mod triple;
 

@@ -1,16 +1,17 @@
 //! The search for the first refutation where one half-space is known to be in each. Each function writes it to `found`,
 //! and answers whether there is one.
-ghost use Rattle.std.specs.Prelude.{◌≡◌, ◌↔◌, ◌+◌, ◌<◌, ◌≤◌, ◌∷◌, ◌++◌, Bool, true, pos, neg_ℤ, length, None, IsNone, IfSome, IsTrue};
+ghost use Rattle.std.specs.Prelude.{◌≡◌, ◌↔◌, ◌+◌, ◌<◌, ◌≤◌, ◌∷◌, ◌++◌, [], Bool, true, false, length, None, IsNone, IfSome, IsTrue};
 ghost use Rattle.rp_geometry.specs.Geometry.{RationalPoint, with_cube};
 ghost use Rattle.rp_geometry.specs.laws.CellLaws.{IsSolution};
 ghost use Rattle.rp_geometry.specs.searches.Certificate.{is_outside_certificate};
 ghost use Rattle.rp_geometry.specs.searches.Search.{first_of, first_of_pairs, first_of_triples};
-ghost use Rattle.rp_geometry.specs.searches.Vertex.{meeting_weight};
 ghost use Rattle.rp_geometry.specs.searches.Elimination.{refutation_of_two, refutation_of_three, refutation_of_four, first_outside};
+ghost use Rattle.rp_space.specs.Places.{bits_of};
 ghost use Rattle.rp_space.specs.TwoHalfSpaces.{two_of};
 ghost use Rattle.rp_elim.specs.Sides.{three_of};
 ghost use Rattle.rp_elim.specs.Written.{if_found};
-ghost use Rattle.rp_elim.specs.HeldFast.{placed_list, two_in_order, three_in_order, four_in_order, first_through, weights_with};
+ghost use Rattle.rp_elim.specs.HeldFast.{placed_list, two_in_order, three_in_order, four_in_order, first_through};
+ghost use Rattle.rp_elim.specs.SignSets.{may_be_fourth, signs_of, signs_list};
 
 use crate::couple::Couple;
 use crate::cross::Cross;
@@ -18,9 +19,10 @@ use crate::minors::{may_three_cancel, minors_of_four};
 use crate::placed::{Placed, place};
 use crate::refutation::{if_found, refutation};
 use crate::search::{are_passed_over, refutation_of_one, refutation_of_two};
+use crate::sign_sets::Signs;
 use crate::triple::Triple;
 use arrayvec::ArrayVec;
-use rp_space::{Half, Outside, keep_bounds};
+use rp_space::{Half, Outside, keep_bounds, lowest_from};
 
 /// Up to so many others stand in a short list.
 const FEW: usize = 14;
@@ -88,9 +90,9 @@ fn first_beside_few(
     ensures { if_found result found.new ≡ first_through strict half.now (placed_list before.now (with_cube after.now)) }
 {
     let mut others = ArrayVec::<Placed, FEW_PLACES>::new();
-    let mut weights = ArrayVec::<i128, FEW_PLACES>::new();
+    let mut signs = ArrayVec::<Signs, FEW_PLACES>::new();
     place(&mut others, before, after);
-    first_through(strict, half, others.as_slice(), &mut weights, found)
+    first_through(strict, half, others.as_slice(), &mut signs, found)
 }
 
 /// The first refutation by `half` and the others, which stand in a long list.
@@ -105,21 +107,23 @@ fn first_beside_many(
     ensures { if_found result found.new ≡ first_through strict half.now (placed_list before.now (with_cube after.now)) }
 {
     let mut others = ArrayVec::<Placed, MOST_PLACES>::new();
-    let mut weights = ArrayVec::<i128, MOST_PLACES>::new();
+    let mut signs = ArrayVec::<Signs, MOST_PLACES>::new();
     place(&mut others, before, after);
-    first_through(strict, half, others.as_slice(), &mut weights, found)
+    first_through(strict, half, others.as_slice(), &mut signs, found)
 }
 
-/// The first refutation by a half-space and others, by number of terms and then by places. `weights` is room for as many
-/// determinants.
+/// The first refutation by a half-space and others, by number of terms and then by places. `signs` is room for as many
+/// pairs of sets.
 fn first_through<const MOST: usize>(
     strict: bool,
     k: &Half,
     others: &[Placed],
-    weights: &mut ArrayVec<i128, MOST>,
+    signs: &mut ArrayVec<Signs, MOST>,
     found: &mut Outside,
 ) -> bool
-    requires { length others.now ≤ MOST }
+    requires room { length others.now ≤ MOST }
+    requires few { length others.now ≤ 69 }
+    requires empty { signs.old.items ≡ [] }
     ensures { if_found result found.new ≡ first_through strict k.now others.now }
 {
     if refutation_of_one(strict, k, found) {
@@ -128,10 +132,10 @@ fn first_through<const MOST: usize>(
     if first_two(strict, k, others, found) {
         return true;
     }
-    if first_three(strict, k, others, found) {
+    if first_three(strict, k, others, signs, found) {
         return true;
     }
-    first_four(strict, k, others, weights, found)
+    first_four(strict, k, others, signs.as_slice(), found)
 }
 
 /// The first refutation by a half-space and one of several.
@@ -170,48 +174,57 @@ fn two_in_order(strict: bool, k: &Half, p: &Placed, found: &mut Outside) -> bool
     refutation_of_two(strict, k, &p.half, found)
 }
 
-/// The first refutation by a half-space and two of several.
-fn first_three(strict: bool, k: &Half, ps: &[Placed], found: &mut Outside) -> bool
-    ensures { if_found result found.new ≡ first_of_pairs (three_in_order (refutation_of_three strict) k.now) ps.now }
-{
-    for i in 0..ps.len() {
-        if first_three_with(strict, k, &ps[i], &ps[i + 1..], found) {
-            return true;
-        }
-    }
-    false
-}
-
-/// The first refutation by a half-space, a second one and one of several.
-fn first_three_with(strict: bool, k: &Half, p: &Placed, qs: &[Placed], found: &mut Outside) -> bool
-    ensures { if_found result found.new ≡ first_of (three_in_order (refutation_of_three strict) k.now p.now) qs.now }
-{
-    let kp = Cross::new(k, &p.half);
-    for i in 0..qs.len() {
-        if three_if_dependent(strict, &kp, k, p, &qs[i], found) {
-            return true;
-        }
-    }
-    false
-}
-
-/// The refutation by a half-space and two others, in the order of their places, if they refute.
-/// Only three with dependent normals have multiples that cancel, so the determinant is tried first.
-fn three_if_dependent(
+/// The first refutation by a half-space and two of several. Where there is none, `signs` has the signs of the
+/// determinants of the half-space with each two of them.
+fn first_three<const MOST: usize>(
     strict: bool,
-    kp: &Cross,
     k: &Half,
-    p: &Placed,
-    q: &Placed,
+    ps: &[Placed],
+    signs: &mut ArrayVec<Signs, MOST>,
     found: &mut Outside,
 ) -> bool
-    requires { kp.now ≡ two_of k.now p.now.half }
-    ensures { if_found result found.new ≡ three_in_order (refutation_of_three strict) k.now p.now q.now }
+    requires room { length ps.now ≤ MOST }
+    requires few { length ps.now ≤ 69 }
+    requires empty { signs.old.items ≡ [] }
+    ensures first { if_found result found.new ≡ first_of_pairs (three_in_order (refutation_of_three strict) k.now) ps.now }
+    ensures signs { result ≡ false → signs.new.items ≡ signs_list k.now ps.now }
 {
-    if kp.is_seen_independent(&q.half) {
-        return false;
+    for i in 0..ps.len() {
+        let p = &ps[i];
+        let qs = &ps[i + 1..];
+        let of = Signs::new(&Cross::new(k, &p.half), qs);
+        signs.push(of);
+        if first_three_with(strict, k, p, qs, of, found) {
+            return true;
+        }
     }
-    three_in_order(strict, k, p, q, found)
+    false
+}
+
+/// The first refutation by a half-space, a second one and one of several. Only three with dependent normals have
+/// multiples that cancel, so those alone are tried whose determinant is neither above 0 nor below.
+fn first_three_with(
+    strict: bool,
+    k: &Half,
+    p: &Placed,
+    qs: &[Placed],
+    signs: Signs,
+    found: &mut Outside,
+) -> bool
+    requires few { length qs.now ≤ 69 }
+    requires signs { signs ≡ signs_of k.now p.now.half qs.now }
+    ensures { if_found result found.new ≡ first_of (three_in_order (refutation_of_three strict) k.now p.now) qs.now }
+{
+    // All places but those of the two sets, which have none in common.
+    let flat = (1u128 << qs.len()) - 1 - signs.above - signs.below;
+    let mut from = 0;
+    while let Some(place) = lowest_from(flat, from) {
+        if three_in_order(strict, k, p, &qs[place as usize], found) {
+            return true;
+        }
+        from = place + 1;
+    }
+    false
 }
 
 /// The refutation by a half-space and two others, in the order of their places, if they refute.
@@ -242,50 +255,20 @@ fn refutation_of_three(strict: bool, f: &Half, g: &Half, h: &Half, found: &mut O
 }
 
 /// The first refutation by a half-space and three of several.
-fn first_four<const MOST: usize>(
-    strict: bool,
-    k: &Half,
-    ps: &[Placed],
-    weights: &mut ArrayVec<i128, MOST>,
-    found: &mut Outside,
-) -> bool
-    requires { length ps.now ≤ MOST }
+fn first_four(strict: bool, k: &Half, ps: &[Placed], signs: &[Signs], found: &mut Outside) -> bool
+    requires few { length ps.now ≤ 69 }
+    requires signs { signs.now ≡ signs_list k.now ps.now }
     ensures { if_found result found.new ≡ first_of_triples (four_in_order (refutation_of_four strict) k.now) ps.now }
 {
     for i in 0..ps.len() {
-        if first_four_with(strict, k, &ps[i], &ps[i + 1..], weights, found) {
-            return true;
-        }
-    }
-    false
-}
-
-/// The first refutation by a half-space, a second one and two of several. The determinants of the first two with each
-/// of them are taken once.
-fn first_four_with<const MOST: usize>(
-    strict: bool,
-    k: &Half,
-    p: &Placed,
-    qs: &[Placed],
-    weights: &mut ArrayVec<i128, MOST>,
-    found: &mut Outside,
-) -> bool
-    requires { length qs.now ≤ MOST }
-    ensures { if_found result found.new ≡ first_of_pairs (four_in_order (refutation_of_four strict) k.now p.now) qs.now }
-{
-    let kp = Cross::new(k, &p.half);
-    weigh(&kp, qs, weights);
-    let weights = weights.as_slice();
-    for i in 0..qs.len() {
         let behind = i + 1;
-        if first_four_with_two(
+        if first_four_with(
             strict,
-            &kp,
             k,
-            p,
-            &qs[i],
-            &qs[behind..],
-            &weights[behind..],
+            &ps[i],
+            &ps[behind..],
+            signs[i],
+            &signs[behind..],
             found,
         ) {
             return true;
@@ -294,19 +277,40 @@ fn first_four_with<const MOST: usize>(
     false
 }
 
-/// Writes down the determinants of two half-spaces and each of several.
-fn weigh<const MOST: usize>(kp: &Cross, qs: &[Placed], weights: &mut ArrayVec<i128, MOST>)
-    requires { length qs.now ≤ MOST }
-    ensures { weights.new.items ≡ weights_with kp.now.first kp.now.second qs.now }
+/// The first refutation by a half-space, a second one and two of several. `own` has the signs of the first two with
+/// each of them, and `signs` those of the first with each two of them.
+fn first_four_with(
+    strict: bool,
+    k: &Half,
+    p: &Placed,
+    qs: &[Placed],
+    own: Signs,
+    signs: &[Signs],
+    found: &mut Outside,
+) -> bool
+    requires few { length qs.now ≤ 69 }
+    requires own { own ≡ signs_of k.now p.now.half qs.now }
+    requires signs { signs.now ≡ signs_list k.now qs.now }
+    ensures { if_found result found.new ≡ first_of_pairs (four_in_order (refutation_of_four strict) k.now p.now) qs.now }
 {
-    weights.clear();
-    for q in qs {
-        weights.push(kp.weight(&q.half));
+    let kp = Cross::new(k, &p.half);
+    let mut rest = own;
+    for i in 0..qs.len() {
+        let q = &qs[i];
+        let places = rest.fourth_places(signs[i]);
+        rest = rest.behind();
+        if places == 0 {
+            continue;
+        }
+        if first_four_with_two(strict, &kp, k, p, q, &qs[i + 1..], places, found) {
+            return true;
+        }
     }
+    false
 }
 
-/// The first refutation by a half-space, two more and one of several. The determinant of the three is the multiplier of
-/// the fourth but for its sign: where it is 0 they do not refute.
+/// The first refutation by a half-space, two more and one at some places of several. The determinant of the three is
+/// the multiplier of the fourth but for its sign: where it is 0 they do not refute.
 fn first_four_with_two(
     strict: bool,
     kp: &Cross,
@@ -314,20 +318,21 @@ fn first_four_with_two(
     p: &Placed,
     q: &Placed,
     rs: &[Placed],
-    weights: &[i128],
+    places: u128,
     found: &mut Outside,
 ) -> bool
     requires pair { kp.now ≡ two_of k.now p.now.half }
-    requires weights { weights.now ≡ weights_with k.now p.now.half rs.now }
+    requires few { length rs.now ≤ 69 }
+    requires places { places ≡ bits_of (may_be_fourth k.now p.now.half q.now.half) rs.now }
     ensures { if_found result found.new ≡ first_of (four_in_order (refutation_of_four strict) k.now p.now q.now) rs.now }
 {
     match Triple::new(kp, &q.half) {
         None => false,
-        Some(triple) => first_four_with_triple(strict, &triple, k, p, q, rs, weights, found),
+        Some(triple) => first_four_with_triple(strict, &triple, k, p, q, rs, places, found),
     }
 }
 
-/// The first refutation by three half-spaces whose determinant is not 0, and one of several.
+/// The first refutation by three half-spaces whose determinant is not 0, and one at some places of several.
 fn first_four_with_triple(
     strict: bool,
     triple: &Triple,
@@ -335,24 +340,27 @@ fn first_four_with_triple(
     p: &Placed,
     q: &Placed,
     rs: &[Placed],
-    weights: &[i128],
+    places: u128,
     found: &mut Outside,
 ) -> bool
     requires triple { triple.now ≡ three_of k.now p.now.half q.now.half }
-    requires weights { weights.now ≡ weights_with k.now p.now.half rs.now }
+    requires few { length rs.now ≤ 69 }
+    requires places { places ≡ bits_of (may_be_fourth k.now p.now.half q.now.half) rs.now }
     ensures { if_found result found.new ≡ first_of (four_in_order (refutation_of_four strict) k.now p.now q.now) rs.now }
 {
-    for i in 0..rs.len() {
-        if four_if_one_sign(strict, triple, k, p, q, &rs[i], weights[i], found) {
+    let mut from = 0;
+    while let Some(place) = lowest_from(places, from) {
+        if four_if_one_sign(strict, triple, k, p, q, &rs[place as usize], found) {
             return true;
         }
+        from = place + 1;
     }
     false
 }
 
 /// The refutation by a half-space and three others, in the order of their places, if they refute.
-/// The signs and the sum of the offsets are tried first: where two signs differ, or the sum does not contradict, the
-/// minors need not be taken.
+/// The sign that is left and the sum of the offsets are tried first: where two signs differ, or the sum does not
+/// contradict, the minors need not be taken.
 fn four_if_one_sign(
     strict: bool,
     triple: &Triple,
@@ -360,17 +368,12 @@ fn four_if_one_sign(
     p: &Placed,
     q: &Placed,
     r: &Placed,
-    weight: i128,
     found: &mut Outside,
 ) -> bool
-    requires triple { triple.now ≡ three_of k.now p.now.half q.now.half }
-    requires weight { weight ≡ meeting_weight k.now p.now.half r.now.half }
+    requires { triple.now ≡ three_of k.now p.now.half q.now.half }
     ensures { if_found result found.new ≡ four_in_order (refutation_of_four strict) k.now p.now q.now r.now }
 {
-    if triple.is_passed_over(weight) {
-        return false;
-    }
-    if !triple.may_refute_beside(strict, &r.half) {
+    if !triple.may_refute_last(strict, &r.half) {
         return false;
     }
     four_in_order(strict, k, p, q, r, found)

@@ -1,14 +1,13 @@
 //! Three half-spaces, with what the refutations by them and a further one share.
 ghost use Rattle.std.specs.Prelude.{◌≡◌, ◌&&◌, ◌*◌, ◌^◌, ◌*ℤ◌, Bool, true, false, not, pos, MatchOption};
 ghost use Rattle.rp_algebra.specs.Within.{IsWithin};
-ghost use Rattle.rp_geometry.specs.Geometry.{HalfSpace};
 ghost use Rattle.rp_geometry.specs.searches.Vertex.{meeting_weight};
 ghost use Rattle.rp_geometry.specs.searches.Elimination.{minors_of_four, refutation_of_four};
 ghost use Rattle.rp_elim.specs.Factors.{AreFactorsSmall};
 ghost use Rattle.rp_elim.specs.Sides.{has_sign, signed, contradicts, four_offsets, three_of, CannotRefute};
 ghost use Rattle.rp_elim.specs.Written.{if_found};
 
-use crate::cross::{Cross, has_sign};
+use crate::cross::Cross;
 use crate::minors::minors_of_four;
 use crate::refutation::refutation;
 use rp_space::{Half, Outside, Term};
@@ -60,19 +59,20 @@ impl<'a> Triple<'a> {
     }
 
     /// The same, where it is known of the first two half-spaces and `h` that their minor has the sign.
-    pub fn may_refute_beside(&self, strict: bool, h: &Half) -> bool
+    fn may_refute_beside(&self, strict: bool, h: &Half) -> bool
         ensures { result ≡ false → CannotRefute strict self.now.first self.now.second self.now.third h.now }
     {
         have_one_sign(self.positive, &self.eg, &self.fg, h)
             && contradict(strict, self.positive, &self.ef, &self.eg, &self.fg, h)
     }
 
-    /// Whether the determinant of the first two half-spaces and a fourth one, which is `weight`, has not the sign of
-    /// the last minor: then the four do not refute, in whatever order.
-    pub fn is_passed_over(&self, weight: i128) -> bool
-        ensures { result ≡ true → (h : HalfSpace) → weight ≡ meeting_weight self.now.first self.now.second h → (strict : Bool) → CannotRefute strict self.now.first self.now.second self.now.third h }
+    /// The same, where it is known of the first half-space, each of the two others and `h` that their minors have the
+    /// sign.
+    pub fn may_refute_last(&self, strict: bool, h: &Half) -> bool
+        ensures { result ≡ false → CannotRefute strict self.now.first self.now.second self.now.third h.now }
     {
-        !has_sign(self.positive, weight)
+        self.fg.has_sign(self.positive, h)
+            && contradict(strict, self.positive, &self.ef, &self.eg, &self.fg, h)
     }
 
     /// Writes to `found` the refutation by the three half-spaces and `h`, if they refute that all four are positive
