@@ -1,8 +1,9 @@
 -- The refutation of a cell through one of its half-spaces.
-use Rattle.std.proofs.Common.{◌≡◌, ℕ, ◌+◌, ◌-◌, ◌<◌, ⊎_elim, true, false, List, [], ◌∷◌, ◌++◌, length, get_or, take, drop, append_assoc, sym, ap, ◌∙◌, subst, arith}
+use Rattle.std.proofs.Common.{◌≡◌, ℕ, ◌+◌, ◌-◌, ◌<◌, ⊎_elim, true, false, List, [], ◌∷◌, ◌++◌, length, get_or, take, drop, append_assoc, sym, ap, ◌∙◌, subst, arith, le_of_lt}
 use Rattle.std.specs.Prelude.{Option, Some, None, IsNone, IsSome, IfSome, IsTrue, ◌↔◌}
 use Rattle.std.proofs.Math.ListN.{drop_of_length-le}
-use Rattle.std.proofs.lemmas.List.{take-append-drop}
+use Rattle.std.proofs.Math.Seq.{take-append-add, take-append_seam}
+use Rattle.std.proofs.lemmas.List.{length-take-le, take-append-drop}
 use Rattle.rp_geometry.specs.Geometry.{RationalPoint, HalfSpace, IsHalfSpace}
 use Rattle.rp_geometry.specs.sets.Shape.{shape_of_cell}
 use Rattle.rp_geometry.specs.sets.Sets.{IsEmpty}
@@ -112,3 +113,10 @@ last_is cell h l e =
 -- a front keeps its bounds
 pub front_bounds : (cell : List HalfSpace) (i : ℕ) → AreHalfSpaces cell → AreHalfSpaces (take i cell)
 front_bounds cell i b = of_all IsHalfSpace (take i cell) (λ g l. all_of IsHalfSpace cell b g (of_front i cell g l))
+
+-- the front of a list, up to a place behind its first part
+pub front_at : (first more after : List HalfSpace) (place : ℕ) → place < length more → take (length first + place) ((first ++ take place more) ++ after) ≡ first ++ take place more
+front_at first more after place h =
+    let long : length (take place more) ≡ place = length-take-le place more (le_of_lt h) in
+    ap (take (length first + place)) (append_assoc first (take place more) after) ∙ take-append-add first (take place more ++ after) place
+    ∙ ap (λ hs. first ++ hs) (ap (λ n. take n (take place more ++ after)) (sym long) ∙ take-append_seam (take place more) after)

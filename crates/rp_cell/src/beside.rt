@@ -10,7 +10,7 @@ ghost use Rattle.rp_cell.specs.Decisions.{line_of_strict, DecidesStrict};
 use crate::decide::Strict;
 use crate::held::Held;
 use rp_elim::{first_outside_through, first_outside_with_last};
-use rp_space::{Half, Outside, joined, keep_bounds};
+use rp_space::{Half, Outside, keep_bounds};
 
 impl Held {
     /// Whether the cell of `first` with `more` half-spaces behind its own has a point, as `decide_strict` answers: at
@@ -74,7 +74,7 @@ impl Held {
         keep_bounds(self.halves());
         keep_bounds(first.halves());
         keep_bounds(more);
-        let before = joined(first.halves(), &more[..place]);
-        first_outside_through(before.as_slice(), &more[place], &more[place + 1..], true)
+        let before = &self.halves()[..first.halves().len() + place];
+        first_outside_through(before, &more[place], &more[place + 1..], true)
     }
 }
