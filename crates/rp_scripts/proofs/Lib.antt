@@ -1,3 +1,4 @@
+pub mod AnswerLemmas
 pub mod BodyLemmas
 pub mod LineLemmas
 pub mod MadeLemmas

@@ -26,6 +26,10 @@ pub HasPut-more : (old now new : Option (List ℕ)) (text rest line behind : Lis
 HasPut-more old now new text rest line behind h parts put =
     (h.0 ++ line, append_assoc h.0 line behind ∙ ap (λ xs. h.0 ++ xs) parts ∙ h.1, Appends-append old now new h.0 line h.2 put)
 
+-- where no rest is left, the whole text was put
+pub HasPut-all : (old now : Option (List ℕ)) (text rest : List ℕ) → HasPut old now text rest → rest ≡ [] → Appends old now text
+HasPut-all old now text rest h e = subst (Appends old now) (sym (append-nil h.0) ∙ ap (λ xs. h.0 ++ xs) (sym e) ∙ h.1) h.2
+
 -- a front behind other bytes
 take-behind : (xs ys : List ℕ) (n : ℕ) → take (length xs + n) (xs ++ ys) ≡ xs ++ take n ys
 take-behind [] ys n = let e : 0 + n ≡ n = omega arith in ap (λ k. take k ys) e
@@ -55,7 +59,7 @@ AppendsPrefix-longer old (Some after) piece more h =
     (h.0, h.1, omega (arith, h.2, length-append piece more), h.3, h.4 ∙ ap (λ xs. h.0 ++ xs) (sym (take-append-le h.1 piece more h.2)))
 
 -- a front of a piece, where all before it was put
-AppendsPrefix-within : (old middle new : Option (List ℕ)) (first second more all : List ℕ) → Appends old middle first → AppendsPrefix middle new second → first ++ (second ++ more) ≡ all
+pub AppendsPrefix-within : (old middle new : Option (List ℕ)) (first second more all : List ℕ) → Appends old middle first → AppendsPrefix middle new second → first ++ (second ++ more) ≡ all
     → AppendsPrefix old new all
 AppendsPrefix-within old middle new first second more all h k e =
     subst (AppendsPrefix old new) (append_assoc first second more ∙ e) (AppendsPrefix-longer old new (first ++ second) more (AppendsPrefix-behind old middle new first second h k))

@@ -1,22 +1,23 @@
 //! The answer to a line of a script as the lines of its report.
-ghost use Rattle.std.specs.Prelude.{◌≡◌, ◌≤◌, IfErr, IfOk, OnErr, OnOk};
+ghost use Rattle.std.specs.Prelude.{◌≡◌, ◌≤◌, [], ◌∷◌, ◌++◌, IfErr, IfOk, OnErr, OnOk};
 ghost use Rattle.std.specs.List.{list_any};
 ghost use Rattle.rp_io.specs.Bytes.{Appends, AppendsPrefix};
+ghost use Rattle.rp_cert.specs.Lines.{line_of};
 ghost use Rattle.rp_answer.specs.Views.{answer_of};
 ghost use Rattle.rp_reports.specs.Output.{is_refused_line};
-ghost use Rattle.rp_reports.specs.Text.{answer_lines, text_of_lines};
-ghost use Rattle.rp_scripts.specs.Output.{HasOutputCause};
+ghost use Rattle.rp_reports.specs.Text.{answer_lines, line_end, proof_text, proof_texts, text_of_lines};
+ghost use Rattle.rp_scripts.specs.Output.{HasOutputCause, lines_text};
 
 use crate::fault::OutputFault;
-use crate::output::put_lines;
 use crate::refusal::has_refusal;
 use rp_answer::Answer;
+use rp_cert::Proof;
 use rp_io::Sink;
-use rp_text::write_answer;
+use rp_text::{Echo, WriteText, write_line};
 
 /// Puts the report lines of `answer` to `sink`, and where `brief` those without the proof lines; `text` is a buffer for
-/// them. Answers whether one of them is a refusal; `Put` only where a put failed, `Memory` only for want of memory, and
-/// then a front of these lines was put.
+/// one of them. Answers whether one of them is a refusal; `Put` only where a put failed, `Memory` only for want of
+/// memory, and then a front of these lines was put.
 pub fn put_answer<K: Sink>(
     answer: &Answer,
     brief: bool,
@@ -31,8 +32,55 @@ pub fn put_answer<K: Sink>(
         (text_of_lines (answer_lines brief (answer_of answer.now)))) }
     ensures cause { IfErr result (HasOutputCause (K.faults sink.old) (K.faults sink.new)) }
 {
-    text.clear();
-    write_answer(answer, brief, text)?;
-    put_lines(sink, text)?;
+    if !answer.verdicts.items().is_empty() {
+        let echo = Echo {
+            number: answer.n,
+            line: answer.echo.items(),
+        };
+        put_line(&echo, text, sink)?;
+        put_each(told_proofs(answer, brief), text, sink)?;
+        put_each(answer.verdicts.items(), text, sink)?;
+    }
     Ok(has_refusal(answer))
+}
+
+/// The proof lines that a report tells: none where it is brief.
+fn told_proofs(answer: &Answer, brief: bool) -> &[Proof]
+    ensures { lines_text (λ p. proof_text (line_of p)) result.now ≡ text_of_lines (proof_texts brief (answer_of answer.now).proofs) }
+{
+    if brief { &[] } else { answer.proofs.items() }
+}
+
+/// Puts several lines, one put for each.
+fn put_each<T: WriteText, K: Sink>(
+    lines: &[T],
+    text: &mut Vec<u8>,
+    sink: &mut K,
+) -> Result<(), OutputFault>
+    ensures counts { K.faults sink.old ≤ K.faults sink.new }
+    ensures put { OnOk result (Appends (K.said sink.old) (K.said sink.new) (lines_text T.text lines.now)) }
+    ensures front { OnErr result (AppendsPrefix (K.said sink.old) (K.said sink.new) (lines_text T.text lines.now)) }
+    ensures cause { IfErr result (HasOutputCause (K.faults sink.old) (K.faults sink.new)) }
+{
+    for line in lines {
+        put_line(line, text, sink)?;
+    }
+    Ok(())
+}
+
+/// Puts one line with its line end.
+fn put_line<T: WriteText, K: Sink>(
+    line: &T,
+    text: &mut Vec<u8>,
+    sink: &mut K,
+) -> Result<(), OutputFault>
+    ensures counts { K.faults sink.old ≤ K.faults sink.new }
+    ensures put { OnOk result (Appends (K.said sink.old) (K.said sink.new) (T.text line.now ++ line_end ∷ [])) }
+    ensures front { OnErr result (AppendsPrefix (K.said sink.old) (K.said sink.new) (T.text line.now ++ line_end ∷ [])) }
+    ensures cause { IfErr result (HasOutputCause (K.faults sink.old) (K.faults sink.new)) }
+{
+    text.clear();
+    write_line(line, text)?;
+    sink.put(text)?;
+    Ok(())
 }

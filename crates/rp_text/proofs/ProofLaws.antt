@@ -6,7 +6,6 @@ use Rattle.std.proofs.lemmas.Slice.Eq.{bytes_eq-Decides}
 use Rattle.rp_algebra.proofs.Options.{none_not_some, same_some, some_if}
 use Rattle.rp_algebra.proofs.Tests.{and_first, and_second, and_true}
 use Rattle.rp_geometry.specs.Geometry.{RationalPoint, HalfSpace, IntegerBox, is_within_bound, cube_bound, is_box_in_bounds}
-use Rattle.rp_geometry.specs.searches.Certificate.{Multiple}
 use Rattle.rp_geometry.specs.searches.ProofLine.{ProofLine, in_line, out_line, at_line, apart_line, drop_line, box_line}
 use Rattle.rp_language.specs.Name.{label_eq}
 use Rattle.rp_language.specs.Grammar.{space, spaced, Version, box_words}

@@ -1,5 +1,4 @@
 pub mod Fronts
-pub mod LineTexts
 pub mod Operands
 pub mod Readers
 pub mod SliceReaders

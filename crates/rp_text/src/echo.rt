@@ -1,13 +1,41 @@
-//! Echo lines, read.
+//! Echo lines, written and read.
 ghost use Rattle.std.specs.Prelude.{◌≡◌, ◌≤◌, IfSome, length, option_map};
 ghost use Rattle.rp_reports.specs.ProofText.{echo_read, line_number};
+ghost use Rattle.rp_reports.specs.Text.{echo_text};
 ghost use Rattle.rp_text.specs.Readers.{echo_of};
 
+use crate::items::WriteText;
+use crate::pieces::append_all;
 use crate::readers::{behind, place_of};
+use itoa::Buffer;
 use rp_command::spelled;
+use std::alloc::AllocError;
 
 /// The greatest number of a line.
 const MAX_LINE: i128 = 16777216;
+
+/// The echo of a line of a script.
+#[derive(Drop)]
+pub struct Echo<'a> {
+    /// The line's number.
+    pub number: u32,
+    /// What is told of the line; nothing where it is too long.
+    pub line: &'a [u8],
+}
+
+impl<'a> WriteText for Echo<'a> {
+    ghost text = { λ e. echo_text e.number e.line.now };
+
+    fn write_text(&self, out: &mut Vec<u8>) -> Result<(), AllocError> {
+        let mut buffer = Buffer::new();
+        let number = buffer.format(self.number).as_bytes();
+        if self.line.is_empty() {
+            append_all(&[b"> ", number], out)
+        } else {
+            append_all(&[b"> ", number, b" ", self.line], out)
+        }
+    }
+}
 
 /// The number of a line that a word spells.
 fn line_number(word: &[u8]) -> Option<u32>

@@ -1,18 +1,19 @@
 //! Things that have a text, one behind the other.
-ghost use Rattle.std.specs.Prelude.{◌∷◌, ◌++◌, ℕ, List};
+ghost use Rattle.std.specs.Prelude.{[], ◌∷◌, ◌++◌, ℕ, List};
 ghost use Rattle.rp_language.specs.Grammar.{space};
-ghost use Rattle.rp_reports.specs.Text.{items_text};
+ghost use Rattle.rp_reports.specs.Text.{items_text, line_end};
 ghost use Rattle.rp_text.specs.Fronts.{Writes};
-ghost use Rattle.rp_text.specs.LineTexts.{lines_text};
 
 use crate::pieces::{append, append_byte};
 use std::alloc::AllocError;
 
-/// What has a text of its own in a report.
-pub(crate) trait WriteText {
+/// What has a text of its own in a report: a line, or a part of one.
+pub trait WriteText {
     ghost text: { Self → List ℕ };
 
-    /// Appends the text.
+    /// Appends the text to `out`.
+    ///
+    /// After `AllocError` `out` has what it had and a front of that text.
     fn write_text(&self, out: &mut Vec<u8>) -> Result<(), AllocError>
         ensures { Writes result out.old.items out.new.items (text self.now) };
 }
@@ -35,15 +36,14 @@ pub(crate) fn write_items<T: WriteText>(items: &[T], out: &mut Vec<u8>) -> Resul
     Ok(())
 }
 
-/// Appends things, each on a line of its own.
-pub(crate) fn write_lines<T: WriteText>(items: &[T], out: &mut Vec<u8>) -> Result<(), AllocError>
-    ensures { Writes result out.old.items out.new.items (lines_text T.text items.now) }
+/// Appends the text of `line` to `out`, with a line end.
+///
+/// After `AllocError` `out` has what it had and a front of that text.
+pub fn write_line<T: WriteText>(line: &T, out: &mut Vec<u8>) -> Result<(), AllocError>
+    ensures { Writes result out.old.items out.new.items (T.text line.now ++ line_end ∷ []) }
 {
-    for item in items {
-        item.write_text(out)?;
-        append_byte(b'\n', out)?;
-    }
-    Ok(())
+    line.write_text(out)?;
+    append_byte(b'\n', out)
 }
 
 /// Appends a word, and behind a space its operand.

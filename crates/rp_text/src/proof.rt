@@ -1,10 +1,10 @@
 //! The text of proof lines.
-ghost use Rattle.std.specs.Prelude.{◌++◌, map, codes};
-ghost use Rattle.rp_reports.specs.Text.{half_space_text, term_text, items_text, proof_text, proof_texts, text_of_lines};
+ghost use Rattle.std.specs.Prelude.{◌++◌, codes};
+ghost use Rattle.rp_reports.specs.Text.{half_space_text, term_text, items_text, proof_text};
 ghost use Rattle.rp_cert.specs.Lines.{line_of};
 ghost use Rattle.rp_text.specs.Fronts.{Writes};
 
-use crate::items::{WriteText, write_items, write_lines, write_operand, write_operands};
+use crate::items::{WriteText, write_items, write_operand, write_operands};
 use rp_cert::Proof;
 use rp_space::{Half, Term};
 use std::alloc::AllocError;
@@ -30,18 +30,4 @@ impl WriteText for Proof {
             Proof::Bounds(block) => write_operand(b"  box", block, out),
         }
     }
-}
-
-/// Appends the proof lines that a report tells: none where it is brief.
-pub(crate) fn write_told_proofs(
-    proofs: &[Proof],
-    brief: bool,
-    out: &mut Vec<u8>,
-) -> Result<(), AllocError>
-    ensures { Writes result out.old.items out.new.items (text_of_lines (proof_texts brief (map line_of proofs.now))) }
-{
-    if brief {
-        return Ok(());
-    }
-    write_lines(proofs, out)
 }

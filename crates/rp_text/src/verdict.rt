@@ -150,3 +150,12 @@ impl WriteText for Verdict {
         write_verdict_operands(self, out)
     }
 }
+
+/// Appends the text of the line of `verdict` to `out`, without a line end.
+///
+/// After `AllocError` `out` has what it had and a front of that text.
+pub fn write_verdict(verdict: &Verdict, out: &mut Vec<u8>) -> Result<(), AllocError>
+    ensures { Writes result out.old.items out.new.items (verdict_text (verdict_of verdict.now)) }
+{
+    verdict.write_text(out)
+}

@@ -1,17 +1,19 @@
 use rp_answer::{Answer, Refusal, Verdict, Verdicts};
 use rp_cert::{Proof, Proofs};
 use rp_command::Why;
+use rp_io::MemorySink;
 use rp_lists::Name;
+use rp_scripts::put_answer;
 use rp_space::{Half, Halves};
-use rp_text::{read_echo, read_proof, read_slice, write_answer, write_verdict};
+use rp_text::{read_echo, read_proof, read_slice, write_verdict};
 use std::alloc::Global;
 use std::process::Abort;
 
-/// Writes an answer in full, and compares its text.
+/// Puts an answer in full, and compares its text.
 fn expect_answer(rt: &impl Abort, alloc: Global, answer: &Answer, want: &[u8]) {
-    let mut out = Vec::new(alloc);
-    write_answer(answer, false, &mut out).expect(rt, "no memory");
-    assert_eq!(rt; out.as_slice(), want);
+    let mut sink = MemorySink::new(alloc, want.len(), &[]).expect(rt, "no memory");
+    put_answer(answer, false, &mut Vec::new(alloc), &mut sink).expect(rt, "no put");
+    assert_eq!(rt; sink.bytes(), want);
 }
 
 /// Writes a verdict, and compares its text.
