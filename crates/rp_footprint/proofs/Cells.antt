@@ -5,7 +5,7 @@ use Rattle.std.specs.List.{AllByRecursion}
 use Rattle.std.proofs.lemmas.Int.{ints}
 use Rattle.std.proofs.lemmas.List.{get_or_default}
 use Rattle.rp_algebra.proofs.Listed.{list_all_is}
-use Rattle.rp_geometry.specs.Geometry.{HalfSpace, is_within_bound, cube_bound}
+use Rattle.rp_geometry.specs.Geometry.{is_within_bound, cube_bound}
 use Rattle.rp_geometry.specs.sets.Prism.{Corner, Edge, edge_of, edges_along, edges_of, is_upright, is_corner_in_bounds, Prism, IsPrism}
 use Rattle.rp_geometry.specs.parts.Trapezoid.{least_y}
 use Rattle.rp_space.specs.Corners.{polygon_corner, polygon_corners, prism_of}

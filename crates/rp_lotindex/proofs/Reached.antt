@@ -1,5 +1,5 @@
 -- The places whose boxes an index answers are those of lots of which a box meets one of some boxes, so of all that have a part which may meet one of a list.
-use Rattle.std.proofs.Common.{◌≡◌, ℕ, ◌+◌, ◌/◌, ◌<◌, ◌≤◌, ◌==◌, Bool, true, false, not, cond, List, [], ◌∷◌, ◌++◌, ◌⊎◌, ⊎_elim, map, length, drop, Option, Some, None, slice_get, refl, sym, ap, ◌∙◌, subst, append_assoc, append-nil, arith}
+use Rattle.std.proofs.Common.{◌≡◌, ℕ, ◌+◌, ◌/◌, ◌<◌, ◌≤◌, ◌==◌, Bool, true, false, not, cond, List, [], ◌∷◌, ◌++◌, ◌⊎◌, ⊎_elim, map, length, drop, Option, Some, None, slice_get, refl, sym, ap, ◌∙◌, subst, append_assoc, arith}
 use Rattle.std.specs.Prelude.{option_map, sum_by, count_by, nat_le}
 use Rattle.std.specs.List.{AllByRecursion, list_any}
 use Rattle.std.specs.List.Sorted.{IsStrictlySortedBy}
@@ -26,7 +26,6 @@ use Rattle.rp_boxindex.proofs.Exact.{meeting_ids_are_exact_spec}
 use Rattle.rp_lotindex.specs.declared.near.Reach.{Reach}
 use Rattle.rp_lotindex.specs.declared.near.Reach.TheVariants.{Overlap, Touch}
 use Rattle.rp_lotindex.specs.Indexed.{boxes_of_parts, box_at, NoneBehind, IsIndexOf}
-use Rattle.rp_lotindex.specs.declared.axis.Axis.TheVariants.{X, Y, Z}
 use Rattle.rp_lotindex.specs.Turns.{axis_of}
 use Rattle.rp_lotindex.specs.Layers.{cube_number, moved, moved_in, in_turns}
 use Rattle.rp_lotindex.specs.Near.{may_meet, is_near, is_closed, places_by, places_each, places_met, is_listed, AreWithin}

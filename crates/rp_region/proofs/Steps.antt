@@ -75,7 +75,7 @@ abbrev meet_if : Part → Part → Bool → Walk Work Bool
 meet_if p q near = elim near [ false ↦ pass false | true ↦ count_tests 1 >> strict_test (p.cell ++ q.cell) ]
 
 -- it only appends lines
-pub meet_tells : (p q : Part) → OnlyTells (meet_if_near p q)
+meet_tells : (p q : Part) → OnlyTells (meet_if_near p q)
 meet_tells p q = by_boxes (near_pair p q)
   where
     by_boxes : (b : Bool) → OnlyTells (meet_if p q b)
@@ -87,7 +87,7 @@ pub apart_unmet : (p q : Part) (w : Work) → near_pair p q ≡ false → meet_i
 apart_unmet p q w e = ap (λ b. meet_if p q b w) e
 
 -- the boxes meet: a test is counted first
-pub near_left : (p q : Part) (w : Work) → near_pair p q ≡ true → IsLeft w (meet_if_near p q) w (count_tests 1 >>= λ _. strict_test (p.cell ++ q.cell))
+near_left : (p q : Part) (w : Work) → near_pair p q ≡ true → IsLeft w (meet_if_near p q) w (count_tests 1 >>= λ _. strict_test (p.cell ++ q.cell))
 near_left p q w e = left_as (ap (meet_if p q) e) (all_left w (meet_if_near p q))
 
 -- a count that has a fault
@@ -99,7 +99,7 @@ pub meet_counted : (p q : Part) (w v : Work) → near_pair p q ≡ true → coun
 meet_counted p q w v b n = next_left (count_tests 1) (λ _. strict_test (p.cell ++ q.cell)) (count_tells 1) (near_left p q w b) n
 
 -- it is known first whether they share a member, and then the part is carved or kept
-pub pair_by_meeting : (made : List Part) (c q : Part) → subtract_pair first_tester made c q ≡ (meet_if_near c q >>= λ found. carve_or_keep first_tester found made c q)
+pair_by_meeting : (made : List Part) (c q : Part) → subtract_pair first_tester made c q ≡ (meet_if_near c q >>= λ found. carve_or_keep first_tester found made c q)
 pair_by_meeting made c q = by_boxes (near_pair c q)
   where
     counted_first : (o : Outcome Work (Unit {0})) → after_first (λ _. strict_test (c.cell ++ q.cell) >>= λ found. carve_or_keep first_tester found made c q) o

@@ -6,12 +6,11 @@ use Rattle.std.specs.BTreeMap.{is_at, insert_entry}
 use Rattle.std.specs.Option.{option_to_list}
 use Rattle.rp_boxindex.specs.Counts.{count, SameCounts}
 use Rattle.rp_boxindex.specs.declared.place.Corner.{Corner}
-use Rattle.rp_boxindex.specs.declared.place.Place.{Place}
 use Rattle.rp_boxindex.specs.Boxes.{Boxes, Entry}
 use Rattle.rp_boxindex.specs.tree.Nodes.{entry_of}
-use Rattle.rp_boxindex.specs.tree.Order.{corner_of, place_of, is_at_place}
+use Rattle.rp_boxindex.specs.tree.Order.{place_of, is_at_place}
 use Rattle.rp_boxindex.proofs.Few.{not_too_high}
-use Rattle.rp_boxindex.proofs.Maps.{contains_is, place_is_left, kept_changed, map_changed, IsTakenOut, IsTaken, none_taken, taken}
+use Rattle.rp_boxindex.proofs.Maps.{contains_is, place_is_left, kept_changed, map_changed, IsTakenOut, none_taken, taken}
 use Rattle.rp_boxindex.proofs.index.Index.change.Goals as goal
 
 pub returns-in_default-clause-there : goal.returns-in_default-clause-there
