@@ -12,9 +12,9 @@ ghost use Rattle.rp_cell.specs.Slimming.{tested, IsTested, IsDropProof};
 use crate::decide::{Strict, decide_strict};
 use crate::held::Held;
 use crate::others::outside_of;
-use rp_elim::first_outside_through;
+use rp_elim::first_outside_behind;
 use rp_lists::Listed;
-use rp_space::{Half, Outside, joined, keep_bounds};
+use rp_space::{Half, Outside, keep_bounds};
 use std::alloc::{AllocError, Global};
 use std::marker::Model;
 
@@ -108,18 +108,17 @@ impl Held {
 }
 
 /// What shows that no member of others, which have a point, lies outside a half-space, and `None` exactly where one
-/// does. It is apart, as the next is, so that nobody else makes room for the list.
+/// does.
 fn through_complement(half: &Half, kept: &[Half], rest: &[Half]) -> Option<Outside>
     requires few { length kept.now + length rest.now < 64 }
     requires bounds { AreHalfSpaces (tested kept.now half.now rest.now) }
     requires others { (p : RationalPoint) × IsSolution true (kept.now ++ rest.now) p }
     ensures { IsDropProof (tested kept.now half.now rest.now) result }
 {
-    let others = joined(kept, rest);
-    first_outside_through(others.as_slice(), &half.not(), &[], true)
+    first_outside_behind(kept, rest, &half.not(), true)
 }
 
-/// The same of others that may have no point.
+/// The same of others that may have no point. It is apart so that nobody else makes room for the list.
 fn with_complement(half: &Half, kept: &[Half], rest: &[Half]) -> Option<Outside>
     requires { length kept.now + length rest.now < 64 }
     ensures { IsDropProof (tested kept.now half.now rest.now) result }

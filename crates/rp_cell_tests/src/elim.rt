@@ -1,5 +1,5 @@
 use crate::shapes::{half, term, tetrahedron};
-use rp_elim::{first_outside, first_outside_through};
+use rp_elim::{first_outside, first_outside_behind, first_outside_through};
 
 #[test]
 fn four_half_spaces_refute(rt: HostRuntime) {
@@ -18,4 +18,9 @@ fn four_half_spaces_refute(rt: HostRuntime) {
         .ok_or("nothing is found")
         .expect(&rt, "nothing is found");
     assert_eq!(rt; found.items(), wanted.as_slice());
+    let [first, second, third, fourth] = wanted;
+    let found = first_outside_behind(&[x, y], &[z, far], &slanted, true)
+        .ok_or("nothing is found")
+        .expect(&rt, "nothing is found");
+    assert_eq!(rt; found.items(), [first, second, fourth, third].as_slice());
 }

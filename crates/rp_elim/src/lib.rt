@@ -20,13 +20,14 @@
 //! has found something: a list of terms is large, and most sets have none.
 //!
 //! Where all but one half-space have a solution, that one is in every certificate, and only the sets that contain it
-//! are tried ([`first_outside_through`]). Of the sets of one size that share a half-space the first is the one whose
-//! others come first, so what is found is the first of all. The determinants of that half-space and two others are taken
-//! once, and their signs kept as sets of places (`sign_sets.rt`): of three those alone are tried whose determinant is 0,
-//! and of four those with three signs that fit, which are the places in two sets at once. A certificate of at most two
-//! terms is found by itself ([`first_outside_of_two`]), where it is the first: two boxes apart always have one. Of two
-//! cells that have solutions it has one term of each ([`first_outside_between`]), and of a cell whose others have one it
-//! has a term of the last half-space ([`first_outside_with_last`]).
+//! are tried ([`first_outside_through`], and [`first_outside_behind`] where the others stand in two lists). Of the sets
+//! of one size that share a half-space the first is the one whose others come first, so what is found is the first of
+//! all. The determinants of that half-space and two others are taken once, and their signs kept as sets of places
+//! (`sign_sets.rt`): of three those alone are tried whose determinant is 0, and of four those with three signs that
+//! fit, which are the places in two sets at once. A certificate of at most two terms is found by itself
+//! ([`first_outside_of_two`]), where it is the first: two boxes apart always have one. Of two cells that have solutions
+//! it has one term of each ([`first_outside_between`]), and of a cell whose others have one it has a term of the last
+//! half-space ([`first_outside_with_last`]).
 
 mod couple;
 mod cross;
@@ -45,4 +46,4 @@ pub use lowest::lowest_terms;
 pub use minors::{Axis, minors_of_two, minors_on_axes};
 pub use refutation::{are_multipliers, are_negated_multipliers, negated};
 pub use search::{first_outside, first_outside_between, first_outside_of_two};
-pub use through::first_outside_through;
+pub use through::{first_outside_behind, first_outside_through};

@@ -24,13 +24,24 @@ pub fn lowest_terms(terms: &[Term]) -> Outside
     requires multipliers { list_all (λ t. is_multiplier t.factor) terms.now ≡ true }
     ensures { result ≡ reduced_terms terms.now }
 {
-    let divisor = divisor_of(terms);
     let mut lowest = Outside::new();
+    write_lowest(terms, &mut lowest);
+    lowest
+}
+
+/// Writes to `found`, in place of what stands there, what `lowest_terms` answers.
+pub fn write_lowest(terms: &[Term], found: &mut Outside)
+    requires some { 0 < length terms.now }
+    requires few { length terms.now ≤ 4 }
+    requires multipliers { list_all (λ t. is_multiplier t.factor) terms.now ≡ true }
+    ensures { found.new ≡ reduced_terms terms.now }
+{
+    let divisor = divisor_of(terms);
+    *found = Outside::new();
     for term in terms {
-        lowest.push(Term {
+        found.push(Term {
             by: quotient(term.by, divisor),
             half: term.half,
         });
     }
-    lowest
 }

@@ -13,18 +13,20 @@ pub struct Placed {
     pub before: bool,
 }
 
-/// Appends to `others` the half-spaces of `before`, which stand before one, then those of `after`, which stand behind
-/// it, and the cube's six; there is room for them.
+/// Appends to `others` the half-spaces of `before` and of `more`, which stand before one, then those of `after`, which
+/// stand behind it, and the cube's six; there is room for them.
 pub fn place<const MOST: usize>(
     others: &mut ArrayVec<Placed, MOST>,
     before: &[Half],
+    more: &[Half],
     after: &[Half],
 )
-    requires room { length before.now + length after.now + 6 ≤ MOST }
+    requires room { length before.now + length more.now + length after.now + 6 ≤ MOST }
     requires empty { others.old.items ≡ [] }
-    ensures { others.new.items ≡ placed_list before.now (with_cube after.now) }
+    ensures { others.new.items ≡ placed_list (before.now ++ more.now) (with_cube after.now) }
 {
     extend(others, before, true);
+    extend(others, more, true);
     extend(others, after, false);
     extend(others, &cube(), false);
 }

@@ -6,7 +6,7 @@ ghost use Rattle.rp_geometry.specs.searches.Elimination.{terms_if, reduced_terms
 ghost use Rattle.rp_elim.specs.Factors.{AreFactorsSmall};
 ghost use Rattle.rp_elim.specs.Written.{if_found};
 
-use crate::lowest::lowest_terms;
+use crate::lowest::write_lowest;
 use rp_space::{Outside, Term, is_balanced, is_contradiction, is_multiplier};
 
 /// Writes to `found` the `terms` with positive multipliers in lowest terms, if they refute that all their half-spaces
@@ -39,7 +39,7 @@ pub fn positive_refutation(strict: bool, terms: &[Term], found: &mut Outside) ->
     if !cancel(strict, terms) {
         return false;
     }
-    *found = lowest_terms(terms);
+    write_lowest(terms, found);
     true
 }
 

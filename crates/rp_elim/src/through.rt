@@ -55,26 +55,48 @@ pub fn first_outside_through(
     let _ = half.numbers();
     keep_bounds(after);
     let mut found = Outside::new();
-    let is_found = first_beside(strict, before, half, after, &mut found);
+    let is_found = first_beside(strict, before, &[], half, after, &mut found);
     if_found(is_found, found)
 }
 
-/// The first refutation by a half-space and others, of which most cells have so few that a short list has room for
-/// them.
+/// The same for a cell of `first`, `second` and `last`, in this order, where `first` and `second` alone have a solution.
+pub fn first_outside_behind(
+    first: &[Half],
+    second: &[Half],
+    last: &Half,
+    strict: bool,
+) -> Option<Outside>
+    requires few { length first.now + length second.now < 64 }
+    requires others { (p : RationalPoint) × IsSolution strict (first.now ++ second.now) p }
+    ensures first { result ≡ first_outside strict (first.now ++ second.now ++ last.now ∷ []) }
+    ensures passes { IfSome result (λ terms. IsTrue (is_outside_certificate strict (first.now ++ second.now ++ last.now ∷ []) terms)) }
+    ensures none { IsNone result ↔ ((p : RationalPoint) × IsSolution strict (first.now ++ second.now ++ last.now ∷ []) p) }
+{
+    keep_bounds(first);
+    keep_bounds(second);
+    let _ = last.numbers();
+    let mut found = Outside::new();
+    let is_found = first_beside(strict, first, second, last, &[], &mut found);
+    if_found(is_found, found)
+}
+
+/// The first refutation by a half-space and others, which are those of `before` and `more` before it and those of
+/// `after` and the cube behind it. Most cells have so few of them that a short list has room.
 fn first_beside(
     strict: bool,
     before: &[Half],
+    more: &[Half],
     half: &Half,
     after: &[Half],
     found: &mut Outside,
 ) -> bool
-    requires { length before.now + length after.now < 64 }
-    ensures { if_found result found.new ≡ first_through strict half.now (placed_list before.now (with_cube after.now)) }
+    requires { length before.now + length more.now + length after.now < 64 }
+    ensures { if_found result found.new ≡ first_through strict half.now (placed_list (before.now ++ more.now) (with_cube after.now)) }
 {
-    if before.len() + after.len() <= FEW {
-        return first_beside_few(strict, before, half, after, found);
+    if before.len() + more.len() + after.len() <= FEW {
+        return first_beside_few(strict, before, more, half, after, found);
     }
-    first_beside_many(strict, before, half, after, found)
+    first_beside_many(strict, before, more, half, after, found)
 }
 
 /// The first refutation by `half` and the others, which stand in a short list. It is apart so that nobody else makes
@@ -82,16 +104,17 @@ fn first_beside(
 fn first_beside_few(
     strict: bool,
     before: &[Half],
+    more: &[Half],
     half: &Half,
     after: &[Half],
     found: &mut Outside,
 ) -> bool
-    requires { length before.now + length after.now ≤ 14 }
-    ensures { if_found result found.new ≡ first_through strict half.now (placed_list before.now (with_cube after.now)) }
+    requires { length before.now + length more.now + length after.now ≤ 14 }
+    ensures { if_found result found.new ≡ first_through strict half.now (placed_list (before.now ++ more.now) (with_cube after.now)) }
 {
     let mut others = ArrayVec::<Placed, FEW_PLACES>::new();
     let mut signs = ArrayVec::<Signs, FEW_PLACES>::new();
-    place(&mut others, before, after);
+    place(&mut others, before, more, after);
     first_through(strict, half, others.as_slice(), &mut signs, found)
 }
 
@@ -99,16 +122,17 @@ fn first_beside_few(
 fn first_beside_many(
     strict: bool,
     before: &[Half],
+    more: &[Half],
     half: &Half,
     after: &[Half],
     found: &mut Outside,
 ) -> bool
-    requires { length before.now + length after.now < 64 }
-    ensures { if_found result found.new ≡ first_through strict half.now (placed_list before.now (with_cube after.now)) }
+    requires { length before.now + length more.now + length after.now < 64 }
+    ensures { if_found result found.new ≡ first_through strict half.now (placed_list (before.now ++ more.now) (with_cube after.now)) }
 {
     let mut others = ArrayVec::<Placed, MOST_PLACES>::new();
     let mut signs = ArrayVec::<Signs, MOST_PLACES>::new();
-    place(&mut others, before, after);
+    place(&mut others, before, more, after);
     first_through(strict, half, others.as_slice(), &mut signs, found)
 }
 

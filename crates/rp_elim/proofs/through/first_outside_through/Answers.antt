@@ -1,6 +1,7 @@
-use Rattle.std.proofs.Common.{sym, subst, ◌++◌, ◌∷◌, ◌∙◌}
+use Rattle.std.proofs.Common.{sym, subst, append-nil, ◌++◌, ◌∷◌, ◌∙◌}
 use Rattle.rp_algebra.proofs.Listed.{all_append}
-use Rattle.rp_geometry.specs.Geometry.{HalfSpace, IsHalfSpace}
+use Rattle.rp_geometry.specs.Geometry.{HalfSpace, IsHalfSpace, with_cube}
+use Rattle.rp_elim.specs.HeldFast.{placed_list, first_through}
 use Rattle.rp_elim.proofs.Found.{found_passes, none_where_solution}
 use Rattle.rp_elim.proofs.InPlace.{first_with_others}
 use Rattle.rp_elim.proofs.through.first_outside_through.Goals as goal
@@ -10,6 +11,7 @@ returns-clause-first c =
     let before = c.args.before.now in
     let after = c.args.after.now in
     c.if_found.ensures ∙ c.first_beside-is_found.ensures
+    ∙ (λ i. first_through c.args.strict c.args.half.now (placed_list (append-nil before i) (with_cube after)))
     ∙ sym (first_with_others c.args.strict before c.args.half.now after (all_append IsHalfSpace before after c.keep_bounds.ensures c.keep_bounds-2.ensures) c.requires.others)
 
 pub returns-clause-passes : goal.returns-clause-passes

@@ -4,7 +4,7 @@ use Rattle.rp_algebra.specs.Integer.{reduced_by}
 use Rattle.rp_geometry.specs.searches.Certificate.{Multiple}
 use Rattle.rp_geometry.specs.searches.Elimination.{multiple_of, reduced_terms}
 use Rattle.rp_elim.proofs.Divisor.{divisor_above, divisor_below}
-use Rattle.rp_elim.proofs.lowest.lowest_terms.Goals as goal
+use Rattle.rp_elim.proofs.lowest.write_lowest.Goals as goal
 
 pub quotient-requires : goal.quotient-requires
 quotient-requires c = record {
