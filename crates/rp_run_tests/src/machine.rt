@@ -3,17 +3,13 @@ ghost use Rattle.rp_model.specs.states.State.{state_of_parts};
 ghost use Rattle.rp_model.specs.states.Sound.{IsLaterThan};
 
 use rp_command::{Expr, Version};
-use rp_io::MemorySink;
 use rp_machine::Machine;
 use rp_region::Work;
-use rp_scripts::put_answer;
 use rp_space::IntBox;
+use rp_text::write_answer;
 use std::alloc::{AllocError, Global};
 use std::process::Abort;
 use std::thread::Threads;
-
-/// Room for the brief answer to a line, in bytes.
-const ROOM: usize = 100_000;
 
 /// A machine for a script of a version that has answered no line yet.
 fn opened(alloc: Global, version: Version) -> Result<Machine, AllocError>
@@ -29,16 +25,16 @@ fn told<R: Abort + Threads + Sync>(
     machine: &mut Machine,
     n: u32,
     line: &str,
-) -> MemorySink<'static>
+) -> Vec<u8>
     requires { IsLaterThan n (state_of_parts machine.old.state) }
     ensures { IsLaterThan (n + 1) (state_of_parts machine.new.state) }
 {
     let answer = machine
         .step(rt, alloc, n, line.as_bytes())
         .expect(rt, "no memory");
-    let mut sink = MemorySink::new(alloc, ROOM, &[]).expect(rt, "no memory");
-    put_answer(&answer, true, &mut Vec::new(alloc), &mut sink).expect(rt, "no put");
-    sink
+    let mut text = Vec::new(alloc);
+    write_answer(&answer, true, &mut text).expect(rt, "no memory");
+    text
 }
 
 /// Compares the text of the answer to a line.
@@ -59,8 +55,8 @@ fn expect_told<R: Abort + Threads + Sync>(
     requires { IsLaterThan n (state_of_parts machine.old.state) }
     ensures { IsLaterThan (n + 1) (state_of_parts machine.new.state) }
 {
-    let sink = told(rt, alloc, machine, n, line);
-    expect_text(rt, alloc, sink.bytes(), n, line, verdicts);
+    let text = told(rt, alloc, machine, n, line);
+    expect_text(rt, alloc, &text, n, line, verdicts);
 }
 
 /// Takes lines in turn, of which the first has the number, and compares the verdict lines of each answer.

@@ -1,12 +1,12 @@
 -- What is put for one line of a script, and for a whole one.
-use Rattle.std.specs.Prelude.{◌≡◌, ◌↔◌, ℕ, Bool, true, false, IsTrue, List, [], ◌∷◌, ◌++◌, Option}
-use Rattle.std.specs.List.{flat_map, list_any}
+use Rattle.std.specs.Prelude.{◌≡◌, ◌↔◌, ℕ, Bool, true, false, IsTrue, List, Option}
+use Rattle.std.specs.List.{list_any}
 use Rattle.rp_io.specs.Bytes.{Appends, AppendsPrefix}
 use Rattle.rp_io.specs.Faults.{HasRisen}
 use Rattle.rp_language.specs.Grammar.{Reading}
 use Rattle.rp_reports.specs.Output.{Task, run_script, run_brief, IsOutput, IsRefused, is_refused_line, is_bad_reading}
 use Rattle.rp_reports.specs.Machine.{Running, step_answer}
-use Rattle.rp_reports.specs.Text.{answer_lines, line_end, text_of_lines}
+use Rattle.rp_reports.specs.Text.{answer_lines, text_of_lines}
 use Rattle.rp_scripts.specs.declared.fault.OutputFault.{OutputFault}
 use Rattle.rp_scripts.specs.declared.fault.OutputFault.TheVariants.{Put, Memory}
 
@@ -42,7 +42,3 @@ pub record PutsFront (task : Task) (input : List ℕ) (old new : Option (List �
 abbrev pub HasOutputCause : ℕ → ℕ → OutputFault → Type 0
 HasOutputCause before after Put = HasRisen before after
 HasOutputCause before after (Memory e) = Unit {0}
-
--- the texts of the items of a list, each with a line end
-abbrev pub lines_text : {X : Type 0} → (X → List ℕ) → List X → List ℕ
-lines_text text xs = flat_map (λ x. text x ++ line_end ∷ []) xs

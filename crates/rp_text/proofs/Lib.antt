@@ -1,7 +1,8 @@
 mod EchoLaws
 mod FrontLemmas
+mod HalfTextLemmas
 mod ItemLemmas
-mod LineLemmas
+pub mod LineLemmas
 mod NumberWords
 mod ProofLaws
 mod ReaderLaws

@@ -3,6 +3,7 @@ ghost use Rattle.std.specs.Prelude.{[], ◌∷◌, ◌++◌, ℕ, List};
 ghost use Rattle.rp_language.specs.Grammar.{space};
 ghost use Rattle.rp_reports.specs.Text.{items_text, line_end};
 ghost use Rattle.rp_text.specs.Fronts.{Writes};
+ghost use Rattle.rp_text.specs.LineTexts.{lines_text};
 
 use crate::pieces::{append, append_byte};
 use std::alloc::AllocError;
@@ -44,6 +45,16 @@ pub fn write_line<T: WriteText>(line: &T, out: &mut Vec<u8>) -> Result<(), Alloc
 {
     line.write_text(out)?;
     append_byte(b'\n', out)
+}
+
+/// Appends things, each on a line of its own.
+pub(crate) fn write_lines<T: WriteText>(items: &[T], out: &mut Vec<u8>) -> Result<(), AllocError>
+    ensures { Writes result out.old.items out.new.items (lines_text T.text items.now) }
+{
+    for item in items {
+        write_line(item, out)?;
+    }
+    Ok(())
 }
 
 /// Appends a word, and behind a space its operand.

@@ -5,14 +5,17 @@ use rp_io::MemorySink;
 use rp_lists::Name;
 use rp_scripts::put_answer;
 use rp_space::{Half, Halves};
-use rp_text::{read_echo, read_proof, read_slice, write_verdict};
+use rp_text::{read_echo, read_proof, read_slice, write_answer, write_verdict};
 use std::alloc::Global;
 use std::process::Abort;
 
-/// Puts an answer in full, and compares its text.
+/// Writes an answer in full, and puts it line by line, and compares both texts.
 fn expect_answer(rt: &impl Abort, alloc: Global, answer: &Answer, want: &[u8]) {
+    let mut out = Vec::new(alloc);
+    write_answer(answer, false, &mut out).expect(rt, "no memory");
+    assert_eq!(rt; out.as_slice(), want);
     let mut sink = MemorySink::new(alloc, want.len(), &[]).expect(rt, "no memory");
-    put_answer(answer, false, &mut Vec::new(alloc), &mut sink).expect(rt, "no put");
+    put_answer(answer, false, &mut out, &mut sink).expect(rt, "no put");
     assert_eq!(rt; sink.bytes(), want);
 }
 

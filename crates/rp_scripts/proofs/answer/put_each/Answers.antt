@@ -1,7 +1,7 @@
 use Rattle.std.proofs.Common.{[], ◌∷◌, ◌++◌, ◌+◌, drop, sym, ap, arith}
 use Rattle.rp_algebra.proofs.Lists.{drop_item}
 use Rattle.rp_reports.specs.Text.{line_end}
-use Rattle.rp_scripts.specs.Output.{lines_text}
+use Rattle.rp_text.specs.LineTexts.{lines_text}
 use Rattle.rp_scripts.proofs.SinkLemmas.{HasPut-front, HasPut-more, OnErr-holds}
 use Rattle.rp_scripts.proofs.answer.put_each.Goals as goal
 

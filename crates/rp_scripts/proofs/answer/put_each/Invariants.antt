@@ -1,5 +1,5 @@
 use Rattle.std.proofs.Common.{◌≤◌, drop}
-use Rattle.rp_scripts.specs.Output.{lines_text}
+use Rattle.rp_text.specs.LineTexts.{lines_text}
 use Rattle.rp_scripts.proofs.SinkLemmas.{HasPut}
 use Rattle.rp_scripts.proofs.answer.put_each.Given as goal
 
