@@ -132,8 +132,7 @@ def expression(sides):
 def small_pairs(count):
     """The relations of pairs of small regions: boxes, boxes that a skew plane cuts, tetrahedra."""
     source = random.Random(7)
-    for _ in range(count):
-        yield f"rcc {' '.join(map(expression, small_pair(source)))}"
+    return [f"rcc {' '.join(map(expression, small_pair(source)))}" for _ in range(count)]
 
 
 def tip_and_plane(sign):
