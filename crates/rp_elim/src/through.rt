@@ -59,7 +59,10 @@ pub fn first_outside_through(
     if_found(is_found, found)
 }
 
-/// The same for a cell of `first`, `second` and `last`, in this order, where `first` and `second` alone have a solution.
+/// The first outside certificate of the cell of `first`, `second` and `last`, in this order, where `first` and `second`
+/// alone have a solution, of their strict sides (`strict`) or of the weak ones. Only sets with `last` are tried, as
+/// [`first_outside_through`] says.
+/// `None` exactly where the whole cell has a solution. It has at most 64 half-spaces.
 pub fn first_outside_behind(
     first: &[Half],
     second: &[Half],
