@@ -11,11 +11,11 @@
 //! - With 16 or more the polygon of the first plane is made first, and the next one as long as a point is wanted
 //!   (`rp_clip`). It costs about what the refutations by two half-spaces cost, and these are not needed where the plane
 //!   has a vertex.
-//! - A weak point of 12 to 15 is sought on a few lines of one plane first (`rp_vertex`): whether two parts touch is
+//! - A weak point of 10 to 15 is sought on a few lines of one plane first (`rp_vertex`): whether two parts touch is
 //!   asked where their boxes do, and two boxes that touch have their first weak point there.
 //! - With 7 to 15, and where the first plane has none, the refutations by at most two half-spaces come next
 //!   (`rp_elim`): they are the first of all and few, and most pairs of parts that are tested are boxes.
-//! - What they leave open is searched over the vertices in their order with fewer than 12. With more a few lines of one
+//! - What they leave open is searched over the vertices in their order with fewer than 10. With more a few lines of one
 //!   plane are searched, where the first point often is, and the vertices are made where a point is on none of them: to
 //!   search along all lines of a cell without a point may take longer.
 //!
