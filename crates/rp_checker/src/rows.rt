@@ -11,8 +11,7 @@ ghost use Rattle.rp_register.specs.Followed.{IsFollowed, followed_told};
 use rp_answer::{RowEnd, Verdicts};
 use rp_command::Command;
 use rp_ledger::{Reply, Row, carry_out};
-use rp_questions::{access, audit, neighbours, section};
-use rp_register::{Followed, Register};
+use rp_register::{Followed, Register, access, audit, neighbours, section};
 use rp_trail::Trail;
 use std::alloc::Global;
 

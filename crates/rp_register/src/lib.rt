@@ -1,15 +1,19 @@
 #![tactic(auto)]
-//! What the check of a report keeps between two answers, and pairs of lots judged on the next lines.
+//! What the check of a report keeps between two answers, and the questions about lots in contact and apart, and about
+//! sections, followed on the next lines.
 //!
 //! A [`Register`] is what is kept ([`Ledger`](rp_ledger::Ledger)), with the forms that the lines of the report show.
 //! Calls that answer `AllocError` do so only for want of memory.
 
+mod contacts;
 mod followed;
 mod keeper;
 mod register;
 mod shown;
+mod slices;
 mod turn;
 
+pub use contacts::{access, audit, neighbours};
 pub use followed::Followed;
 pub use register::Register;
-pub use turn::{meet_in_turn, show_apart_in_turn};
+pub use slices::section;

@@ -15,7 +15,7 @@ use std::alloc::{AllocError, Global};
 /// Of each of `pairs`, in order, whether the two lots meet whose forms stand in `forms` at its places, as `reach` says,
 /// on the next lines of `trail`. Only those pairs of parts are tested whose boxes let them meet, up to the first that
 /// does; nothing is counted.
-pub fn meet_in_turn(
+pub(crate) fn meet_in_turn(
     alloc: Global,
     forms: &[Form],
     pairs: &[Pair],
@@ -38,7 +38,7 @@ pub fn meet_in_turn(
 /// The two lots of each of `pairs`, in order, whose forms stand in `forms` at its places, are shown to share no point, on
 /// the next lines of `trail`. Only those pairs of parts are tested whose boxes share more than boundary; nothing is
 /// counted. `TakenWrong` at the first line that shows a common point.
-pub fn show_apart_in_turn(
+pub(crate) fn show_apart_in_turn(
     forms: &[Form],
     pairs: &[Pair],
     trail: &mut Trail<'_>,

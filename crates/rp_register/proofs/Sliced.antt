@@ -17,7 +17,7 @@ use Rattle.rp_tester.specs.Comes.{StopsBy, Comes}
 use Rattle.rp_trail.specs.Slices.{follow_slice_lines}
 use Rattle.rp_tester.proofs.Left.{stops_on}
 use Rattle.rp_register.specs.Followed.{IsUnshown}
-use Rattle.rp_questions.specs.Slices.{follow_section_lines}
+use Rattle.rp_register.specs.Slices.{follow_section_lines}
 
 -- slices that are those told are as many
 pub slices_counted : (z : ℤ) (ps : List Part) (lines : List (List ℕ)) (found : List CodeSlice) → map slice_shown found ≡ slices_told z ps lines → length found ≡ length ps

@@ -9,8 +9,8 @@ use Rattle.rp_reports.specs.Text.{verdict_text}
 use Rattle.rp_reports.specs.Check.{follow_line}
 use Rattle.rp_tester.specs.Comes.{StopsBy, Comes}
 use Rattle.rp_trail.specs.Slices.{follow_slice_lines}
-use Rattle.rp_questions.proofs.Sliced.{count_stops, count_taken}
-use Rattle.rp_questions.proofs.slices.follow_slices.Goals as goal
+use Rattle.rp_register.proofs.Sliced.{count_stops, count_taken}
+use Rattle.rp_register.proofs.slices.follow_slices.Goals as goal
 
 pub returns-in_err-follow_verdict-clause-comes : goal.returns-in_err-follow_verdict-clause-comes
 returns-in_err-follow_verdict-clause-comes c =

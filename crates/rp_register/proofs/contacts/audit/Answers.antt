@@ -6,7 +6,7 @@ use Rattle.rp_model.specs.commands.Row.{reply, reply_lines}
 use Rattle.rp_reports.specs.Check.{line_tester}
 use Rattle.rp_contacts.specs.Apart.{apart_each}
 use Rattle.rp_contacts.proofs.Judging.{within_forms, judged_stops, judged_ends}
-use Rattle.rp_questions.proofs.contacts.audit.Goals as goal
+use Rattle.rp_register.proofs.contacts.audit.Goals as goal
 
 pub returns-in_err-left : goal.returns-in_err-left
 returns-in_err-left c =

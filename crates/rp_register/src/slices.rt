@@ -9,12 +9,12 @@ ghost use Rattle.rp_cert.specs.Section.{slice_shown};
 ghost use Rattle.rp_tester.specs.Comes.{Comes};
 ghost use Rattle.rp_trail.specs.Stops.{IsWrongOrMemory};
 ghost use Rattle.rp_answer.specs.Views.{verdict_of};
-ghost use Rattle.rp_questions.specs.Slices.{follow_section_lines};
+ghost use Rattle.rp_register.specs.Slices.{follow_section_lines};
 ghost use Rattle.rp_register.specs.Followed.{IsFollowed};
 
+use crate::followed::Followed;
 use rp_answer::{RowEnd, Verdict};
 use rp_ledger::Reply;
-use rp_register::Followed;
 use rp_rows::slice_lines;
 use rp_tester::Stopped;
 use rp_text::write_verdict;

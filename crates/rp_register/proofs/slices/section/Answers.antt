@@ -7,9 +7,9 @@ use Rattle.rp_cert.specs.Section.{slice_shown}
 use Rattle.rp_tester.specs.declared.stopped.Stopped.{Stopped}
 use Rattle.rp_tester.specs.declared.stopped.Stopped.TheVariants.{Wrong}
 use Rattle.rp_tester.specs.Comes.{StopsBy}
-use Rattle.rp_questions.specs.Slices.{follow_section_lines}
-use Rattle.rp_questions.proofs.Sliced.{slices_counted, slices_told_all, line_is_wrong}
-use Rattle.rp_questions.proofs.slices.section.Goals as goal
+use Rattle.rp_register.specs.Slices.{follow_section_lines}
+use Rattle.rp_register.proofs.Sliced.{slices_counted, slices_told_all, line_is_wrong}
+use Rattle.rp_register.proofs.slices.section.Goals as goal
 
 pub slice_lines-requires : goal.slice_lines-requires
 slice_lines-requires c =

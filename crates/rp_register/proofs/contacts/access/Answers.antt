@@ -7,7 +7,7 @@ use Rattle.rp_reports.specs.Check.{line_tester}
 use Rattle.rp_lotindex.specs.declared.near.Reach.TheVariants.{Touch}
 use Rattle.rp_contacts.specs.Asked.{access_reply}
 use Rattle.rp_contacts.proofs.Judging.{within_forms, meet_pairs, judged_stops, judged_ends}
-use Rattle.rp_questions.proofs.contacts.access.Goals as goal
+use Rattle.rp_register.proofs.contacts.access.Goals as goal
 
 pub returns-in_err-left : goal.returns-in_err-left
 returns-in_err-left c =

@@ -10,7 +10,7 @@ use Rattle.rp_contacts.specs.Asked.{contacts_reply}
 use Rattle.rp_contacts.specs.Meets.{ids_met}
 use Rattle.rp_contacts.proofs.Contacts.{bare_met}
 use Rattle.rp_contacts.proofs.Judging.{within_lines, within_forms, meet_pairs, judged_stops, judged_ends}
-use Rattle.rp_questions.proofs.contacts.neighbours.Goals as goal
+use Rattle.rp_register.proofs.contacts.neighbours.Goals as goal
 
 pub returns-in_err-left : goal.returns-in_err-left
 returns-in_err-left c =

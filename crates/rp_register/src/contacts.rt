@@ -8,12 +8,13 @@ ghost use Rattle.rp_answer.specs.Views.{verdict_of};
 ghost use Rattle.rp_contacts.specs.Asked.{IsReady};
 ghost use Rattle.rp_contacts.specs.Numbers.{links_met};
 
+use crate::register::Register;
+use crate::turn::{meet_in_turn, show_apart_in_turn};
 use rp_answer::{RowEnd, Verdict, Verdicts, one_line};
 use rp_contacts::{AccessLeft, access_left, access_told, audit_left, ids_met, touch_left};
 use rp_lists::Name;
 use rp_lotindex::Reach;
 use rp_lots::Keeper;
-use rp_register::{Register, meet_in_turn, show_apart_in_turn};
 use rp_rows::{access_lines, neighbour_lines};
 use rp_trail::Trail;
 use std::alloc::{AllocError, Global};
