@@ -2,3 +2,4 @@ pub mod Acts
 pub mod Added
 pub mod Answered
 pub mod Cause
+pub mod Layers

@@ -6,6 +6,7 @@ ghost use Rattle.rp_book.specs.Lines.{IsEnded};
 ghost use Rattle.rp_reports.specs.Output.{most_script_bytes};
 ghost use Rattle.rp_registrar.specs.Added.{HasRefusal, PutsBehind, ended, is_refused};
 ghost use Rattle.rp_registrar.specs.Cause.{HasStopCause};
+ghost use Rattle.rp_registrar.specs.Layers.{HasFirstLayers};
 
 use crate::answers::put_behind;
 use crate::layers::first_chosen;
@@ -24,11 +25,11 @@ pub enum Outcome {
     Refused,
     /// There were no lines, and nothing was added.
     Empty,
-    /// The lines were added. They chose these layers, which no line before them does.
+    /// The lines were added. They choose these layers, which no line before them does, in this order.
     Added(Vec<Name>),
 }
 
-/// Adds lines to a book, and nothing where there are none, and tells which layers they chose for the first time.
+/// Adds `lines` to `book` under `entry`, unless there are none. Returns the layers that they choose for the first time.
 fn keep<B: Book>(
     alloc: Global,
     book: &mut B,
@@ -38,6 +39,7 @@ fn keep<B: Book>(
     requires end { IsEnded lines.now }
     requires short { IfSome (B.script book.old) (λ kept. length kept + length lines.now ≤ most_script_bytes) }
     ensures kept { IfOk result (λ done. is_refused done ≡ false) }
+    ensures layers { IfOk result (HasFirstLayers (B.script book.old) lines.now) }
     ensures counts { B.faults book.old ≤ B.faults book.new }
     ensures ok { OnOk result (Appends (B.script book.old) (B.script book.new) lines.now) }
     ensures err { OnErr result (Stays (B.script book.old) (B.script book.new)) }
@@ -53,7 +55,8 @@ fn keep<B: Book>(
 }
 
 /// Adds the lines of `source` to `book`, under `entry`, where none of them is refused, and puts their answers into `sink`.
-/// Nothing is added where a line is refused, and where the call stops. Of no lines nothing comes to the book.
+/// Nothing is added where a line is refused, and where the call stops. Of no lines nothing comes to the book. The layers that
+/// the lines choose for the first time are in the outcome.
 pub fn add<R: Threads + Sync, B: Book, S: Source, K: Sink>(
     rt: &R,
     alloc: Global,
@@ -70,6 +73,7 @@ pub fn add<R: Threads + Sync, B: Book, S: Source, K: Sink>(
         HasRefusal (script ++ ended lines) true))) }
     ensures answers { IfOk result (λ done. IfSome (S.left source.old) (λ lines. IfSome (B.script book.new) (λ _. IfSome (B.script book.old) (λ script.
         PutsBehind script (ended lines) (K.said sink.old) (K.said sink.new) (is_refused done))))) }
+    ensures layers { IfOk result (λ done. IfSome (S.left source.old) (λ lines. HasFirstLayers (B.script book.old) (ended lines) done)) }
     ensures refused { IfOk result (λ done. is_refused done ≡ true → Stays (B.script book.old) (B.script book.new)) }
     ensures stopped { OnErr result (Stays (B.script book.old) (B.script book.new)) }
     ensures cause { IfErr result (HasStopCause
