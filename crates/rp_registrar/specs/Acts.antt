@@ -1,8 +1,9 @@
 -- Acts on a date, and what is put of them.
-use Rattle.std.specs.Prelude.{◌≡◌, ◌+◌, ℕ, Bool, if◌then◌else◌, max, take, List, [], ◌∷◌, ◌++◌, length, Option, codes, decimal}
+use Rattle.std.specs.Prelude.{◌≡◌, ◌≤◌, ◌+◌, ℕ, Bool, if◌then◌else◌, max, take, List, [], ◌∷◌, ◌++◌, length, Option, codes, decimal}
 use Rattle.std.specs.Cmp.Lexicographic.{slice_cmp}
 use Rattle.std.specs.Ordering.{is_le, nat_cmp}
 use Rattle.rp_book.specs.Act.{Told, HasActs}
+use Rattle.rp_book.specs.declared.act.Act.{Act}
 use Rattle.rp_io.specs.Bytes.{Appends}
 use Rattle.rp_registrar.specs.Added.{PutsBehind}
 
@@ -18,6 +19,10 @@ line_by date act = if is_by date act.added then act.last else 0
 abbrev pub last_by : List ℕ → List Told → ℕ
 last_by date [] = 0
 last_by date (act ∷ acts) = max (line_by date act) (last_by date acts)
+
+-- an act has a line
+abbrev pub HasLine : ℕ → Act → Type 0
+HasLine line act = (act.first ≤ line) × (line ≤ act.last)
 
 -- the words of a line, each behind a space
 abbrev pub spaced : List (List ℕ) → List ℕ

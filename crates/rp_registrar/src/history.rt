@@ -1,8 +1,8 @@
 //! What became of a lot, with the acts in which it and its kin were born and ended.
-ghost use Rattle.std.specs.Prelude.{◌≡◌, ◌+◌, ◌≤◌, [], Some, length, IfErr, IfOk, IfSome};
+ghost use Rattle.std.specs.Prelude.{◌≡◌, ◌↔◌, ◌+◌, ◌≤◌, [], Some, length, IfErr, IfOk, IfSome, IsTrue};
 ghost use Rattle.rp_book.specs.Lines.{IsEnded};
 ghost use Rattle.rp_reports.specs.Output.{most_script_bytes};
-ghost use Rattle.rp_registrar.specs.Acts.{PutsHistory, history_line};
+ghost use Rattle.rp_registrar.specs.Acts.{HasLine, PutsHistory, history_line};
 ghost use Rattle.rp_registrar.specs.Added.{PutsBehind};
 ghost use Rattle.rp_registrar.specs.Cause.{HasQuestionCause};
 
@@ -66,12 +66,20 @@ fn lot_of(line: &str) -> Option<Lot<'_>> {
     Some(Lot { id, born, ended })
 }
 
-/// The act that has a line.
-fn act_of_line(acts: &[Act], line: u32) -> Option<&Act>
-    ensures { IfSome result (λ act. (act.now.first ≤ line) × (line ≤ act.now.last)) }
+/// Returns whether `act` has `line`.
+fn has_line(act: &Act, line: u32) -> bool
+    ensures { IsTrue result ↔ HasLine line act.now }
 {
-    acts.iter()
-        .find(|act| act.first <= line && line <= act.last)
+    act.first <= line && line <= act.last
+}
+
+/// Returns the act that has `line`, by a binary search. `acts` are in the order of their lines.
+fn act_of_line(acts: &[Act], line: u32) -> Option<&Act>
+    ensures { IfSome result (λ act. HasLine line act.now) }
+{
+    let place = acts.partition_point(|act| act.last < line);
+    let act = acts.get(place)?;
+    if has_line(act, line) { Some(act) } else { None }
 }
 
 /// Writes what is told of an act, behind some words, if it is told.
