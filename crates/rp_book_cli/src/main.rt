@@ -7,27 +7,15 @@
 mod act;
 mod fault;
 mod file;
+mod words;
 mod work;
 
 use fault::{Fault, status_of};
 use rp_registrar::add::Outcome;
 use std::process::ExitCode;
-use std::rt::Env;
-use std::{env, io, str};
+use std::{io, str};
+use words::{have_control, words_of};
 use work::{Done, work};
-
-/// The words behind the program's name.
-fn words_of(rt: &(impl Env + AllocGlobal)) -> io::Result<Vec<String>> {
-    let words = env::args(rt)?.skip(1).collect(rt.alloc())?;
-    Ok(words)
-}
-
-/// Whether a control character stands in a word.
-fn has_control(words: &[String]) -> bool {
-    words
-        .iter()
-        .any(|word| word.as_bytes().iter().any(|byte| *byte < b' '))
-}
 
 /// Says on standard error what came of lines that were to be added, where their answers do not tell it.
 fn tell_added(rt: &impl Eprint, outcome: &Outcome) -> io::Result<()> {
@@ -58,7 +46,7 @@ fn status(outcome: &Result<Done, Fault>) -> u8 {
 fn main(rt: HostRuntime) -> ExitCode {
     let outcome = match words_of(&rt) {
         Ok(words) => {
-            if has_control(&words) {
+            if have_control(&words) {
                 Err(Fault::Words)
             } else {
                 work(&rt, &rt, &words)
