@@ -8,6 +8,8 @@ mod access;
 #[cfg(test)]
 mod boxindex;
 #[cfg(test)]
+mod grains;
+#[cfg(test)]
 mod history;
 #[cfg(test)]
 mod lotindex;
@@ -17,3 +19,5 @@ mod names;
 mod parallel;
 #[cfg(test)]
 mod parcels;
+#[cfg(test)]
+mod slices;

@@ -1,6 +1,43 @@
+ghost use Rattle.std.specs.Prelude.{ℕ, ◌*◌, ◌≤◌, ◌^◌};
+
 use rp_parallel::{Judge, judge_all};
 use std::alloc::{AllocError, Global};
 use std::sync::atomic::{AtomicBool, AtomicUsize, Ordering};
+
+/// Numbers from 0, each of which means its square.
+#[derive(Drop)]
+struct Squares {
+    count: usize,
+    ghost small: { count ≤ 2 ^ 16 },
+}
+
+impl Judge for Squares {
+    type Out = u64;
+
+    ghost size = { λ s. s.count };
+
+    ghost meaning = { λ s i. i * i };
+
+    fn count(&self) -> usize {
+        self.count
+    }
+
+    fn judge(&self, _alloc: Global, i: usize) -> Result<u64, AllocError> {
+        let i = i as u64;
+        Ok(i * i)
+    }
+}
+
+#[test]
+fn squares_come_in_order_whatever_the_grain(rt: HostRuntime) {
+    for grain in [1, 2, 9] {
+        let squares = judge_all(&rt, rt.alloc(), grain, &Squares { count: 5 }).expect(
+            &rt,
+            "no memory",
+        );
+        assert_eq!(rt; squares.as_slice(), [0, 1, 4, 9, 16].as_slice());
+    }
+}
 
 /// Two items, each of which means its number. Each waits a while for the other to begin.
 #[derive(Drop)]
@@ -33,7 +70,7 @@ impl Judge for Pair {
 }
 
 #[test]
-fn two_items_are_judged_at_once(rt: HostRuntime) {
+fn two_judges_meet(rt: HostRuntime) {
     let pair = Pair {
         came: [AtomicBool::new(false), AtomicBool::new(false)],
         met: [AtomicBool::new(false), AtomicBool::new(false)],

@@ -44,8 +44,14 @@ const WEST: IntBox = IntBox {
     hi: [0, 10, 10],
 };
 
+/// A box apart from the plot.
+const FAR: IntBox = IntBox {
+    lo: [20, 0, 0],
+    hi: [30, 10, 10],
+};
+
 /// The region of a cell.
-fn cell_region(rt: &impl Abort, alloc: Global, cell: &[Half]) -> Region
+pub fn cell_region(rt: &impl Abort, alloc: Global, cell: &[Half]) -> Region
     requires { length cell.now ≤ 64 }
 {
     let mut work = Work::new(alloc);
@@ -60,7 +66,7 @@ fn region(rt: &impl Abort, alloc: Global, bounds: &IntBox) -> Region
 }
 
 /// Registers a region at the line, in the layer `land`.
-fn register<R: Abort, W: Watch>(
+pub fn register<R: Abort, W: Watch>(
     rt: &R,
     alloc: Global,
     watch: &W,
@@ -95,7 +101,7 @@ fn register_box(
 }
 
 /// A register of no parcels.
-fn nothing(rt: &impl Abort, alloc: Global) -> Parcels
+pub fn nothing(rt: &impl Abort, alloc: Global) -> Parcels
     ensures { IsLater 1 result }
 {
     Parcels::new(alloc).expect(rt, "no register")
@@ -111,7 +117,7 @@ fn with_plot(rt: &impl Abort, alloc: Global) -> Parcels
 }
 
 /// Cuts the parcel of the first id by a region into the other two, at the line.
-fn cut(
+pub fn cut(
     rt: &impl Abort,
     alloc: Global,
     parcels: &mut Parcels,
@@ -128,7 +134,7 @@ fn cut(
 }
 
 /// The half-space askew of the points whose x and y together are at least so much.
-fn askew(rt: &impl Abort, alloc: Global, least: i32) -> Region {
+pub fn askew(rt: &impl Abort, alloc: Global, least: i32) -> Region {
     let half = Half::new(1, 1, 0, -(least as i64)).expect(rt, "no half-space askew");
     cell_region(rt, alloc, &[half])
 }
@@ -294,20 +300,57 @@ fn register_reads_few(rt: HostRuntime) {
 
 /// Three plots in a row, of which the first is in the middle.
 fn three_plots(rt: &impl Abort, alloc: Global) -> Parcels {
-    let mut parcels = with_plot(rt, alloc);
+    let mut parcels = nothing(rt, alloc);
+    register_box(rt, alloc, &mut parcels, 1, name(b"a"), &PLOT);
     register_box(rt, alloc, &mut parcels, 2, name(b"b"), &EAST);
     register_box(rt, alloc, &mut parcels, 3, name(b"c"), &WEST);
     parcels
 }
 
+/// Registers a box at the line, and cuts it at the next one into the last two of the ids.
+fn register_and_cut(
+    rt: &impl Abort,
+    alloc: Global,
+    parcels: &mut Parcels,
+    line: u32,
+    bounds: &IntBox,
+    ids: &[Name; 3],
+    by: &Region,
+)
+    requires small { line < 1000 }
+    requires later { IsLater line parcels.old }
+    requires bounds { is_box_in_bounds (integer_box bounds.now) ≡ true }
+    ensures { IsLater (line + 2) parcels.new }
+{
+    register_box(rt, alloc, parcels, line, ids[0], bounds);
+    cut(rt, alloc, parcels, line + 1, ids, by);
+}
+
+/// Two plots that are cut askew: the boxes of the two sides of each meet.
+fn cut_plots(rt: &impl Abort, alloc: Global) -> Parcels {
+    let mut parcels = nothing(rt, alloc);
+    let (by, ids) = (askew(rt, alloc, 10), [name(b"a"), name(b"a1"), name(b"a2")]);
+    register_and_cut(rt, alloc, &mut parcels, 1, &PLOT, &ids, &by);
+    let (by, ids) = (askew(rt, alloc, 30), [name(b"b"), name(b"b1"), name(b"b2")]);
+    register_and_cut(rt, alloc, &mut parcels, 3, &FAR, &ids, &by);
+    parcels
+}
+
 #[test]
-fn parcel_items_meet_in_neighbours(rt: HostRuntime) {
+fn parcel_items_meet(rt: HostRuntime) {
     let parcels = three_plots(&rt, rt.alloc());
     let meeting = apart();
     let mut work = Work::new(rt.alloc());
-    let found = parcels.neighbours(&rt, rt.alloc(), &meeting, 1, name(b"plot"), &mut work);
+    let found = parcels.neighbours(&rt, rt.alloc(), &meeting, 1, name(b"a"), &mut work);
     let ids = [name(b"b"), name(b"c")];
     assert_eq!(rt; found.expect(&rt, "no neighbours").items(), ids.as_slice());
+    assert!(rt; have_met(&meeting));
+    let parcels = cut_plots(&rt, rt.alloc());
+    let meeting = apart();
+    let mut work = Work::new(rt.alloc());
+    let count = parcels.audit(&rt, rt.alloc(), &meeting, 1, &mut work);
+    assert_eq!(rt; count.expect(&rt, "no audit"), 4);
+    assert_eq!(rt; work.into_proofs().items().len(), 2);
     assert!(rt; have_met(&meeting));
 }
 
@@ -319,28 +362,7 @@ fn access_items_meet(rt: HostRuntime) {
     let mut work = Work::new(rt.alloc());
     let found = parcels.access(&rt, rt.alloc(), &meeting, 1, b, c, &mut work);
     let chain = found.expect(&rt, "no access").chain.expect(&rt, "no chain");
-    assert_eq!(rt; chain.items(), [b, name(b"plot"), c].as_slice());
+    assert_eq!(rt; chain.items(), [b, name(b"a"), c].as_slice());
     assert_eq!(rt; work.into_proofs().items().len(), 2);
-    assert!(rt; have_met(&meeting));
-}
-
-/// The plot, cut askew in three, whose boxes all meet.
-fn three_sides(rt: &impl Abort, alloc: Global) -> Parcels {
-    let ids = [name(b"far"), name(b"b"), name(b"c")];
-    let by = askew(rt, alloc, 15);
-    let mut parcels = with_plot(rt, alloc);
-    cut_plot(rt, alloc, &mut parcels);
-    cut(rt, alloc, &mut parcels, 3, &ids, &by);
-    parcels
-}
-
-#[test]
-fn parcel_items_meet_in_audit(rt: HostRuntime) {
-    let parcels = three_sides(&rt, rt.alloc());
-    let meeting = apart();
-    let mut work = Work::new(rt.alloc());
-    let count = parcels.audit(&rt, rt.alloc(), &meeting, 1, &mut work);
-    assert_eq!(rt; count.expect(&rt, "no audit"), 3);
-    assert_eq!(rt; work.into_proofs().items().len(), 3);
     assert!(rt; have_met(&meeting));
 }
