@@ -8,9 +8,13 @@ use rp_space::Half;
 fn a_tetrahedron_has_its_four_corners(rt: HostRuntime) {
     let [x, y, z, slanted] = tetrahedron(&rt);
     let mut clip = Clip::<256>::cube();
+    // Each of the first three half-spaces leaves a box, and the fourth the corner of this box at the origin.
     assert!(rt; clip.add(x));
+    assert_eq!(rt; clip.corners().len(), 8);
     assert!(rt; clip.add(y));
+    assert_eq!(rt; clip.corners().len(), 8);
     assert!(rt; clip.add(z));
+    assert_eq!(rt; clip.corners().len(), 8);
     assert!(rt; clip.add(slanted));
     assert_eq!(rt; clip.halves().len(), 4);
     assert_eq!(rt; clip.vertices().len(), 4);

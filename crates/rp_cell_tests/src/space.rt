@@ -36,6 +36,19 @@ fn half_spaces_and_points_are_kept_in_lowest_terms(rt: HostRuntime) {
 }
 
 #[test]
+fn the_greatest_side_value_keeps_within_128_bits(rt: HostRuntime) {
+    // The greatest coefficients are 2^24. With the greatest offset, 3 * 2^48, all four would be divided by 2^24.
+    let half = half(&rt, (16777216, 16777216, 16777216, 844424930131967));
+    // The greatest numbers of a point: 2^101 - 1 three times, and 2^75 - 1.
+    let x = 2535301200456458802993406410751;
+    let point = Point::new(x, x, x, 37778931862957161709567).expect(&rt, "no point");
+    // 3 * 2^24 * (2^101 - 1) + (3 * 2^48 - 1) * (2^75 - 1): a little less than 15/16 of 2^127.
+    let greatest = 159507359494189866969524139851499175937;
+    assert_eq!(rt; half.side(&point), greatest);
+    assert_eq!(rt; half.not().side(&point), -greatest);
+}
+
+#[test]
 fn boxes_have_six_sides(rt: HostRuntime) {
     let bounds = IntBox {
         lo: [1, 2, 3],
