@@ -246,6 +246,31 @@ fn lots_come_and_go(rt: HostRuntime) {
 }
 
 #[test]
+fn a_line_counts_at_most_65536_tests(rt: HostRuntime) {
+    let rows = [
+        ("let a = or box 0 0 0 1 1 1 box 2 0 0 3 1 1", "= ok"),
+        ("let b = or or or name a name a name a name a", "= ok"),
+        ("let c = or or or name b name b name b name b", "= ok"),
+        ("let d = or or or name c name c name c name c", "= ok"),
+        // 256 boxes, and 257 boxes.
+        ("let e = or name d name d", "= ok"),
+        ("let f = or name e box 4 0 0 5 1 1", "= ok"),
+        ("overlap name e name e", "= yes"),
+        ("contact name e name e", "= yes"),
+        ("overlap name f name f", "= refused limit"),
+        ("contact name f name f", "= refused limit"),
+        // As many boxes elsewhere, so that each of the 65,536 tests is made.
+        ("let p = or box 0 0 9 1 1 10 box 2 0 9 3 1 10", "= ok"),
+        ("let q = or or or name p name p name p name p", "= ok"),
+        ("let r = or or or name q name q name q name q", "= ok"),
+        ("let s = or or or name r name r name r name r", "= ok"),
+        ("overlap name e or name s name s", "= no"),
+        ("overlap name f or name s name s", "= refused limit"),
+    ];
+    expect_in_turn(&rt, rt.alloc(), Version::One, &rows);
+}
+
+#[test]
 fn live_lots_are_counted_and_forms_made(rt: HostRuntime) {
     let alloc = rt.alloc();
     let mut machine = opened(alloc, Version::One).expect(&rt, "no memory");
