@@ -6,7 +6,7 @@ ghost use Rattle.rp_tool.specs.Check.{IsWrittenReport};
 ghost use Rattle.rp_tool.specs.Status.{HasWritten, most_input_bytes, reads_input};
 
 use rp_io::{MemorySink, MemorySource, QuietSink, QuietSource};
-use rp_tool::status::{DONE, OUT_OF_MEMORY, PUT_FAILED, READ_FAILED, REFUSED, TOO_LONG};
+use rp_tool::status::{DONE, OUT_OF_MEMORY, PUT_FAILED, READ_FAILED, REFUSED, TOO_LONG, UNLISTED};
 use rp_tool::tool;
 use std::alloc::Global;
 use std::process::Abort;
@@ -113,6 +113,31 @@ fn reports_the_worked_rows(rt: HostRuntime) {
         let (status, told) = run_on(&rt, rt.alloc(), &["run"], script.as_bytes());
         assert_eq!(rt; status, DONE, "on {script:?}");
         assert_eq!(rt; told.as_slice(), report.as_bytes(), "on {script:?}");
+    }
+}
+
+#[test]
+fn line_ends_make_no_difference(rt: HostRuntime) {
+    let scripts = [
+        "member all 0 0 0 1\nmember half 1 0 0 0 0 5 5 1\n",
+        "member all 0 0 0 1\r\nmember half 1 0 0 0 0 5 5 1\r\n",
+        "member all 0 0 0 1\nmember half 1 0 0 0 0 5 5 1",
+    ];
+    let report = b"> 1 member all 0 0 0 1\n= yes\n> 2 member half 1 0 0 0 0 5 5 1\n= yes\n";
+    for script in scripts {
+        let (status, told) = run_on(&rt, rt.alloc(), &["run"], script.as_bytes());
+        assert_eq!(rt; status, DONE, "on {script:?}");
+        assert_eq!(rt; told.as_slice(), report.as_slice(), "on {script:?}");
+    }
+}
+
+#[test]
+fn other_words_are_not_listed(rt: HostRuntime) {
+    let rows: [&[&str]; 3] = [&["walk"], &["run", "brief", "now"], &[]];
+    for texts in rows {
+        let (status, told) = run_on(&rt, rt.alloc(), texts, b"member all 0 0 0 1\n");
+        assert_eq!(rt; status, UNLISTED, "on {texts:?}");
+        assert!(rt; told.is_empty(), "on {texts:?}");
     }
 }
 
