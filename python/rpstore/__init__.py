@@ -6,6 +6,8 @@ report    a report, answer by answer; what is no report is refused
 points    exact points of a plan and of space
 outline   areas of a plan: outlines with holes of what convex polygons have together
 shape     convex bodies: corners, faces, volumes, and what several have together
+store     the program: what it writes of a text, and what its `check` says
+script    a script: its front, its live lots, and lines after it
 lots      the bodies and slices that a report shows; the store is asked for those of a script
 told      how numbers are printed, rounded there and nowhere else
 view      one page for a browser, of what is in the folder page
@@ -15,6 +17,7 @@ gis       GeoJSON
 city      CityJSON
 explain   what is wrong with each refused line, with hints
 extract   the lines of a script on which some lots rest
+words     the words of the command line
 plan      a script of a plan in any format and grid that GDAL and PROJ read, by grid and rings
 
 All but `plan` need Python 3.9 and nothing else.

@@ -1,7 +1,6 @@
 """Says of each refused line of a report what was refused, at which word, by which bound, and where on the ground."""
 import difflib
 import io
-import itertools
 import math
 import re
 from dataclasses import dataclass
@@ -9,6 +8,7 @@ from fractions import Fraction
 from typing import Callable, Collection, Iterator, Sequence
 
 from . import command, hints, lots, report, told
+from .script import fresh
 
 UNDONE = {"register": "{0} was not registered", "cut": "{0} was not cut", "subdivide": "{0} was not subdivided",
           "consolidate": "{0} was not made by consolidating", "retire": "{0} was not retired", "let": "the name {0} was not given"}
@@ -269,13 +269,6 @@ def fits(text: str, version: int) -> bool:
     except command.Refusal:
         return False
     return len(text) <= report.LONG[version]
-
-
-def fresh(word: str, names: set[str]) -> str:
-    """A name that is none of `names`, to which it is added."""
-    found = next(name for name in itertools.chain([word], (f"{word}-{number}" for number in itertools.count(2))) if name not in names)
-    names.add(found)
-    return found
 
 
 def lines_to_show(case: Case, reason: Reason, points: list[list[Fraction]]) -> list[str]:

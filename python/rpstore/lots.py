@@ -2,18 +2,16 @@
 from __future__ import annotations
 
 import io
-import os
 import re
-import subprocess
 from dataclasses import dataclass
 from decimal import Decimal
 from fractions import Fraction
 from functools import cached_property
-from pathlib import Path
-from typing import Optional
+from typing import Optional, Sequence
 
-from . import Fault, outline, report, shape
+from . import outline, report, shape, store
 from .points import Box, Ring, box_round, lowest
+from .script import Script, script_of
 
 ORIGIN = re.compile(rb"^# Local origin: E (-?[0-9.]+?), N (-?[0-9.]+?)\. ", re.M)
 GRID = re.compile(rb"^# (?:Grid: |The plan names its grid .*?)EPSG:+([0-9]+)", re.M)
@@ -229,25 +227,20 @@ def seen(file, place: Optional[Place] = None, check: str = "") -> Seen:
     return Seen(left, slices, place or Place(), refused, check, version)
 
 
-# ---- the store
+# ---- what a file shows
 
-def program(given: Optional[str] = None) -> str:
-    """The command of the store: as given, or by RPSTORE, or that of the repository in which this stands."""
-    return given or os.environ.get("RPSTORE") or str(Path(__file__).resolve().parents[2] / "rpstore")
+@dataclass
+class Options:
+    """What the words of the command line say of a file that shows lots; `__main__` has what each is for."""
 
-
-def run(command: str, text: bytes, *words: str) -> bytes:
-    """What the store `command` writes for the `words` on a `text`."""
-    try:
-        done = subprocess.run([command, *words], input=text, stdout=subprocess.PIPE)
-    except OSError as error:
-        raise Fault(f"the store {command} cannot be run: {error.strerror}", 5)
-    if done.returncode > 1:
-        raise Fault(f"the store ended with status {done.returncode}", 5)
-    return done.stdout
+    origin: Optional[Sequence[Decimal]] = None
+    epsg: Optional[int] = None
+    store: Optional[str] = None
+    unchecked: bool = False
+    names: bool = False
 
 
-def place_of(script: bytes, given) -> Place:
+def place_of(script: bytes, given: Options) -> Place:
     """Where a script is on the map, by the words of the command line, `given`, or by its notes."""
     place = Place()
     origin, grid = ORIGIN.search(script), GRID.search(script)
@@ -261,59 +254,23 @@ def place_of(script: bytes, given) -> Place:
     return place
 
 
-def asked(script: bytes, command: str, names: bool = False) -> bytes:
-    """The `script` with lines behind it that show its live lots, and with `names`, or where it has no lot, its names."""
-    if script and not script.endswith(b"\n"):
-        script += b"\n"
-    told, given = run(command, script + b"list\n", "run", "brief"), []
-    for answer in report.read(io.BytesIO(told)):
-        if answer.verdict == "ok" and answer.command.word == "let":
-            given.append(answer.command.names[0])
-        last = answer
-    lots = [f"show lot {lot.id}" for lot in last.verdict if lot.ended is None]
-    shown = [f"show name {name}" for name in given] if names or not lots else []
-    return script + "\n".join([*lots, *shown, ""]).encode()
+def names_of(script: Script, program: str) -> list[str]:
+    """Returns the names that the `let` lines of a `script` give."""
+    answers = report.read(io.BytesIO(store.run(program, script.text, "run", "brief")))
+    return [answer.command.names[0] for answer in answers if answer.verdict == "ok" and answer.command.word == "let"]
 
 
-def is_report(text: bytes) -> bool:
-    return re.match(rb"> [0-9]", text) is not None
+def lines_to_show(script: Script, program: str, names: bool = False) -> list[str]:
+    """Returns lines that show the live lots of a `script`, and with `names`, or if it has no live lot, the regions that it names."""
+    lots = [f"show lot {lot.id}" for lot in script.live(program)]
+    return lots + [f"show name {name}" for name in (names_of(script, program) if names or not lots else [])]
 
 
-def checked(text: bytes, command: str) -> str:
-    """What `check` says of a report."""
-    return run(command, text, "check").decode().strip() if len(text) <= report.MOST else "too long to be checked"
-
-
-def accepted(said: str) -> str:
-    """What `check` has `said`, where it is nothing against the report."""
-    if said != "accepted" and not said.startswith("too long"):
-        raise Fault(f"the report is not accepted: {said}")
-    return said
-
-
-def is_brief(text: bytes) -> bool:
-    """Whether a report has no proof line, so that `check` may want some."""
-    return b"\n  " not in text
-
-
-def judged(text: bytes, command: str) -> str:
-    """What is said of a report before anything is drawn of it."""
-    said = checked(text, command)
-    if said.startswith("wrong"):
-        for _ in report.read(io.BytesIO(text)):
-            """Where it is no report this says more than `check` does."""
-        if is_brief(text):
-            return "brief, so not checked"
-    return accepted(said)
-
-
-def load(file, given) -> Seen:
-    """What a file shows: a report, or a script, of which the store makes one that shows its lots."""
-    text = file.read()
-    place = place_of(text, given)
-    if is_report(text) and given.unchecked:
-        return seen(io.BytesIO(text), place, "not checked")
-    command = program(given.store)
-    if not is_report(text):
-        text = run(command, asked(text, command, given.names), "run")
-    return seen(io.BytesIO(text), place, judged(text, command))
+def load(text: bytes, given: Options) -> Seen:
+    """What a `text` shows: a report, or a script, of which the store makes one that shows its lots."""
+    place, program = place_of(text, given), store.program(given.store)
+    if store.is_report(text):
+        return seen(io.BytesIO(text), place, "not checked" if given.unchecked else store.judged(text, program))
+    script = script_of(text)
+    told = store.run(program, script.then(lines_to_show(script, program, given.names)), "run")
+    return seen(io.BytesIO(told), place, store.judged(told, program))
