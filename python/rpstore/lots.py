@@ -185,9 +185,19 @@ class Register:
                 self.end(lot, number, (first,))
 
 
+def cells_of(answer: report.Answer) -> list[shape.Cell]:
+    """Returns what a line `show` shows as bodies that share no volume; none if the line was refused."""
+    return [] if isinstance(answer.verdict, report.Refused) else shape.apart(body for body in map(shape.cell, answer.verdict) if body)
+
+
+def lot_body(lot: report.Lot, cells: list[shape.Cell]) -> Optional[Body]:
+    """Returns a lot, or a piece of it, that has these `cells`, or None if there are none."""
+    return Body(lot.id, True, lot.layer, lot.born, lot.origins, cells) if cells else None
+
+
 def body_of(answer: report.Answer, register: Register) -> Optional[Body]:
     """The body that a line `show` shows, or None where it has no part. Regions that are no lots are in layers of their own."""
-    cells = shape.apart(body for body in map(shape.cell, answer.verdict) if body)
+    cells = cells_of(answer)
     if not cells:
         return None
     parsed, lot = answer.command, lot_of(answer.command)
@@ -231,7 +241,7 @@ def seen(file, place: Optional[Place] = None, check: str = "") -> Seen:
 
 @dataclass
 class Options:
-    """What the words of the command line say of a file that shows lots; `__main__` has what each is for."""
+    """What the words of the command line say of a file that shows lots; `words` has what each is for."""
 
     origin: Optional[Sequence[Decimal]] = None
     epsg: Optional[int] = None

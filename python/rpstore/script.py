@@ -1,4 +1,4 @@
-"""A script with its version, its live lots, and lines after it to which the store's answers are read."""
+"""A script with its version, its front up to a line, its live lots, and lines after it to which the store's answers are read."""
 from __future__ import annotations
 
 import io
@@ -8,9 +8,10 @@ from dataclasses import dataclass
 from functools import cached_property
 from typing import Iterable, Iterator
 
-from . import report, store
+from . import Fault, report, store
 
 MARK = re.compile(rb"rp 2\r?(?:\n|$)")
+WORD = re.compile(report.NAME)
 
 
 def fresh(word: str, names: set[str]) -> str:
@@ -39,6 +40,21 @@ class Script:
         """The lines without the mark: the line `number` is `lines[number - 1]`."""
         return self.text.split(b"\n")[self.is_marked:-1]
 
+    @cached_property
+    def words(self) -> set[str]:
+        """All words that could be names or ids, to which new ones may be added."""
+        return {word.decode() for word in WORD.findall(self.text)}
+
+    def front(self, line: int) -> Script:
+        """Returns the script up to and with a `line`.
+
+        # Errors
+        `Fault` if the script has no such line.
+        """
+        if line > len(self.lines):
+            raise Fault(f"the script has {len(self.lines)} lines, and no line {line}: give --asof a number up to {len(self.lines)}. Nothing was written.", 2)
+        return Script(b"\n".join([*self.text.split(b"\n")[: line + self.is_marked], b""]))
+
     def then(self, lines: Iterable[str]) -> bytes:
         """Returns the script with `lines` after it."""
         return self.text + "".join(f"{line}\n" for line in lines).encode()
@@ -61,3 +77,14 @@ class Script:
 def script_of(text: bytes) -> Script:
     """Returns the script that a `text` is, its last line ended."""
     return Script(text if text.endswith(b"\n") or not text else text + b"\n")
+
+
+def needed_script(text: bytes, what: str) -> Script:
+    """Returns the script that a `text` is, for a word or an option `what` that adds lines to it.
+
+    # Errors
+    `Fault` if the text is a report.
+    """
+    if store.is_report(text):
+        raise Fault(f"{what} needs a script, and this is a report: name the script that was run. Nothing was written.", 2)
+    return script_of(text)

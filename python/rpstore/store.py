@@ -6,7 +6,7 @@ import os
 import re
 import subprocess
 from pathlib import Path
-from typing import Optional
+from typing import NamedTuple, Optional
 
 from . import Fault, report
 
@@ -68,3 +68,28 @@ def judged(text: bytes, command: str) -> str:
         if is_brief(text):
             return "brief, so not checked"
     return accepted(said)
+
+
+class Run(NamedTuple):
+    """A report, and what `check` says of it."""
+
+    text: bytes
+    check: str
+
+    @property
+    def is_checked(self) -> bool:
+        return self.check != UNCHECKED
+
+    @property
+    def said(self) -> str:
+        if self.is_checked:
+            return f"report {self.check}"
+        return f"not checked: the report has more than {report.MOST:,} bytes, which `check` does not take, so these are the answers of the store alone"
+
+
+def run_and_check(script: bytes, command: str) -> Run:
+    """Runs the store `command` over a `script` and returns the report, which `check` accepted. Returns the brief report instead
+    if the full one has more than 64 MiB, which `check` does not take: `Run.is_checked` says which."""
+    full = run(command, script, "run")
+    said = accepted(checked(full, command))
+    return Run(full if said != UNCHECKED else run(command, script, "run", "brief"), said)

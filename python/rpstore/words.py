@@ -5,7 +5,7 @@ import argparse
 from decimal import Decimal, InvalidOperation
 from typing import TYPE_CHECKING, Optional
 
-from . import picture
+from . import meets_forms, picture
 
 if TYPE_CHECKING:
     Words = argparse._SubParsersAction[argparse.ArgumentParser]
@@ -29,6 +29,13 @@ def width(word: str) -> int:
     return int(word)
 
 
+def line_number(word: str) -> int:
+    """Reads the number of a line as a report has it."""
+    if not (word.isascii() and word.isdigit() and len(word) < 9):
+        raise argparse.ArgumentTypeError(f"{word!a} is no number of a line")
+    return int(word)
+
+
 def add(words: Words, word: str, says: str, file: Optional[str] = "?") -> argparse.ArgumentParser:
     """Adds a `word` with its FILE, which may be left out unless `file` is None, and returns its parser."""
     made = words.add_parser(word, help=says, description=says)
@@ -45,6 +52,10 @@ def add_place(made: argparse.ArgumentParser) -> None:
     made.add_argument("--origin", nargs=2, type=decimal, metavar=("E", "N"), help="the local origin, in metres of the map; of a script "
                       "the note `# Local origin: E .., N ..` is read where this is not given")
     made.add_argument("--epsg", type=int, metavar="NUMBER", help="the grid of the map; of a script the note `# Grid: EPSG:..` is read")
+
+
+def add_asof(made: argparse.ArgumentParser) -> None:
+    made.add_argument("--asof", type=line_number, metavar="LINE", help="of a script: as it was after this line, by its number in a report")
 
 
 def add_shown(words: Words, word: str, says: str, file: Optional[str] = "?") -> argparse.ArgumentParser:
@@ -67,6 +78,18 @@ def add_view(words: Words) -> None:
 def add_picture(words: Words) -> None:
     made = add_shown(words, "picture", "a picture in SVG of the `section` lines of a report: the outlines at each height")
     made.add_argument("--width", type=width, default=picture.WIDTH, metavar="PIXELS", help=f"the width of the picture ({picture.WIDTH})")
+
+
+def add_meets(words: Words) -> None:
+    made = add(words, "meets", "the live lots of a script that a region meets, what each has of it, and a report that shows that these are all", None)
+    add_place(made)
+    add_store(made)
+    add_asof(made)
+    made.add_argument("region", metavar="EXPRESSION", help="the region, as an expression of the language: 'box ..', 'name X', 'lot X'")
+    made.add_argument("--touch", action="store_true", help="with the lots that touch the region and share no point with it")
+    made.add_argument("--layer", action="append", default=[], metavar="NAME", help="of this layer alone; may stand several times")
+    made.add_argument("--as", dest="form", choices=list(meets_forms.FORMS), default="table", help="what is written: a table; GeoJSON of what is in common, in "
+                      "plan (lots) or with heights (faces); CityJSON of it (city); a page with the lots and it (view); the report")
 
 
 def add_extract(words: Words) -> None:
@@ -109,6 +132,7 @@ def parser(says: str) -> argparse.ArgumentParser:
     add_shown(words, "faces", "GeoJSON of the boundary of each lot, as polygons with heights")
     add_shown(words, "city", "CityJSON 2.0 of the lots, as solids")
     add_shown(words, "explain", "what is wrong with each refused line: the word, what is due there, or the place on the ground")
+    add_meets(words)
     add_extract(words)
     add_plan(words)
     return made
