@@ -17,6 +17,7 @@ gis       GeoJSON
 city      CityJSON
 explain   what is wrong with each refused line, with hints
 meets     which lots a region meets, asked of the store; meets_forms writes them
+walls     what lots have in common with those that touch them; touch finds it
 extract   the lines of a script on which some lots rest
 words     the words of the command line
 plan      a script of a plan in any format and grid that GDAL and PROJ read, by grid and rings

@@ -4,8 +4,8 @@ FILE is a script, which the store then runs and checks, or a report; where none 
 has an example of each word.
 
 status 0    all was written, and no line was refused
-status 1    explain: some line was refused; meets: a limit of the store leaves something unanswered; plan: --leave-out left
-            features out; else: the file is no report, or the report is not accepted or shows nothing
+status 1    explain: some line was refused; meets and walls: a limit of the store leaves something unanswered; plan:
+            --leave-out left features out; else: the file is no report, or the report is not accepted or shows nothing
 status 2    the words are not known, or do not fit the file
 status 3    the input could not be read
 status 4    the output could not be written; plan: some feature cannot be registered, which is named, and nothing was written
@@ -19,7 +19,7 @@ import sys
 from dataclasses import fields
 from typing import Any, Callable, NamedTuple, Optional, Type, TypeVar, Union
 
-from . import Fault, city, explain, extract, gis, lots, measures, meets, meets_forms, picture, report, script, store, view, words
+from . import Fault, city, explain, extract, gis, lots, measures, meets, meets_forms, picture, report, script, store, view, walls, words
 
 Kind = TypeVar("Kind")
 
@@ -91,6 +91,11 @@ def write_meets(given: argparse.Namespace) -> Written:
     return Written(int(bool(found.limited or found.unshown)), meets_forms.FORMS[given.form](found), meets_forms.said(found))
 
 
+def write_walls(given: argparse.Namespace) -> Written:
+    found = walls.walls(read_script(given), given.lot, store.program(given.store))
+    return Written(int(bool(found.limited)), walls.table(found), walls.said(found))
+
+
 def write_extract(given: argparse.Namespace) -> Written:
     made = extract.extract(read(given.file), given.ids, store.program(given.store), given.neighbours)
     said = f"{made.kept:,} of {made.lines:,} lines; the report has {len(made.report):,} bytes and is accepted"
@@ -110,7 +115,7 @@ def write_plan(given: argparse.Namespace) -> Written:
 
 # What each word writes.
 WORDS: dict[str, Callable[[argparse.Namespace], Written]] = {
-    "view": write_view, "picture": write_picture, "explain": write_explanations, "meets": write_meets,
+    "view": write_view, "picture": write_picture, "explain": write_explanations, "meets": write_meets, "walls": write_walls,
     "extract": write_extract, "plan": write_plan,
     "measures": lambda given: Written(0, measures.table(read_seen(given)), []),
     "sections": lambda given: Written(0, as_json(gis.sections(read_seen(given))), []),

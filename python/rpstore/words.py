@@ -92,6 +92,13 @@ def add_meets(words: Words) -> None:
                       "plan (lots) or with heights (faces); CityJSON of it (city); a page with the lots and it (view); the report")
 
 
+def add_walls(words: Words) -> None:
+    made = add(words, "walls", "what the live lots of a script have in common with those that touch them: walls with areas, edges with lengths, corners")
+    add_store(made)
+    add_asof(made)
+    made.add_argument("--lot", action="append", default=[], metavar="ID", help="of this lot alone; may stand several times")
+
+
 def add_extract(words: Words) -> None:
     made = add_shown(words, "extract", "the lines of a script on which some lots rest, under their own numbers; behind -o PATH.rp also its report, "
                      "PATH.report", None)
@@ -133,6 +140,7 @@ def parser(says: str) -> argparse.ArgumentParser:
     add_shown(words, "city", "CityJSON 2.0 of the lots, as solids")
     add_shown(words, "explain", "what is wrong with each refused line: the word, what is due there, or the place on the ground")
     add_meets(words)
+    add_walls(words)
     add_extract(words)
     add_plan(words)
     return made
