@@ -12,6 +12,7 @@ lots      the bodies and slices that a report shows; the store is asked for thos
 told      how numbers are printed, rounded there and nowhere else
 view      one page for a browser, of what is in the folder page
 picture   a picture in SVG of sections; colours, and fitting for its names
+times     the lots as they were after every line
 measures  a table of areas and volumes
 gis       GeoJSON
 city      CityJSON

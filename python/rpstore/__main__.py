@@ -19,7 +19,7 @@ import sys
 from dataclasses import fields
 from typing import Any, Callable, NamedTuple, Optional, Type, TypeVar, Union
 
-from . import Fault, city, explain, extract, gis, lots, measures, meets, meets_forms, picture, report, script, store, view, walls, words
+from . import Fault, city, explain, extract, gis, lots, measures, meets, meets_forms, picture, report, script, store, times, view, walls, words
 
 Kind = TypeVar("Kind")
 
@@ -56,7 +56,11 @@ def as_json(made: dict[str, Any]) -> str:
 
 def write_view(given: argparse.Namespace) -> Written:
     title = given.title or (os.path.basename(given.file) if given.file else "lots")
-    return Written(0, view.page(read_seen(given), title, int(given.storey * 1000)), [])
+    step = int(given.storey * 1000)
+    if not given.time:
+        return Written(0, view.page(read_seen(given), title, step), [])
+    found = times.times(*read_script(given, "view --time"), store.program(given.store))
+    return Written(0, view.page(found.seen, title, step, found.moments), [])
 
 
 def write_picture(given: argparse.Namespace) -> Written:
@@ -67,6 +71,7 @@ def write_picture(given: argparse.Namespace) -> Written:
 def write_explanations(given: argparse.Namespace) -> Written:
     text, options = read(given.file), options_of(lots.Options, given)
     place, program = lots.place_of(text, options), store.program(options.store)
+    text = script.front(text, options.asof)
     if not store.is_report(text):
         full = store.run(program, text, "run")
         # A full report may be too long to be read; then no points are shown.
@@ -78,21 +83,21 @@ def write_explanations(given: argparse.Namespace) -> Written:
     return Written(int(bool(sentences)), "".join(f"{sentence}\n" for sentence in sentences), [])
 
 
-def read_script(given: argparse.Namespace) -> script.Script:
-    """Reads the script of a word that adds lines to it, up to --asof."""
-    whole = script.needed_script(read(given.file), given.word)
-    return whole if given.asof is None else whole.front(given.asof)
+def read_script(given: argparse.Namespace, what: str) -> tuple[script.Script, lots.Place]:
+    """Reads the script of a word or an option `what` that adds lines to it: up to --asof, and where it is on the map."""
+    whole = script.needed_script(read(given.file), what)
+    return whole if given.asof is None else whole.front(given.asof), lots.place_of(whole.text, options_of(lots.Options, given))
 
 
 def write_meets(given: argparse.Namespace) -> Written:
-    asked = read_script(given)
-    place = lots.place_of(asked.text, options_of(lots.Options, given))
+    asked, place = read_script(given, "meets")
     found = meets.meets(asked, given.region, store.program(given.store), place, given.layer, given.touch)
     return Written(int(bool(found.limited or found.unshown)), meets_forms.FORMS[given.form](found), meets_forms.said(found))
 
 
 def write_walls(given: argparse.Namespace) -> Written:
-    found = walls.walls(read_script(given), given.lot, store.program(given.store))
+    asked, _ = read_script(given, "walls")
+    found = walls.walls(asked, given.lot, store.program(given.store))
     return Written(int(bool(found.limited)), walls.table(found), walls.said(found))
 
 

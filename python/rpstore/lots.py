@@ -11,7 +11,7 @@ from typing import Optional, Sequence
 
 from . import outline, report, shape, store
 from .points import Box, Ring, box_round, lowest
-from .script import Script, script_of
+from .script import Script, front, script_of
 
 ORIGIN = re.compile(rb"^# Local origin: E (-?[0-9.]+?), N (-?[0-9.]+?)\. ", re.M)
 GRID = re.compile(rb"^# (?:Grid: |The plan names its grid .*?)EPSG:+([0-9]+)", re.M)
@@ -39,7 +39,7 @@ class Place:
 @dataclass(eq=False)
 class Body:
     """A lot, or another region that a line shows: its parts as bodies that share no volume. `born` is the line at which the lot
-    came, or the one that shows the region."""
+    came, or the one that shows the region, and `ended` the line at which it ended."""
 
     label: str
     is_lot: bool
@@ -47,6 +47,7 @@ class Body:
     born: int
     origins: tuple
     cells: list[shape.Cell]
+    ended: Optional[int] = None
 
     @cached_property
     def facets(self) -> list[shape.Facet]:
@@ -192,7 +193,7 @@ def cells_of(answer: report.Answer) -> list[shape.Cell]:
 
 def lot_body(lot: report.Lot, cells: list[shape.Cell]) -> Optional[Body]:
     """Returns a lot, or a piece of it, that has these `cells`, or None if there are none."""
-    return Body(lot.id, True, lot.layer, lot.born, lot.origins, cells) if cells else None
+    return Body(lot.id, True, lot.layer, lot.born, lot.origins, cells, lot.ended) if cells else None
 
 
 def body_of(answer: report.Answer, register: Register) -> Optional[Body]:
@@ -248,6 +249,7 @@ class Options:
     store: Optional[str] = None
     unchecked: bool = False
     names: bool = False
+    asof: Optional[int] = None
 
 
 def place_of(script: bytes, given: Options) -> Place:
@@ -279,6 +281,7 @@ def lines_to_show(script: Script, program: str, names: bool = False) -> list[str
 def load(text: bytes, given: Options) -> Seen:
     """What a `text` shows: a report, or a script, of which the store makes one that shows its lots."""
     place, program = place_of(text, given), store.program(given.store)
+    text = front(text, given.asof)
     if store.is_report(text):
         return seen(io.BytesIO(text), place, "not checked" if given.unchecked else store.judged(text, program))
     script = script_of(text)

@@ -6,7 +6,7 @@ import itertools
 import re
 from dataclasses import dataclass
 from functools import cached_property
-from typing import Iterable, Iterator
+from typing import Iterable, Iterator, Optional
 
 from . import Fault, report, store
 
@@ -72,6 +72,11 @@ class Script:
         """Returns the live lots of all layers, in the order in which they came."""
         [answer] = self.answers(["list"], program)
         return [lot for lot in answer.verdict if lot.ended is None]
+
+
+def front(text: bytes, line: Optional[int]) -> bytes:
+    """Returns a script up to and with a `line`, or any `text` as it is without one."""
+    return text if line is None else needed_script(text, "--asof").front(line).text
 
 
 def script_of(text: bytes) -> Script:

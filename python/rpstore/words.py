@@ -63,6 +63,7 @@ def add_shown(words: Words, word: str, says: str, file: Optional[str] = "?") -> 
     made = add(words, word, says, file)
     add_place(made)
     add_store(made)
+    add_asof(made)
     made.add_argument("--unchecked", action="store_true", help="take a report without having the store check it")
     made.add_argument("--names", action="store_true", help="of a script: show the regions that `let` names, too")
     return made
@@ -73,6 +74,7 @@ def add_view(words: Words) -> None:
     made.add_argument("--title", help="the head of the page (the name of the file)")
     made.add_argument("--storey", type=decimal, default=Decimal(2), metavar="METRES", help="lots whose lowest heights are less than this apart are "
                       "of one storey (2)")
+    made.add_argument("--time", action="store_true", help="of a script: all lots that ever were, and a slider for the line, or the day")
 
 
 def add_picture(words: Words) -> None:
@@ -100,8 +102,9 @@ def add_walls(words: Words) -> None:
 
 
 def add_extract(words: Words) -> None:
-    made = add_shown(words, "extract", "the lines of a script on which some lots rest, under their own numbers; behind -o PATH.rp also its report, "
-                     "PATH.report", None)
+    made = add(words, "extract", "the lines of a script on which some lots rest, under their own numbers; behind -o PATH.rp also its report, "
+               "PATH.report", None)
+    add_store(made)
     made.add_argument("ids", nargs="+", metavar="ID", help="the lots")
     made.add_argument("--neighbours", action="store_true", help="those of the lots, too")
 
