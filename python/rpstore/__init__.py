@@ -17,6 +17,7 @@ measures  a table of areas and volumes
 gis       GeoJSON
 city      CityJSON
 explain   what is wrong with each refused line, with hints
+conflicts the refused lines of a script as GeoJSON
 meets     which lots a region meets, asked of the store; meets_forms writes them
 walls     what lots have in common with those that touch them; touch finds it
 extract   the lines of a script on which some lots rest

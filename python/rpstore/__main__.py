@@ -19,7 +19,7 @@ import sys
 from dataclasses import fields
 from typing import Any, Callable, NamedTuple, Optional, Type, TypeVar, Union
 
-from . import Fault, city, explain, extract, gis, lots, measures, meets, meets_forms, picture, report, script, store, times, view, walls, words
+from . import Fault, city, conflicts, explain, extract, gis, lots, measures, meets, meets_forms, picture, report, script, store, times, view, walls, words
 
 Kind = TypeVar("Kind")
 
@@ -68,7 +68,16 @@ def write_picture(given: argparse.Namespace) -> Written:
     return Written(0, picture.picture(seen, given.width), [picture.summary(seen)])
 
 
+def write_conflicts(given: argparse.Namespace) -> Written:
+    asked, place = read_script(given, "explain --geojson")
+    found, run = conflicts.conflicts(asked, place, store.program(given.store))
+    said = f"{len(found):,} refused line{'s' * (len(found) != 1)}; {run.said}"
+    return Written(int(bool(found)), as_json(conflicts.features(found, place, given.geojson)), [said])
+
+
 def write_explanations(given: argparse.Namespace) -> Written:
+    if given.geojson:
+        return write_conflicts(given)
     text, options = read(given.file), options_of(lots.Options, given)
     place, program = lots.place_of(text, options), store.program(options.store)
     text = script.front(text, options.asof)

@@ -5,7 +5,7 @@ import argparse
 from decimal import Decimal, InvalidOperation
 from typing import TYPE_CHECKING, Optional
 
-from . import meets_forms, picture
+from . import conflicts, meets_forms, picture
 
 if TYPE_CHECKING:
     Words = argparse._SubParsersAction[argparse.ArgumentParser]
@@ -82,6 +82,12 @@ def add_picture(words: Words) -> None:
     made.add_argument("--width", type=width, default=picture.WIDTH, metavar="PIXELS", help=f"the width of the picture ({picture.WIDTH})")
 
 
+def add_explain(words: Words) -> None:
+    made = add_shown(words, "explain", "what is wrong with each refused line: the word, what is due there, or the place on the ground")
+    made.add_argument("--geojson", choices=list(conflicts.GEOMETRIES), help="of a script: GeoJSON with a feature for each refused line: a point in what "
+                      "is in its way, or that in plan (areas) or with heights (faces)")
+
+
 def add_meets(words: Words) -> None:
     made = add(words, "meets", "the live lots of a script that a region meets, what each has of it, and a report that shows that these are all", None)
     add_place(made)
@@ -141,7 +147,7 @@ def parser(says: str) -> argparse.ArgumentParser:
     add_shown(words, "lots", "GeoJSON of what each lot covers in plan, with its heights, area and volume")
     add_shown(words, "faces", "GeoJSON of the boundary of each lot, as polygons with heights")
     add_shown(words, "city", "CityJSON 2.0 of the lots, as solids")
-    add_shown(words, "explain", "what is wrong with each refused line: the word, what is due there, or the place on the ground")
+    add_explain(words)
     add_meets(words)
     add_walls(words)
     add_extract(words)
