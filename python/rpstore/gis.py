@@ -4,7 +4,7 @@ from __future__ import annotations
 from fractions import Fraction
 from typing import Any, Iterable, Optional
 
-from . import Fault, outline, told
+from . import Fault, outline, shape, told
 from .lots import Body, Place, Seen
 
 Geometry = dict[str, Any]
@@ -84,8 +84,9 @@ def covered(place: Place, body: Body) -> Geometry:
 
 
 def boundary(place: Place, body: Body) -> Geometry:
-    """Returns the boundary of a body, as polygons with heights."""
-    return multipolygon(place, [(facet.outer, facet.holes) for facet in body.facets])
+    """Returns the boundary of a body, as polygons with heights. Each edge of one is an edge of another, the other way round, as
+    databases want it of a solid."""
+    return multipolygon(place, [(outer, holes) for outer, *holes in shape.split_rings(body.facets)])
 
 
 def footprints(seen: Seen) -> dict[str, Any]:

@@ -10,8 +10,9 @@ from functools import cached_property
 from typing import Optional, Sequence
 
 from . import outline, report, shape, store
+from .command import spelled
 from .points import Box, Ring, box_round, lowest
-from .script import Script, front, script_of
+from .script import Script, front, needed_script, script_of
 
 ORIGIN = re.compile(rb"^# Local origin: E (-?[0-9.]+?), N (-?[0-9.]+?)\. ", re.M)
 GRID = re.compile(rb"^# (?:Grid: |The plan names its grid .*?)EPSG:+([0-9]+)", re.M)
@@ -250,6 +251,7 @@ class Options:
     unchecked: bool = False
     names: bool = False
     asof: Optional[int] = None
+    at: Sequence[Decimal] = ()
 
 
 def place_of(script: bytes, given: Options) -> Place:
@@ -272,18 +274,23 @@ def names_of(script: Script, program: str) -> list[str]:
     return [answer.command.names[0] for answer in answers if answer.verdict == "ok" and answer.command.word == "let"]
 
 
-def lines_to_show(script: Script, program: str, names: bool = False) -> list[str]:
-    """Returns lines that show the live lots of a `script`, and with `names`, or if it has no live lot, the regions that it names."""
-    lots = [f"show lot {lot.id}" for lot in script.live(program)]
-    return lots + [f"show name {name}" for name in (names_of(script, program) if names or not lots else [])]
+def lines_to_show(script: Script, program: str, names: bool = False, heights: Sequence[Decimal] = ()) -> list[str]:
+    """Returns lines that show the live lots of a `script`, and with `names`, or if it has no live lot, the regions that it names; and
+    lines `section` of all these at some `heights`, in metres."""
+    lots = [f"lot {lot.id}" for lot in script.live(program)]
+    regions = lots + [f"name {name}" for name in (names_of(script, program) if names or not lots else [])]
+    levels = [spelled(int(height * 1000)) if script.is_marked else str(int(height * 1000)) for height in heights]
+    return [f"show {region}" for region in regions] + [f"section {region} {level}" for level in levels for region in regions]
 
 
 def load(text: bytes, given: Options) -> Seen:
     """What a `text` shows: a report, or a script, of which the store makes one that shows its lots."""
     place, program = place_of(text, given), store.program(given.store)
     text = front(text, given.asof)
+    if given.at:
+        needed_script(text, "--at")
     if store.is_report(text):
         return seen(io.BytesIO(text), place, "not checked" if given.unchecked else store.judged(text, program))
     script = script_of(text)
-    told = store.run(program, script.then(lines_to_show(script, program, given.names)), "run")
+    told = store.run(program, script.then(lines_to_show(script, program, given.names, given.at)), "run")
     return seen(io.BytesIO(told), place, store.judged(told, program))

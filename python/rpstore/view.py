@@ -19,8 +19,8 @@ SCRIPTS = ("scene.js", "eye.js", "paint.js", "panel.js", "hand.js")
 
 
 def short(units: Number) -> str:
-    """Metres without a zero at the end, but for two digits."""
-    text = told.metres(units)
+    """Metres to the millimetre, without a zero at the end, but for two digits."""
+    text = told.metres(told.nearest(units))
     return text[:-1] if text.endswith("0") and len(text.split(".")[1]) == 3 else text
 
 

@@ -69,6 +69,11 @@ def add_shown(words: Words, word: str, says: str, file: Optional[str] = "?") -> 
     return made
 
 
+def add_at(made: argparse.ArgumentParser) -> None:
+    made.add_argument("--at", type=decimal, action="append", default=[], metavar="HEIGHT", help="of a script: each live lot at this height, in "
+                      "metres; may stand several times")
+
+
 def add_view(words: Words) -> None:
     made = add_shown(words, "view", "one page that shows lots in a browser")
     made.add_argument("--title", help="the head of the page (the name of the file)")
@@ -79,6 +84,7 @@ def add_view(words: Words) -> None:
 
 def add_picture(words: Words) -> None:
     made = add_shown(words, "picture", "a picture in SVG of the `section` lines of a report: the outlines at each height")
+    add_at(made)
     made.add_argument("--width", type=width, default=picture.WIDTH, metavar="PIXELS", help=f"the width of the picture ({picture.WIDTH})")
 
 
@@ -143,7 +149,7 @@ def parser(says: str) -> argparse.ArgumentParser:
     add_view(words)
     add_picture(words)
     add_shown(words, "measures", "a table of areas and volumes, of what `show` and `section` lines show")
-    add_shown(words, "sections", "GeoJSON of the `section` lines of a report: one area for each, with lot, height and area")
+    add_at(add_shown(words, "sections", "GeoJSON of the `section` lines of a report: one area for each, with lot, height and area"))
     add_shown(words, "lots", "GeoJSON of what each lot covers in plan, with its heights, area and volume")
     add_shown(words, "faces", "GeoJSON of the boundary of each lot, as polygons with heights")
     add_shown(words, "city", "CityJSON 2.0 of the lots, as solids")
