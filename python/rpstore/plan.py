@@ -15,6 +15,7 @@ from .rings import Corner, Unfit, units
 
 try:
     import fiona
+    import fiona.drvsupport
     import fiona.errors
     from shapely.geometry import Polygon
     from shapely.validation import explain_validity
@@ -24,6 +25,9 @@ except ImportError as error:
 
 MOST_SCRIPT, MOST_STOREYS = 16777216, 999
 NUMBER = re.compile(r"[+-]?([0-9]+(\.[0-9]*)?|\.[0-9]+)([eE][+-]?[0-9]{1,3})?")
+# Formats that GDAL reads and fiona does not try by itself. A driver that this GDAL does not have is no fault.
+MORE_FORMATS = ("KML", "LIBKML", "OSM", "PostgreSQL", "MySQL", "MSSQLSpatial", "OCI", "PDF", "JML", "WFS", "OAPIF", "GMLAS", "NAS",
+                "DGN", "CAD", "VRT", "MapML", "GeoJSONSeq", "Parquet", "Arrow")
 # So many features of one cause are named.
 FEW = 5
 
@@ -258,9 +262,8 @@ def notes_of(features: list[Feature], origin: Corner, grids: Sequence[Any]) -> l
     else:
         code = grid.code(wanted)
         lines.append(f"# Grid: {f'EPSG:{code}' if code else wanted.name}{f', projected from {found.name}' if found != wanted else ''}.")
-    numbers = [Decimal(repr(number)) for point in points_of(features) for number in point]
-    moved = sum(number != number.quantize(rings.MILLI) for number in numbers)
-    return lines + [f"# Rounded to the millimetre: {moved} of {len(numbers)} coordinates."] * bool(moved)
+    moved, count = rings.rounded(points_of(features))
+    return lines + [f"# Rounded to the millimetre: {moved} of {count} coordinates."] * bool(moved)
 
 
 # ---- reading
@@ -272,6 +275,8 @@ def points_of(features: list[Feature]) -> list[grid.Point]:
 def read(path: str, layer: Optional[str]) -> tuple[str, list[Feature], list[str]]:
     """The grid that a plan names, its features, and what is to be said of it."""
     logging.getLogger("fiona").setLevel(logging.CRITICAL)
+    for driver in MORE_FORMATS:
+        fiona.drvsupport.supported_drivers.setdefault(driver, "r")
     try:
         # Standard input can be read once.
         layers = [] if "/vsistdin/" in path else fiona.listlayers(path)

@@ -253,6 +253,47 @@ def test_formats(driver, suffix, tmp_path):
     assert lines[0] == HEAD and lines[1].startswith("# Grid: EPSG:25832") and lines[2].startswith("register a minus prism 0.000 7.500 4 ")
 
 
+KML = ('<kml xmlns="http://www.opengis.net/kml/2.2"><Document><Placemark><name>a</name><Polygon><outerBoundaryIs><LinearRing><coordinates>'
+       "13.400,52.500 13.401,52.500 13.401,52.501 13.400,52.500</coordinates></LinearRing></outerBoundaryIs></Polygon></Placemark></Document></kml>")
+
+
+OSM = ('<osm version="0.6"><node id="1" lat="52.5" lon="13.4" version="1"/><node id="2" lat="52.5" lon="13.401" version="1"/>'
+       '<node id="3" lat="52.501" lon="13.401" version="1"/><way id="7" version="1"><nd ref="1"/><nd ref="2"/><nd ref="3"/><nd ref="1"/>'
+       '<tag k="building" v="yes"/></way></osm>')
+
+
+@pytest.mark.parametrize("text, name, given", [(KML, "plan.kml", {"id": "Name"}), (OSM, "plan.osm", {"layer": "multipolygons", "number": True, "prefix": "a"})])
+def test_formats_that_fiona_does_not_try(written, text, name, given):
+    _, told, _ = plan.script_of(written(text=text, name=name), plan.Options(floor="0", top="3", to="EPSG:25833", **given))
+    assert "# Grid: EPSG:25833, projected from WGS 84." in told
+    assert told.count("\nregister ") == 1 and " prism 0.000 3.000 3 390.731 -144.759 458.608 -146.263 461.071 -35.042\n" in told
+
+
+DEGREES = [(-106.48912, 35.11034), (-106.47123, 35.11034), (-106.47123, 35.13391)]
+
+
+def of_no_grid(written, corners, **given):
+    """What is made of a table that names no grid."""
+    table = f'id,WKT\na,"POLYGON (({",".join(f"{x} {y}" for x, y in closed(*corners))}))"\n'
+    return plan.script_of(written(text=table, name="plan.csv"), plan.Options(floor="0", top="3", **given))
+
+
+@pytest.mark.parametrize("given", [{}, {"to": "EPSG:32613"}])
+def test_numbers_of_no_grid_that_may_be_degrees_are_refused(written, given):
+    with pytest.raises(Fault, match="the plan names no grid, and its numbers may be degrees: all are from -180 to 180, and 8 of 8 have") as fault:
+        of_no_grid(written, DEGREES, **given)
+    assert fault.value.status == 5
+
+
+@pytest.mark.parametrize("corners, given, wanted", [
+    (DEGREES, {"source": "metres"}, "3 -106.489 35.110 -106.471 35.110 -106.471 35.134"), (DEGREES, {"source": "EPSG:4326", "to": "EPSG:32613"}, " prism "),
+    ([(0, 0), (8.5, 0), (8.5, 9.25)], {}, "3 0.000 0.000 8.500 0.000 8.500 9.250"), ([(-106489.12, 35.11034), (-106471.23, 35.11034), (-106471.23, 35.13391)], {}, " prism "),
+    ([(0, 0), (8.50001, 0), (8.5, 9.25)], {}, "8.500 0.000"), ([(0.00001, 90.00001), (8.50001, 90.00001), (8.50001, 99.25001)], {}, " prism ")])
+def test_numbers_of_no_grid_that_are_metres(written, corners, given, wanted):
+    status, told, _ = of_no_grid(written, corners, **given)
+    assert status == 0 and wanted in told
+
+
 def test_a_table_with_wkt(written):
     text = "id,base,height,WKT\r\na,0,7.5,\"POLYGON Z ((0 0 1, 8 0 1, 8 9 2, 0 9 2, 0 0 1))\"\r\n"
     path = written(text=text, name="plan.csv")
