@@ -5,7 +5,7 @@ has an example of each word.
 
 status 0    all was written, and no line was refused
 status 1    explain: some line was refused; plan: --leave-out left features out; else: the file is no report, or the
-            report is not accepted or shows nothing
+            report is not accepted or shows nothing, or it is not known where the script lies on the map
 status 2    the words are not known
 status 3    the input could not be read
 status 4    the output could not be written; plan: some feature cannot be registered, which is named, and nothing was written
@@ -20,9 +20,11 @@ import sys
 from dataclasses import fields
 from decimal import Decimal, InvalidOperation
 
-from . import Fault, city, explain, extract, gis, lots, measures, picture, report, view
+from . import Fault, city, explain, extract, gis, lots, measures, picture, place, report, view
 
 GEOJSON = {"sections": gis.sections, "lots": gis.footprints, "faces": gis.faces}
+# The words that write map coordinates.
+ON_MAP = {"view", "city", *GEOJSON}
 
 
 def decimal(word):
@@ -49,9 +51,9 @@ def parser():
         found = words.add_parser(word, help=says, description=says)
         found.add_argument("file", nargs=None if word == "extract" else "?", metavar="FILE")
         if word != "plan":
-            found.add_argument("--origin", nargs=2, type=decimal, metavar=("E", "N"), help="the local origin, in metres of the map; of a script "
-                               "the note `# Local origin: E .., N ..` is read where this is not given")
-            found.add_argument("--epsg", type=int, metavar="NUMBER", help="the grid of the map; of a script the note `# Grid: EPSG:..` is read")
+            found.add_argument("--origin", nargs=2, type=decimal, metavar=("E", "N"), help="the local origin, in metres of the map; without it the "
+                               f"note of the script is read: {place.FORM}")
+            found.add_argument("--epsg", type=int, metavar="NUMBER", help="the grid of the map; without it the same note is read")
             found.add_argument("--store", metavar="PROGRAM", help="the store, in the place of ./rpstore beside this (or RPSTORE)")
             found.add_argument("--unchecked", action="store_true", help="take a report without having the store check it")
             found.add_argument("--names", action="store_true", help="of a script: show the regions that `let` names, too")
@@ -105,9 +107,17 @@ def opened(path):
         raise Fault(f"the input cannot be read: {error.strerror}", 3)
 
 
+def ground(text, options):
+    """Returns where a text lies on the map, or else nowhere, and what is to be said of that: an explanation needs no map."""
+    try:
+        return place.place_of(text, options), []
+    except place.Unplaced as fault:
+        return place.Place(), [f"{fault.why}; so points are told in metres from the local origin"]
+
+
 def explained(file, options):
     text = file.read()
-    place = lots.place_of(text, options)
+    where, said = ground(text, options)
     store = lots.program(options.store)
     if not lots.is_report(text):
         script, text = text, lots.run(store, text, "run")
@@ -116,8 +126,8 @@ def explained(file, options):
     elif b"\n  " in text and not options.unchecked:
         # A brief report shows no points, and `check` takes full ones alone.
         lots.accepted(lots.checked(text, store))
-    sentences = list(explain.explained(text, place))
-    return int(bool(sentences)), "".join(f"{sentence}\n" for sentence in sentences), []
+    sentences = list(explain.explained(text, where))
+    return int(bool(sentences)), "".join(f"{sentence}\n" for sentence in sentences), said
 
 
 def extracted(file, options):
@@ -143,7 +153,7 @@ def answer(options):
             return explained(file, options)
         if options.word == "extract":
             return extracted(file, options)
-        seen = lots.load(file, options)
+        seen = lots.load(file, options, on_map=options.word in ON_MAP)
     if options.word == "view":
         title = options.title or (os.path.basename(options.file) if options.file else "lots")
         return 0, view.page(seen, title, int(options.storey * 1000)), []

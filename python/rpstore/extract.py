@@ -5,9 +5,8 @@ from dataclasses import dataclass, field
 from typing import Iterable, Iterator
 
 from . import Fault, command, lots, report
+from .notes import ATTRIBUTES, is_note
 
-# How the note begins that tells the attributes of a plan's feature, right behind the line of its lot.
-ATTRIBUTES = b"# {"
 # Notes behind an extract: there they give no line another number.
 SAYS = """# This is an extract for {ids}: of the {lines:,} lines of a script {kept:,} stand here, each under its own number.
 # Its report shows by which lines and out of which lots they came about, {shown}.
@@ -82,11 +81,6 @@ def needed(book: Book, ids: Iterable[str]) -> set[int]:
             found.add(number)
             wanted += before(book, number)
     return found
-
-
-def is_note(line: bytes) -> bool:
-    """Whether a line is a note on what comes behind it."""
-    return line.startswith(b"#") and not line.startswith(ATTRIBUTES)
 
 
 def notes_on(lines: list[bytes], place: int) -> Iterator[int]:

@@ -6,36 +6,17 @@ import os
 import re
 import subprocess
 from dataclasses import dataclass
-from decimal import Decimal
 from fractions import Fraction
 from functools import cached_property
 from pathlib import Path
 from typing import Optional
 
 from . import Fault, outline, report, shape
+from .place import Place, place_of
 from .points import Box, Ring, box_round, lowest
 
-ORIGIN = re.compile(rb"^# Local origin: E (-?[0-9.]+?), N (-?[0-9.]+?)\. ", re.M)
-GRID = re.compile(rb"^# (?:Grid: |The plan names its grid .*?)EPSG:+([0-9]+)", re.M)
 # An expression that is longer stands shortened in a label.
 LONGEST = 60
-
-
-@dataclass
-class Place:
-    """Where units are on the map: the local origin in metres, and the EPSG number of its grid, or None."""
-
-    east: Decimal = Decimal(0)
-    north: Decimal = Decimal(0)
-    epsg: Optional[int] = None
-
-    @property
-    def is_given(self) -> bool:
-        return bool(self.east or self.north or self.epsg)
-
-    def metres(self, number, axis: int) -> Fraction:
-        """A coordinate in units, on the map."""
-        return Fraction(number) / 1000 + Fraction((self.east, self.north, 0)[axis])
 
 
 @dataclass(eq=False)
@@ -247,20 +228,6 @@ def run(command: str, text: bytes, *words: str) -> bytes:
     return done.stdout
 
 
-def place_of(script: bytes, given) -> Place:
-    """Where a script is on the map, by the words of the command line, `given`, or by its notes."""
-    place = Place()
-    origin, grid = ORIGIN.search(script), GRID.search(script)
-    if origin:
-        place.east, place.north = map(Decimal, (origin[1].decode(), origin[2].decode()))
-    if grid:
-        place.epsg = int(grid[1])
-    if given.origin:
-        place.east, place.north = given.origin
-    place.epsg = given.epsg or place.epsg
-    return place
-
-
 def asked(script: bytes, command: str, names: bool = False) -> bytes:
     """The `script` with lines behind it that show its live lots, and with `names`, or where it has no lot, its names."""
     if script and not script.endswith(b"\n"):
@@ -307,10 +274,15 @@ def judged(text: bytes, command: str) -> str:
     return accepted(said)
 
 
-def load(file, given) -> Seen:
-    """What a file shows: a report, or a script, of which the store makes one that shows its lots."""
+def load(file, given, on_map: bool = True) -> Seen:
+    """Returns what a file shows: a report, or a script, of which the store makes one that shows its lots. Without `on_map` its
+    notes on its place are not read.
+
+    # Errors
+    `place.Unplaced` if it is not known where the script lies on the map.
+    """
     text = file.read()
-    place = place_of(text, given)
+    place = place_of(text, given) if on_map else Place()
     if is_report(text) and given.unchecked:
         return seen(io.BytesIO(text), place, "not checked")
     command = program(given.store)

@@ -17,8 +17,8 @@ def extracted(store):
 
 
 BOOK = """rp 2
-# Local origin: E 412000.000, N 5765000.000. Metres from there.
-# Grid: EPSG:25832.
+# Grid: EPSG:25832. Local origin: E 412000, N 5765000.
+# Coordinates are metres from the local origin.
 
 # Two fields.
 register north box 0.000 10.000 0.000 20.000 20.000 5.000
