@@ -5,7 +5,7 @@ from dataclasses import dataclass, field
 from typing import Iterable, Iterator
 
 from . import Fault, command, lots, report
-from .notes import ATTRIBUTES, is_note
+from .notes import is_head, notes_on
 
 # Notes behind an extract: there they give no line another number.
 SAYS = """# This is an extract for {ids}: of the {lines:,} lines of a script {kept:,} stand here, each under its own number.
@@ -83,20 +83,13 @@ def needed(book: Book, ids: Iterable[str]) -> set[int]:
     return found
 
 
-def notes_on(lines: list[bytes], place: int) -> Iterator[int]:
-    """The places of the notes on the line at a place."""
-    yield from itertools.takewhile(lambda at: is_note(lines[at]), range(place - 1, -1, -1))
-    if place + 1 < len(lines) and lines[place + 1].startswith(ATTRIBUTES):
-        yield place + 1
-
-
 def emptied(book: Book, numbers: Iterable[int]) -> list[bytes]:
-    """The script with all lines empty but for some, the notes on them, and the mark and the notes at its head."""
+    """Returns the script with all lines empty but for some, the notes on them and their deeds, and the mark and the notes at its head."""
     lines = book.lines
     mark = range(book.version - 1)
-    head = itertools.takewhile(lambda at: is_note(lines[at]) or not lines[at].strip(), range(len(mark), len(lines)))
-    places = [number - (book.version == 1) for number in numbers]
-    kept = {*mark, *head, *places, *(note for place in places for note in notes_on(lines, place))}
+    head = itertools.takewhile(lambda at: is_head(lines[at]), range(len(mark), len(lines)))
+    places = {number - (book.version == 1) for number in numbers}
+    kept = {*mark, *head, *places, *notes_on(lines, places)}
     return [line if place in kept else b"" for place, line in enumerate(lines)]
 
 
