@@ -4,6 +4,8 @@ has an example of each.
 command   the grammar of a script line, and its first fault with its place
 report    a report, answer by answer; what is no report is refused
 points    exact points of a plan and of space
+notes     which lines of a script are notes, and on which lines and deeds
+place     where a script lies on the map: the note on its grid and its local origin, written and read
 outline   areas of a plan: outlines with holes of what convex polygons have together
 shape     convex bodies: corners, faces, volumes, and what several have together
 store     the program: what it writes of a text, and what its `check` says

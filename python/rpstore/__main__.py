@@ -5,7 +5,8 @@ has an example of each word.
 
 status 0    all was written, and no line was refused
 status 1    explain: some line was refused; meets and walls: a limit of the store leaves something unanswered; plan:
-            --leave-out left features out; else: the file is no report, or the report is not accepted or shows nothing
+            --leave-out left features out; else: the file is no report, or the report is not accepted or shows nothing,
+            or it is not known where the script lies on the map
 status 2    the words are not known, or do not fit the file
 status 3    the input could not be read
 status 4    the output could not be written; plan: some feature cannot be registered, which is named, and nothing was written
@@ -19,9 +20,11 @@ import sys
 from dataclasses import fields
 from typing import Any, Callable, NamedTuple, Optional, Type, TypeVar, Union
 
-from . import Fault, city, conflicts, explain, extract, gis, lots, measures, meets, meets_forms, picture, report, script, store, times, view, walls, words
+from . import Fault, city, conflicts, explain, extract, gis, lots, measures, meets, meets_forms, picture, place, report, script, store, times, view, walls, words
 
 Kind = TypeVar("Kind")
+# The words, and the forms of `meets`, that write map coordinates.
+ON_MAP = {"view", "city", "sections", "lots", "faces"}
 
 
 class Written(NamedTuple):
@@ -47,7 +50,7 @@ def read(path: Optional[str]) -> bytes:
 
 
 def read_seen(given: argparse.Namespace) -> lots.Seen:
-    return lots.load(read(given.file), options_of(lots.Options, given))
+    return lots.load(read(given.file), options_of(lots.Options, given), on_map=given.word in ON_MAP)
 
 
 def as_json(made: dict[str, Any]) -> str:
@@ -59,7 +62,8 @@ def write_view(given: argparse.Namespace) -> Written:
     step = int(given.storey * 1000)
     if not given.time:
         return Written(0, view.page(read_seen(given), title, step), [])
-    found = times.times(*read_script(given, "view --time"), store.program(given.store))
+    asked, where = read_script(given, "view --time", True)
+    found = times.times(asked, where, store.program(given.store))
     return Written(0, view.page(found.seen, title, step, found.moments), [])
 
 
@@ -69,17 +73,25 @@ def write_picture(given: argparse.Namespace) -> Written:
 
 
 def write_conflicts(given: argparse.Namespace) -> Written:
-    asked, place = read_script(given, "explain --geojson")
-    found, run = conflicts.conflicts(asked, place, store.program(given.store))
+    asked, where = read_script(given, "explain --geojson", True)
+    found, run = conflicts.conflicts(asked, where, store.program(given.store))
     said = f"{len(found):,} refused line{'s' * (len(found) != 1)}; {run.said}"
-    return Written(int(bool(found)), as_json(conflicts.features(found, place, given.geojson)), [said])
+    return Written(int(bool(found)), as_json(conflicts.features(found, where, given.geojson)), [said])
+
+
+def ground(text: bytes, options: lots.Options) -> tuple[place.Place, list[str]]:
+    """Returns where a text lies on the map, or else nowhere, and what is to be said of that: an explanation needs no map."""
+    try:
+        return place.place_of(text, options), []
+    except place.Unplaced as fault:
+        return place.Place(), [f"{fault.why}; so points are told in metres from the local origin"]
 
 
 def write_explanations(given: argparse.Namespace) -> Written:
     if given.geojson:
         return write_conflicts(given)
     text, options = read(given.file), options_of(lots.Options, given)
-    place, program = lots.place_of(text, options), store.program(options.store)
+    (where, said), program = ground(text, options), store.program(options.store)
     text = script.front(text, options.asof)
     if not store.is_report(text):
         full = store.run(program, text, "run")
@@ -88,19 +100,20 @@ def write_explanations(given: argparse.Namespace) -> Written:
     elif not store.is_brief(text) and not options.unchecked:
         # A brief report shows no points, and `check` takes full ones alone.
         store.accepted(store.checked(text, program))
-    sentences = list(explain.explained(text, place))
-    return Written(int(bool(sentences)), "".join(f"{sentence}\n" for sentence in sentences), [])
+    sentences = list(explain.explained(text, where))
+    return Written(int(bool(sentences)), "".join(f"{sentence}\n" for sentence in sentences), said)
 
 
-def read_script(given: argparse.Namespace, what: str) -> tuple[script.Script, lots.Place]:
-    """Reads the script of a word or an option `what` that adds lines to it: up to --asof, and where it is on the map."""
+def read_script(given: argparse.Namespace, what: str, on_map: bool = False) -> tuple[script.Script, place.Place]:
+    """Reads the script of a word or an option `what` that adds lines to it: up to --asof, and with `on_map` where it is on the map."""
     whole = script.needed_script(read(given.file), what)
-    return whole if given.asof is None else whole.front(given.asof), lots.place_of(whole.text, options_of(lots.Options, given))
+    where = place.place_of(whole.text, options_of(lots.Options, given)) if on_map else place.Place()
+    return whole if given.asof is None else whole.front(given.asof), where
 
 
 def write_meets(given: argparse.Namespace) -> Written:
-    asked, place = read_script(given, "meets")
-    found = meets.meets(asked, given.region, store.program(given.store), place, given.layer, given.touch)
+    asked, where = read_script(given, "meets", given.form in ON_MAP)
+    found = meets.meets(asked, given.region, store.program(given.store), where, given.layer, given.touch)
     return Written(int(bool(found.limited or found.unshown)), meets_forms.FORMS[given.form](found), meets_forms.said(found))
 
 

@@ -11,7 +11,8 @@ from fractions import Fraction
 from typing import Any, Callable, Optional
 
 from . import explain, gis, lots, report, store, told
-from .lots import Body, Place
+from .lots import Body
+from .place import Place
 from .points import Number
 from .script import Script
 

@@ -5,9 +5,8 @@ from dataclasses import dataclass, field
 from typing import Iterable, Iterator
 
 from . import Fault, command, lots, report, store
+from .notes import is_head, notes_on
 
-# How the note begins that tells the attributes of a plan's feature, right behind the line of its lot.
-ATTRIBUTES = b"# {"
 # Notes behind an extract: there they give no line another number.
 SAYS = """# This is an extract for {ids}: of the {lines:,} lines of a script {kept:,} stand here, each under its own number.
 # Its report shows by which lines and out of which lots they came about, {shown}.
@@ -84,25 +83,13 @@ def needed(book: Book, ids: Iterable[str]) -> set[int]:
     return found
 
 
-def is_note(line: bytes) -> bool:
-    """Whether a line is a note on what comes behind it."""
-    return line.startswith(b"#") and not line.startswith(ATTRIBUTES)
-
-
-def notes_on(lines: list[bytes], place: int) -> Iterator[int]:
-    """The places of the notes on the line at a place."""
-    yield from itertools.takewhile(lambda at: is_note(lines[at]), range(place - 1, -1, -1))
-    if place + 1 < len(lines) and lines[place + 1].startswith(ATTRIBUTES):
-        yield place + 1
-
-
 def emptied(book: Book, numbers: Iterable[int]) -> list[bytes]:
-    """The script with all lines empty but for some, the notes on them, and the mark and the notes at its head."""
+    """Returns the script with all lines empty but for some, the notes on them and their deeds, and the mark and the notes at its head."""
     lines = book.lines
     mark = range(book.version - 1)
-    head = itertools.takewhile(lambda at: is_note(lines[at]) or not lines[at].strip(), range(len(mark), len(lines)))
-    places = [number - (book.version == 1) for number in numbers]
-    kept = {*mark, *head, *places, *(note for place in places for note in notes_on(lines, place))}
+    head = itertools.takewhile(lambda at: is_head(lines[at]), range(len(mark), len(lines)))
+    places = {number - (book.version == 1) for number in numbers}
+    kept = {*mark, *head, *places, *notes_on(lines, places)}
     return [line if place in kept else b"" for place, line in enumerate(lines)]
 
 

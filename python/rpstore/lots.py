@@ -11,30 +11,12 @@ from typing import Optional, Sequence
 
 from . import outline, report, shape, store
 from .command import spelled
+from .place import Place, place_of
 from .points import Box, Ring, box_round, lowest
 from .script import Script, front, needed_script, script_of
 
-ORIGIN = re.compile(rb"^# Local origin: E (-?[0-9.]+?), N (-?[0-9.]+?)\. ", re.M)
-GRID = re.compile(rb"^# (?:Grid: |The plan names its grid .*?)EPSG:+([0-9]+)", re.M)
 # An expression that is longer stands shortened in a label.
 LONGEST = 60
-
-
-@dataclass
-class Place:
-    """Where units are on the map: the local origin in metres, and the EPSG number of its grid, or None."""
-
-    east: Decimal = Decimal(0)
-    north: Decimal = Decimal(0)
-    epsg: Optional[int] = None
-
-    @property
-    def is_given(self) -> bool:
-        return bool(self.east or self.north or self.epsg)
-
-    def metres(self, number, axis: int) -> Fraction:
-        """A coordinate in units, on the map."""
-        return Fraction(number) / 1000 + Fraction((self.east, self.north, 0)[axis])
 
 
 @dataclass(eq=False)
@@ -254,20 +236,6 @@ class Options:
     at: Sequence[Decimal] = ()
 
 
-def place_of(script: bytes, given: Options) -> Place:
-    """Where a script is on the map, by the words of the command line, `given`, or by its notes."""
-    place = Place()
-    origin, grid = ORIGIN.search(script), GRID.search(script)
-    if origin:
-        place.east, place.north = map(Decimal, (origin[1].decode(), origin[2].decode()))
-    if grid:
-        place.epsg = int(grid[1])
-    if given.origin:
-        place.east, place.north = given.origin
-    place.epsg = given.epsg or place.epsg
-    return place
-
-
 def names_of(script: Script, program: str) -> list[str]:
     """Returns the names that the `let` lines of a `script` give."""
     answers = report.read(io.BytesIO(store.run(program, script.text, "run", "brief")))
@@ -283,9 +251,14 @@ def lines_to_show(script: Script, program: str, names: bool = False, heights: Se
     return [f"show {region}" for region in regions] + [f"section {region} {level}" for level in levels for region in regions]
 
 
-def load(text: bytes, given: Options) -> Seen:
-    """What a `text` shows: a report, or a script, of which the store makes one that shows its lots."""
-    place, program = place_of(text, given), store.program(given.store)
+def load(text: bytes, given: Options, on_map: bool = True) -> Seen:
+    """Returns what a `text` shows: a report, or a script, of which the store makes one that shows its lots. Without `on_map` its
+    notes on its place are not read.
+
+    # Errors
+    `place.Unplaced` if it is not known where the script lies on the map.
+    """
+    place, program = place_of(text, given) if on_map else Place(), store.program(given.store)
     text = front(text, given.asof)
     if given.at:
         needed_script(text, "--at")

@@ -12,7 +12,8 @@ from dataclasses import dataclass
 from typing import Iterator, Optional, Sequence
 
 from . import Fault, command, explain, hints, lots, report, store
-from .lots import Body, Place
+from .lots import Body
+from .place import Place
 from .script import Script, fresh
 
 # The relation of a lot that only touches the region.

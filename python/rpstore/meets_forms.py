@@ -7,8 +7,9 @@ from fractions import Fraction
 from typing import Any, Callable, Iterator, Union
 
 from . import city, gis, told, view
-from .lots import Body, Place, Seen
+from .lots import Body, Seen
 from .meets import TOUCHES, Meeting, Result
+from .place import Place
 
 HEAD = ("lot", "layer", "relation", "from_m", "to_m", "area_m2", "volume_m3", "lot_volume_m3")
 

@@ -10,11 +10,12 @@ import re
 from dataclasses import dataclass
 from typing import Optional
 
-from . import extract, lots, report, store
-from .lots import Body, Place, Seen
+from . import extract, lots, notes, report, store
+from .lots import Body, Seen
+from .place import Place
 from .script import Script
 
-DAY = re.compile(rb"^# day ([0-9]{4}-[0-9]{2}-[0-9]{2})\b")
+DAY = re.compile(notes.DAY + rb"([0-9]{4}-[0-9]{2}-[0-9]{2})\b")
 
 
 @dataclass(frozen=True)
@@ -30,8 +31,8 @@ class Times:
     def moments(self) -> list[tuple[int, str]]:
         """Returns the lines at which lots came or ended, and the last line, each with the day of the last note before it, or ""."""
         lines = {line for body in self.seen.bodies for line in (body.born, body.ended) if line is not None} | {self.last}
-        notes = [note for note, _ in self.days]
-        return [(line, self.days[at - 1][1] if at else "") for line in sorted(lines) for at in [bisect.bisect_left(notes, line)]]
+        dated = [line for line, _ in self.days]
+        return [(line, self.days[at - 1][1] if at else "") for line in sorted(lines) for at in [bisect.bisect_left(dated, line)]]
 
 
 def changes(book: extract.Book) -> bytes:

@@ -5,7 +5,7 @@ import argparse
 from decimal import Decimal, InvalidOperation
 from typing import TYPE_CHECKING, Optional
 
-from . import conflicts, meets_forms, picture
+from . import conflicts, meets_forms, picture, place
 
 if TYPE_CHECKING:
     Words = argparse._SubParsersAction[argparse.ArgumentParser]
@@ -49,9 +49,9 @@ def add_store(made: argparse.ArgumentParser) -> None:
 
 
 def add_place(made: argparse.ArgumentParser) -> None:
-    made.add_argument("--origin", nargs=2, type=decimal, metavar=("E", "N"), help="the local origin, in metres of the map; of a script "
-                      "the note `# Local origin: E .., N ..` is read where this is not given")
-    made.add_argument("--epsg", type=int, metavar="NUMBER", help="the grid of the map; of a script the note `# Grid: EPSG:..` is read")
+    made.add_argument("--origin", nargs=2, type=decimal, metavar=("E", "N"), help="the local origin, in metres of the map; without it the "
+                      f"note of the script is read: {place.FORM}")
+    made.add_argument("--epsg", type=int, metavar="NUMBER", help="the grid of the map; without it the same note is read")
 
 
 def add_asof(made: argparse.ArgumentParser) -> None:

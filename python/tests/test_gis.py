@@ -24,7 +24,7 @@ def test_a_court_is_a_hole(seen):
 
 
 def test_a_place_on_the_map(seen):
-    script = lines("rp 2", "# Local origin: E 412000, N 5765000. Metres from there.", "# Grid: EPSG:25832.", "register a box 0.000 0.000 0.000 8.000 9.000 3.000")
+    script = lines("rp 2", "# Grid: EPSG:25832. Local origin: E 412000, N 5765000.", "register a box 0.000 0.000 0.000 8.000 9.000 3.000")
     found = gis.footprints(seen(script))
     assert found["crs"]["properties"]["name"] == "urn:ogc:def:crs:EPSG::25832"
     assert [412008.0, 5765009.0] in found["features"][0]["geometry"]["coordinates"][0][0]
@@ -107,7 +107,7 @@ def test_faces_of_a_block_are_solids_by_sfcgal(root, seen):
 def test_gdal_reads_it(root, seen, tmp_path):
     import json
     fiona = pytest.importorskip("fiona", reason="python3-fiona is not there")
-    found = seen((root / "examples/plan.rp").read_text(), epsg=25832)
+    found = seen((root / "examples/plan.rp").read_text(), epsg=25832, origin=[Decimal(412000), Decimal(5765000)])
     for name, made in (("sections", gis.sections), ("lots", gis.footprints), ("faces", gis.faces)):
         path = tmp_path / f"{name}.geojson"
         path.write_text(json.dumps(made(found)))
