@@ -124,7 +124,7 @@ def write_walls(given: argparse.Namespace) -> Written:
 
 
 def write_extract(given: argparse.Namespace) -> Written:
-    made = extract.extract(read(given.file), given.ids, store.program(given.store), given.neighbours)
+    made = extract.extract(script.needed_script(read(given.file), "extract").text, given.ids, store.program(given.store), given.neighbours)
     said = f"{made.kept:,} of {made.lines:,} lines; the report has {len(made.report):,} bytes and is accepted"
     if given.output:
         path = os.path.splitext(given.output)[0] + ".report"
