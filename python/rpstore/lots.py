@@ -2,7 +2,6 @@
 from __future__ import annotations
 
 import io
-import re
 from dataclasses import dataclass
 from decimal import Decimal
 from fractions import Fraction
