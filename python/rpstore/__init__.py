@@ -4,17 +4,26 @@ has an example of each.
 command   the grammar of a script line, and its first fault with its place
 report    a report, answer by answer; what is no report is refused
 points    exact points of a plan and of space
+notes     which lines of a script are notes, and on which lines and deeds
+place     where a script lies on the map: the note on its grid and its local origin, written and read
 outline   areas of a plan: outlines with holes of what convex polygons have together
 shape     convex bodies: corners, faces, volumes, and what several have together
+store     the program: what it writes of a text, and what its `check` says
+script    a script: its front, its live lots, and lines after it
 lots      the bodies and slices that a report shows; the store is asked for those of a script
 told      how numbers are printed, rounded there and nowhere else
 view      one page for a browser, of what is in the folder page
 picture   a picture in SVG of sections; colours, and fitting for its names
+times     the lots as they were after every line
 measures  a table of areas and volumes
 gis       GeoJSON
 city      CityJSON
 explain   what is wrong with each refused line, with hints
+conflicts the refused lines of a script as GeoJSON
+meets     which lots a region meets, asked of the store; meets_forms writes them
+walls     what lots have in common with those that touch them; touch finds it
 extract   the lines of a script on which some lots rest
+words     the words of the command line
 plan      a script of a plan in any format and grid that GDAL and PROJ read, by grid and rings
 
 All but `plan` need Python 3.9 and nothing else.

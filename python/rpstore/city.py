@@ -1,6 +1,7 @@
 """CityJSON of lots: each a closed solid, or several where it falls into pieces."""
 from __future__ import annotations
 
+import json
 from collections import defaultdict
 from fractions import Fraction
 from typing import Any, Iterator, Optional
@@ -142,3 +143,8 @@ def model(seen: Seen) -> dict[str, Any]:
         metadata["referenceSystem"] = f"https://www.opengis.net/def/crs/EPSG/0/{seen.place.epsg}"
     return {"type": "CityJSON", "version": "2.0", "transform": {"scale": [1 / vertices.scale] * 3, "translate": origin}, "metadata": metadata,
             "CityObjects": objects, "vertices": [list(point) for point in vertices.places]}
+
+
+def text(seen: Seen) -> str:
+    """Returns the model as a text."""
+    return json.dumps(model(seen), separators=(",", ":")) + "\n"

@@ -1,7 +1,6 @@
 """Says of each refused line of a report what was refused, at which word, by which bound, and where on the ground."""
 import difflib
 import io
-import itertools
 import math
 import re
 from dataclasses import dataclass
@@ -9,6 +8,7 @@ from fractions import Fraction
 from typing import Callable, Collection, Iterator, Sequence
 
 from . import command, hints, lots, report, told
+from .script import fresh
 
 UNDONE = {"register": "{0} was not registered", "cut": "{0} was not cut", "subdivide": "{0} was not subdivided",
           "consolidate": "{0} was not made by consolidating", "retire": "{0} was not retired", "let": "the name {0} was not given"}
@@ -181,12 +181,12 @@ def gap(case: Case) -> Reason:
 
 
 def empty(case: Case) -> Reason:
-    return Reason("its region has no point" + upside_down(case.command.expression()))
+    return Reason("its region has no point" + exchanged_ends(case.command.expression()))
 
 
 def empty_child(case: Case) -> Reason:
     [child] = case.told
-    return Reason(f"child {child}, {case.child(child)}, has no point" + upside_down(case.region(child)))
+    return Reason(f"child {child}, {case.child(child)}, has no point" + exchanged_ends(case.region(child)))
 
 
 def empty_side(case: Case) -> Reason:
@@ -225,16 +225,27 @@ CAUSES: dict[str, Callable[[Case], Reason]] = {
 }
 
 
-def upside_down(expression: str) -> str:
-    """The first box or prism of an expression that has no point because its upper height is not above its lower one."""
+# The two ends on each axis: their places after the word that begins a box or a prism, and what the second and the first are called.
+ENDS = {"box": ((3, 6, "upper height", "lower one"), (1, 4, "second x", "first"), (2, 5, "second y", "first")),
+        "prism": ((1, 2, "upper height", "lower one"),)}
+
+
+def units(word: str) -> int:
+    return int(word.replace(".", ""))
+
+
+def exchanged_ends(expression: str) -> str:
+    """Returns what is wrong with the first box or prism of an `expression` that has no point because on some axis its second end is
+    not above its first; "" if there is none."""
     words = expression.split(" ")
     for at, word in enumerate(words):
-        # A name may be called box or prism.
-        sides = {"box": (at + 3, at + 6), "prism": (at + 1, at + 2)}.get(word) if words[at - 1] not in ("name", "lot") or not at else None
-        if sides:
-            low, high = (words[side] for side in sides)
-            if int(high.replace(".", "")) <= int(low.replace(".", "")):
-                return f"; the upper height of its {word}, {high}, is not above the lower one, {low}"
+        if at and words[at - 1] in ("name", "lot"):
+            # A name may be called box or prism.
+            continue
+        found = [f"; the {end} of its {word}, {words[at + last]}, is not above the {other}, {words[at + first]}"
+                 for first, last, end, other in ENDS.get(word, ()) if units(words[at + last]) <= units(words[at + first])]
+        if found:
+            return "".join(found)
     return ""
 
 
@@ -271,22 +282,22 @@ def fits(text: str, version: int) -> bool:
     return len(text) <= report.LONG[version]
 
 
-def fresh(word: str, names: set[str]) -> str:
-    """A name that is none of `names`, to which it is added."""
-    found = next(name for name in itertools.chain([word], (f"{word}-{number}" for number in itertools.count(2))) if name not in names)
-    names.add(found)
+def named_steps(case: Case, reason: Reason) -> list[tuple[str, str]]:
+    """Returns the steps of a reason, each as a name that no line gives and its expression: the last one is the region in the way."""
+    name, found = "", []
+    for word, expression in reason.steps:
+        text = expression.format(name)
+        name = fresh(word, case.names)
+        found.append((name, text))
     return found
 
 
 def lines_to_show(case: Case, reason: Reason, points: list[list[Fraction]]) -> list[str]:
     """Lines for a script that show the region of a reason, and what it has at a height where the points say that it has
     something."""
-    name, made = "", []
-    for word, expression in reason.steps:
-        text = expression.format(name)
-        name = fresh(word, case.names)
-        made.append(f"let {name} = {text}")
-    made += [f"pieces name {name}", f"show name {name}"]
+    steps = named_steps(case, reason)
+    name = steps[-1][0]
+    made = [f"let {label} = {expression}" for label, expression in steps] + [f"pieces name {name}", f"show name {name}"]
     heights = [point[2] for point in points]
     height = math.floor(sum(heights) / len(heights))
     if min(heights) < height < max(heights):
@@ -296,12 +307,20 @@ def lines_to_show(case: Case, reason: Reason, points: list[list[Fraction]]) -> l
 
 # ---- sentences
 
+def reason_of(case: Case) -> Reason:
+    return CAUSES[case.answer.verdict.cause](case)
+
+
+def summary(case: Case, reason: Reason) -> str:
+    """Returns what a command did not do, and why."""
+    what = UNDONE.get(case.command.word, "the question `{1}` was not answered").format(case.lot, case.command.word)
+    return f"{what}, because {reason.why}."
+
+
 def of_command(case: Case) -> str:
-    answer, parsed = case.answer, case.command
-    reason = CAUSES[answer.verdict.cause](case)
-    what = UNDONE.get(parsed.word, "the question `{1}` was not answered").format(case.lot, parsed.word)
+    answer, reason = case.answer, reason_of(case)
     points = shown(answer) if reason.shown else []
-    said = f"{what}, because {reason.why}."
+    said = summary(case, reason)
     if not points:
         return said + (" (A brief report shows no point: run without `brief` for one.)" if reason.shown and not answer.proof else "")
     said += extent(points, reason.shown, case.place)
@@ -309,20 +328,36 @@ def of_command(case: Case) -> str:
     return "\n    ".join([said + " These lines behind it show the place:", *lines]) if lines else said
 
 
+def of_words(case: Case) -> str:
+    """Returns what is said of a line that is no command."""
+    known = case.register
+    return of_no_command(case.answer, lambda word: "name" if word in known.names else "lot" if word in known.lots else None) + "."
+
+
+def head(case: Case) -> str:
+    return case.line(case.answer.number).capitalize() + ": "
+
+
 def sentence(case: Case) -> str:
     """What is said of one refused line, and the lines of a script that show where it is."""
-    answer, register = case.answer, case.register
-    head = line(answer.number, answer.version).capitalize() + ": "
-    if answer.command is None:
-        return f"{head}{of_no_command(answer, lambda word: 'name' if word in register.names else 'lot' if word in register.lots else None)}."
-    return head + of_command(case)
+    return head(case) + (of_words(case) if case.command is None else of_command(case))
+
+
+def short_sentence(case: Case) -> str:
+    """Returns what is said of one refused line, without a place."""
+    return head(case) + (of_words(case) if case.command is None else summary(case, reason_of(case)))
+
+
+def cases(text: bytes, place: lots.Place) -> Iterator[Case]:
+    """Yields the refused lines of a report. The register of a case is that before its line until the next case is taken."""
+    register, names = lots.Register(), {name.decode() for name in GIVEN.findall(text)}
+    for answer in report.read(io.BytesIO(text)):
+        if isinstance(answer.verdict, report.Refused):
+            yield Case(answer, register, place, names)
+        elif answer.verdict == "ok":
+            register.take(answer)
 
 
 def explained(text: bytes, place: lots.Place) -> Iterator[str]:
     """What is to be said of each refused line of a report."""
-    register, names = lots.Register(), {name.decode() for name in GIVEN.findall(text)}
-    for answer in report.read(io.BytesIO(text)):
-        if isinstance(answer.verdict, report.Refused):
-            yield sentence(Case(answer, register, place, names))
-        elif answer.verdict == "ok":
-            register.take(answer)
+    return map(sentence, cases(text, place))

@@ -4,10 +4,9 @@ import itertools
 from dataclasses import dataclass, field
 from typing import Iterable, Iterator
 
-from . import Fault, command, lots, report
+from . import Fault, command, lots, report, store
+from .notes import is_head, notes_on
 
-# How the note begins that tells the attributes of a plan's feature, right behind the line of its lot.
-ATTRIBUTES = b"# {"
 # Notes behind an extract: there they give no line another number.
 SAYS = """# This is an extract for {ids}: of the {lines:,} lines of a script {kept:,} stand here, each under its own number.
 # Its report shows by which lines and out of which lots they came about, {shown}.
@@ -35,9 +34,9 @@ def lines_of(text: bytes) -> list[bytes]:
     return text.split(b"\n")[: -1 if text.endswith(b"\n") else None]
 
 
-def asked(lines: list[bytes], questions: Iterable[bytes], store: str) -> Book:
+def asked(lines: list[bytes], questions: Iterable[bytes], program: str) -> Book:
     """What the store answers to the lines of a script and to questions behind them."""
-    told = lots.run(store, b"\n".join([*lines, *questions, b""]), "run", "brief")
+    told = store.run(program, b"\n".join([*lines, *questions, b""]), "run", "brief")
     book, layer = Book(lines, 2 if told.startswith(b"> 0 rp 2\n") else 1), 0
     last = len(lines) - (book.version == 2)
     for answer in report.read(io.BytesIO(told)):
@@ -84,25 +83,13 @@ def needed(book: Book, ids: Iterable[str]) -> set[int]:
     return found
 
 
-def is_note(line: bytes) -> bool:
-    """Whether a line is a note on what comes behind it."""
-    return line.startswith(b"#") and not line.startswith(ATTRIBUTES)
-
-
-def notes_on(lines: list[bytes], place: int) -> Iterator[int]:
-    """The places of the notes on the line at a place."""
-    yield from itertools.takewhile(lambda at: is_note(lines[at]), range(place - 1, -1, -1))
-    if place + 1 < len(lines) and lines[place + 1].startswith(ATTRIBUTES):
-        yield place + 1
-
-
 def emptied(book: Book, numbers: Iterable[int]) -> list[bytes]:
-    """The script with all lines empty but for some, the notes on them, and the mark and the notes at its head."""
+    """Returns the script with all lines empty but for some, the notes on them and their deeds, and the mark and the notes at its head."""
     lines = book.lines
     mark = range(book.version - 1)
-    head = itertools.takewhile(lambda at: is_note(lines[at]) or not lines[at].strip(), range(len(mark), len(lines)))
-    places = [number - (book.version == 1) for number in numbers]
-    kept = {*mark, *head, *places, *(note for place in places for note in notes_on(lines, place))}
+    head = itertools.takewhile(lambda at: is_head(lines[at]), range(len(mark), len(lines)))
+    places = {number - (book.version == 1) for number in numbers}
+    kept = {*mark, *head, *places, *notes_on(lines, places)}
     return [line if place in kept else b"" for place, line in enumerate(lines)]
 
 
@@ -112,11 +99,11 @@ def in_the_way(part: Book, whole: Book) -> set[str]:
     return found.union(*({*answer} - {*whole.answers[question]} for question, answer in part.answers.items() if question.startswith(b"neighbours ")))
 
 
-def fewest(whole: Book, ids: Iterable[str], store: str) -> set[int]:
+def fewest(whole: Book, ids: Iterable[str], program: str) -> set[int]:
     """The lines by which lots are what they are, and the questions behind the script are answered as they are."""
     numbers = needed(whole, ids)
     while True:
-        part = asked(emptied(whole, numbers), whole.answers, store)
+        part = asked(emptied(whole, numbers), whole.answers, program)
         more = needed(whole, in_the_way(part, whole)) - numbers
         if not more:
             break
@@ -138,19 +125,19 @@ class Extract:
     lines: int
 
 
-def extract(text: bytes, ids: list[str], store: str, with_neighbours: bool = False) -> Extract:
+def extract(text: bytes, ids: list[str], program: str, with_neighbours: bool = False) -> Extract:
     """The extract of a script for some of its lots, with their neighbours if that is wished. `check` accepted its report."""
     words = ["history", "show lot"] + ["neighbours"] * with_neighbours
-    whole = asked(lines_of(text), [f"{word} {lot}".encode() for lot in ids for word in words], store)
+    whole = asked(lines_of(text), [f"{word} {lot}".encode() for lot in ids for word in words], program)
     missing = [lot for lot in ids if lot not in whole.register.lots]
     if missing:
         raise Fault(f"the script registers no lot {', '.join(missing)}")
     beside = [lot for question, answer in whole.answers.items() if question.startswith(b"neighbours ") for lot in answer]
-    numbers = fewest(whole, [*ids, *beside], store)
+    numbers = fewest(whole, [*ids, *beside], program)
     says = SAYS.format(ids=", ".join(ids), lines=len(whole.lines), kept=len(numbers), unseen="" if with_neighbours else " or touches them",
                        shown="what each of them holds, and which lots touch them" if with_neighbours else "and what each of them holds")
     script = b"\n".join([*emptied(whole, numbers), *whole.answers, says.encode()])
-    told = lots.run(store, script, "run")
-    if lots.checked(told, store) != "accepted":
+    told = store.run(program, script, "run")
+    if store.checked(told, program) != "accepted":
         raise Fault("the report of the extract is not accepted")
     return Extract(script, told, len(numbers), len(whole.lines))

@@ -2,9 +2,9 @@
 from __future__ import annotations
 
 from fractions import Fraction
-from typing import Any, Iterable
+from typing import Any, Iterable, Optional
 
-from . import Fault, outline, told
+from . import Fault, outline, shape, told
 from .lots import Body, Place, Seen
 
 Geometry = dict[str, Any]
@@ -34,17 +34,21 @@ def square_metres(units: Fraction) -> float:
     return float(told.decimal(units / 10**6, 6))
 
 
+def cubic_metres(units: Fraction) -> float:
+    return float(told.decimal(units / 10**9, 9))
+
+
 def attributes(body: Body) -> dict[str, Any]:
     """What is told of a body. Areas and volumes are exact until they are printed here, to the square and cubic millimetre."""
     low, high = body.box
     return {
         "id": body.label, "layer": body.layer, "born": body.born, "origins": ",".join(body.origins) or None, "base": metres(low[2]),
-        "height": metres(high[2]), "area": square_metres(body.area), "volume": float(told.decimal(body.volume / 10**9, 9)),
+        "height": metres(high[2]), "area": square_metres(body.area), "volume": cubic_metres(body.volume),
     }
 
 
-def collection(place: Place, features: Iterable[tuple[dict[str, Any], Geometry]]) -> dict[str, Any]:
-    """Properties and geometries as features, with the grid and the local origin of the place."""
+def collection(place: Place, features: Iterable[tuple[dict[str, Any], Optional[Geometry]]]) -> dict[str, Any]:
+    """Returns properties and geometries as features, with the grid and the local origin of the place."""
     found: dict[str, Any] = {"type": "FeatureCollection"}
     if place.epsg:
         # GDAL, QGIS and PostGIS read this member, which GeoJSON had before it knew degrees alone.
@@ -74,12 +78,22 @@ def sections(seen: Seen) -> dict[str, Any]:
          multipolygon(seen.place, each.outlines)) for each in shown])
 
 
+def covered(place: Place, body: Body) -> Geometry:
+    """Returns what a body covers in plan."""
+    return multipolygon(place, outline.outlines(body.footprint))
+
+
+def boundary(place: Place, body: Body) -> Geometry:
+    """Returns the boundary of a body, as polygons with heights. Each edge of one is an edge of another, the other way round, as
+    databases want it of a solid."""
+    return multipolygon(place, [(outer, holes) for outer, *holes in shape.split_rings(body.facets)])
+
+
 def footprints(seen: Seen) -> dict[str, Any]:
     """A feature for each lot: what it covers in plan, and from where to where it reaches."""
-    return collection(seen.place, [(attributes(body), multipolygon(seen.place, outline.outlines(body.footprint))) for body in bounded(seen)])
+    return collection(seen.place, [(attributes(body), covered(seen.place, body)) for body in bounded(seen)])
 
 
 def faces(seen: Seen) -> dict[str, Any]:
     """A feature for each lot: its boundary, as polygons with heights."""
-    return collection(seen.place, [(attributes(body), multipolygon(seen.place, [(facet.outer, facet.holes) for facet in body.facets]))
-                                   for body in bounded(seen)])
+    return collection(seen.place, [(attributes(body), boundary(seen.place, body)) for body in bounded(seen)])

@@ -5,7 +5,7 @@ from typing import Callable, Optional, Sequence
 
 from . import Fault
 from .command import spelled
-from .rings import MOST_CORNER, units
+from .rings import MOST_CORNER, rounded, units
 
 try:
     from pyproj import CRS, Transformer
@@ -49,10 +49,24 @@ def at_middle(found: Grid, points: Sequence[Point]) -> str:
     return f", as EPSG:{(32600 if north >= 0 else 32700) + int((east + 180) // 6) % 60 + 1} would do here"
 
 
+def see_metres(points: Sequence[Point]) -> None:
+    """Sees that the numbers of a plan that names no grid can be metres.
+
+    # Errors
+    `Fault` if all could be degrees, and at least half have more than three digits after the point.
+    """
+    moved, count = rounded(point[:2] for point in points)
+    if 0 < count <= 2 * moved and all(abs(x) <= 180 and abs(y) <= 90 for x, y, *_ in points):
+        raise Fault(f"the plan names no grid, and its numbers may be degrees: all are from -180 to 180, and {moved} of {count} have more than three digits "
+                    f"after the point. Nothing was written: --from EPSG:4326 says that they are degrees, --from {METRES} that they are metres", 5)
+
+
 def grids(given: str, source: Optional[str], target: Optional[str], points: Sequence[Point]) -> tuple[Grid, Grid]:
     """The grid in which the plan's points are, by its file or by --from, and that of the register, by --to or the same. A
     register is in metres."""
     found = named(source or given)
+    if not (source or given):
+        see_metres(points)
     wanted = named(target) or found
     if wanted is not None and found is None:
         raise Fault("the plan does not say in which grid its coordinates are: --from EPSG:NUMBER says it", 5)

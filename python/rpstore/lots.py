@@ -2,46 +2,26 @@
 from __future__ import annotations
 
 import io
-import os
-import re
-import subprocess
 from dataclasses import dataclass
 from decimal import Decimal
 from fractions import Fraction
 from functools import cached_property
-from pathlib import Path
-from typing import Optional
+from typing import Optional, Sequence
 
-from . import Fault, outline, report, shape
+from . import outline, report, shape, store
+from .command import spelled
+from .place import Place, place_of
 from .points import Box, Ring, box_round, lowest
+from .script import Script, front, needed_script, script_of
 
-ORIGIN = re.compile(rb"^# Local origin: E (-?[0-9.]+?), N (-?[0-9.]+?)\. ", re.M)
-GRID = re.compile(rb"^# (?:Grid: |The plan names its grid .*?)EPSG:+([0-9]+)", re.M)
 # An expression that is longer stands shortened in a label.
 LONGEST = 60
-
-
-@dataclass
-class Place:
-    """Where units are on the map: the local origin in metres, and the EPSG number of its grid, or None."""
-
-    east: Decimal = Decimal(0)
-    north: Decimal = Decimal(0)
-    epsg: Optional[int] = None
-
-    @property
-    def is_given(self) -> bool:
-        return bool(self.east or self.north or self.epsg)
-
-    def metres(self, number, axis: int) -> Fraction:
-        """A coordinate in units, on the map."""
-        return Fraction(number) / 1000 + Fraction((self.east, self.north, 0)[axis])
 
 
 @dataclass(eq=False)
 class Body:
     """A lot, or another region that a line shows: its parts as bodies that share no volume. `born` is the line at which the lot
-    came, or the one that shows the region."""
+    came, or the one that shows the region, and `ended` the line at which it ended."""
 
     label: str
     is_lot: bool
@@ -49,6 +29,7 @@ class Body:
     born: int
     origins: tuple
     cells: list[shape.Cell]
+    ended: Optional[int] = None
 
     @cached_property
     def facets(self) -> list[shape.Facet]:
@@ -187,9 +168,19 @@ class Register:
                 self.end(lot, number, (first,))
 
 
+def cells_of(answer: report.Answer) -> list[shape.Cell]:
+    """Returns what a line `show` shows as bodies that share no volume; none if the line was refused."""
+    return [] if isinstance(answer.verdict, report.Refused) else shape.apart(body for body in map(shape.cell, answer.verdict) if body)
+
+
+def lot_body(lot: report.Lot, cells: list[shape.Cell]) -> Optional[Body]:
+    """Returns a lot, or a piece of it, that has these `cells`, or None if there are none."""
+    return Body(lot.id, True, lot.layer, lot.born, lot.origins, cells, lot.ended) if cells else None
+
+
 def body_of(answer: report.Answer, register: Register) -> Optional[Body]:
     """The body that a line `show` shows, or None where it has no part. Regions that are no lots are in layers of their own."""
-    cells = shape.apart(body for body in map(shape.cell, answer.verdict) if body)
+    cells = cells_of(answer)
     if not cells:
         return None
     parsed, lot = answer.command, lot_of(answer.command)
@@ -229,91 +220,49 @@ def seen(file, place: Optional[Place] = None, check: str = "") -> Seen:
     return Seen(left, slices, place or Place(), refused, check, version)
 
 
-# ---- the store
+# ---- what a file shows
 
-def program(given: Optional[str] = None) -> str:
-    """The command of the store: as given, or by RPSTORE, or that of the repository in which this stands."""
-    return given or os.environ.get("RPSTORE") or str(Path(__file__).resolve().parents[2] / "rpstore")
+@dataclass
+class Options:
+    """What the words of the command line say of a file that shows lots; `words` has what each is for."""
 
-
-def run(command: str, text: bytes, *words: str) -> bytes:
-    """What the store `command` writes for the `words` on a `text`."""
-    try:
-        done = subprocess.run([command, *words], input=text, stdout=subprocess.PIPE)
-    except OSError as error:
-        raise Fault(f"the store {command} cannot be run: {error.strerror}", 5)
-    if done.returncode > 1:
-        raise Fault(f"the store ended with status {done.returncode}", 5)
-    return done.stdout
+    origin: Optional[Sequence[Decimal]] = None
+    epsg: Optional[int] = None
+    store: Optional[str] = None
+    unchecked: bool = False
+    names: bool = False
+    asof: Optional[int] = None
+    at: Sequence[Decimal] = ()
 
 
-def place_of(script: bytes, given) -> Place:
-    """Where a script is on the map, by the words of the command line, `given`, or by its notes."""
-    place = Place()
-    origin, grid = ORIGIN.search(script), GRID.search(script)
-    if origin:
-        place.east, place.north = map(Decimal, (origin[1].decode(), origin[2].decode()))
-    if grid:
-        place.epsg = int(grid[1])
-    if given.origin:
-        place.east, place.north = given.origin
-    place.epsg = given.epsg or place.epsg
-    return place
+def names_of(script: Script, program: str) -> list[str]:
+    """Returns the names that the `let` lines of a `script` give."""
+    answers = report.read(io.BytesIO(store.run(program, script.text, "run", "brief")))
+    return [answer.command.names[0] for answer in answers if answer.verdict == "ok" and answer.command.word == "let"]
 
 
-def asked(script: bytes, command: str, names: bool = False) -> bytes:
-    """The `script` with lines behind it that show its live lots, and with `names`, or where it has no lot, its names."""
-    if script and not script.endswith(b"\n"):
-        script += b"\n"
-    told, given = run(command, script + b"list\n", "run", "brief"), []
-    for answer in report.read(io.BytesIO(told)):
-        if answer.verdict == "ok" and answer.command.word == "let":
-            given.append(answer.command.names[0])
-        last = answer
-    lots = [f"show lot {lot.id}" for lot in last.verdict if lot.ended is None]
-    shown = [f"show name {name}" for name in given] if names or not lots else []
-    return script + "\n".join([*lots, *shown, ""]).encode()
+def lines_to_show(script: Script, program: str, names: bool = False, heights: Sequence[Decimal] = ()) -> list[str]:
+    """Returns lines that show the live lots of a `script`, and with `names`, or if it has no live lot, the regions that it names; and
+    lines `section` of all these at some `heights`, in metres."""
+    lots = [f"lot {lot.id}" for lot in script.live(program)]
+    regions = lots + [f"name {name}" for name in (names_of(script, program) if names or not lots else [])]
+    levels = [spelled(int(height * 1000)) if script.is_marked else str(int(height * 1000)) for height in heights]
+    return [f"show {region}" for region in regions] + [f"section {region} {level}" for level in levels for region in regions]
 
 
-def is_report(text: bytes) -> bool:
-    return re.match(rb"> [0-9]", text) is not None
+def load(text: bytes, given: Options, on_map: bool = True) -> Seen:
+    """Returns what a `text` shows: a report, or a script, of which the store makes one that shows its lots. Without `on_map` its
+    notes on its place are not read.
 
-
-def checked(text: bytes, command: str) -> str:
-    """What `check` says of a report."""
-    return run(command, text, "check").decode().strip() if len(text) <= report.MOST else "too long to be checked"
-
-
-def accepted(said: str) -> str:
-    """What `check` has `said`, where it is nothing against the report."""
-    if said != "accepted" and not said.startswith("too long"):
-        raise Fault(f"the report is not accepted: {said}")
-    return said
-
-
-def is_brief(text: bytes) -> bool:
-    """Whether a report has no proof line, so that `check` may want some."""
-    return b"\n  " not in text
-
-
-def judged(text: bytes, command: str) -> str:
-    """What is said of a report before anything is drawn of it."""
-    said = checked(text, command)
-    if said.startswith("wrong"):
-        for _ in report.read(io.BytesIO(text)):
-            """Where it is no report this says more than `check` does."""
-        if is_brief(text):
-            return "brief, so not checked"
-    return accepted(said)
-
-
-def load(file, given) -> Seen:
-    """What a file shows: a report, or a script, of which the store makes one that shows its lots."""
-    text = file.read()
-    place = place_of(text, given)
-    if is_report(text) and given.unchecked:
-        return seen(io.BytesIO(text), place, "not checked")
-    command = program(given.store)
-    if not is_report(text):
-        text = run(command, asked(text, command, given.names), "run")
-    return seen(io.BytesIO(text), place, judged(text, command))
+    # Errors
+    `place.Unplaced` if it is not known where the script lies on the map.
+    """
+    place, program = place_of(text, given) if on_map else Place(), store.program(given.store)
+    text = front(text, given.asof)
+    if given.at:
+        needed_script(text, "--at")
+    if store.is_report(text):
+        return seen(io.BytesIO(text), place, "not checked" if given.unchecked else store.judged(text, program))
+    script = script_of(text)
+    told = store.run(program, script.then(lines_to_show(script, program, given.names, given.at)), "run")
+    return seen(io.BytesIO(told), place, store.judged(told, program))

@@ -10,11 +10,13 @@ from typing import Any, Callable, Iterator, Optional, Sequence
 
 from . import Fault, grid, rings
 from .command import MOST_NODES, NAME, NODES, spelled
+from .place import Place
 from .report import LONG
 from .rings import Corner, Unfit, units
 
 try:
     import fiona
+    import fiona.drvsupport
     import fiona.errors
     from shapely.geometry import Polygon
     from shapely.validation import explain_validity
@@ -24,6 +26,9 @@ except ImportError as error:
 
 MOST_SCRIPT, MOST_STOREYS = 16777216, 999
 NUMBER = re.compile(r"[+-]?([0-9]+(\.[0-9]*)?|\.[0-9]+)([eE][+-]?[0-9]{1,3})?")
+# Formats that GDAL reads and fiona does not try by itself. A driver that this GDAL does not have is no fault.
+MORE_FORMATS = ("KML", "LIBKML", "OSM", "PostgreSQL", "MySQL", "MSSQLSpatial", "OCI", "PDF", "JML", "WFS", "OAPIF", "GMLAS", "NAS",
+                "DGN", "CAD", "VRT", "MapML", "GeoJSONSeq", "Parquet", "Arrow")
 # So many features of one cause are named.
 FEW = 5
 
@@ -249,18 +254,27 @@ def grouped(said: list[tuple[Feature, Unfit]], count: int) -> Iterator[str]:
             yield f"{len(named)} of {count} features: {cause}" + (f": {told}" if len(named) < count or any(found.values()) else "")
 
 
-def notes_of(features: list[Feature], origin: Corner, grids: Sequence[Any]) -> list[str]:
-    """The notes at the head of the script: its origin, its grid, and how many coordinates were rounded."""
-    found, wanted = grids
-    lines = [f"# Local origin: E {spelled(origin[0])}, N {spelled(origin[1])}. Metres from there, heights as in the plan."]
+def about_coordinates(found: grid.Grid, wanted: grid.Grid) -> str:
+    """Returns the note for people on what coordinates are: of a plan in the grid `found`, for a register in the grid `wanted`."""
+    says = "# Coordinates are metres from the local origin, heights as in the plan."
     if wanted is None:
-        lines.append("# Grid: the plan names none; its numbers are taken as metres.")
-    else:
-        code = grid.code(wanted)
-        lines.append(f"# Grid: {f'EPSG:{code}' if code else wanted.name}{f', projected from {found.name}' if found != wanted else ''}.")
-    numbers = [Decimal(repr(number)) for point in points_of(features) for number in point]
-    moved = sum(number != number.quantize(rings.MILLI) for number in numbers)
-    return lines + [f"# Rounded to the millimetre: {moved} of {len(numbers)} coordinates."] * bool(moved)
+        return f"{says} The plan names no grid; its numbers are taken as metres."
+    if not grid.code(wanted):
+        says += f" The grid is called {wanted.name}."
+    if found != wanted:
+        says += f" Projected from {found.name}."
+    # A name may have a line feed.
+    return " ".join(says.split())
+
+
+def notes_of(features: list[Feature], origin: Corner, grids: Sequence[Any]) -> list[str]:
+    """Returns the notes at the head of the script: its place, what its coordinates are, and how many were rounded."""
+    found, wanted = grids
+    east, north = (Decimal(number) / 1000 for number in origin)
+    where = Place(east, north, grid.code(wanted) if wanted is not None else None)
+    lines = [where.note("none" if wanted is None else "without a number"), about_coordinates(found, wanted)]
+    moved, count = rings.rounded(points_of(features))
+    return lines + [f"# Rounded to the millimetre: {moved} of {count} coordinates."] * bool(moved)
 
 
 # ---- reading
@@ -272,6 +286,8 @@ def points_of(features: list[Feature]) -> list[grid.Point]:
 def read(path: str, layer: Optional[str]) -> tuple[str, list[Feature], list[str]]:
     """The grid that a plan names, its features, and what is to be said of it."""
     logging.getLogger("fiona").setLevel(logging.CRITICAL)
+    for driver in MORE_FORMATS:
+        fiona.drvsupport.supported_drivers.setdefault(driver, "r")
     try:
         # Standard input can be read once.
         layers = [] if "/vsistdin/" in path else fiona.listlayers(path)

@@ -1,6 +1,6 @@
 """Rings of a plan as prisms: the same points, to the millimetre, within the bounds of a script."""
 from decimal import ROUND_HALF_UP, Decimal
-from typing import Callable, Sequence, Union
+from typing import Callable, Iterable, Sequence, Union
 
 from .command import BOX, CORNERS, spelled, corners as corner_places
 
@@ -23,6 +23,12 @@ def units(number: Number) -> int:
     """The nearest whole number of thousandths of a number as it is written; a half goes away from zero."""
     number = number if isinstance(number, Decimal) else Decimal(repr(number))
     return int(number.quantize(MILLI, ROUND_HALF_UP).scaleb(3))
+
+
+def rounded(points: Iterable[Sequence[float]]) -> tuple[int, int]:
+    """Returns how many coordinates of `points` are no whole number of thousandths, and how many there are."""
+    numbers = [Decimal(repr(number)) for point in points for number in point]
+    return sum(number != number.quantize(MILLI) for number in numbers), len(numbers)
 
 
 def side(a: Corner, b: Corner, c: Corner) -> int:

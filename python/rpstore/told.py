@@ -42,3 +42,8 @@ def square_metres(units: Number) -> str:
 
 def cubic_metres(units: Number) -> str:
     return decimal(Fraction(units) / 10**9, 3)
+
+
+def few(names: list[str], most: int = 9) -> str:
+    """Returns the first of some names, at `most` so many, and how many more there are."""
+    return ", ".join(names[:most]) + (f" and {len(names) - most:,} more" if names[most:] else "")

@@ -6,7 +6,7 @@ import gzip
 import html
 import json
 from pathlib import Path
-from typing import Iterable
+from typing import Iterable, Sequence
 
 from . import Fault, colours, outline, told
 from .lots import Body, Place, Seen
@@ -19,8 +19,8 @@ SCRIPTS = ("scene.js", "eye.js", "paint.js", "panel.js", "hand.js")
 
 
 def short(units: Number) -> str:
-    """Metres without a zero at the end, but for two digits."""
-    text = told.metres(units)
+    """Metres to the millimetre, without a zero at the end, but for two digits."""
+    text = told.metres(told.nearest(units))
     return text[:-1] if text.endswith("0") and len(text.split(".")[1]) == 3 else text
 
 
@@ -93,6 +93,8 @@ def entry(body: Body, layer: int, storey: int, colour: int, place: Place, centre
         "volume": told.cubic_metres(body.volume), "area": told.square_metres(body.area),
         "points": mesh.points, "triangles": mesh.triangles, "edges": mesh.edges, "middle": middle_of(body, centre),
     }
+    if body.ended is not None:
+        found["ended"] = body.ended
     if place.is_given:
         found["map"] = [told.exact(place.metres(number, axis)) for end in (low, high) for axis, number in enumerate(end[:2])]
     return found
@@ -105,7 +107,8 @@ def several(count: int, what: str) -> str:
 def about(seen: Seen, bodies: list[Body]) -> str:
     """One line on what the page shows, and what not."""
     lots, far = sum(body.is_lot for body in bodies), len(seen.bodies) - len(bodies)
-    told_ = [several(lots, "lot")] if lots else []
+    ended = sum(body.ended is not None for body in bodies)
+    told_ = [several(lots, "lot") + (f", {ended:,} of which ended" if ended else "")] if lots else []
     told_ += [several(len(bodies) - lots, "region")] if len(bodies) > lots else []
     told_ += [f"{far} without an end, not drawn"] if far else []
     told_ += [several(seen.refused, "refused line")] if seen.refused else []
@@ -128,8 +131,9 @@ def assembled(title: str, data: dict) -> str:
     return page
 
 
-def page(seen: Seen, title: str, step: int = STOREY) -> str:
-    """The page of what was read, under a `title`; lots whose lowest heights are less than `step` apart are of one storey."""
+def page(seen: Seen, title: str, step: int = STOREY, moments: Sequence[tuple[int, str]] = ()) -> str:
+    """The page of what was read, under a `title`; lots whose lowest heights are less than `step` apart are of one storey. With
+    `moments`, lines each with a day or "", it has a slider, and shows the lots that were live after a line."""
     bodies = [body for body in seen.bodies if body.is_bounded]
     if not bodies:
         raise Fault("the report shows no lot and no region with an end: a line `show lot X` shows the lot X")
@@ -138,7 +142,7 @@ def page(seen: Seen, title: str, step: int = STOREY) -> str:
     layers = layers_of(bodies)
     storeys, names = storeys_of([body.box[0][2] for body in bodies], step)
     return assembled(title, {
-        "about": about(seen, bodies), "layers": layers, "storeys": names, "palette": colours.PALETTE,
+        "about": about(seen, bodies), "moments": moments, "layers": layers, "storeys": names, "palette": colours.PALETTE,
         # Where there are lots, other regions are hidden at first; where there are none, those without a name.
         "hidden": [at > 0 and layer.endswith(" regions") for at, layer in enumerate(layers)],
         "centre": [float(number) / 1000 for number in centre],

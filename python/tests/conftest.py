@@ -1,8 +1,6 @@
 """What the tests have in common: the repository, and the store, without which its tests are skipped."""
-import io
 import os
 import subprocess
-from argparse import Namespace
 from pathlib import Path
 
 import browsing
@@ -34,8 +32,7 @@ def store():
 def seen(store):
     """What a script shows, checked by the store."""
     def load(text, **given):
-        options = Namespace(**{"origin": None, "epsg": None, "unchecked": False, "store": PROGRAM, "names": False, **given})
-        return lots.load(io.BytesIO(text.encode()), options)
+        return lots.load(text.encode(), lots.Options(**{"store": PROGRAM, **given}))
 
     return load
 

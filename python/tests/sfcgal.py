@@ -1,4 +1,4 @@
-"""The volume of a union of convex bodies by SFCGAL (Debian's libsfcgal1), which computes exactly and tells a double."""
+"""Volumes by SFCGAL (Debian's libsfcgal1), which computes exactly and tells a double."""
 import ctypes
 import ctypes.util
 
@@ -19,6 +19,16 @@ def library():
         call.restype, call.argtypes = answer, words
     found.sfcgal_init()
     return found
+
+
+def solid(polygons):
+    """The volume of the solid that polygons of GeoJSON with heights go round, or -1 where they are none."""
+    def text_of(ring):
+        return f"({','.join(' '.join(map(repr, point)) for point in ring)})"
+
+    faces = ",".join(f"({','.join(map(text_of, polygon))})" for polygon in polygons)
+    text, found = f"SOLID(({faces}))".encode(), library()
+    return found.sfcgal_geometry_volume(found.sfcgal_io_read_wkt(text, len(text)))
 
 
 def volume(bodies):

@@ -5,11 +5,13 @@ import shlex
 import shutil
 import subprocess
 import zipfile
+from argparse import Namespace
 from decimal import Decimal
 from pathlib import Path
 
 import pytest
 from rpstore import gis, plan
+from rpstore.place import place_of
 
 if plan.MISSING:
     pytest.skip(f"python3-fiona, python3-pyproj or python3-shapely is not there: {plan.MISSING}", allow_module_level=True)
@@ -51,8 +53,8 @@ def round_trip(path, tmp_path, seen, height="1", **given):
     status, script, _ = plan.script_of(str(path), plan.Options(section=[Decimal(height)], **given))
     assert status == 0
     back = written(tmp_path / "sections.geojson", gis.sections(seen(script)))
-    origin = re.search("E ([0-9.]+), N ([0-9.]+)\\.", script)
-    status, again, _ = plan.script_of(back, plan.Options(floor="0", top="9", origin=[*map(Decimal, origin.groups())], source=given.get("source")))
+    where = place_of(script.encode(), Namespace(origin=None, epsg=None))
+    status, again, _ = plan.script_of(back, plan.Options(floor="0", top="9", origin=[where.east, where.north], source=given.get("source")))
     assert status == 0
     return rings_of(script), rings_of(again)
 
@@ -69,7 +71,7 @@ def test_lots_are_a_plan_again(root, tmp_path, seen):
     assert rings_of(again) == rings_of(script)
     heights = re.compile("^register (\\S+) .*?prism (\\S+ \\S+)", re.M)
     assert heights.findall(again) == heights.findall(script)
-    assert [line for line in again.split("\n") if line.startswith("# Grid")] == ["# Grid: EPSG:25832."]
+    assert [line for line in again.split("\n") if line.startswith("# Grid")] == ["# Grid: EPSG:25832. Local origin: E 412000, N 5765000."]
 
 
 # ---- ogr2ogr

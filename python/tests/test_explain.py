@@ -118,6 +118,10 @@ REFUSED = [
     ("register a or name box prism 5 0 4 0 0 1 0 1 1 0 1", "Line 1: a was not registered, because no line before gives the name box."),
     ("let box = none\nregister a or name box prism 5 0 4 0 0 1 0 1 1 0 1",
      "Line 2: a was not registered, because its region has no point; the upper height of its prism, 0, is not above the lower one, 5."),
+    ("register a box 16 0 31 14 5 34",
+     "Line 1: a was not registered, because its region has no point; the second x of its box, 14, is not above the first, 16."),
+    ("register a or box 0 9 9 9 0 9 none", "Line 1: a was not registered, because its region has no point; the upper height of its box, 9, is not above "
+     "the lower one, 9; the second y of its box, 0, is not above the first, 9."),
     ("register a box 0 0 0 9 9 9\ncut a all b c", "Line 2: a was not cut, because c would have no point: all of it is in the region that cuts."),
     ("register a box 0 0 0 9 9 9\ncut a none b c", "Line 2: a was not cut, because b would have no point: no point of it is in the region that cuts."),
     ("register a box 0 0 0 9 9 9\ncut a all b b", "Line 2: a was not cut, because both new lots are called b."),

@@ -5,6 +5,7 @@ import re
 import pytest
 from conftest import PROGRAM
 from rpstore import Fault, extract
+from rpstore.notes import notes_on
 from test_words import ran
 
 
@@ -17,8 +18,8 @@ def extracted(store):
 
 
 BOOK = """rp 2
-# Local origin: E 412000.000, N 5765000.000. Metres from there.
-# Grid: EPSG:25832.
+# Grid: EPSG:25832. Local origin: E 412000, N 5765000.
+# Coordinates are metres from the local origin.
 
 # Two fields.
 register north box 0.000 10.000 0.000 20.000 20.000 5.000
@@ -59,6 +60,51 @@ def test_a_lot_with_its_origins(extracted):
 def test_the_layer_of_a_lot(extracted):
     found = lines_of(extracted(BOOK, "way").script)
     assert found[10:13] == ["layer rights", "# A way over both.", "register way box 9.000 0.000 0.000 11.000 20.000 3.000"] and found[13] == ""
+
+
+DEEDS = """rp 2
+# The book of two lots.
+
+# day 2024-03-01 deed 1: two lots
+layer base
+register n1 box 0.000 0.000 0.000 20.000 20.000 5.000
+register n2 box 20.000 0.000 0.000 40.000 20.000 5.000
+
+# day 2024-06-12 deed 2: both are cut
+# Both owners were there.
+layer ways
+cut n1 half 1 0 0 -10000 n1-e n1-w
+cut n2 half 1 0 0 -30000 n2-e n2-w
+# The third lot was forgotten at first.
+layer base
+
+register n3 box 40.000 0.000 0.000 50.000 20.000 5.000
+# {"owner": "C"}
+
+# day 2024-07-01 deed 3: n2-w is given up
+retire n2-w
+"""
+
+
+# Lots, and the places of the lines that the extract of each keeps behind the head.
+@pytest.mark.parametrize("lot, kept", [
+    ("n1-w", {3, 4, 5, 8, 9, 11}),
+    # The second cut of the deed, and a `layer` line between note and cut.
+    ("n2-e", {3, 4, 6, 8, 9, 12}),
+    ("n2-w", {3, 4, 6, 8, 9, 12, 19, 20}),
+    # A note within a deed hides neither the day nor itself.
+    ("n3", {8, 9, 13, 14, 16, 17}),
+])
+def test_the_note_of_a_deed_is_kept_for_each_of_its_lines(lot, kept, extracted):
+    whole = DEEDS.split("\n")[:-1]
+    lines = lines_of(extracted(DEEDS, lot).script)[: len(whole)]
+    assert {place for place, line in enumerate(lines) if line} == {0, 1} | kept
+    assert all(line in ("", wanted) for line, wanted in zip(lines, whole))
+
+
+def test_lines_before_the_first_day_have_the_nearest_notes():
+    lines = b"# head||a|# two|# lines|b||c|# {}|# day 1|d".split(b"|")
+    assert [sorted(notes_on(lines, {place})) for place in (2, 5, 7, 10)] == [[0], [3, 4], [3, 4, 8], [9]]
 
 
 def test_a_lot_that_ended(extracted):

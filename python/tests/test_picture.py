@@ -1,4 +1,5 @@
 import io
+import json
 import re
 import shutil
 from fractions import Fraction
@@ -6,6 +7,7 @@ from xml.etree import ElementTree
 
 import pytest
 from rpstore import Fault, fitting, lots, picture
+from test_words import ran
 
 SVG = "{http://www.w3.org/2000/svg}"
 
@@ -234,3 +236,31 @@ NONE = [("> 1 section all 0\n= sections 1\n= circle (1 0 0) (0 0 0 1)\n", "line 
 def test_what_is_no_report(report, said):
     with pytest.raises(Fault, match=re.escape(said)):
         shown(report)
+
+
+FLOORS = """rp 2
+register a box 0.000 0.000 0.000 4.000 5.000 3.000
+register b box 4.000 0.000 0.000 9.000 5.000 3.000
+register c box 0.000 0.000 3.000 9.000 5.000 6.000
+let way = box 0.000 4.000 0.000 9.000 5.000 2.000
+"""
+
+
+def test_heights_of_a_script_without_sections(store):
+    """The drawing of a height is that of a line `section` for each lot that has something there."""
+    status, drawn, said = ran(["picture", "--at", "1.5", "--at", "4"], FLOORS.encode())
+    cuts = "".join(f"section lot {lot} {height}\n" for height, there in (("1.500", "ab"), ("4.000", "c")) for lot in there)
+    assert status == 0 and "3 have nothing" in said and ran(["picture"], (FLOORS + cuts).encode())[1] == drawn
+
+
+@pytest.mark.parametrize("script, more, wanted", [
+    (FLOORS, [], [("a", 20, 1.5), ("b", 25, 1.5)]), (FLOORS, ["--names"], [("a", 20, 1.5), ("b", 25, 1.5), ("way", 9, 1.5)]),
+    (FLOORS, ["--asof", "1"], [("a", 20, 1.5)]), ("register a box 0 0 0 4000 5000 3000\n", [], [("a", 20, 1.5)])])
+def test_areas_of_a_height(store, script, more, wanted):
+    found = json.loads(ran(["sections", "--at", "1.5", *more], script.encode())[1])["features"]
+    assert [tuple(each["properties"][name] for name in ("id", "area", "height")) for each in found] == wanted
+
+
+def test_a_report_has_no_other_heights(store):
+    assert ran(["picture", "--at", "1"], store(FLOORS))[::2] == (
+        2, "rpstore-gis: --at needs a script, and this is a report: name the script that was run. Nothing was written.\n")

@@ -10,6 +10,7 @@ from rpstore import Fault, plan
 if plan.MISSING:
     pytest.skip(f"python3-fiona, python3-pyproj or python3-shapely is not there: {plan.MISSING}", allow_module_level=True)
 import fiona
+from pyproj import CRS
 from test_words import ran
 
 
@@ -25,8 +26,9 @@ UNIT = closed((0, 0), (8, 0), (8, 9), (0, 9))
 COURT = closed((2, 3), (2, 5), (4, 5), (4, 3))
 PRISM = "prism 0.000 7.500 4 0.000 0.000 8.000 0.000 8.000 9.000 0.000 9.000"
 HOLE = "prism 0.000 7.500 4 2.000 3.000 2.000 5.000 4.000 5.000 4.000 3.000"
-HEAD = "# Local origin: E 0.000, N 0.000. Metres from there, heights as in the plan."
-NO_GRID = "# Grid: the plan names none; its numbers are taken as metres."
+HEAD = "# Grid: none. Local origin: E 0, N 0."
+SAYS = "# Coordinates are metres from the local origin, heights as in the plan."
+NO_GRID = f"{SAYS} The plan names no grid; its numbers are taken as metres."
 UTM = "urn:ogc:def:crs:EPSG::25832"
 
 
@@ -93,21 +95,29 @@ def test_rounding_and_the_origin(written):
     ring = [[412999.9995, 5765000], [413008, 5765000], [413008, 5765000], [413008.0004, 5765000], [413000, 5765009.5], [412999.9995, 5765000]]
     path = written(lot([ring], base=-1, height=1.0005), crs=UTM)
     assert script(path, None)[1] == [
-        "# Local origin: E 413000.000, N 5765000.000. Metres from there, heights as in the plan.", "# Grid: EPSG:25832.",
+        "# Grid: EPSG:25832. Local origin: E 413000, N 5765000.", SAYS,
         "# Rounded to the millimetre: 3 of 12 coordinates.", "register a prism -1.000 1.001 3 0.000 0.000 8.000 0.000 0.000 9.500"]
     assert "prism -1.000 1.001 3 9.500 0.000 17.500 0.000 9.500 9.500" in script(path, origin=[Decimal("412990.5"), Decimal(5765000)])[1][-1]
 
 
 def test_an_origin_that_is_given(written):
     _, lines, _ = script(written(lot()), origin=[Decimal(-1), Decimal("0.5")])
-    assert lines == [HEAD.replace("E 0.000, N 0.000", "E -1.000, N 0.500"), NO_GRID,
+    assert lines == [HEAD.replace("E 0, N 0", "E -1, N 0.5"), NO_GRID,
                      "register a prism 0.000 7.500 4 1.000 -0.500 9.000 -0.500 9.000 8.500 1.000 8.500"]
+
+
+def test_a_grid_without_a_number():
+    """Its name is in the note for people, which is one line whatever the name has."""
+    drawn = CRS.from_user_input("+proj=tmerc +lat_0=0 +lon_0=10.5 +k=1 +x_0=0 +y_0=0 +datum=WGS84").to_wkt()
+    works = CRS.from_user_input(drawn.replace('"unknown"', '"the works\nof 1931"', 1))
+    first, second = plan.notes_of([], (412000500, 0), (works, works))
+    assert (first, second) == ("# Grid: without a number. Local origin: E 412000.5, N 0.", f"{SAYS} The grid is called the works of 1931.")
 
 
 def test_an_origin_in_whole_metres(written):
     """From whole kilometres this triangle, 16.7 km wide, reaches too far."""
     status, lines, _ = script(written(lot([closed((100200, 0), (116900, 0), (116900, 9))])))
-    assert status == 0 and lines[0].startswith("# Local origin: E 108550.000, N 4.000. ")
+    assert status == 0 and lines[0] == "# Grid: none. Local origin: E 108550, N 4."
 
 
 # A feature, and what is told of it.
@@ -200,8 +210,7 @@ def test_degrees_are_projected_by_proj(written):
         script(path, None)
     assert found.value.status == 5
     _, lines, _ = script(path, None, to="EPSG:25832")
-    assert lines[:2] == ["# Local origin: E 500000.000, N 0.000. Metres from there, heights as in the plan.",
-                         "# Grid: EPSG:25832, projected from WGS 84."]
+    assert lines[:2] == ["# Grid: EPSG:25832. Local origin: E 500000, N 0.", f"{SAYS} Projected from WGS 84."]
     assert " 3 0.000 0.000 111.275 0.000 0.000 110.530" in lines[-1]
 
 
@@ -250,14 +259,55 @@ def test_formats(driver, suffix, tmp_path):
     with fiona.open(path, "w", driver=driver, schema=schema, crs=crs) as sink:
         sink.write({"geometry": {"type": "Polygon", "coordinates": [UNIT, COURT]}, "properties": {"id": "a", "base": 0.0, "height": 7.5}})
     _, lines, _ = script(path, **options)
-    assert lines[0] == HEAD and lines[1].startswith("# Grid: EPSG:25832") and lines[2].startswith("register a minus prism 0.000 7.500 4 ")
+    assert lines[0] == HEAD.replace("none", "EPSG:25832") and lines[1].startswith(SAYS) and lines[2].startswith("register a minus prism 0.000 7.500 4 ")
+
+
+KML = ('<kml xmlns="http://www.opengis.net/kml/2.2"><Document><Placemark><name>a</name><Polygon><outerBoundaryIs><LinearRing><coordinates>'
+       "13.400,52.500 13.401,52.500 13.401,52.501 13.400,52.500</coordinates></LinearRing></outerBoundaryIs></Polygon></Placemark></Document></kml>")
+
+
+OSM = ('<osm version="0.6"><node id="1" lat="52.5" lon="13.4" version="1"/><node id="2" lat="52.5" lon="13.401" version="1"/>'
+       '<node id="3" lat="52.501" lon="13.401" version="1"/><way id="7" version="1"><nd ref="1"/><nd ref="2"/><nd ref="3"/><nd ref="1"/>'
+       '<tag k="building" v="yes"/></way></osm>')
+
+
+@pytest.mark.parametrize("text, name, given", [(KML, "plan.kml", {"id": "Name"}), (OSM, "plan.osm", {"layer": "multipolygons", "number": True, "prefix": "a"})])
+def test_formats_that_fiona_does_not_try(written, text, name, given):
+    _, told, _ = plan.script_of(written(text=text, name=name), plan.Options(floor="0", top="3", to="EPSG:25833", **given))
+    assert "# Grid: EPSG:25833. " in told and " Projected from WGS 84." in told
+    assert told.count("\nregister ") == 1 and " prism 0.000 3.000 3 390.731 -144.759 458.608 -146.263 461.071 -35.042\n" in told
+
+
+DEGREES = [(-106.48912, 35.11034), (-106.47123, 35.11034), (-106.47123, 35.13391)]
+
+
+def of_no_grid(written, corners, **given):
+    """What is made of a table that names no grid."""
+    table = f'id,WKT\na,"POLYGON (({",".join(f"{x} {y}" for x, y in closed(*corners))}))"\n'
+    return plan.script_of(written(text=table, name="plan.csv"), plan.Options(floor="0", top="3", **given))
+
+
+@pytest.mark.parametrize("given", [{}, {"to": "EPSG:32613"}])
+def test_numbers_of_no_grid_that_may_be_degrees_are_refused(written, given):
+    with pytest.raises(Fault, match="the plan names no grid, and its numbers may be degrees: all are from -180 to 180, and 8 of 8 have") as fault:
+        of_no_grid(written, DEGREES, **given)
+    assert fault.value.status == 5
+
+
+@pytest.mark.parametrize("corners, given, wanted", [
+    (DEGREES, {"source": "metres"}, "3 -106.489 35.110 -106.471 35.110 -106.471 35.134"), (DEGREES, {"source": "EPSG:4326", "to": "EPSG:32613"}, " prism "),
+    ([(0, 0), (8.5, 0), (8.5, 9.25)], {}, "3 0.000 0.000 8.500 0.000 8.500 9.250"), ([(-106489.12, 35.11034), (-106471.23, 35.11034), (-106471.23, 35.13391)], {}, " prism "),
+    ([(0, 0), (8.50001, 0), (8.5, 9.25)], {}, "8.500 0.000"), ([(0.00001, 90.00001), (8.50001, 90.00001), (8.50001, 99.25001)], {}, " prism ")])
+def test_numbers_of_no_grid_that_are_metres(written, corners, given, wanted):
+    status, told, _ = of_no_grid(written, corners, **given)
+    assert status == 0 and wanted in told
 
 
 def test_a_table_with_wkt(written):
     text = "id,base,height,WKT\r\na,0,7.5,\"POLYGON Z ((0 0 1, 8 0 1, 8 9 2, 0 9 2, 0 0 1))\"\r\n"
     path = written(text=text, name="plan.csv")
     status, lines, said = script(path, source="EPSG:25832")
-    assert (status, lines) == (0, [HEAD, "# Grid: EPSG:25832.", f"register a {PRISM}"]) and said == ["points have heights of their own, which are not used"]
+    assert (status, lines) == (0, [HEAD.replace("none", "EPSG:25832"), SAYS, f"register a {PRISM}"]) and said == ["points have heights of their own, which are not used"]
     assert script(path, source=None)[1][1] == NO_GRID
 
 

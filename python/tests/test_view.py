@@ -2,6 +2,7 @@ import base64
 import gzip
 import json
 import re
+from fractions import Fraction
 
 import browsing
 import buildings
@@ -57,7 +58,8 @@ def test_nothing_to_draw():
 
 
 @pytest.mark.parametrize("lows, step, storeys, names", [
-    ([0, 3000, 3100, -2800], 2000, [1, 2, 2, 0], ["-2.80 m", "0.00 m", "3.00 to 3.10 m"]), ([0, 1500, 2000], 2000, [0, 0, 1], ["0.00 to 1.50 m", "2.00 m"])])
+    ([0, 3000, 3100, -2800], 2000, [1, 2, 2, 0], ["-2.80 m", "0.00 m", "3.00 to 3.10 m"]), ([0, 1500, 2000], 2000, [0, 0, 1], ["0.00 to 1.50 m", "2.00 m"]),
+    ([Fraction(-18940603, 1000), Fraction(-55000, 3)], 2000, [0, 0], ["-18.941 to -18.333 m"])])
 def test_storeys(lows, step, storeys, names):
     assert view.storeys_of(lows, step) == (storeys, names)
 

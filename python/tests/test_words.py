@@ -38,6 +38,7 @@ REFUSED = [
     (["picture"], b"> 1 list\n= parcels 0\n", 1, "the report has no line `section` that shows something: `section lot X 1.500` cuts the lot X at 1.5 m"),
     (["measures"], b"> 1 list\n= parcels 0\n", 1,
      "the report shows no lot, no region with an end and no section: a line `show lot X` shows the lot X"),
+    (["extract", "-", "a"], SECTION, 2, "extract needs a script, and this is a report: name the script that was run. Nothing was written."),
     (["view", "no such file"], b"", 3, "the input cannot be read: No such file or directory"),
 ]
 

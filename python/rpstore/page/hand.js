@@ -81,6 +81,7 @@ const placesOf = list => list.map((on, at) => on ? at : -1).filter(at => at >= 0
 function keep() {
   const told = new URLSearchParams({ yaw: state.yaw.toFixed(1), pitch: state.pitch.toFixed(1), zoom: state.zoom.toPrecision(5), at: state.target.map(n => n.toFixed(3)).join("_"), spread: state.spread, cut: state.cut, colour: state.colour, names: +state.labels });
   for (const kind of ["storeys", "layers"]) if (state[kind].includes(false)) told.set(kind, placesOf(state[kind]));
+  if (momentAt(state.line) < data.moments.length - 1) told.set("line", state.line);
   if (state.clear.includes(true)) told.set("clear", placesOf(state.clear));
   if (state.pick >= 0) told.set("lot", lots[state.pick].name);
   try { history.replaceState(null, "", "#" + told); } catch (error) { /* a page without an address is shown as well */ }
@@ -93,13 +94,14 @@ function takeView() {
     const told = Number(asked.get(name));
     if (asked.has(name) && isFinite(told)) state[name] = Math.max(least, Math.min(most, told));
   }
+  if (data.moments.length && Number(asked.get("line")) > 0) state.line = data.moments[momentAt(Number(asked.get("line")))][0];
   if (["lot", "storey", "layer"].includes(asked.get("colour"))) state.colour = asked.get("colour");
   if (asked.has("names")) state.labels = asked.get("names") === "1";
   for (const kind of ["storeys", "layers", "clear"]) if (asked.has(kind)) {
     const on = asked.get(kind).split(".").filter(Boolean).map(Number);
     state[kind] = state[kind].map((_, at) => on.includes(at));
   }
-  showSwitches();
+  showSwitches(); showTime();
   $("spread").value = state.spread; $("cut").value = 1000 * state.cut; $("colour").value = state.colour; $("named").checked = state.labels;
   rebuild(); recolour(); layGround(); fit();
   const at = (asked.get("at") || "").split("_").map(Number), near = Number(asked.get("zoom"));

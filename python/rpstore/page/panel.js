@@ -49,6 +49,7 @@ function numbers(lot, whole) {
   if (!whole) return made;
   if (lot.is_lot) table.append(row("layer", data.layers[lot.layer]), row("came in line", lot.line + (lot.origins.length ? ", from " + lot.origins.join(", ") : "")));
   else table.append(row("shown", "in line " + lot.line));
+  if (lot.ended) table.append(row("ended in line", String(lot.ended)));
   table.append(row("parts", String(lot.parts)));
   if (lot.map) ["east", "north"].forEach((name, axis) => table.append(row("map " + name, [lot.map[axis], lot.map[axis + 2]])));
   return made;
@@ -102,11 +103,36 @@ function addSwitches() {
   $("none").onclick = () => setStoreys(() => false);
 }
 
-// Goes to a lot by its name.
+// The place of the last line of a moment that is not after `line`, or 0.
+const momentAt = line => data.moments.reduce((found, [number], at) => number <= line ? at : found, 0);
+
+function showTime() {
+  if (!data.moments.length) return;
+  const at = momentAt(state.line), [line, day] = data.moments[at];
+  $("time").value = at; $("timeValue").textContent = line + (day ? ", " + day : "");
+}
+
+// Goes to the register as it was after a line that changed it, by its place.
+function goToMoment(at) {
+  state.line = data.moments[Math.max(0, Math.min(data.moments.length - 1, at))][0];
+  if (state.pick >= 0 && !isLive(lots[state.pick])) pick(-1);
+  showTime(); rebuild(); keep();
+}
+
+function startTime() {
+  if (!data.moments.length) return;
+  $("times").hidden = false; $("time").max = data.moments.length - 1;
+  $("time").oninput = () => goToMoment(+$("time").value);
+  $("earlier").onclick = () => goToMoment(momentAt(state.line) - 1);
+  $("later").onclick = () => goToMoment(momentAt(state.line) + 1);
+}
+
+// Goes to a lot by its name, and to the line at which it came if it is not live.
 function find(name) {
   const at = lots.findIndex(lot => lot.name === name), lot = lots[at];
   if (!lot) return;
   state.layers[lot.layer] = state.storeys[lot.storey] = true;
+  if (!isLive(lot)) { state.line = lot.line; showTime(); }
   state.target = lifted(AXES.map(axis => (lot.low[axis] + lot.high[axis]) / 2), lot);
   showSwitches(); rebuild(); pick(at);
 }
@@ -116,7 +142,7 @@ const VIEWS = { corner: [32, 34], above: [0, 90], south: [0, 0], west: [90, 0] }
 function startPanel() {
   $("about").textContent = data.about;
   $("names").append(...lots.map(lot => Object.assign(element("option", ""), { value: lot.name })));
-  addSwitches();
+  addSwitches(); startTime();
   $("find").oninput = () => find($("find").value);
   document.querySelectorAll("[data-view]").forEach(button => { button.onclick = () => { [state.yaw, state.pitch] = VIEWS[button.dataset.view]; fit(); }; });
   $("fit").onclick = fit;

@@ -3,7 +3,7 @@
 const $ = name => document.getElementById(name);
 const AXES = [0, 1, 2];
 let data, lots, bounds, vertices = 0;
-const state = { yaw: 32, pitch: 34, zoom: 1, target: [0, 0, 0], spread: 0, cut: 1, colour: "lot", labels: true, pick: -1, hover: -1, layers: [], clear: [], storeys: [] };
+const state = { yaw: 32, pitch: 34, zoom: 1, target: [0, 0, 0], spread: 0, cut: 1, colour: "lot", labels: true, pick: -1, hover: -1, layers: [], clear: [], storeys: [], line: Infinity };
 
 async function unpacked() {
   const bytes = Uint8Array.from(atob($("data").textContent.trim()), letter => letter.charCodeAt(0));
@@ -22,10 +22,13 @@ function takeScene(given) {
   bounds = [AXES.map(axis => lots.reduce((least, lot) => Math.min(least, lot.low[axis]), Infinity)),
     AXES.map(axis => lots.reduce((most, lot) => Math.max(most, lot.high[axis]), -Infinity))];
   state.labels = lots.length <= 60;
+  if (data.moments.length) state.line = data.moments[data.moments.length - 1][0];
   state.layers = data.hidden.map(hidden => !hidden); state.clear = data.layers.map(() => false); state.storeys = data.storeys.map(() => true);
 }
 
-const isShown = lot => state.layers[lot.layer] && state.storeys[lot.storey];
+// Whether a lot was live after the line at which the view is; on a page without moments, whether it is there at all.
+const isLive = lot => !data.moments.length || lot.line <= state.line && !(lot.ended <= state.line);
+const isShown = lot => isLive(lot) && state.layers[lot.layer] && state.storeys[lot.storey];
 // Heights of a cut are round, and a hair above: a floor at that height is cut open, and what lies below it is not.
 const cutStep = () => nice(Math.max(bounds[1][2] - bounds[0][2], 1e-6) / 1000);
 function cutHeight() {

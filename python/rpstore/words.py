@@ -1,0 +1,161 @@
+"""The words of the command line, and their options."""
+from __future__ import annotations
+
+import argparse
+from decimal import Decimal, InvalidOperation
+from typing import TYPE_CHECKING, Optional
+
+from . import conflicts, meets_forms, picture, place
+
+if TYPE_CHECKING:
+    Words = argparse._SubParsersAction[argparse.ArgumentParser]
+
+
+def decimal(word: str) -> Decimal:
+    """Reads metres to the millimetre."""
+    try:
+        number = Decimal(word)
+    except InvalidOperation:
+        raise argparse.ArgumentTypeError(f"{word!a} is no number")
+    if not number.is_finite() or abs(number) > 10**9 or number * 1000 % 1:
+        raise argparse.ArgumentTypeError("metres with at most three digits behind the point are wanted")
+    return number
+
+
+def width(word: str) -> int:
+    """Reads a width in pixels."""
+    if not (word.isdigit() and picture.LEAST <= int(word[:9]) <= picture.MOST):
+        raise argparse.ArgumentTypeError(f"a number from {picture.LEAST} to {picture.MOST} is wanted")
+    return int(word)
+
+
+def line_number(word: str) -> int:
+    """Reads the number of a line as a report has it."""
+    if not (word.isascii() and word.isdigit() and len(word) < 9):
+        raise argparse.ArgumentTypeError(f"{word!a} is no number of a line")
+    return int(word)
+
+
+def add(words: Words, word: str, says: str, file: Optional[str] = "?") -> argparse.ArgumentParser:
+    """Adds a `word` with its FILE, which may be left out unless `file` is None, and returns its parser."""
+    made = words.add_parser(word, help=says, description=says)
+    made.add_argument("file", nargs=file, metavar="FILE")
+    made.add_argument("-o", "--output", metavar="PATH", help="where to write, in the place of standard output")
+    return made
+
+
+def add_store(made: argparse.ArgumentParser) -> None:
+    made.add_argument("--store", metavar="PROGRAM", help="the store, in the place of ./rpstore beside this (or RPSTORE)")
+
+
+def add_place(made: argparse.ArgumentParser) -> None:
+    made.add_argument("--origin", nargs=2, type=decimal, metavar=("E", "N"), help="the local origin, in metres of the map; without it the "
+                      f"note of the script is read: {place.FORM}")
+    made.add_argument("--epsg", type=int, metavar="NUMBER", help="the grid of the map; without it the same note is read")
+
+
+def add_asof(made: argparse.ArgumentParser) -> None:
+    made.add_argument("--asof", type=line_number, metavar="LINE", help="of a script: as it was after this line, by its number in a report")
+
+
+def add_shown(words: Words, word: str, says: str, file: Optional[str] = "?") -> argparse.ArgumentParser:
+    """Adds a `word` that reads what a script or a report shows, and returns its parser."""
+    made = add(words, word, says, file)
+    add_place(made)
+    add_store(made)
+    add_asof(made)
+    made.add_argument("--unchecked", action="store_true", help="take a report without having the store check it")
+    made.add_argument("--names", action="store_true", help="of a script: show the regions that `let` names, too")
+    return made
+
+
+def add_at(made: argparse.ArgumentParser) -> None:
+    made.add_argument("--at", type=decimal, action="append", default=[], metavar="HEIGHT", help="of a script: each live lot at this height, in "
+                      "metres; may stand several times")
+
+
+def add_view(words: Words) -> None:
+    made = add_shown(words, "view", "one page that shows lots in a browser")
+    made.add_argument("--title", help="the head of the page (the name of the file)")
+    made.add_argument("--storey", type=decimal, default=Decimal(2), metavar="METRES", help="lots whose lowest heights are less than this apart are "
+                      "of one storey (2)")
+    made.add_argument("--time", action="store_true", help="of a script: all lots that ever were, and a slider for the line, or the day")
+
+
+def add_picture(words: Words) -> None:
+    made = add_shown(words, "picture", "a picture in SVG of the `section` lines of a report: the outlines at each height")
+    add_at(made)
+    made.add_argument("--width", type=width, default=picture.WIDTH, metavar="PIXELS", help=f"the width of the picture ({picture.WIDTH})")
+
+
+def add_explain(words: Words) -> None:
+    made = add_shown(words, "explain", "what is wrong with each refused line: the word, what is due there, or the place on the ground")
+    made.add_argument("--geojson", choices=list(conflicts.GEOMETRIES), help="of a script: GeoJSON with a feature for each refused line: a point in what "
+                      "is in its way, or that in plan (areas) or with heights (faces)")
+
+
+def add_meets(words: Words) -> None:
+    made = add(words, "meets", "the live lots of a script that a region meets, what each has of it, and a report that shows that these are all", None)
+    add_place(made)
+    add_store(made)
+    add_asof(made)
+    made.add_argument("region", metavar="EXPRESSION", help="the region, as an expression of the language: 'box ..', 'name X', 'lot X'")
+    made.add_argument("--touch", action="store_true", help="with the lots that touch the region and share no point with it")
+    made.add_argument("--layer", action="append", default=[], metavar="NAME", help="of this layer alone; may stand several times")
+    made.add_argument("--as", dest="form", choices=list(meets_forms.FORMS), default="table", help="what is written: a table; GeoJSON of what is in common, in "
+                      "plan (lots) or with heights (faces); CityJSON of it (city); a page with the lots and it (view); the report")
+
+
+def add_walls(words: Words) -> None:
+    made = add(words, "walls", "what the live lots of a script have in common with those that touch them: walls with areas, edges with lengths, corners")
+    add_store(made)
+    add_asof(made)
+    made.add_argument("--lot", action="append", default=[], metavar="ID", help="of this lot alone; may stand several times")
+
+
+def add_extract(words: Words) -> None:
+    made = add(words, "extract", "the lines of a script on which some lots rest, under their own numbers; behind -o PATH.rp also its report, "
+               "PATH.report", None)
+    add_store(made)
+    made.add_argument("ids", nargs="+", metavar="ID", help="the lots")
+    made.add_argument("--neighbours", action="store_true", help="those of the lots, too")
+
+
+def add_plan(words: Words) -> None:
+    made = add(words, "plan", "a script that registers the polygons of a plan, in any format that GDAL reads")
+    made.add_argument("--layer", help="the layer of the plan, where it has several")
+    made.add_argument("--id", default="id", metavar="NAME", help="the property with the id (id)")
+    made.add_argument("--number", action="store_true", help="take the place in the plan, 1, 2, .., for the id; wants --prefix")
+    made.add_argument("--prefix", default="", metavar="LETTERS", help="put this before each id, and _ in the place of each / in it")
+    made.add_argument("--floor", default="base", metavar="WHAT", help="the lower height: a number for all, or the property with it (base)")
+    made.add_argument("--top", default="height", metavar="WHAT", help="the upper height, likewise (height)")
+    made.add_argument("--storeys", metavar="WHAT", help="how many storeys, likewise: a lot for each, ID.1, ID.2, .., from the floor upwards; "
+                      "--top is not read then")
+    made.add_argument("--storey-height", default="3", metavar="WHAT", help="how high each storey is, likewise (3)")
+    made.add_argument("--section", type=decimal, action="append", default=[], metavar="HEIGHT", help="write a line `section` behind the lots "
+                      "for each that reaches over this height; may stand several times")
+    made.add_argument("--bare", action="store_true", help="write no note with the attributes of each feature behind its lines")
+    made.add_argument("--from", dest="source", metavar="GRID", help="the grid of the plan, where its file does not say or says it wrongly; "
+                      "`metres` for metres of no grid")
+    made.add_argument("--to", metavar="GRID", help="the grid of the register, as EPSG:25832; needed where the plan has degrees or feet")
+    made.add_argument("--origin", nargs=2, type=decimal, metavar=("E", "N"), help="the local origin; without it one is chosen: 0 0 if all "
+                      "points are near enough, else whole kilometres near the middle")
+    made.add_argument("--leave-out", action="store_true", help="leave out the features that cannot be registered, each with a note")
+
+def parser(says: str) -> argparse.ArgumentParser:
+    """Returns the parser of the command line, whose help begins with what it `says`."""
+    made = argparse.ArgumentParser(prog="rpstore-gis", description=says, formatter_class=argparse.RawDescriptionHelpFormatter)
+    words = made.add_subparsers(dest="word", required=True, metavar="WORD")
+    add_view(words)
+    add_picture(words)
+    add_shown(words, "measures", "a table of areas and volumes, of what `show` and `section` lines show")
+    add_at(add_shown(words, "sections", "GeoJSON of the `section` lines of a report: one area for each, with lot, height and area"))
+    add_shown(words, "lots", "GeoJSON of what each lot covers in plan, with its heights, area and volume")
+    add_shown(words, "faces", "GeoJSON of the boundary of each lot, as polygons with heights")
+    add_shown(words, "city", "CityJSON 2.0 of the lots, as solids")
+    add_explain(words)
+    add_meets(words)
+    add_walls(words)
+    add_extract(words)
+    add_plan(words)
+    return made
