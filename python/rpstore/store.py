@@ -19,13 +19,14 @@ def program(given: Optional[str] = None) -> str:
 
 
 def run(command: str, text: bytes, *words: str) -> bytes:
-    """Runs the store `command` with `words` over a `text`, and returns what it writes.
+    """Runs the store `command` with `words` over a `text`, and returns what it writes. It says nothing about a checked report.
 
     # Errors
     `Fault` if the store cannot be run, or ends with a status above 1.
     """
+    quiet = {**os.environ, "RPSTORE_NOTES": "no"}
     try:
-        done = subprocess.run([command, *words], input=text, stdout=subprocess.PIPE)
+        done = subprocess.run([command, *words], input=text, stdout=subprocess.PIPE, env=quiet)
     except OSError as error:
         raise Fault(f"the store {command} cannot be run: {error.strerror}", 5)
     if done.returncode > 1:
