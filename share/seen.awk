@@ -1,5 +1,6 @@
 # Says of a report how many answers it has, to which lines of its script, and how many verdicts `check` does not judge.
-# Each line of the input has the number of a line of the report, `:`, and what share/check looks for in it.
+# Each line of the input has the number of a line of the report, `:`, and what share/check looks for in it. The first line of
+# the output is the number of the first line that ends with a carriage return and is no echo, or 0.
 BEGIN { FS = ":" }
 
 function say(text) {
@@ -23,10 +24,11 @@ $2 ~ /^>/ && substr($2, 3) + 0 <= 16777216 {
     echo = $1
 }
 $2 ~ /^=/ { unjudged++ }
-# Only an echo may end with a carriage return, as its line of the script did: the first other line is wrong at the latest.
+# Only an echo may end with a carriage return, as its line of the script did: the first other line is wrong, or one before it.
 $2 ~ /^\r/ && $1 != echo && !returned { returned = $1 }
 
 END {
+    print returned + 0
     if (answers) {
         count = answers == 1 ? "1 answer, to line " last : answers " answers, to lines " first " to " last
         say("the report has " count " of the script. Whether the script goes on after line " last " is not in a report.")
@@ -36,7 +38,4 @@ END {
         say("verdicts that check does not judge, '= refused limit' or '= refused long': " unjudged + 0)
     } else
         say("the report has no answer, so nothing was checked: it is empty, or no report. If it should have answers, ask for it again.")
-    if (returned)
-        say("line " returned " ends with a carriage return. If it is the wrong line, this is why. Without them: " \
-            "tr -d '\\r' < report | ./rpstore check")
 }
