@@ -9,6 +9,7 @@ place     where a script lies on the map: the note on its grid and its local ori
 outline   areas of a plan: outlines with holes of what convex polygons have together
 shape     convex bodies: corners, faces, volumes, and what several have together
 store     the program: what it writes of a text, and what its `check` says
+book      a book in a file: its script, and the last line of a date
 script    a script: its front, its live lots, and lines after it
 lots      the bodies and slices that a report shows; the store is asked for those of a script
 told      how numbers are printed, rounded there and nowhere else

@@ -1,7 +1,7 @@
 """What surrounds the store: looks at its lots, takes them into a GIS, explains refusals, makes scripts of plans.
 
-FILE is a script, which the store then runs and checks, or a report; where none is named, it is standard input. docs/gis.md
-has an example of each word.
+FILE is a script, which the store then runs and checks, or a report, or a book, whose script is read; where none is named, it
+is standard input. docs/gis.md has an example of each word.
 
 status 0    all was written, and no line was refused
 status 1    explain: some line was refused; meets and walls: a limit of the store leaves something unanswered; plan:
@@ -20,7 +20,7 @@ import sys
 from dataclasses import fields
 from typing import Any, Callable, NamedTuple, Optional, Type, TypeVar, Union
 
-from . import Fault, city, conflicts, explain, extract, gis, lots, measures, meets, meets_forms, picture, place, report, script, store, times, view, walls, words
+from . import Fault, book, city, conflicts, explain, extract, gis, lots, measures, meets, meets_forms, picture, place, report, script, store, times, view, walls, words
 
 Kind = TypeVar("Kind")
 # The words, and the forms of `meets`, that write map coordinates.
@@ -40,17 +40,35 @@ def options_of(kind: Type[Kind], given: argparse.Namespace) -> Kind:
     return kind(**{each.name: getattr(given, each.name) for each in fields(kind) if hasattr(given, each.name)})
 
 
-def read(path: Optional[str]) -> bytes:
-    """Reads a file, or standard input without a `path`."""
+def read(given: argparse.Namespace) -> bytes:
+    """Reads the file that the words `given` name, or standard input without one; of a book its script."""
+    path = None if given.file == "-" else given.file
     try:
-        with open(path, "rb") if path not in (None, "-") else sys.stdin.buffer as file:
-            return file.read()
+        with open(path, "rb") if path else sys.stdin.buffer as file:
+            text = file.read()
     except OSError as error:
         raise Fault(f"the input cannot be read: {error.strerror}", 3)
+    if not book.is_book(text):
+        return text
+    if not path:
+        raise Fault("a book is not read from standard input: name its file. Nothing was written.", 2)
+    return book.script(path, store.program(given.store))
+
+
+def line_of(given: argparse.Namespace) -> Optional[int]:
+    """Returns the line that --asof names; a date is the last line that was added to a book on it or before."""
+    if not isinstance(given.asof, str):
+        return given.asof
+    if not given.file or not os.path.isfile(given.file):
+        raise Fault("--asof takes a date of a book, and no file of a book is named. Nothing was written.", 2)
+    with open(given.file, "rb") as file:
+        if not book.is_book(file.read(len(book.MAGIC))):
+            raise Fault(f"--asof takes a date of a book, and {given.file} is none: give the number of a line. Nothing was written.", 2)
+    return book.last_line(given.file, given.asof, store.program(given.store))
 
 
 def read_seen(given: argparse.Namespace) -> lots.Seen:
-    return lots.load(read(given.file), options_of(lots.Options, given), on_map=given.word in ON_MAP)
+    return lots.load(read(given), options_of(lots.Options, given), on_map=given.word in ON_MAP)
 
 
 def as_json(made: dict[str, Any]) -> str:
@@ -90,7 +108,7 @@ def ground(text: bytes, options: lots.Options) -> tuple[place.Place, list[str]]:
 def write_explanations(given: argparse.Namespace) -> Written:
     if given.geojson:
         return write_conflicts(given)
-    text, options = read(given.file), options_of(lots.Options, given)
+    text, options = read(given), options_of(lots.Options, given)
     (where, said), program = ground(text, options), store.program(options.store)
     text = script.front(text, options.asof)
     if not store.is_report(text):
@@ -106,7 +124,7 @@ def write_explanations(given: argparse.Namespace) -> Written:
 
 def read_script(given: argparse.Namespace, what: str, on_map: bool = False) -> tuple[script.Script, place.Place]:
     """Reads the script of a word or an option `what` that adds lines to it: up to --asof, and with `on_map` where it is on the map."""
-    whole = script.needed_script(read(given.file), what)
+    whole = script.needed_script(read(given), what)
     where = place.place_of(whole.text, options_of(lots.Options, given)) if on_map else place.Place()
     return whole if given.asof is None else whole.front(given.asof), where
 
@@ -124,7 +142,7 @@ def write_walls(given: argparse.Namespace) -> Written:
 
 
 def write_extract(given: argparse.Namespace) -> Written:
-    made = extract.extract(script.needed_script(read(given.file), "extract").text, given.ids, store.program(given.store), given.neighbours)
+    made = extract.extract(script.needed_script(read(given), "extract").text, given.ids, store.program(given.store), given.neighbours)
     said = f"{made.kept:,} of {made.lines:,} lines; the report has {len(made.report):,} bytes and is accepted"
     if given.output:
         path = os.path.splitext(given.output)[0] + ".report"
@@ -163,6 +181,8 @@ def write(text: Union[str, bytes], path: Optional[str]) -> None:
 def main(line: Optional[list[str]] = None) -> int:
     given = words.parser(__doc__).parse_args(line)
     try:
+        if hasattr(given, "asof"):
+            given.asof = line_of(given)
         status, text, said = WORDS[given.word](given)
         if text:
             write(text, given.output)

@@ -3,9 +3,9 @@ from __future__ import annotations
 
 import argparse
 from decimal import Decimal, InvalidOperation
-from typing import TYPE_CHECKING, Optional
+from typing import TYPE_CHECKING, Optional, Union
 
-from . import conflicts, meets_forms, picture, place
+from . import book, conflicts, meets_forms, picture, place
 
 if TYPE_CHECKING:
     Words = argparse._SubParsersAction[argparse.ArgumentParser]
@@ -29,10 +29,12 @@ def width(word: str) -> int:
     return int(word)
 
 
-def line_number(word: str) -> int:
-    """Reads the number of a line as a report has it."""
+def line_or_date(word: str) -> Union[int, str]:
+    """Reads the number of a line as a report has it, or a date."""
+    if book.DATE.fullmatch(word):
+        return word
     if not (word.isascii() and word.isdigit() and len(word) < 9):
-        raise argparse.ArgumentTypeError(f"{word!a} is no number of a line")
+        raise argparse.ArgumentTypeError(f"{word!a} is no number of a line, and no date as 2026-11-30")
     return int(word)
 
 
@@ -55,7 +57,8 @@ def add_place(made: argparse.ArgumentParser) -> None:
 
 
 def add_asof(made: argparse.ArgumentParser) -> None:
-    made.add_argument("--asof", type=line_number, metavar="LINE", help="of a script: as it was after this line, by its number in a report")
+    made.add_argument("--asof", type=line_or_date, metavar="LINE", help="of a script: as it was after this line, by its number in a report; of a "
+                      "book also after a day, as 2026-11-30, in UTC")
 
 
 def add_shown(words: Words, word: str, says: str, file: Optional[str] = "?") -> argparse.ArgumentParser:

@@ -1,0 +1,48 @@
+"""A book, the SQLite file in which `rpstore-book` keeps a script: its script, and the last line that was added on a date."""
+from __future__ import annotations
+
+import os
+import re
+import subprocess
+
+from . import Fault
+
+MAGIC = b"SQLite format 3\0"
+DATE = re.compile(r"[0-9]{4}-[0-9]{2}-[0-9]{2}")
+
+
+def is_book(text: bytes) -> bool:
+    """Returns whether a `text` is an SQLite database, as a book is."""
+    return text.startswith(MAGIC)
+
+
+def program(store: str) -> str:
+    """Returns the command that keeps books: by RPSTORE_BOOK, or the one next to the `store`."""
+    return os.environ.get("RPSTORE_BOOK") or f"{store}-book"
+
+
+def asked(path: str, store: str, *words: str) -> bytes:
+    """Returns what `rpstore-book` writes for `words` of the book at `path`.
+
+    # Errors
+    `Fault` if it cannot be run, or ends with a status other than 0; its own words are told.
+    """
+    command = program(store)
+    try:
+        done = subprocess.run([command, path, *words], stdin=subprocess.DEVNULL, capture_output=True)
+    except OSError as error:
+        raise Fault(f"{path} is a book, and {command}, which reads books, cannot be run: {error.strerror}. Name it by RPSTORE_BOOK.", 5)
+    if done.returncode:
+        said = done.stderr.decode(errors="replace").strip().splitlines() or [f"status {done.returncode}"]
+        raise Fault(f"the book {path} was not read: {said[-1]}", 3)
+    return done.stdout
+
+
+def script(path: str, store: str) -> bytes:
+    """Returns the script of the book at `path`."""
+    return asked(path, store, "script")
+
+
+def last_line(path: str, date: str, store: str) -> int:
+    """Returns the number of the last line that was added to the book at `path` on a `date` or before, 0 if none was."""
+    return int(asked(path, store, "line", date))
