@@ -4,7 +4,7 @@ FILE is a script, which the store then runs and checks, or a report, or a book, 
 is standard input. docs/gis.md has an example of each word.
 
 status 0    all was written, and no line was refused
-status 1    explain: some line was refused; meets and walls: a limit of the store leaves something unanswered; plan:
+status 1    explain: some line was refused; meets, rights and walls: a limit of the store leaves something unanswered; plan:
             --leave-out left features out; else: the file is no report, or the report is not accepted or shows nothing,
             or it is not known where the script lies on the map
 status 2    the words are not known, or do not fit the file
@@ -135,6 +135,12 @@ def write_meets(given: argparse.Namespace) -> Written:
     return Written(int(bool(found.limited or found.unshown)), meets_forms.FORMS[given.form](found), meets_forms.said(found))
 
 
+def write_rights(given: argparse.Namespace) -> Written:
+    asked, where = read_script(given, "rights", given.form in ON_MAP)
+    found = meets.rights(asked, given.lot, store.program(given.store), where)
+    return Written(int(bool(found.limited or found.unshown)), meets_forms.FORMS[given.form](found), meets_forms.said_of_rights(found, given.lot))
+
+
 def write_walls(given: argparse.Namespace) -> Written:
     asked, _ = read_script(given, "walls")
     found = walls.walls(asked, given.lot, store.program(given.store))
@@ -160,7 +166,7 @@ def write_plan(given: argparse.Namespace) -> Written:
 
 # What each word writes.
 WORDS: dict[str, Callable[[argparse.Namespace], Written]] = {
-    "view": write_view, "picture": write_picture, "explain": write_explanations, "meets": write_meets, "walls": write_walls,
+    "view": write_view, "picture": write_picture, "explain": write_explanations, "meets": write_meets, "rights": write_rights, "walls": write_walls,
     "extract": write_extract, "plan": write_plan,
     "measures": lambda given: Written(0, measures.table(read_seen(given)), []),
     "sections": lambda given: Written(0, as_json(gis.sections(read_seen(given))), []),

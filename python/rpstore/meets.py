@@ -8,7 +8,7 @@ retired, and the region is registered in their layer. A live lot of the layer th
 from __future__ import annotations
 
 import io
-from dataclasses import dataclass
+from dataclasses import dataclass, replace
 from typing import Iterator, Optional, Sequence
 
 from . import Fault, command, explain, hints, lots, report, store
@@ -194,3 +194,13 @@ def meets(script: Script, expression: str, program: str, place: Place, only: Seq
     limited = [lot.id for lot in unasked if lot.layer in unshown] + [lot.id for lot in shared if is_limited(lot, region, told)]
     return Result([found[lot.id] for lot in wanted if lot.id in found], Body("the region", False, "the region", 0, (), cells) if cells else None,
                   run, limited, unshown, place, script.version)
+
+
+def rights(script: Script, lot: str, program: str, place: Place) -> Result:
+    """Asks the store `program` which live lots lie on a `lot`. They are of other layers, since lots of one layer share no point.
+
+    # Errors
+    `Fault` if the lot is not live.
+    """
+    found = meets(script, f"lot {lot}", program, place)
+    return replace(found, meetings=[each for each in found.meetings if each.lot.id != lot])

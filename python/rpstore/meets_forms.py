@@ -100,6 +100,18 @@ def said(found: Result) -> list[str]:
     """Returns the lines for standard error: how many lots, whether the report was checked, what is in no lot, what is not known."""
     lines = [f"{count_of(found)}; {found.run.said}"]
     lines += [f"of the region {told.cubic_metres(volume)} m3 are in no lot of the layer {layer}" for layer, volume in in_no_lot(found).items() if volume]
+    return lines + unknown(found)
+
+
+def said_of_rights(found: Result, lot: str) -> list[str]:
+    """Returns the lines for standard error beside the lots that lie on a `lot`."""
+    count = len(found.meetings)
+    return [f"{count:,} lot{'s lie' if count != 1 else ' lies'} on {lot}; {found.run.said}", *unknown(found)]
+
+
+def unknown(found: Result) -> list[str]:
+    """Returns a line for each thing that a limit of the store leaves unknown."""
+    lines = []
     if found.limited:
         lines.append(f"a limit of the store is met for {told.few(found.limited)}: whether these lots meet the region, or what they have of it, is not "
                      "known; ask for parts of the region")

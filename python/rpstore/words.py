@@ -109,6 +109,15 @@ def add_meets(words: Words) -> None:
                       "plan (lots) or with heights (faces); CityJSON of it (city); a page with the lots and it (view); the report")
 
 
+def add_rights(words: Words) -> None:
+    made = add(words, "rights", "the live lots of other layers that lie on a lot, as rights of way, and what each has of it", None)
+    add_place(made)
+    add_store(made)
+    add_asof(made)
+    made.add_argument("lot", metavar="ID", help="the lot")
+    made.add_argument("--as", dest="form", choices=list(meets_forms.FORMS), default="table", help="what is written, as with `meets`")
+
+
 def add_walls(words: Words) -> None:
     made = add(words, "walls", "what the live lots of a script have in common with those that touch them: walls with areas, edges with lengths, corners")
     add_store(made)
@@ -158,6 +167,7 @@ def parser(says: str) -> argparse.ArgumentParser:
     add_shown(words, "city", "CityJSON 2.0 of the lots, as solids")
     add_explain(words)
     add_meets(words)
+    add_rights(words)
     add_walls(words)
     add_extract(words)
     add_plan(words)

@@ -223,3 +223,23 @@ def test_words_that_do_not_fit(flats, store):
         2, "rpstore-gis: the script has 9 lines, and no line 10: give --asof a number up to 9. Nothing was written.\n")
     assert ran(["meets", "-", "all"], store(FLATS))[::2] == (
         2, "rpstore-gis: meets needs a script, and this is a report: name the script that was run. Nothing was written.\n")
+
+
+def test_rights_are_lots_of_other_layers(store):
+    flats = script.script_of(FLATS.encode())
+    told = {}
+    for lot in ("west", "east", "above", "way"):
+        found = meets.rights(flats, lot, PROGRAM, lots.Place())
+        told[lot] = {each.lot.id: (each.relation, each.common.volume / 10**9) for each in found.meetings}
+        assert found.run.check == "accepted"
+    assert told == {"west": {"way": ("PO", 2)}, "east": {"way": ("PO", 2)}, "above": {}, "way": {"west": ("PO", 2), "east": ("PO", 2)}}
+    with pytest.raises(Fault, match="no live lot"):
+        meets.rights(flats, "far", PROGRAM, lots.Place())
+
+
+def test_rights_in_words(store, tmp_path):
+    path = tmp_path / "flats.rp"
+    path.write_text(FLATS)
+    status, told, said = ran(["rights", str(path), "west"])
+    assert status == 0 and said == "rpstore-gis: 1 lot lies on west; report accepted\n"
+    assert list(csv.reader(io.StringIO(told.decode())))[1:] == [["way", "rights", "PO", "0.000", "2.000", "1.000000", "2.000000000", "4.000000000"]]
