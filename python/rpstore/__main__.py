@@ -97,6 +97,12 @@ def write_conflicts(given: argparse.Namespace) -> Written:
     return Written(int(bool(found)), as_json(conflicts.features(found, where, given.geojson)), [said])
 
 
+def write_overlaps(given: argparse.Namespace) -> Written:
+    asked, where = read_script(given, "explain --all")
+    sentences = list(conflicts.all_overlaps(asked, where, store.program(given.store)))
+    return Written(int(bool(sentences)), "".join(f"{sentence}\n" for sentence in sentences), [])
+
+
 def ground(text: bytes, options: lots.Options) -> tuple[place.Place, list[str]]:
     """Returns where a text lies on the map, or else nowhere, and what is to be said of that: an explanation needs no map."""
     try:
@@ -108,6 +114,8 @@ def ground(text: bytes, options: lots.Options) -> tuple[place.Place, list[str]]:
 def write_explanations(given: argparse.Namespace) -> Written:
     if given.geojson:
         return write_conflicts(given)
+    if given.all:
+        return write_overlaps(given)
     text, options = read(given), options_of(lots.Options, given)
     (where, said), program = ground(text, options), store.program(options.store)
     text = script.front(text, options.asof)

@@ -8,9 +8,9 @@ from __future__ import annotations
 import io
 from dataclasses import dataclass
 from fractions import Fraction
-from typing import Any, Callable, Optional
+from typing import Any, Callable, Iterator, Optional
 
-from . import explain, gis, lots, report, store, told
+from . import explain, gis, lots, meets, report, store, told
 from .lots import Body
 from .place import Place
 from .points import Number
@@ -79,6 +79,25 @@ def conflicts(script: Script, place: Place, program: str) -> tuple[list[Conflict
     run = store.run_and_check(with_regions(script, refused), program)
     regions = regions_of(run)
     return [Conflict(each, regions.get(each.steps[-1][0]) if each.steps else None) for each in refused.values()], run
+
+
+# ---- all lots that a refused line overlaps
+
+def overlapped(case: explain.Case, script: Script, program: str) -> meets.Result:
+    """Asks the store `program` which live lots of its layer the region of a line of the `script` meets, which was refused with
+    `overlaps`: the refusal names the first alone."""
+    front = script.front(case.answer.number - 1)
+    return meets.meets(front, case.command.expression(), program, Place(), [case.register.layer])
+
+
+def all_overlaps(script: Script, place: Place, program: str) -> Iterator[str]:
+    """Yields, for each line of the `script` that is refused with `overlaps`, a sentence that names all lots that it overlaps."""
+    for case in explain.cases(store.run(program, script.text, "run", "brief"), place):
+        if case.answer.verdict.cause == "overlaps":
+            found = overlapped(case, script, program)
+            ids = [each.lot.id for each in found.meetings]
+            unsure = "; more may be met, since a limit of the store leaves some unanswered" if found.limited or found.unshown else ""
+            yield f"{explain.head(case)}{case.lot} overlaps {len(ids):,} lot{'s' * (len(ids) != 1)}: {explain.listed(ids)}{unsure}."
 
 
 # ---- features

@@ -95,6 +95,8 @@ def add_explain(words: Words) -> None:
     made = add_shown(words, "explain", "what is wrong with each refused line: the word, what is due there, or the place on the ground")
     made.add_argument("--geojson", choices=list(conflicts.GEOMETRIES), help="of a script: GeoJSON with a feature for each refused line: a point in what "
                       "is in its way, or that in plan (areas) or with heights (faces)")
+    made.add_argument("--all", action="store_true", help="of a script: name all lots that each line overlaps that is refused for it, and not the first "
+                      "alone")
 
 
 def add_meets(words: Words) -> None:

@@ -72,3 +72,22 @@ def test_the_words(store):
     assert told["crs"]["properties"]["name"].endswith(":25832") and [each["geometry"] and each["geometry"]["type"] for each in told["features"]] == [
         "MultiPolygon", None, None, "MultiPolygon", "MultiPolygon", "MultiPolygon"]
     assert ran(["explain", "--geojson", "points"], store(TEXT))[0] == 2
+
+
+def test_all_lots_that_a_refused_line_overlaps(store, tmp_path):
+    text = """rp 2
+register a box 0.000 0.000 0.000 4.000 4.000 4.000
+register b box 4.000 0.000 0.000 8.000 4.000 4.000
+layer rights
+register way box 0.000 0.000 0.000 8.000 4.000 4.000
+layer base
+register wide box 3.000 0.000 0.000 9.000 4.000 4.000
+register apart box 8.000 0.000 0.000 9.000 4.000 4.000
+register high box 0.000 0.000 3.000 9.000 4.000 5.000
+retire nobody
+"""
+    path = tmp_path / "flats.rp"
+    path.write_text(text)
+    # The right of way is of another layer, and `apart` came after `wide` was refused.
+    assert ran(["explain", str(path), "--all"]) == (1, b"Line 6 (in an editor 7): wide overlaps 2 lots: a and b.\n"
+                                                    b"Line 8 (in an editor 9): high overlaps 3 lots: a, b and apart.\n", "")
