@@ -99,11 +99,17 @@ def add_explain(words: Words) -> None:
                       "alone")
 
 
-def add_meets(words: Words) -> None:
-    made = add(words, "meets", "the live lots of a script that a region meets, what each has of it, and a report that shows that these are all", None)
+def add_on_map(words: Words, word: str, says: str) -> argparse.ArgumentParser:
+    """Adds a `word` that asks questions after a script and may write map coordinates, and returns its parser."""
+    made = add(words, word, says, None)
     add_place(made)
     add_store(made)
     add_asof(made)
+    return made
+
+
+def add_meets(words: Words) -> None:
+    made = add_on_map(words, "meets", "the live lots of a script that a region meets, what each has of it, and a report that shows that these are all")
     made.add_argument("region", metavar="EXPRESSION", help="the region, as an expression of the language: 'box ..', 'name X', 'lot X'")
     made.add_argument("--touch", action="store_true", help="with the lots that touch the region and share no point with it")
     made.add_argument("--layer", action="append", default=[], metavar="NAME", help="of this layer alone; may stand several times")
@@ -112,10 +118,7 @@ def add_meets(words: Words) -> None:
 
 
 def add_rights(words: Words) -> None:
-    made = add(words, "rights", "the live lots of other layers that lie on a lot, as rights of way, and what each has of it", None)
-    add_place(made)
-    add_store(made)
-    add_asof(made)
+    made = add_on_map(words, "rights", "the live lots of other layers that lie on a lot, as rights of way, and what each has of it")
     made.add_argument("lot", metavar="ID", help="the lot")
     made.add_argument("--as", dest="form", choices=list(meets_forms.FORMS), default="table", help="what is written, as with `meets`")
 
@@ -155,6 +158,7 @@ def add_plan(words: Words) -> None:
     made.add_argument("--origin", nargs=2, type=decimal, metavar=("E", "N"), help="the local origin; without it one is chosen: 0 0 if all "
                       "points are near enough, else whole kilometres near the middle")
     made.add_argument("--leave-out", action="store_true", help="leave out the features that cannot be registered, each with a note")
+
 
 def parser(says: str) -> argparse.ArgumentParser:
     """Returns the parser of the command line, whose help begins with what it `says`."""
