@@ -24,4 +24,4 @@ pub use fault::IndexFault;
 pub use index::Index;
 pub use laws::{meeting_ids_are_exact, meeting_ids_rise};
 pub use steps::Steps;
-pub use watch::{Quiet, Watch};
+pub use watch::{Quiet, VisitCount, Watch};

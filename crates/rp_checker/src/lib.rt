@@ -11,4 +11,4 @@ mod lines;
 mod report;
 mod rows;
 
-pub use report::{Found, check_report};
+pub use report::{Found, check_report, check_report_in};

@@ -57,13 +57,21 @@ pub fn check_report(alloc: Global, report: &[u8]) -> Result<Found, AllocError>
     ensures whole { IfOk result (λ found. (script : List ℕ) → length script ≤ most_script_bytes → (told : List (List ℕ)) → IsReport script told → report.now ≡ text_of_lines told → found ≡ Found.Accepted) }
 {
     let mut register = Register::new(alloc);
-    let found = check_lines(alloc, &mut register, report);
+    let found = check_report_in(alloc, &mut register, report);
     drop(register);
     found
 }
 
-/// The finding for `report`, as `check_report` answers it, with `register`, in which nothing is kept yet.
-fn check_lines(alloc: Global, register: &mut Register, report: &[u8]) -> Result<Found, AllocError>
+/// Checks `report` as [`check_report`] does, with `register`, in which nothing is kept yet, and leaves there what the
+/// answers kept.
+///
+/// # Errors
+/// `AllocError` only for want of memory.
+pub fn check_report_in(
+    alloc: Global,
+    register: &mut Register,
+    report: &[u8],
+) -> Result<Found, AllocError>
     requires few { length report.now ≤ most_report_bytes }
     requires empty { register.old ≡ opening }
     ensures found { IfOk result (λ found. found_of found ≡ finding (report_lines report.now)) }

@@ -13,7 +13,7 @@ ghost use Rattle.rp_ledger.specs.Kept.{IsSoundByParts};
 ghost use Rattle.rp_ledger.specs.Taken.{IsTaken};
 
 use crate::replaced::replace;
-use rp_boxindex::Quiet;
+use rp_boxindex::VisitCount;
 use rp_history::History;
 use rp_lists::{Listed, Name};
 use rp_lotindex::{Moment, Reach};
@@ -31,6 +31,8 @@ pub struct Ledger<F: Forms> {
     layer: Name,
     names: NamedForms<F>,
     lots: Lots<F>,
+    // Is told of the nodes of the index that questions visit.
+    visits: VisitCount,
 }
 
 impl<F: Forms> Model for Ledger<F> {
@@ -57,11 +59,32 @@ impl<F: Forms> Ledger<F> {
     pub fn new(alloc: Global) -> Ledger<F>
         ensures { result ≡ opening }
     {
+        Ledger::opened(alloc, VisitCount::uncounted())
+    }
+
+    /// Opens the ledger of `new`, which counts the nodes of the index of lots that its questions visit, so that a test can
+    /// tell a search from a walk over all lots. Takes no memory.
+    pub fn counting(alloc: Global) -> Ledger<F>
+        ensures { result ≡ opening }
+    {
+        Ledger::opened(alloc, VisitCount::counted())
+    }
+
+    /// Opens the ledger of `new`, whose questions tell `visits` of each node that they visit.
+    fn opened(alloc: Global, visits: VisitCount) -> Ledger<F>
+        ensures { result ≡ opening }
+    {
         Ledger {
             layer: base_layer(),
             names: NamedForms::new(alloc),
             lots: Lots::new(alloc),
+            visits,
         }
+    }
+
+    /// Returns how many nodes of the index of lots all questions have visited: 0 for a ledger that does not count.
+    pub fn visits(&self) -> u64 {
+        self.visits.count()
     }
 
     /// Does nothing: what is kept is a sound state, and this makes it known.
@@ -132,7 +155,8 @@ impl<F: Forms> Ledger<F> {
         ensures within { IfOk result (λ places. AreWithin self.now.lots places.items) }
         ensures few { IfOk result (λ places. length places.items ≤ most_kept_parts) }
     {
-        self.lots.near(alloc, &Quiet, form, layer, id, from, reach)
+        self.lots
+            .near(alloc, &self.visits, form, layer, id, from, reach)
     }
 
     /// The first lot of the present layer, of those that are there at `moment`, that has `point`; it is found without a
@@ -140,7 +164,7 @@ impl<F: Forms> Ledger<F> {
     pub fn owner(&self, moment: Moment, point: &Point) -> Option<Name>
         ensures { owner_verdict result ≡ owner_line (lots_of_layer self.now.layer (filter (is_there moment) self.now.lots)) point.now }
     {
-        self.lots.owner(&self.layer, moment, point)
+        self.lots.owner(&self.visits, &self.layer, moment, point)
     }
 
     /// Whether one more name may stand for the form.

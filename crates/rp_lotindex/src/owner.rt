@@ -15,7 +15,7 @@ use crate::boxes::{LotBoxes, place_of};
 use crate::layer::{cube_number, moved_in, past_number};
 use crate::moment::{Moment, is_there};
 use crate::stretch::Stretch;
-use rp_boxindex::{Choice, Index, Quiet, Steps};
+use rp_boxindex::{Choice, Index, Steps, Watch};
 use rp_history::History;
 use rp_lists::Name;
 use rp_space::{IntBox, Point};
@@ -56,9 +56,11 @@ impl<H: Holder> Choice for Owners<'_, H> {
 
 impl LotBoxes {
     /// The id of the first lot of `layer` in `history` that is there at `moment` and has `p`, as `holder` says; it is
-    /// found without a walk over all lots. `None` exactly where there is none. Takes no memory.
-    pub fn owner<H: Holder>(
+    /// found without a walk over all lots. `None` exactly where there is none. Takes no memory. `watch` is told of each
+    /// node that is visited.
+    pub fn owner<W: Watch, H: Holder>(
         &self,
+        watch: &W,
         history: &History,
         layer: &Name,
         moment: Moment,
@@ -76,15 +78,16 @@ impl LotBoxes {
             moment,
             holder,
         };
-        let id = self.first(layer, moment, &unit_box(p), &owners)?;
+        let id = self.first(watch, layer, moment, &unit_box(p), &owners)?;
         let place = place_of(id);
         Some(history.lots()[place].id)
     }
 
     /// The least id that passes a test, of the boxes of lots of a layer that may be there at a moment, and that meet a
     /// box.
-    fn first<C: Choice>(
+    fn first<W: Watch, C: Choice>(
         &self,
+        watch: &W,
         layer: &Name,
         moment: Moment,
         unit: &IntBox,
@@ -93,17 +96,18 @@ impl LotBoxes {
         ensures first { result ≡ first_in (C.passes choice.now) self.now.index (boxes_asked moment layer.now (integer_box unit.now)) None }
         ensures small { IsLine moment }
     {
-        let live = self.first_turned(cube_number(layer) as u64, unit, choice, None);
+        let live = self.first_turned(watch, cube_number(layer) as u64, unit, choice, None);
         match moment {
             Moment::Now => live,
-            Moment::After(line) => self.first_past(layer, line, unit, choice, live),
+            Moment::After(line) => self.first_past(watch, layer, line, unit, choice, live),
         }
     }
 
     /// The lesser of an id and the least one that passes a test, of the boxes of lots of a layer that ended and lived
     /// within a stretch with a line, and that meet a box.
-    fn first_past<C: Choice>(
+    fn first_past<W: Watch, C: Choice>(
         &self,
+        watch: &W,
         layer: &Name,
         line: u32,
         unit: &IntBox,
@@ -117,7 +121,7 @@ impl LotBoxes {
         let mut mark = line / 2;
         for level in 0..32 {
             let cube = past_number(layer, &Stretch { level, mark });
-            first = self.first_turned(cube, unit, choice, first);
+            first = self.first_turned(watch, cube, unit, choice, first);
             mark /= 2;
         }
         first
@@ -125,8 +129,9 @@ impl LotBoxes {
 
     /// The lesser of an id and the least one that passes a test, of the boxes that meet a box in any turn, in the cubes
     /// of a number.
-    fn first_turned<C: Choice>(
+    fn first_turned<W: Watch, C: Choice>(
         &self,
+        watch: &W,
         cube: u64,
         unit: &IntBox,
         choice: &C,
@@ -137,9 +142,9 @@ impl LotBoxes {
         let x = moved_in(Axis::X, cube, unit);
         let y = moved_in(Axis::Y, cube, unit);
         let z = moved_in(Axis::Z, cube, unit);
-        let found = first_that::<_, Brand>(&self.index, &x, choice, Blank::new(1));
-        let beside = first_that::<_, Brand>(&self.index, &y, choice, Blank::new(1));
-        let above = first_that::<_, Brand>(&self.index, &z, choice, Blank::new(1));
+        let found = first_that::<_, _, Brand>(watch, &self.index, &x, choice, Blank::new(1));
+        let beside = first_that::<_, _, Brand>(watch, &self.index, &y, choice, Blank::new(1));
+        let above = first_that::<_, _, Brand>(watch, &self.index, &z, choice, Blank::new(1));
         lesser(lesser(lesser(first, found), beside), above)
     }
 }
@@ -156,7 +161,8 @@ fn lesser(first: Option<u32>, second: Option<u32>) -> Option<u32>
 }
 
 /// The least id that passes a test and whose box meets a box, with a count of its own.
-fn first_that<C: Choice, L: Ledger>(
+fn first_that<W: Watch, C: Choice, L: Ledger>(
+    watch: &W,
     index: &Index,
     bounds: &IntBox,
     choice: &C,
@@ -168,7 +174,7 @@ fn first_that<C: Choice, L: Ledger>(
     ensures { result ≡ first_that (C.passes choice.now) (meeting_ids false (integer_box bounds.now) index.now) }
 {
     let mut steps = Steps::<L>::new(blank);
-    index.first(bounds, false, choice, &Quiet, &mut steps)
+    index.first(bounds, false, choice, watch, &mut steps)
 }
 
 /// The box from the whole numbers at or below the coordinates of a point of the cube to the next ones. Every box that

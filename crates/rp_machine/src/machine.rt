@@ -56,6 +56,22 @@ impl Machine {
         })
     }
 
+    /// The machine for a script of `version`, in its opening state. It counts the nodes of the index of lots that its
+    /// lines visit, so that a test can tell a search from a walk over all lots. Takes no memory.
+    pub fn counting(alloc: Global, version: Version) -> Machine
+        ensures { result ≡ record { version = version_of version; state = opening } }
+    {
+        Machine {
+            version,
+            state: State::counting(alloc),
+        }
+    }
+
+    /// Returns how many nodes of the index of lots all lines have visited: 0 for a machine that does not count.
+    pub fn visits(&self) -> u64 {
+        self.state.ledger().visits()
+    }
+
     /// The form of `region`: its parts, made test by test of `work` in reading order, with the parts kept for names.
     /// The members of the parts are those of the expression, in which each name stands for its region.
     ///

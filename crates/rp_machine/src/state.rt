@@ -47,6 +47,16 @@ impl State {
         }
     }
 
+    /// The opening state, which counts the nodes of the index of lots that its lines visit. Takes no memory.
+    pub(crate) fn counting(alloc: Global) -> State
+        ensures { result ≡ opening }
+    {
+        State {
+            ledger: Ledger::counting(alloc),
+            room: Room::new(),
+        }
+    }
+
     /// Does nothing: what is kept is a sound state, whose names and lots stand for regions, and this makes it known.
     pub(crate) fn keep_sound(&self)
         ensures sound { IsSound (state_of_parts self.now) }

@@ -18,9 +18,8 @@ use crate::answer::answered;
 use crate::child::Child;
 use crate::fault::ParcelFault;
 use crate::parcels::Parcels;
-use crate::visits::Visits;
 use rp_answer::RowEnd;
-use rp_boxindex::Watch;
+use rp_boxindex::{VisitCount, Watch};
 use rp_changes::{consolidate, cut, make_lot};
 use rp_lists::{Listed, Name};
 use rp_lots::Replaced;
@@ -52,7 +51,7 @@ impl Parcels {
         // Only so that it is known that the parts are those of a region.
         let _ = region.parts();
         let mut walked = work.fresh(alloc);
-        let visits = Visits::none();
+        let visits = VisitCount::counted();
         let came = make_lot(alloc, &self.keeper(&visits), layer, id, region, &mut walked);
         visits.tell(watch);
         self.make(alloc, line, walked, came, work)
@@ -83,7 +82,7 @@ impl Parcels {
         let mut walked = work.fresh(alloc);
         let came = cut(
             alloc,
-            &self.keeper(&Visits::none()),
+            &self.keeper(&VisitCount::uncounted()),
             id,
             by,
             first,
@@ -119,7 +118,7 @@ impl Parcels {
         let mut walked = work.fresh(alloc);
         let came = subdivide(
             alloc,
-            &self.keeper(&Visits::none()),
+            &self.keeper(&VisitCount::uncounted()),
             id,
             children,
             &mut walked,
@@ -147,7 +146,13 @@ impl Parcels {
         ensures later { OnOk result (IsLater (line + 1) self.new) }
     {
         let mut walked = work.fresh(alloc);
-        let came = consolidate(alloc, &self.keeper(&Visits::none()), new, ids, &mut walked);
+        let came = consolidate(
+            alloc,
+            &self.keeper(&VisitCount::uncounted()),
+            new,
+            ids,
+            &mut walked,
+        );
         self.make(alloc, line, walked, came, work)
     }
 

@@ -12,7 +12,7 @@ ghost use Rattle.rp_history.specs.Lots.{lots_in};
 ghost use Rattle.rp_lotindex.specs.Near.{others_in, is_near, lots_at, AreWithin};
 
 use crate::parcels::Parcels;
-use crate::visits::Visits;
+use rp_boxindex::VisitCount;
 use rp_history::History;
 use rp_lists::{Listed, Name};
 use rp_lotindex::Reach;
@@ -26,7 +26,7 @@ use std::alloc::{AllocError, Global};
 #[derive(Drop)]
 pub(crate) struct ParcelKeeper<'a> {
     pub parcels: &'a Parcels,
-    pub visits: &'a Visits,
+    pub visits: &'a VisitCount,
 }
 
 impl Keeper<Work> for ParcelKeeper<'_> {

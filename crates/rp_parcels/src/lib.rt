@@ -20,7 +20,6 @@ mod keeper;
 mod parcels;
 mod points;
 mod questions;
-mod visits;
 
 pub use child::Child;
 pub use fault::ParcelFault;

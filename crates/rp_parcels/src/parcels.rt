@@ -12,7 +12,7 @@ ghost use Rattle.rp_parcels.specs.Rows.{Changes};
 
 use crate::fault::ParcelFault;
 use crate::keeper::ParcelKeeper;
-use crate::visits::Visits;
+use rp_boxindex::VisitCount;
 use rp_history::{Birth, History};
 use rp_lists::{Listed, Name};
 use rp_region::Region;
@@ -76,7 +76,7 @@ impl Parcels {
     }
 
     /// The parcels as what keeps lots. `visits` counts the nodes of their index that are visited.
-    pub(crate) fn keeper<'a>(&'a self, visits: &'a Visits) -> ParcelKeeper<'a>
+    pub(crate) fn keeper<'a>(&'a self, visits: &'a VisitCount) -> ParcelKeeper<'a>
         ensures value { result.parcels.now ≡ self.now }
         ensures sound { AreSound self.now }
     {

@@ -7,6 +7,7 @@ ghost use Rattle.rp_parcels.specs.Kept.{AreSound};
 ghost use Rattle.rp_parcels.specs.Points.{IsOnlyOwner};
 
 use crate::parcels::Parcels;
+use rp_boxindex::Quiet;
 use rp_lists::Name;
 use rp_lotindex::Moment;
 use rp_space::Point;
@@ -34,6 +35,6 @@ impl Parcels {
         ensures sound { AreSound self.now }
         ensures row { owner_verdict result ≡ owner_line (lots_of_layer layer.now (filter (is_there moment) self.now)) p.now }
     {
-        self.lots().owner(layer, moment, p)
+        self.lots().owner(&Quiet, layer, moment, p)
     }
 }

@@ -12,8 +12,7 @@ ghost use Rattle.rp_parcels.specs.Rows.{Answers};
 use crate::answer::answered;
 use crate::fault::ParcelFault;
 use crate::parcels::Parcels;
-use crate::visits::Visits;
-use rp_boxindex::Watch;
+use rp_boxindex::{VisitCount, Watch};
 use rp_lists::{Name, Names};
 use rp_region::Work;
 use rp_regionlots::{access, audit, neighbours};
@@ -41,9 +40,10 @@ impl Parcels {
         ensures row { Answers (λ ids. reply_lines (neighbour_lines ids.items)) result work.old work.new (row_neighbours first_tester (lots_in [] self.now) id) }
     {
         let mut walked = work.fresh(alloc);
-        let visits = Visits::none();
+        let visits = VisitCount::counted();
         let keeper = self.keeper(&visits);
         let came = neighbours(rt, alloc, watch, grain, &keeper, id, &mut walked);
+        visits.tell(watch);
         answered(work, walked, came)
     }
 
@@ -68,9 +68,10 @@ impl Parcels {
         ensures row { Answers access_reply result work.old work.new (row_access first_tester (lots_in [] self.now) from to) }
     {
         let mut walked = work.fresh(alloc);
-        let visits = Visits::none();
+        let visits = VisitCount::counted();
         let keeper = self.keeper(&visits);
         let came = access(rt, alloc, watch, grain, &keeper, from, to, &mut walked);
+        visits.tell(watch);
         answered(work, walked, came)
     }
 
@@ -91,9 +92,10 @@ impl Parcels {
         ensures row { Answers (λ n. reply (clear n)) result work.old work.new (row_audit first_tester (lots_in [] self.now)) }
     {
         let mut walked = work.fresh(alloc);
-        let visits = Visits::none();
+        let visits = VisitCount::counted();
         let keeper = self.keeper(&visits);
         let came = audit(rt, alloc, watch, grain, &keeper, &mut walked);
+        visits.tell(watch);
         answered(work, walked, came)
     }
 

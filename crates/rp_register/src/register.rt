@@ -45,6 +45,21 @@ impl Register {
         }
     }
 
+    /// The register of `new`, which counts the nodes of the index of lots that its questions visit, so that a test can
+    /// tell a search from a walk over all lots. Takes no memory.
+    pub fn counting(alloc: Global) -> Register
+        ensures { result ≡ opening }
+    {
+        Register {
+            ledger: Ledger::counting(alloc),
+        }
+    }
+
+    /// Returns how many nodes of the index of lots all questions have visited: 0 for a register that does not count.
+    pub fn visits(&self) -> u64 {
+        self.ledger.visits()
+    }
+
     /// Does nothing: what is kept is a sound state, and this makes it known.
     pub fn keep_sound(&self)
         ensures { IsSoundByParts self.now }

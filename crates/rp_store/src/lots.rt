@@ -133,7 +133,14 @@ impl<F: Forms> Lots<F> {
 
     /// The first lot of `layer`, of those that are there at `moment`, that has `point`; it is found without a walk over
     /// all lots. The box of each part has to hold its members. `None` exactly where there is none. Takes no memory.
-    pub fn owner(&self, layer: &Name, moment: Moment, point: &Point) -> Option<Name>
+    /// `watch` is told of each node that is visited.
+    pub fn owner<W: Watch>(
+        &self,
+        watch: &W,
+        layer: &Name,
+        moment: Moment,
+        point: &Point,
+    ) -> Option<Name>
         requires { BoxesHold self.now }
         ensures { owner_verdict result ≡ owner_line (lots_of_layer layer.now (filter (is_there moment) self.now)) point.now }
     {
@@ -142,7 +149,7 @@ impl<F: Forms> Lots<F> {
             point,
         };
         self.boxes
-            .owner(&self.history, layer, moment, point, &holder)
+            .owner(watch, &self.history, layer, moment, point, &holder)
     }
 
     /// Whether all lots together may keep so many more parts.

@@ -5,8 +5,8 @@ use Rattle.rp_lotindex.specs.Owner.{is_there, BoxesHold}
 use Rattle.rp_lotindex.proofs.Owned.{kept_boxes_hold}
 use Rattle.rp_parcels.proofs.parcels.Parcels.owner.Goals as goal
 
-pub owner-requires : goal.owner-requires
-owner-requires c = subst (λ (ls : List (Lot (Unit {0}))). BoxesHold ls) (sym c.lots.ensures.value) (kept_boxes_hold c.args.self.now c.lots.ensures.sound.lots_keep_parts)
+pub owner-requires-after_bounds : goal.owner-requires-after_bounds
+owner-requires-after_bounds c κs = subst (λ (ls : List (Lot (Unit {0}))). BoxesHold ls) (sym c.lots.ensures.value) (kept_boxes_hold c.args.self.now c.lots.ensures.sound.lots_keep_parts)
 
 pub returns-clause-row : goal.returns-clause-row
 returns-clause-row c = c.owner.ensures ∙ ap (λ (ls : List (Lot (Unit {0}))). owner_line (lots_of_layer c.args.layer.now (filter (is_there c.args.moment) ls)) c.args.p.now) c.lots.ensures.value

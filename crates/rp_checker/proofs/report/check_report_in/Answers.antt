@@ -4,7 +4,7 @@ use Rattle.rp_reports.specs.Output.{report_lines}
 use Rattle.rp_command.specs.Versions.{version_of}
 use Rattle.rp_checker.specs.declared.report.Found.TheVariants.{Accepted, Wrong}
 use Rattle.rp_checker.proofs.Whole.{IsGoing, begins, going_late, seen, goes_on, goes_wrong, ends, found_right, whole_accepted}
-use Rattle.rp_checker.proofs.report.check_lines.Goals as goal
+use Rattle.rp_checker.proofs.report.check_report_in.Goals as goal
 
 pub loop-trail-init : goal.loop-trail-init
 loop-trail-init c =
