@@ -7,3 +7,5 @@
 mod checker;
 #[cfg(test)]
 mod trail;
+#[cfg(test)]
+mod visits;

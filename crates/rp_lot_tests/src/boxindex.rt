@@ -1,11 +1,10 @@
 ghost use Rattle.std.specs.Prelude.{◌≡◌, ◌<◌};
 
-use rp_boxindex::{Choice, Index, IndexFault, Quiet, Steps, Watch};
+use rp_boxindex::{Choice, Index, IndexFault, Quiet, Steps, VisitCount, Watch};
 use rp_space::IntBox;
 use std::alloc::{AllocError, Global};
 use std::marker::Brand;
 use std::process::Abort;
-use std::sync::atomic::{AtomicU64, Ordering};
 use std::sync::ledger::{Blank, Ledger};
 
 /// Shows that a type may be sent to other threads and shared with them.
@@ -34,18 +33,6 @@ fn search<W: Watch, L: Ledger>(
     index.meeting(alloc, bounds, false, watch, &mut steps)
 }
 
-/// Counts the nodes that are visited.
-#[derive(Drop)]
-pub struct Visits(pub AtomicU64);
-
-impl Watch for Visits {
-    fn node(&self) {
-        self.0.fetch_add(1, Ordering::SeqCst);
-    }
-
-    fn item(&self, _i: usize) {}
-}
-
 /// The box from z to z + 1, and from 0 to 1 on the other axes.
 fn storey(z: u16) -> IntBox {
     let z = z as i32;
@@ -71,14 +58,14 @@ fn storeys(rt: &impl Abort, alloc: Global) -> Index {
 fn few_nodes_are_visited_where_all_boxes_meet_on_x(rt: HostRuntime) {
     let alloc = rt.alloc();
     let mut index = storeys(&rt, alloc);
-    let visits = Visits(AtomicU64::new(0));
+    let visits = VisitCount::counted();
     let open = search::<_, Brand>(&index, alloc, &storey(500), &visits, Blank::new(1)).expect(
         &rt,
         "no memory",
     );
     assert_eq!(rt; open.as_slice(), [500].as_slice());
     // At each of the ten levels at most two nodes.
-    assert!(rt; (1..=20).contains(&visits.0.load(Ordering::SeqCst)));
+    assert!(rt; (1..=20).contains(&visits.count()));
     assert!(rt; index.remove(500));
 }
 
@@ -115,11 +102,11 @@ fn first<C: Choice, W: Watch, L: Ledger>(
 #[test]
 fn the_first_id_is_found_by_few_visits(rt: HostRuntime) {
     let index = storeys(&rt, rt.alloc());
-    let visits = Visits(AtomicU64::new(0));
+    let visits = VisitCount::counted();
     assert_eq!(rt;
         first::<_, _, Brand>(&index, &storey(500), &AtLeast(501), &visits, Blank::new(1)),
         Some(501)
     );
     // At each of the ten levels at most four nodes.
-    assert!(rt; (1..=40).contains(&visits.0.load(Ordering::SeqCst)));
+    assert!(rt; (1..=40).contains(&visits.count()));
 }

@@ -101,7 +101,7 @@ impl Holder for Everyone {
 fn is_owned(rt: &impl Abort, history: &History, boxes: &LotBoxes, moment: Moment) -> bool {
     let layer = name(b"land");
     let p = Point::new(39, 1, 1, 2).expect(rt, "no point");
-    let owner = boxes.owner(history, &layer, moment, &p, &Everyone);
+    let owner = boxes.owner(&Quiet, history, &layer, moment, &p, &Everyone);
     owner == Some(name(b"plot"))
 }
 

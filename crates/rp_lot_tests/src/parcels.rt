@@ -3,16 +3,15 @@ ghost use Rattle.rp_geometry.specs.Geometry.{is_box_in_bounds};
 ghost use Rattle.rp_space.specs.Boxes.{integer_box};
 ghost use Rattle.rp_parcels.specs.Register.{IsLater};
 
-use crate::boxindex::Visits;
 use crate::names::name;
-use rp_boxindex::{Quiet, Watch};
+use rp_boxindex::{Quiet, VisitCount, Watch};
 use rp_lists::Name;
 use rp_parcels::{Child, Parcels};
 use rp_region::{Region, Work};
 use rp_space::{Half, IntBox, Point, box_halves};
 use std::alloc::Global;
 use std::process::Abort;
-use std::sync::atomic::{AtomicBool, AtomicU64, Ordering};
+use std::sync::atomic::{AtomicBool, Ordering};
 
 /// The box from 0 0 0 to 10 10 10.
 const PLOT: IntBox = IntBox {
@@ -285,7 +284,7 @@ fn row(rt: &impl Abort, alloc: Global, count: u32) -> Parcels
 fn register_reads_few(rt: HostRuntime) {
     let region = slice(&rt, rt.alloc(), 100);
     let mut parcels = row(&rt, rt.alloc(), 100);
-    let visits = Visits(AtomicU64::new(0));
+    let visits = VisitCount::counted();
     register(
         &rt,
         rt.alloc(),
@@ -295,7 +294,28 @@ fn register_reads_few(rt: HostRuntime) {
         name(b"last"),
         region,
     );
-    assert!(rt; (1..=56).contains(&visits.0.load(Ordering::SeqCst)));
+    assert!(rt; (1..=56).contains(&visits.count()));
+}
+
+#[test]
+fn questions_read_few(rt: HostRuntime) {
+    let alloc = rt.alloc();
+    let parcels = row(&rt, alloc, 100);
+    let mut work = Work::new(alloc);
+    let near = VisitCount::counted();
+    let chain = VisitCount::counted();
+    let all = VisitCount::counted();
+    let found = parcels.neighbours(&rt, alloc, &near, 16, in_row(&rt, 50), &mut work);
+    found.expect(&rt, "no neighbours");
+    let (first, last) = (in_row(&rt, 0), in_row(&rt, 99));
+    let found = parcels.access(&rt, alloc, &chain, 16, first, last, &mut work);
+    found.expect(&rt, "no access");
+    let found = parcels.audit(&rt, alloc, &all, 16, &mut work);
+    found.expect(&rt, "no audit");
+    // A walk over all lots would be 100 nodes a question, of which the last two have 100.
+    assert!(rt; (1..=56).contains(&near.count()));
+    assert!(rt; (100..=5600).contains(&chain.count()));
+    assert!(rt; (100..=5600).contains(&all.count()));
 }
 
 /// Three plots in a row, of which the first is in the middle.

@@ -1,12 +1,10 @@
 ghost use Rattle.std.specs.Prelude.{◌≡◌, ◌<◌};
 
-use crate::boxindex::Visits;
-use rp_boxindex::{Index, IndexFault, Steps};
+use rp_boxindex::{Index, IndexFault, Steps, VisitCount};
 use rp_space::IntBox;
 use std::alloc::{AllocError, Global};
 use std::marker::Brand;
 use std::process::Abort;
-use std::sync::atomic::{AtomicU64, Ordering};
 use std::sync::ledger::{Blank, Ledger};
 
 /// Returns the box from `x` to `x` + 1, and from 0 to 1 on the other axes.
@@ -35,7 +33,7 @@ fn search<L: Ledger>(
     alloc: Global,
     bounds: &IntBox,
     closed: bool,
-    visits: &Visits,
+    visits: &VisitCount,
     blank: Blank,
 ) -> Result<Vec<u32>, AllocError>
     requires name { blank.name ≡ L.name }
@@ -54,9 +52,9 @@ fn meeting_ids(
     x: u16,
     closed: bool,
 ) -> (Vec<u32>, u64) {
-    let visits = Visits(AtomicU64::new(0));
+    let visits = VisitCount::counted();
     let ids = search::<Brand>(index, alloc, &slice(x), closed, &visits, Blank::new(1));
-    (ids.expect(rt, "no memory"), visits.0.load(Ordering::SeqCst))
+    (ids.expect(rt, "no memory"), visits.count())
 }
 
 #[test]

@@ -5,3 +5,5 @@
 
 #[cfg(test)]
 mod machine;
+#[cfg(test)]
+mod visits;
