@@ -156,6 +156,39 @@ def one_place_owners(count):
     return one_place(count) + [line for number in range(count) for line in (f"layer q{number}", "at 4 4 4 1")]
 
 
+def polynomial(word, number=0):
+    """The polynomial of the bytes of a word in 131, modulo 2^18."""
+    for byte in word.encode():
+        number = (number * 131 + byte) % 262_144
+    return number
+
+
+def names_alike(count):
+    """So many names of eight letters with one polynomial, as a stranger may choose names of layers."""
+    words = ["".join(letters) for letters in itertools.product("abcdefghijklmnopqrstuvwxyz", repeat=4)]
+    ends = {polynomial(word): word for word in words}
+    found = (front + ends[-(polynomial(front) * 131**4) % 262_144] for front in words if -(polynomial(front) * 131**4) % 262_144 in ends)
+    return list(itertools.islice(found, count))
+
+
+def one_place_alike(count):
+    """The same box in each of so many layers with names that are alike, and whose a point of it is, in as many layers."""
+    layers = names_alike(count)
+    lots = [line for number, layer in enumerate(layers) for line in (f"layer {layer}", f"register p{number} {regions.box((0, 0, 0), (9, 9, 9))}")]
+    return lots + [line for layer in layers for line in (f"layer {layer}", "at 4 4 4 1")]
+
+
+def one_place_alike_then(count):
+    """The same, but each lot is retired before the next is registered, and whose the point was is asked as of the line that registered it."""
+    layers = names_alike(count)
+    lots = [
+        line
+        for number, layer in enumerate(layers)
+        for line in (f"layer {layer}", f"register p{number} {regions.box((0, 0, 0), (9, 9, 9))}", f"retire p{number}")
+    ]
+    return lots + [line for number, layer in enumerate(layers) for line in (f"layer {layer}", f"asof {3 * number + 2} 4 4 4 1")]
+
+
 def generations(count):
     """So many lots that one place has, one after the other: it is cut in two and joined again, over and over."""
     lines = [f"register p0 {regions.box((0, 0, 0), (10, 10, 10))}"]
