@@ -118,7 +118,7 @@ impl Tree {
         }
     }
 
-    /// VisitCount the node at the root. This is the one call that shows a node outside this module.
+    /// Visits the node at the root. This is the one call that shows a node outside this module.
     pub(crate) fn visit<W: Watch, L: Ledger>(&self, watch: &W, steps: &mut Steps<L>) -> Visit<'_>
         requires nonempty { 0 < length self.now.entries }
         ensures step { steps.new ≡ steps.old + 1 }

@@ -49,7 +49,10 @@ fn expect_few<R: Abort + Threads + Sync>(
     let longer = format!(in alloc; "{script}{line}\n").expect(rt, "no memory");
     let before = visits_of(rt, alloc, script.as_bytes());
     let visits = visits_of(rt, alloc, longer.as_bytes()).saturating_sub(before);
-    assert!(rt; (1..=MOST.saturating_mul(questions)).contains(&visits), "{visits} nodes on {line:?}");
+    assert!(rt;
+        (1..=MOST.saturating_mul(questions)).contains(&visits),
+        "{visits} nodes on {line:?}"
+    );
 }
 
 #[test]
@@ -66,5 +69,38 @@ fn the_check_searches_the_index_of_lots(rt: HostRuntime) {
     ];
     for (line, questions) in lines {
         expect_few(&rt, alloc, script.as_str(), line, questions);
+    }
+}
+
+/// Names of layers whose bytes are one number modulo 2^18, as digits to the base 131: a table by such a number would have
+/// their lots in one place.
+const ALIKE: [&str; 12] = [
+    "aaaaxciz", "aaabvnpg", "aaaclsuh", "aaadbxzi", "aaafuleq", "aaagypsf", "aaahouxg", "aaajgbll",
+    "aaakxnhp", "aaaltlty", "aaamjqyz", "aaannfcb",
+];
+
+/// Returns a script that registers the same box in each of the layers with names that are alike.
+fn one_place(rt: &impl Abort, alloc: Global) -> String {
+    let mut script = String::new(alloc);
+    for layer in ALIKE {
+        write!(
+            script,
+            "layer {layer}\nregister in-{layer} box 0 0 0 9 9 9\n"
+        )
+        .expect(rt, "no memory");
+    }
+    script
+}
+
+#[test]
+fn a_layer_visits_no_lot_of_another(rt: HostRuntime) {
+    let alloc = rt.alloc();
+    let script = one_place(&rt, alloc);
+    for line in ["at 4 4 4 1", "register beside box 9 0 0 18 9 9"] {
+        let longer = format!(in alloc; "{script}{line}\n").expect(&rt, "no memory");
+        let before = visits_of(&rt, alloc, script.as_bytes());
+        let visits = visits_of(&rt, alloc, longer.as_bytes()).saturating_sub(before);
+        // One lot is in the last layer, and each of three turns visits it at most.
+        assert!(rt; (1..=3).contains(&visits), "{visits} nodes on {line:?}");
     }
 }

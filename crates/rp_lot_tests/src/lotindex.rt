@@ -1,12 +1,13 @@
-ghost use Rattle.std.specs.Prelude.{◌≡◌, map, length, true};
+ghost use Rattle.std.specs.Prelude.{◌≡◌, ◌≤◌, map, length, true};
 ghost use Rattle.rp_space.specs.Boxes.{integer_box};
-ghost use Rattle.rp_lotindex.specs.Indexed.{NoneBehind};
+ghost use Rattle.rp_lotindex.specs.Indexed.{index_of, AreFree};
 
 use crate::history::with_plot;
 use crate::names::name;
 use rp_boxindex::Quiet;
-use rp_history::History;
-use rp_lotindex::{Bounded, Holder, LotBoxes, Moment, Reach, moved};
+use rp_history::{Birth, History};
+use rp_lists::{Name, Names};
+use rp_lotindex::{Bounded, Holder, LotBoxes, Moment, Reach};
 use rp_rows::Access;
 use rp_space::{IntBox, Point};
 use std::alloc::Global;
@@ -48,7 +49,7 @@ fn plot() -> Boxes {
 
 /// The boxes of one lot of the layer `land` with these parts.
 fn boxes_of_plot(rt: &impl Abort, alloc: Global) -> LotBoxes
-    ensures { NoneBehind result.index 1 }
+    ensures { AreFree (index_of result) 1 }
 {
     let mut boxes = LotBoxes::new(alloc);
     boxes
@@ -59,7 +60,7 @@ fn boxes_of_plot(rt: &impl Abort, alloc: Global) -> LotBoxes
 
 /// How many lots of the layer `land` touch the boxes from `x` on and from 1,000 on.
 fn count_near(rt: &impl Abort, alloc: Global, history: &History, boxes: &LotBoxes, x: i16) -> usize
-    requires { NoneBehind boxes.now.index (length history.now) }
+    requires { AreFree (index_of boxes.now) (length history.now) }
 {
     let (layer, id) = (name(b"land"), name(b"other"));
     let form = Boxes {
@@ -77,13 +78,6 @@ fn lots_are_found_by_the_boxes_of_their_parts(rt: HostRuntime) {
     assert_eq!(rt; beside, 1);
     let between = count_near(&rt, rt.alloc(), &history, &boxes, -200);
     assert_eq!(rt; between, 0);
-}
-
-#[test]
-fn boxes_of_two_layers_do_not_touch(rt: HostRuntime) {
-    let plot = moved(&name(b"land"), &bounds(0));
-    assert!(rt; plot.meets(&moved(&name(b"land"), &bounds(9))));
-    assert!(rt; !plot.meets_closed(&moved(&name(b"air"), &bounds(0))));
 }
 
 /// Every lot has the point.
@@ -127,7 +121,12 @@ fn boxes_behind_a_place_are_taken_out(rt: HostRuntime) {
     let alloc = rt.alloc();
     let history = with_plot(&rt, alloc);
     let mut boxes = boxes_of_plot(&rt, alloc);
-    boxes.remove_all(0, 1);
+    let birth = Birth {
+        id: name(b"plot"),
+        layer: name(b"land"),
+        origins: Names::new(alloc),
+    };
+    boxes.remove_all(0, &[birth]);
     let near = count_near(&rt, alloc, &history, &boxes, 20);
     assert_eq!(rt; near, 0);
 }

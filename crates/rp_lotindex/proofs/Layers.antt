@@ -1,106 +1,79 @@
--- What meets before boxes are turned and moved into a cube meets after it.
-use Rattle.std.proofs.Common.{◌≡◌, ℕ, ◌<◌, ◌≤◌, ◌/◌, ◌%◌, ℤ, pos, negsuc, ◌+ℤ◌, ◌+◌, unsigned_abs, Bool, true, false, ◌&&◌, cond, refl, arith}
-use Rattle.std.specs.Prelude.{int_le, int_lt}
-use Rattle.std.proofs.lemmas.Int.{ints}
-use Rattle.rp_algebra.specs.Within.{IsWithin}
-use Rattle.rp_algebra.proofs.Listed.{Listed, first, later}
-use Rattle.rp_algebra.proofs.Tests.{both_follow, and_first, and_second}
+-- The indexes of layers, as boxes are put into one of them or taken out.
+use Rattle.std.proofs.Common.{◌≡◌, ◌≢◌, ℕ, ◌+◌, ◌/◌, ◌%◌, Bool, true, false, cond, List, [], ◌∷◌, ◌++◌, ⊎_elim, length, Option, Some, None, is_some, slice_get, refl, sym, ap, ◌∙◌, subst, arith}
+use Rattle.std.specs.Prelude.{unwrap_or}
+use Rattle.std.specs.FinMap.{empty}
+use Rattle.std.specs.Map.{lookup}
+use Rattle.std.proofs.lemmas.Option.{slice_get_past}
+use Rattle.rp_algebra.proofs.Numbers.{same_or_not}
 use Rattle.rp_geometry.specs.Geometry.{IntegerBox}
-use Rattle.rp_boxindex.specs.Meeting.{is_below, do_meet}
-use Rattle.rp_lotindex.specs.declared.axis.Axis.{Axis}
-use Rattle.rp_lotindex.specs.declared.axis.Axis.TheVariants.{X, Y, Z}
-use Rattle.rp_lotindex.specs.Turns.{turned}
-use Rattle.rp_lotindex.specs.Layers.{step_of, is_near_domain, moved_low, moved_high, moved_by, moved_to, turn_number, moved_in, in_turns}
+use Rattle.rp_language.specs.Name.{Label, label_eq}
+use Rattle.rp_states.proofs.Labels.{label_is, label_itself}
+use Rattle.rp_boxindex.specs.Boxes.{Boxes}
+use Rattle.rp_boxindex.proofs.Known.{none_of}
+use Rattle.rp_lotindex.specs.declared.boxes.LotBoxes.{LotBoxes}
+use Rattle.rp_lotindex.specs.Indexed.{box_at, index_of, is_layer, OthersStay, IsTakenOut, IsSettled, AreRemoved}
+use Rattle.rp_lotindex.proofs.Put.{last_at, last_apart}
 
--- ---- one side below another
+-- ---- the table of layers
 
--- both are moved
-both_moved : (c : Bool) (t a b : ℤ) → is_below c a b ≡ true → is_below c (t +ℤ a) (t +ℤ b) ≡ true
-both_moved true t a b h = grind (arith, ints)
-both_moved false t a b h = grind (arith, ints)
+module _ (old new : LotBoxes) (y : Label) (w : Boxes) (h : (x : Label) → lookup (label_eq x) new.layers.entries ≡ cond (label_eq y x) (Some w) (lookup (label_eq x) old.layers.entries)) where
+  -- the layer has the index that was written
+  pub written_here : index_of new y ≡ w
+  written_here = ap (λ (o : Option Boxes). unwrap_or o empty) (h y ∙ ap (λ (b : Bool). cond b (Some w) (lookup (label_eq y) old.layers.entries)) (label_itself y))
 
--- a moved side is above the least number and below the greatest
-above_least : (c : Bool) (t v : ℤ) → unsigned_abs t ≤ 2113929216 → int_le (negsuc 16777216) v ≡ true → is_below c (negsuc 2147483647) (t +ℤ v) ≡ true
-above_least true t v small low = grind (arith, ints)
-above_least false t v small low = grind (arith, ints)
+  -- each other one has what it had
+  pub written_others : OthersStay y (index_of old) (index_of new)
+  written_others x other = ap (λ (o : Option Boxes). unwrap_or o empty) (h x ∙ ap (λ (b : Bool). cond b (Some w) (lookup (label_eq x) old.layers.entries)) other)
 
-below_greatest : (c : Bool) (t v : ℤ) → unsigned_abs t ≤ 2113929216 → int_le v (pos 16777217) ≡ true → is_below c (t +ℤ v) (pos 2147483647) ≡ true
-below_greatest true t v small high = grind (arith, ints)
-below_greatest false t v small high = grind (arith, ints)
+-- an index with no boxes, for a layer that has none, changes no boxes
+pub opened : (old new : LotBoxes) (y : Label) → lookup (label_eq y) old.layers.entries ≡ None → ((x : Label) → lookup (label_eq x) new.layers.entries ≡ cond (label_eq y x) (Some empty) (lookup (label_eq x) old.layers.entries)) → (x : Label) → index_of new x ≡ index_of old x
+opened old new y none h x = by (label_eq y x) refl
+  where
+    by : (b : Bool) → label_eq y x ≡ b → index_of new x ≡ index_of old x
+    by true e =
+        subst (λ (z : Label). index_of new z ≡ index_of old z) (label_is y x e)
+        (written_here old new y empty h ∙ sym (ap (λ (o : Option Boxes). unwrap_or o empty) none))
+    by false e = written_others old new y empty h x e
 
-least_below : (c : Bool) → is_below c (negsuc 2147483647) (pos 2147483647) ≡ true
-least_below true = refl
-least_below false = refl
+-- ---- boxes of lots that end
 
-sides_by : (c : Bool) (t a b : ℤ) → unsigned_abs t ≤ 2113929216 → is_below c a b ≡ true → (p : Bool) → is_near_domain a ≡ p → (q : Bool) → is_near_domain b ≡ q → is_below c (cond p (t +ℤ a) (negsuc 2147483647)) (cond q (t +ℤ b) (pos 2147483647)) ≡ true
-sides_by c t a b small h true e true f = both_moved c t a b h
-sides_by c t a b small h true e false f = below_greatest c t a small (and_second (int_le (negsuc 16777216) a) (int_le a (pos 16777217)) e)
-sides_by c t a b small h false e true f = above_least c t b small (and_first (int_le (negsuc 16777216) b) (int_le b (pos 16777217)) f)
-sides_by c t a b small h false e false f = least_below c
+-- where a place has no boxes it still has none
+pub settled_apart : (old new : Boxes) (p : ℕ) → new ≡ old → IsSettled old new p []
+settled_apart old new p stays = record {
+  here = λ id own same. ap (λ (m : Boxes). box_at m id) stays ∙ none_of (box_at old id) same;
+  rest = λ id other. ap (λ (m : Boxes). box_at m id) stays;
+}
 
--- a lower side below an upper one stays so
-moved_below : (c : Bool) (t a b : ℤ) → IsWithin 2113929216 t → is_below c a b ≡ true → is_below c (moved_low t a) (moved_high t b) ≡ true
-moved_below c t a b small h = sides_by c t a b small.abs_le h (is_near_domain a) refl (is_near_domain b) refl
+-- ---- lots taken out, one after the other
 
--- ---- boxes
+-- at first none
+pub removed_first : (m : Label → Boxes) (first : ℕ) → AreRemoved m m first []
+removed_first m first = record { gone = λ y id k at e. absurd (cc); kept = λ y id k at e. refl; rest = λ y id f. refl }
 
-moved_by_meet : (closed : Bool) (x y z : ℤ) → IsWithin 2113929216 x → IsWithin 2113929216 y → IsWithin 2113929216 z → (b c : IntegerBox) → do_meet closed b c ≡ true → do_meet closed (moved_by x y z b) (moved_by x y z c) ≡ true
-moved_by_meet false x y z sx sy sz b c =
-    both_follow _ _ _ _ (both_follow _ _ _ _ (both_follow _ _ _ _ (both_follow _ _ _ _ (both_follow _ _ _ _
-    (moved_below false x b.x1 c.x2 sx) (moved_below false x c.x1 b.x2 sx))
-    (moved_below false y b.y1 c.y2 sy)) (moved_below false y c.y1 b.y2 sy))
-    (moved_below false z b.z1 c.z2 sz)) (moved_below false z c.z1 b.z2 sz)
-moved_by_meet true x y z sx sy sz b c =
-    both_follow _ _ _ _ (both_follow _ _ _ _ (both_follow _ _ _ _ (both_follow _ _ _ _ (both_follow _ _ _ _
-    (moved_below true x b.x1 c.x2 sx) (moved_below true x c.x1 b.x2 sx))
-    (moved_below true y b.y1 c.y2 sy)) (moved_below true y c.y1 b.y2 sy))
-    (moved_below true z b.z1 c.z2 sz)) (moved_below true z c.z1 b.z2 sz)
+-- one more
+pub removed_next : (old m new : Label → Boxes) (first place : ℕ) (xs : List Label) (x : Label) → AreRemoved old m first xs → place ≡ first + length xs → IsTakenOut (m x) (new x) place → OthersStay x m new → AreRemoved old new first (xs ++ x ∷ [])
+removed_next old m new first place xs x h at taken others = record {
+  gone = λ y id k own e. ⊎_elim
+      (λ same. here y id (omega (arith, own, at, same)) (sym (ap (λ (o : Option Label). is_layer o y) (last_at xs x k same)) ∙ e))
+      (λ other. apart y id (λ f. other (omega (arith, own, at, f))) ∙ h.gone y id k own (sym (ap (λ (o : Option Label). is_layer o y) (last_apart xs x k other)) ∙ e))
+      (same_or_not k (length xs));
+  kept = λ y id k own e. ⊎_elim
+      (λ same.
+      ap (λ (b : Boxes). box_at b id) (others y (sym (ap (λ (o : Option Label). is_layer o y) (last_at xs x k same)) ∙ e))
+      ∙ h.kept y id k own (ap (λ (o : Option Label). is_layer o y) (slice_get_past xs k (omega (arith, same)))))
+      (λ other. apart y id (λ f. other (omega (arith, own, at, f))) ∙ h.kept y id k own (sym (ap (λ (o : Option Label). is_layer o y) (last_apart xs x k other)) ∙ e))
+      (same_or_not k (length xs));
+  rest = λ y id f. apart y id (λ e. absurd (omega (arith, f, e, at))) ∙ h.rest y id f;
+}
+  where
+    -- the place has no box in the layer
+    here : (y : Label) (id : ℕ) → id / 16 ≡ place → label_eq x y ≡ true → box_at (new y) id ≡ None
+    here y id own e = subst (λ (z : Label). box_at (new z) id ≡ None) (label_is x y e) (taken.gone id own)
 
--- a cube is not moved too far
-pub step_within : (n : ℕ) → n < 64 → IsWithin 2113929216 (step_of n)
-step_within n h = record { abs_le = omega (arith, ints) }
-
--- what meets does so in the cube of a number
-moved_to_meet : (closed : Bool) (n : ℕ) (b c : IntegerBox) → do_meet closed b c ≡ true → do_meet closed (moved_to n b) (moved_to n c) ≡ true
-unfolding moved_to
-moved_to_meet closed n b c h =
-    moved_by_meet closed (step_of (n % 64)) (step_of (n / 64 % 64)) (step_of (n / 4096 % 64))
-    (step_within (n % 64) (omega arith)) (step_within (n / 64 % 64) (omega arith)) (step_within (n / 4096 % 64) (omega arith)) b c h
-
--- ---- boxes that are turned
-
--- six tests pass in another order, as the second axis comes first
-second_first : (a b c d e f : Bool) → (((((a && b) && c) && d) && e) && f) ≡ true → (((((c && d) && a) && b) && e) && f) ≡ true
-second_first true true true true e f h = h
-second_first true true true false e f h = h
-second_first true true false d e f h = h
-second_first true false c d e f h = absurd (cc)
-second_first false b c d e f h = absurd (cc)
-
--- or the third one
-third_first : (a b c d e f : Bool) → (((((a && b) && c) && d) && e) && f) ≡ true → (((((e && f) && c) && d) && a) && b) ≡ true
-third_first true true true true true true h = refl
-third_first true true true true true false h = h
-third_first true true true true false f h = h
-third_first true true true false e f h = absurd (cc)
-third_first true true false d e f h = absurd (cc)
-third_first true false c d e f h = absurd (cc)
-third_first false b c d e f h = absurd (cc)
-
--- what meets does so in each turn
-turned_meet : (closed : Bool) (a : Axis) (b c : IntegerBox) → do_meet closed b c ≡ true → do_meet closed (turned a b) (turned a c) ≡ true
-turned_meet closed X b c h = h
-turned_meet false Y b c h = second_first (int_lt b.x1 c.x2) (int_lt c.x1 b.x2) (int_lt b.y1 c.y2) (int_lt c.y1 b.y2) (int_lt b.z1 c.z2) (int_lt c.z1 b.z2) h
-turned_meet true Y b c h = second_first (int_le b.x1 c.x2) (int_le c.x1 b.x2) (int_le b.y1 c.y2) (int_le c.y1 b.y2) (int_le b.z1 c.z2) (int_le c.z1 b.z2) h
-turned_meet false Z b c h = third_first (int_lt b.x1 c.x2) (int_lt c.x1 b.x2) (int_lt b.y1 c.y2) (int_lt c.y1 b.y2) (int_lt b.z1 c.z2) (int_lt c.z1 b.z2) h
-turned_meet true Z b c h = third_first (int_le b.x1 c.x2) (int_le c.x1 b.x2) (int_le b.y1 c.y2) (int_le c.y1 b.y2) (int_le b.z1 c.z2) (int_le c.z1 b.z2) h
-
--- and in the cube for it
-pub moved_in_meet : (closed : Bool) (a : Axis) (n : ℕ) (b c : IntegerBox) → do_meet closed b c ≡ true → do_meet closed (moved_in a n b) (moved_in a n c) ≡ true
-moved_in_meet closed a n b c h = moved_to_meet closed (n % 262144 + turn_number a) (turned a b) (turned a c) (turned_meet closed a b c h)
-
--- a box in one turn is one of those in each
-pub turn_listed : (a : Axis) (n : ℕ) (b : IntegerBox) → Listed (moved_in a n b) (in_turns n b)
-turn_listed X n b = first
-turn_listed Y n b = later first
-turn_listed Z n b = later (later first)
+    -- other places have what they had
+    apart : (y : Label) (id : ℕ) → id / 16 ≢ place → box_at (new y) id ≡ box_at (m y) id
+    apart y id other = by (label_eq x y) refl
+      where
+        by : (b : Bool) → label_eq x y ≡ b → box_at (new y) id ≡ box_at (m y) id
+        by true e = subst (λ (z : Label). box_at (new z) id ≡ box_at (m z) id) (label_is x y e) (taken.rest id other)
+        by false e = ap (λ (b : Boxes). box_at b id) (others y e)

@@ -1,9 +1,10 @@
 pub mod Places
 pub mod Put
+pub mod Layers
 pub mod Settled
 pub mod Boxed
 pub mod Hulls
-pub mod Layers
+pub mod Cubes
 pub mod Stretches
 pub mod Reached
 pub mod Passed

@@ -1,6 +1,7 @@
 -- Whose a point is: it is found among the lots of which a box has the point.
 use Rattle.std.proofs.Common.{◌≡◌, ℕ, zero, suc, ◌/◌, ◌<◌, ◌≤◌, Bool, true, false, ◌&&◌, cond, List, [], ◌∷◌, ◌⊎◌, inl, inr, ⊎_elim, map, filter, length, Option, Some, None, slice_get, refl, sym, ap, ◌∙◌, subst, arith}
 use Rattle.std.specs.Prelude.{option_map, is_none, nat_le, nat_lt}
+use Rattle.std.specs.FinMap.{empty}
 use Rattle.std.specs.List.{AllByRecursion, list_any}
 use Rattle.std.specs.List.Sorted.{IsStrictlySortedBy}
 use Rattle.std.specs.Ordering.{nat_cmp}
@@ -20,7 +21,6 @@ use Rattle.rp_language.specs.Name.{Label, label_eq}
 use Rattle.rp_model.specs.states.State.{Lot, ends_later, lots_of_layer, bare_lot, lot_of_parts}
 use Rattle.rp_model.specs.commands.Verdict.{Verdict}
 use Rattle.rp_model.specs.commands.Row.{is_in_parts, owner_line}
-use Rattle.rp_states.proofs.Labels.{label_is}
 use Rattle.rp_states.proofs.Listing.{all_unmapped}
 use Rattle.rp_boxindex.specs.Boxes.{Boxes}
 use Rattle.rp_boxindex.specs.Meeting.{do_meet, meeting_ids, first_that}
@@ -29,12 +29,12 @@ use Rattle.rp_lotindex.specs.declared.moment.Moment.{Moment}
 use Rattle.rp_lotindex.specs.declared.moment.Moment.TheVariants.{Now, After}
 use Rattle.rp_lotindex.specs.Indexed.{boxes_of_parts, box_at, box_by, IsIndexOf}
 use Rattle.rp_lotindex.specs.Turns.{axis_of}
-use Rattle.rp_lotindex.specs.Layers.{cube_number, past_number, moved, moved_in, moved_past, in_turns}
+use Rattle.rp_lotindex.specs.Cubes.{live_number, past_number, moved, moved_in, moved_past, in_turns}
 use Rattle.rp_lotindex.specs.Stretches.{stretch_of, stretches_with}
 use Rattle.rp_lotindex.specs.Owner.{is_there, is_there_at, boxes_past, boxes_asked, lesser_of, first_in, owner_verdict, IsLine, KnowsOwners, BoxesHold, IsOwner}
 use Rattle.rp_lotindex.proofs.Hulls.{listed_image, part_boxed, wider_meet}
-use Rattle.rp_lotindex.proofs.Layers.{moved_in_meet, turn_listed}
-use Rattle.rp_lotindex.proofs.Boxed.{lot_box}
+use Rattle.rp_lotindex.proofs.Cubes.{moved_in_meet, turn_listed}
+use Rattle.rp_lotindex.proofs.Boxed.{none_meet, lot_box}
 use Rattle.rp_lotindex.proofs.Stretches.{stretch_listed, past_listed}
 use Rattle.rp_lotindex.proofs.Reached.{box_reached}
 
@@ -165,6 +165,11 @@ module _ (test : ℕ → Bool) (boxes : Boxes) where
       each : (i : ℕ) → lesser_of o (first_that test (meeting_ids false b boxes)) ≡ Some i → test i ≡ true
       each i f = ⊎_elim (h i) (λ g. (first_is test (meeting_ids false b boxes) (meeting_ids_rise_spec false b boxes) i g).passes) (lesser_one o (first_that test (meeting_ids false b boxes)) i f)
 
+-- where there are no boxes, nothing is found
+pub first_in_none : (test : ℕ → Bool) (bs : List IntegerBox) → None ≡ first_in test empty bs None
+first_in_none test [] = refl
+first_in_none test (b ∷ bs) = first_in_none test bs ∙ ap (λ (ids : List ℕ). first_in test empty bs (lesser_of None (first_that test ids))) (sym (none_meet false b))
+
 -- ---- the owner among lots
 
 module _ (test : Lot (Unit {0}) → Bool) (y : Label) (p : RationalPoint) where
@@ -220,36 +225,36 @@ outside_parts [] p e = refl
 outside_parts (q ∷ ps) p e = false_unless (is_in_parts (q ∷ ps) p) (λ t. let o = some_passes (λ (r : Part). is_in_cell r.cell p) (q ∷ ps) t in false_not_true (is_cube_point p) (and_first (is_cube_point p) (all_hold o.0.cell p) o.2) e)
 
 -- where a box of a lot stands, by its end
-abbrev box_until : Label → ℕ → IntegerBox → Option ℕ → IntegerBox
-box_until y born b o = elim o [ None ↦ moved y b | Some t ↦ moved_past y (stretch_of born t) b ]
+abbrev box_until : ℕ → IntegerBox → Option ℕ → IntegerBox
+box_until born b o = elim o [ None ↦ moved b | Some t ↦ moved_past (stretch_of born t) b ]
 
 -- a box that is asked about meets that of a lot that is there at the moment
-record IsAsked (m : Moment) (y : Label) (unit hull : IntegerBox) (born : ℕ) (o : Option ℕ) : Type 0 where
+record IsAsked (m : Moment) (unit hull : IntegerBox) (born : ℕ) (o : Option ℕ) : Type 0 where
   box : IntegerBox
-  listed : Listed box (boxes_asked m y unit)
-  meets : do_meet false box (box_until y born hull o) ≡ true
+  listed : Listed box (boxes_asked m unit)
+  meets : do_meet false box (box_until born hull o) ≡ true
 
-asked : (m : Moment) (y : Label) (unit hull : IntegerBox) (l : Lot (Unit {0})) → IsLine m → do_meet false unit hull ≡ true → is_there m l ≡ true → (o : Option ℕ) → l.ended ≡ o → IsAsked m y unit hull l.born o
-asked Now y unit hull l line h e None f =
+asked : (m : Moment) (unit hull : IntegerBox) (l : Lot (Unit {0})) → IsLine m → do_meet false unit hull ≡ true → is_there m l ≡ true → (o : Option ℕ) → l.ended ≡ o → IsAsked m unit hull l.born o
+asked Now unit hull l line h e None f =
     let axis = axis_of hull in
-    record { box = moved_in axis (cube_number y) unit; listed = turn_listed axis (cube_number y) unit; meets = moved_in_meet false axis (cube_number y) unit hull h }
-asked Now y unit hull l line h e (Some t) f = absurd (let g : is_none (Some t) ≡ true = sym (ap (λ (o : Option ℕ). is_none o) f) ∙ e in cc (g))
-asked (After n) y unit hull l line h e None f =
+    record { box = moved_in axis live_number unit; listed = turn_listed axis live_number unit; meets = moved_in_meet false axis live_number unit hull h }
+asked Now unit hull l line h e (Some t) f = absurd (let g : is_none (Some t) ≡ true = sym (ap (λ (o : Option ℕ). is_none o) f) ∙ e in cc (g))
+asked (After n) unit hull l line h e None f =
     let axis = axis_of hull in
-    let box = moved_in axis (cube_number y) unit in
-    record { box = box; listed = listed_left box (in_turns (cube_number y) unit) (boxes_past y unit (stretches_with n)) (turn_listed axis (cube_number y) unit); meets = moved_in_meet false axis (cube_number y) unit hull h }
-asked (After n) y unit hull l line h e (Some t) f =
+    let box = moved_in axis live_number unit in
+    record { box = box; listed = listed_left box (in_turns live_number unit) (boxes_past unit (stretches_with n)) (turn_listed axis live_number unit); meets = moved_in_meet false axis live_number unit hull h }
+asked (After n) unit hull l line h e (Some t) f =
     let s = stretch_of l.born t in
     let low : l.born ≤ n = leb-true l.born n (and_first (nat_le l.born n) (ends_later n l.ended) e) in
     let later_end : nat_lt n t ≡ true = sym (ap (λ (o : Option ℕ). ends_later n o) f) ∙ and_second (nat_le l.born n) (ends_later n l.ended) e in
     let high : n < t = grind (arith, nat_tests) in
     let axis = axis_of hull in
-    let box = moved_in axis (past_number y s) unit in
+    let box = moved_in axis (past_number s) unit in
     let stretch = stretch_listed 31 0 (l.born / 2) (n / 2) (t / 2) (omega (arith, low)) (omega (arith, high)) (omega (arith, line)) in
     record {
       box = box;
-      listed = listed_right box (in_turns (cube_number y) unit) (boxes_past y unit (stretches_with n)) (past_listed y unit s (stretches_with n) stretch box (turn_listed axis (past_number y s) unit));
-      meets = moved_in_meet false axis (past_number y s) unit hull h;
+      listed = listed_right box (in_turns live_number unit) (boxes_past unit (stretches_with n)) (past_listed unit s (stretches_with n) stretch box (turn_listed axis (past_number s) unit));
+      meets = moved_in_meet false axis (past_number s) unit hull h;
     }
 
 -- a lot is there without its parts as with them
@@ -257,7 +262,7 @@ there_bare : (m : Moment) (l : Lot (Unit {0})) → is_there m (bare_lot l) ≡ i
 there_bare Now l = refl
 there_bare (After n) l = refl
 
-module _ (has : ℕ → Bool) (y : Label) (m : Moment) (p : RationalPoint) (history : List (Lot (Unit {0}))) (boxes : Boxes) where
+module _ (has : ℕ → Bool) (y : Label) (m : Moment) (p : RationalPoint) (history : List (Lot (Unit {0}))) (index : Label → Boxes) where
   -- the lot at the place of an id is there, of the layer, and has the point
   abbrev pub passes : ℕ → Bool
   passes id = is_there_at m y history (id / 16) && has (id / 16)
@@ -273,7 +278,7 @@ module _ (has : ℕ → Bool) (y : Label) (m : Moment) (p : RationalPoint) (hist
       test_of o = elim o [ None ↦ false | Some l ↦ is_there m l && label_eq l.layer y ]
 
   -- nobody has a point outside the cube
-  pub outside_owner : is_cube_point p ≡ false → IsOwner has y m p history boxes None
+  pub outside_owner : is_cube_point p ≡ false → IsOwner has y m p history index None
   outside_owner e lots bare indexed hold knows =
       sym (owner_none (is_there m) y p lots (λ k l at. false_unless (owns (is_there m) y p l) (λ t. false_not_true (is_in_parts l.parts p) (and_second (is_there m l && label_eq l.layer y) (is_in_parts l.parts p) t) (outside_parts l.parts p e))))
 
@@ -281,25 +286,24 @@ module _ (has : ℕ → Bool) (y : Label) (m : Moment) (p : RationalPoint) (hist
     -- the id of a box of a place is found, since one that is asked about meets it
     record IsFound (k : ℕ) : Type 0 where
       box : IntegerBox
-      listed : Listed box (boxes_asked m y unit)
+      listed : Listed box (boxes_asked m unit)
       id : ℕ
       own : id / 16 ≡ k
-      reached : Listed id (meeting_ids false box boxes)
+      reached : Listed id (meeting_ids false box (index y))
 
     -- so it is where a lot owns the point
-    owner_reached : (lots : List (Lot (Unit {0}))) → IsIndexOf lots boxes → BoxesHold lots → (k : ℕ) (l : Lot (Unit {0})) → slice_get lots k ≡ Some l → owns (is_there m) y p l ≡ true → IsFound k
+    owner_reached : (lots : List (Lot (Unit {0}))) → IsIndexOf lots index → BoxesHold lots → (k : ℕ) (l : Lot (Unit {0})) → slice_get lots k ≡ Some l → owns (is_there m) y p l ≡ true → IsFound k
     owner_reached lots indexed hold k l at t =
         let q = some_passes (λ (r : Part). is_in_cell r.cell p) l.parts (and_second (is_there m l && label_eq l.layer y) (is_in_parts l.parts p) t) in
         let here = and_first (is_there m l && label_eq l.layer y) (is_in_parts l.parts p) t in
         let there = and_first (is_there m l) (label_eq l.layer y) here in
-        let own = label_is l.layer y (and_second (is_there m l) (label_eq l.layer y) here) in
+        let own = and_second (is_there m l) (label_eq l.layer y) here in
         let held = all_of (λ (r : Part). BoxHoldsCell r.bounds r.cell) l.parts (all_at lots k l at hold) q.0 q.1 in
         let b = part_boxed q.0 l.parts q.1 in
         let touch = wider_meet false unit q.0.bounds unit b.0 (box_itself unit) b.2 (meets q.0.bounds (held p q.2)) in
-        let a = asked m y unit b.0 l line touch there l.ended refl in
-        let stood = lot_box lots boxes indexed k l at (box_by l b.0) (listed_image (box_by l) b.0 (boxes_of_parts l.parts) b.1) in
-        let box : box_at boxes stood.0 ≡ Some (box_until y l.born b.0 l.ended) = stood.2 ∙ ap (λ (x : Label). Some (box_until x l.born b.0 l.ended)) own in
-        record { box = a.box; listed = a.listed; id = stood.0; own = stood.1; reached = box_reached false a.box (box_until y l.born b.0 l.ended) boxes stood.0 box a.meets }
+        let a = asked m unit b.0 l line touch there l.ended refl in
+        let stood = lot_box y lots (index y) (indexed y) k l at own (box_by l b.0) (listed_image (box_by l) b.0 (boxes_of_parts l.parts) b.1) in
+        record { box = a.box; listed = a.listed; id = stood.0; own = stood.1; reached = box_reached false a.box (box_until l.born b.0 l.ended) (index y) stood.0 stood.2 a.meets }
       where
         all_at : (ls : List (Lot (Unit {0}))) (k : ℕ) (l : Lot (Unit {0})) → slice_get ls k ≡ Some l → BoxesHold ls → AllByRecursion (λ (q : Part). BoxHoldsCell q.bounds q.cell) l.parts
         all_at [] k l e h = absurd (cc)
@@ -308,17 +312,17 @@ module _ (has : ℕ → Bool) (y : Label) (m : Moment) (p : RationalPoint) (hist
 
     -- what is found
     abbrev found : Option ℕ
-    found = first_in passes boxes (boxes_asked m y unit) None
+    found = first_in passes (index y) (boxes_asked m unit) None
 
     -- it passes
     found_is : (k : ℕ) → found ≡ Some k → passes k ≡ true
-    found_is k e = found_passes passes boxes (boxes_asked m y unit) None (λ i f. absurd (cc)) k e
+    found_is k e = found_passes passes (index y) (boxes_asked m unit) None (λ i f. absurd (cc)) k e
 
     -- its place is not behind a lot that owns the point
-    found_before : (lots : List (Lot (Unit {0}))) → history ≡ map bare_lot lots → IsIndexOf lots boxes → BoxesHold lots → KnowsOwners has lots p → (j : ℕ) (n : Lot (Unit {0})) → slice_get lots j ≡ Some n → owns (is_there m) y p n ≡ true → (id : ℕ) × (found ≡ Some id) × (id / 16 ≤ j)
+    found_before : (lots : List (Lot (Unit {0}))) → history ≡ map bare_lot lots → IsIndexOf lots index → BoxesHold lots → KnowsOwners has lots p → (j : ℕ) (n : Lot (Unit {0})) → slice_get lots j ≡ Some n → owns (is_there m) y p n ≡ true → (id : ℕ) × (found ≡ Some id) × (id / 16 ≤ j)
     found_before lots bare indexed hold knows j n at t =
         let r = owner_reached lots indexed hold j n at t in
-        let f = found_above passes boxes (boxes_asked m y unit) None r.box r.listed r.id r.reached (passes_is lots bare knows r.id n (ap (slice_get lots) r.own ∙ at) ∙ t) in
+        let f = found_above passes (index y) (boxes_asked m unit) None r.box r.listed r.id r.reached (passes_is lots bare knows r.id n (ap (slice_get lots) r.own ∙ at) ∙ t) in
         (f.0, f.1, let low = f.2 in let own = r.own in omega (arith, low, own))
 
     -- its place is one of the history
@@ -330,12 +334,12 @@ module _ (has : ℕ → Bool) (y : Label) (m : Moment) (p : RationalPoint) (hist
         by (Some l) at t = slice_get_within history (id / 16) l at
 
     -- where none is found, nobody has the point
-    pub owner_missing : found ≡ None → IsOwner has y m p history boxes None
+    pub owner_missing : found ≡ None → IsOwner has y m p history index None
     owner_missing e lots bare indexed hold knows =
         sym (owner_none (is_there m) y p lots (λ k l at. false_unless (owns (is_there m) y p l) (λ t. let f = (found_before lots bare indexed hold knows k l at t).1 in absurd (cc (e, f)))))
 
     -- one that is found has it
-    pub owner_found : (id : ℕ) (line : Lot (Unit {0})) → found ≡ Some id → slice_get history (id / 16) ≡ Some line → IsOwner has y m p history boxes (Some line.id)
+    pub owner_found : (id : ℕ) (line : Lot (Unit {0})) → found ≡ Some id → slice_get history (id / 16) ≡ Some line → IsOwner has y m p history index (Some line.id)
     owner_found id line e there lots bare indexed hold knows =
         by (slice_get lots (id / 16)) refl (sym (slice_get-map bare_lot lots (id / 16)) ∙ sym (ap (λ (ls : List (Lot (Unit {0}))). slice_get ls (id / 16)) bare) ∙ there)
       where

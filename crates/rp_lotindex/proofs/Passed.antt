@@ -188,10 +188,10 @@ others_at y x lots history e (k ∷ places) w =
     by l at false rest = rest
 
 -- so the others among the places that are met are those that are wanted, and such as may be answered besides
-pub others_near : (r : Reach) (bs : List IntegerBox) (y x : Label) (from : ℕ) (history : List (Lot (Unit {0}))) (boxes : Boxes) (places : List ℕ) → from ≤ length history → AreInOrder (places_met r y from boxes bs) places → AreNear r bs y x from history boxes (filter (is_other_at y x history) places)
-others_near r bs y x from history boxes places f h lots ps kept own =
+pub others_near : (r : Reach) (bs : List IntegerBox) (y x : Label) (from : ℕ) (history : List (Lot (Unit {0}))) (index : Label → Boxes) (places : List ℕ) → from ≤ length history → AreInOrder (places_met r from (index y) bs) places → AreNear r bs y x from history index (filter (is_other_at y x history) places)
+others_near r bs y x from history index places f h lots ps kept own =
     let many : length history ≡ length lots = ap length kept.bare ∙ length-map lots bare_lot in
-    let all = places_near r ps y lots boxes from places kept.indexed (subst (λ (cs : List IntegerBox). AreInOrder (places_met r y from boxes cs) places) own h) in
+    let all = places_near r ps y lots (index y) from places (kept.indexed y) (subst (λ (cs : List IntegerBox). AreInOrder (places_met r from (index y) cs) places) own h) in
     ap (filter (is_near r ps)) (others_at y x lots history kept.bare places all.within) ∙ near_chosen r ps y x lots from places (omega (arith, f, many)) all
 
 -- a number stands among those that a test keeps where it is one and passes
@@ -202,8 +202,8 @@ listed_filter test xs k =
     (λ e. listed_number k (filter test xs) (keeps test xs k (number_listed k xs (and_first (is_listed k xs) (test k) e)) (and_second (is_listed k xs) (test k) e)))
 
 -- they are exactly these
-pub others_are : {S : Type 0} (r : Reach) (bs : List IntegerBox) (y x : Label) (from : ℕ) (history : List (Lot S)) (boxes : Boxes) (places : List ℕ) → AreInOrder (places_met r y from boxes bs) places → AreOthers r bs y x from history boxes (filter (is_other_at y x history) places)
-others_are r bs y x from history boxes places h k = listed_filter (is_other_at y x history) places k ∙ ap (λ (b : Bool). b && is_other_at y x history k) (h.same k)
+pub others_are : {S : Type 0} (r : Reach) (bs : List IntegerBox) (y x : Label) (from : ℕ) (history : List (Lot S)) (index : Label → Boxes) (places : List ℕ) → AreInOrder (places_met r from (index y) bs) places → AreOthers r bs y x from history index (filter (is_other_at y x history) places)
+others_are r bs y x from history index places h k = listed_filter (is_other_at y x history) places k ∙ ap (λ (b : Bool). b && is_other_at y x history k) (h.same k)
 
 -- ---- how many places there are
 
@@ -228,10 +228,10 @@ pub record ArePlaces {A : Type 0} (xs : List A) (places : List ℕ) : Type 0 whe
   pub few : length places ≤ length xs
 
 -- those of the others that are met are such
-pub others_places : {S : Type 0} (r : Reach) (bs : List IntegerBox) (y x : Label) (from : ℕ) (history : List (Lot S)) (boxes : Boxes) (places : List ℕ) → NoneBehind boxes (length history) → AreInOrder (places_met r y from boxes bs) places → ArePlaces history (filter (is_other_at y x history) places)
+pub others_places : {S : Type 0} (r : Reach) (bs : List IntegerBox) (y x : Label) (from : ℕ) (history : List (Lot S)) (boxes : Boxes) (places : List ℕ) → NoneBehind boxes (length history) → AreInOrder (places_met r from boxes bs) places → ArePlaces history (filter (is_other_at y x history) places)
 others_places r bs y x from history boxes places none h =
     let test = is_other_at y x history in
-    let within = all_filter (λ (k : ℕ). k < length history) test places (met_within r y from boxes bs places history h none) in
+    let within = all_filter (λ (k : ℕ). k < length history) test places (met_within r from boxes bs places history h none) in
     let rising = IsStrictlySortedBy-filter nat_cmp test places h.rising in
     let few = rising_few 0 (length history) (filter test places) rising (above_none (filter test places)) within (omega arith) in
     record { within = within; rising = rising; few = omega (arith, few) }

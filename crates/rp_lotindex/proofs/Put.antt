@@ -14,7 +14,7 @@ use Rattle.rp_space.specs.declared.bounds.IntBox.{IntBox}
 use Rattle.rp_space.specs.Boxes.{integer_box}
 use Rattle.rp_boxindex.specs.Boxes.{Boxes}
 use Rattle.rp_boxindex.proofs.Known.{none_of}
-use Rattle.rp_lotindex.specs.Indexed.{box_at, box_in, box_among, NoneBehind, ArePut, StaySame, IsSettled}
+use Rattle.rp_lotindex.specs.Indexed.{box_at, box_in, box_among, NoneBehind, ArePut, StaySame, IsTakenOut, IsSettled}
 
 -- ---- one box put in or taken out
 
@@ -157,14 +157,14 @@ among_none d = by (d / 16)
 -- ---- boxes put in, one behind the other
 
 -- the last item of a longer list
-last_at : {A : Type 0} (xs : List A) (x : A) (d : ℕ) → d ≡ length xs → slice_get (xs ++ x ∷ []) d ≡ Some x
+pub last_at : {A : Type 0} (xs : List A) (x : A) (d : ℕ) → d ≡ length xs → slice_get (xs ++ x ∷ []) d ≡ Some x
 last_at [] x zero e = refl
 last_at [] x (suc d) e = absurd (omega (arith, e))
 last_at (y ∷ xs) x zero e = absurd (omega (arith, e))
 last_at (y ∷ xs) x (suc d) e = last_at xs x d (omega (arith, e))
 
 -- and its others
-last_apart : {A : Type 0} (xs : List A) (x : A) (d : ℕ) → d ≢ length xs → slice_get (xs ++ x ∷ []) d ≡ slice_get xs d
+pub last_apart : {A : Type 0} (xs : List A) (x : A) (d : ℕ) → d ≢ length xs → slice_get (xs ++ x ∷ []) d ≡ slice_get xs d
 last_apart [] x zero n = absurd (n (omega arith))
 last_apart [] x (suc d) n = refl
 last_apart (y ∷ xs) x zero n = refl
@@ -245,21 +245,21 @@ taken_next old m new k p h up is = record {
     apart : (g : ℕ) → g ≢ p → box_at new g ≡ box_at m g
     apart g n = ap (λ (x : Boxes). box_at x g) is ∙ taken_apart m p g n
 
--- all up to where there are none
-pub taken_all : (old new : Boxes) (k n p : ℕ) → AreTaken old new (k * 16) p → n * 16 ≤ p → NoneBehind old n → ArePut old new k []
-taken_all old new k n p h far none = record {
-  here = λ d. ⊎_elim
-      (λ f. h.gone (k * 16 + d) (omega arith) f)
-      (λ f. h.left (k * 16 + d) f ∙ none (k * 16 + d) (omega (arith, f, far)))
-      (cases_lt (k * 16 + d) p);
-  rest = h.rest;
+-- all of a place
+pub taken_out : (old new : Boxes) (k p : ℕ) → AreTaken old new (k * 16) p → p ≡ (k + 1) * 16 → IsTakenOut old new k
+taken_out old new k p h far = record {
+  gone = λ g own. h.gone g (omega (arith, own)) (omega (arith, own, far));
+  rest = λ g other. ⊎_elim (λ f. h.rest g f) (λ f. h.left g (omega (arith, f, far, other))) (cases_lt g (k * 16));
 }
 
 -- ---- boxes put in and taken out again
 
--- what was put in is taken out again
-pub put_back : (old m new : Boxes) (k : ℕ) (lists : List (List IntegerBox)) → NoneBehind old k → ArePut old m k lists → ArePut m new k [] → StaySame old new
-put_back old m new k lists none put taken g = ⊎_elim
-    (λ f. taken.rest g f ∙ put.rest g f)
-    (λ f. let at : k * 16 + (g - k * 16) ≡ g = omega (arith, f) in subst (λ (i : ℕ). box_at new i ≡ None) at (taken.here (g - k * 16)) ∙ sym (none g f))
+-- the boxes of one place were put in and taken out again
+pub put_out : (old m new : Boxes) (k : ℕ) (bs : List IntegerBox) → NoneBehind old k → ArePut old m k (bs ∷ []) → IsTakenOut m new k → StaySame old new
+put_out old m new k bs none put taken g = ⊎_elim
+    (λ (f : g < k * 16). taken.rest g (λ e. absurd (omega (arith, e, f))) ∙ put.rest g f)
+    (λ (f : k * 16 ≤ g). ⊎_elim
+    (λ (e : g / 16 ≡ k). taken.gone g e ∙ sym (none g f))
+    (λ (e : g / 16 ≢ k). taken.rest g e ∙ none_behind_put old m k (k + 1) (bs ∷ []) put (omega arith) g (omega (arith, e, f)) ∙ sym (none g f))
+    (same_or_not (g / 16) k))
     (cases_lt g (k * 16))

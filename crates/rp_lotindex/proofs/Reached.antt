@@ -1,10 +1,10 @@
 -- The places whose boxes an index answers are those of lots of which a box meets one of some boxes, so of all that have a part which may meet one of a list.
-use Rattle.std.proofs.Common.{◌≡◌, ℕ, ◌+◌, ◌/◌, ◌<◌, ◌≤◌, ◌==◌, Bool, true, false, not, cond, List, [], ◌∷◌, ◌++◌, ◌⊎◌, ⊎_elim, map, length, drop, Option, Some, None, slice_get, refl, sym, ap, ◌∙◌, subst, append_assoc, arith}
+use Rattle.std.proofs.Common.{◌≡◌, ℕ, ◌+◌, ◌/◌, ◌<◌, ◌≤◌, ◌==◌, Bool, true, false, not, cond, List, [], ◌∷◌, ◌++◌, ◌⊎◌, ⊎_elim, map, filter, length, drop, Option, Some, None, slice_get, refl, sym, ap, ap₂, ◌∙◌, subst, append_assoc, arith}
 use Rattle.std.specs.Prelude.{option_map, sum_by, count_by, nat_le}
 use Rattle.std.specs.List.{AllByRecursion, list_any}
 use Rattle.std.specs.List.Sorted.{IsStrictlySortedBy}
 use Rattle.std.specs.Ordering.{nat_cmp}
-use Rattle.std.specs.FinMap.{get}
+use Rattle.std.specs.FinMap.{get, empty}
 use Rattle.std.proofs.lemmas.Bool.{cases_lt, or_cases, or_left, or_right, eq-eqb, le-leb, leb-true}
 use Rattle.std.proofs.lemmas.Bool.Decides.{nat_tests, Decides-eqb}
 use Rattle.std.proofs.lemmas.List.Sums.{sum_by-cons}
@@ -25,13 +25,13 @@ use Rattle.rp_boxindex.specs.Meeting.{do_meet, meeting_ids}
 use Rattle.rp_boxindex.proofs.Exact.{meeting_ids_are_exact_spec}
 use Rattle.rp_lotindex.specs.declared.near.Reach.{Reach}
 use Rattle.rp_lotindex.specs.declared.near.Reach.TheVariants.{Overlap, Touch}
-use Rattle.rp_lotindex.specs.Indexed.{boxes_of_parts, box_at, NoneBehind, IsIndexOf}
+use Rattle.rp_lotindex.specs.Indexed.{boxes_of_parts, box_at, NoneBehind, IsIndexAt}
 use Rattle.rp_lotindex.specs.Turns.{axis_of}
-use Rattle.rp_lotindex.specs.Layers.{cube_number, moved, moved_in, in_turns}
+use Rattle.rp_lotindex.specs.Cubes.{live_number, moved, moved_in, in_turns}
 use Rattle.rp_lotindex.specs.Near.{may_meet, is_near, is_closed, places_by, places_each, places_met, is_listed, AreWithin}
 use Rattle.rp_lotindex.proofs.Hulls.{listed_image, part_boxed, wider_meet}
-use Rattle.rp_lotindex.proofs.Layers.{moved_in_meet, turn_listed}
-use Rattle.rp_lotindex.proofs.Boxed.{live_boxes, lot_box, none_behind_lots}
+use Rattle.rp_lotindex.proofs.Cubes.{moved_in_meet, turn_listed}
+use Rattle.rp_lotindex.proofs.Boxed.{none_meet, live_boxes, lot_box, none_behind_lots}
 
 -- ---- what stands in a list
 
@@ -133,7 +133,7 @@ boxes_meet r ps l near =
 
 -- ---- places
 
-module _ (r : Reach) (y : Label) (from : ℕ) (boxes : Boxes) where
+module _ (r : Reach) (from : ℕ) (boxes : Boxes) where
   -- a place at which a box meets one
   record IsMet (k : ℕ) : Type 0 where
     box : IntegerBox
@@ -155,9 +155,9 @@ module _ (r : Reach) (y : Label) (from : ℕ) (boxes : Boxes) where
   met_each (b ∷ bs) k l = ⊎_elim (met_by b k) (met_each bs k) (listed_cases k (places_by r from boxes b) (places_each r from boxes bs) l)
 
   -- one of some boxes in each turn
-  met_at : (bs : List IntegerBox) (k : ℕ) → Listed k (places_met r y from boxes bs) → IsMet k
+  met_at : (bs : List IntegerBox) (k : ℕ) → Listed k (places_met r from boxes bs) → IsMet k
   met_at [] k l = elim l [ ]
-  met_at (b ∷ bs) k l = ⊎_elim (met_each (in_turns (cube_number y) b) k) (met_at bs k) (listed_cases k (places_each r from boxes (in_turns (cube_number y) b)) (places_met r y from boxes bs) l)
+  met_at (b ∷ bs) k l = ⊎_elim (met_each (in_turns live_number b) k) (met_at bs k) (listed_cases k (places_each r from boxes (in_turns live_number b)) (places_met r from boxes bs) l)
 
   -- where an id of a place is answered for a box, the place is met
   place_each : (bs : List IntegerBox) (b : IntegerBox) → Listed b bs → (k id : ℕ) → Listed id (meeting_ids (is_closed r) b boxes) → id / 16 ≡ k → from ≤ k → Listed k (places_each r from boxes bs)
@@ -169,19 +169,32 @@ module _ (r : Reach) (y : Label) (from : ℕ) (boxes : Boxes) where
   place_each (c ∷ bs) b (later l) k id m own f = listed_right k (places_by r from boxes c) (places_each r from boxes bs) (place_each bs b l k id m own f)
 
   -- so it is for a box in one of its turns
-  place_met : (bs : List IntegerBox) (b : IntegerBox) → Listed b bs → (c : IntegerBox) → Listed c (in_turns (cube_number y) b) → (k id : ℕ) → Listed id (meeting_ids (is_closed r) c boxes) → id / 16 ≡ k → from ≤ k → Listed k (places_met r y from boxes bs)
+  place_met : (bs : List IntegerBox) (b : IntegerBox) → Listed b bs → (c : IntegerBox) → Listed c (in_turns live_number b) → (k id : ℕ) → Listed id (meeting_ids (is_closed r) c boxes) → id / 16 ≡ k → from ≤ k → Listed k (places_met r from boxes bs)
   place_met [] b l c t k id m own f = elim l [ ]
-  place_met (d ∷ bs) b first c t k id m own f = listed_left k (places_each r from boxes (in_turns (cube_number y) b)) (places_met r y from boxes bs) (place_each (in_turns (cube_number y) b) c t k id m own f)
-  place_met (d ∷ bs) b (later l) c t k id m own f = listed_right k (places_each r from boxes (in_turns (cube_number y) d)) (places_met r y from boxes bs) (place_met bs b l c t k id m own f)
+  place_met (d ∷ bs) b first c t k id m own f = listed_left k (places_each r from boxes (in_turns live_number b)) (places_met r from boxes bs) (place_each (in_turns live_number b) c t k id m own f)
+  place_met (d ∷ bs) b (later l) c t k id m own f = listed_right k (places_each r from boxes (in_turns live_number d)) (places_met r from boxes bs) (place_met bs b l c t k id m own f)
+
+-- no box of an empty index meets some boxes
+none_by : (r : Reach) (from : ℕ) (b : IntegerBox) → places_by r from empty b ≡ []
+none_by r from b = ap (λ (ids : List ℕ). filter (λ k. nat_le from k) (map (λ id. id / 16) ids)) (none_meet (is_closed r) b)
+
+none_each : (r : Reach) (from : ℕ) (bs : List IntegerBox) → places_each r from empty bs ≡ []
+none_each r from [] = refl
+none_each r from (b ∷ bs) = ap₂ (λ (ks js : List ℕ). ks ++ js) (none_by r from b) (none_each r from bs)
+
+-- or does so in a turn
+pub met_none : (r : Reach) (from : ℕ) (bs : List IntegerBox) → places_met r from empty bs ≡ []
+met_none r from [] = refl
+met_none r from (b ∷ bs) = ap₂ (λ (ks js : List ℕ). ks ++ js) (none_each r from (in_turns live_number b)) (met_none r from bs)
 
 -- one box more
-pub met_next : (r : Reach) (y : Label) (from : ℕ) (boxes : Boxes) (bs : List IntegerBox) (i : ℕ) (b : IntegerBox) (places more new : List ℕ) → slice_get bs i ≡ Some b → more ≡ places_each r from boxes (in_turns (cube_number y) b) → new ≡ places ++ more →
-    new ++ places_met r y from boxes (drop (i + 1) bs) ≡ places ++ places_met r y from boxes (drop i bs)
-met_next r y from boxes bs i b places more new at found all =
-    let rest = places_met r y from boxes (drop (i + 1) bs) in
+pub met_next : (r : Reach) (from : ℕ) (boxes : Boxes) (bs : List IntegerBox) (i : ℕ) (b : IntegerBox) (places more new : List ℕ) → slice_get bs i ≡ Some b → more ≡ places_each r from boxes (in_turns live_number b) → new ≡ places ++ more →
+    new ++ places_met r from boxes (drop (i + 1) bs) ≡ places ++ places_met r from boxes (drop i bs)
+met_next r from boxes bs i b places more new at found all =
+    let rest = places_met r from boxes (drop (i + 1) bs) in
     ap (λ (ks : List ℕ). ks ++ rest) (all ∙ ap (λ (ks : List ℕ). places ++ ks) found)
-    ∙ append_assoc places (places_each r from boxes (in_turns (cube_number y) b)) rest
-    ∙ ap (λ (cs : List IntegerBox). places ++ places_met r y from boxes cs) (sym (drop_item bs i b (slice_get_within bs i b at) (sym (get_or_from_slice_get bs i b b at))))
+    ∙ append_assoc places (places_each r from boxes (in_turns live_number b)) rest
+    ∙ ap (λ (cs : List IntegerBox). places ++ places_met r from boxes cs) (sym (drop_item bs i b (slice_get_within bs i b at) (sym (get_or_from_slice_get bs i b b at))))
 
 -- numbers in rising order, each once, are those of a list
 pub record AreInOrder (all places : List ℕ) : Type 0 where
@@ -193,10 +206,10 @@ pub in_order_of : (all places : List ℕ) → AreInOrder all places → (k : ℕ
 in_order_of all places h k l = number_listed k all (sym (h.same k) ∙ listed_number k places l)
 
 -- none of the places that are met is behind those with boxes
-pub met_within : {A : Type 0} (r : Reach) (y : Label) (from : ℕ) (boxes : Boxes) (bs : List IntegerBox) (places : List ℕ) (xs : List A) → AreInOrder (places_met r y from boxes bs) places → NoneBehind boxes (length xs) → AreWithin xs places
-met_within r y from boxes bs places xs h none = of_all (λ (k : ℕ). k < length xs) places (λ k l. by k (met_at r y from boxes bs k (in_order_of (places_met r y from boxes bs) places h k l)) (cases_lt k (length xs)))
+pub met_within : {A : Type 0} (r : Reach) (from : ℕ) (boxes : Boxes) (bs : List IntegerBox) (places : List ℕ) (xs : List A) → AreInOrder (places_met r from boxes bs) places → NoneBehind boxes (length xs) → AreWithin xs places
+met_within r from boxes bs places xs h none = of_all (λ (k : ℕ). k < length xs) places (λ k l. by k (met_at r from boxes bs k (in_order_of (places_met r from boxes bs) places h k l)) (cases_lt k (length xs)))
   where
-    by : (k : ℕ) → IsMet r y from boxes k → (k < length xs) ⊎ (length xs ≤ k) → k < length xs
+    by : (k : ℕ) → IsMet r from boxes k → (k < length xs) ⊎ (length xs ≤ k) → k < length xs
     by k m c = ⊎_elim (λ f. f) (λ f. absurd (let own = m.own in reached_box (is_closed r) m.box boxes m.id m.listed (none m.id (omega (arith, f, own))))) c
 
 -- places from one on, in rising order, with those of all live lots of a layer that have a part that may meet one of a list
@@ -207,20 +220,20 @@ pub record AreAllNear (r : Reach) (ps : List Part) (y : Label) (lots : List (Lot
   pub all : (k : ℕ) (l : Lot (Unit {0})) → from ≤ k → slice_get lots k ≡ Some l → is_live l ≡ true → label_eq l.layer y ≡ true → is_near r ps l ≡ true → Listed k places
 
 -- the places at which a box meets one of the list are such
-pub places_near : (r : Reach) (ps : List Part) (y : Label) (lots : List (Lot (Unit {0}))) (boxes : Boxes) (from : ℕ) (places : List ℕ) → IsIndexOf lots boxes → AreInOrder (places_met r y from boxes (boxes_of_parts ps)) places → AreAllNear r ps y lots from places
+pub places_near : (r : Reach) (ps : List Part) (y : Label) (lots : List (Lot (Unit {0}))) (boxes : Boxes) (from : ℕ) (places : List ℕ) → IsIndexAt y lots boxes → AreInOrder (places_met r from boxes (boxes_of_parts ps)) places → AreAllNear r ps y lots from places
 places_near r ps y lots boxes from places h reached = record {
   rising = reached.rising;
-  behind = of_all (λ (k : ℕ). from ≤ k) places (λ k l. (met_at r y from boxes (boxes_of_parts ps) k (in_order_of all places reached k l)).behind);
-  within = met_within r y from boxes (boxes_of_parts ps) places lots reached (none_behind_lots lots boxes h);
+  behind = of_all (λ (k : ℕ). from ≤ k) places (λ k l. (met_at r from boxes (boxes_of_parts ps) k (in_order_of all places reached k l)).behind);
+  within = met_within r from boxes (boxes_of_parts ps) places lots reached (none_behind_lots y lots boxes h);
   all = λ k l f at lives own near.
       let m = boxes_meet r ps l near in
-      let stands = subst (λ (bs : List IntegerBox). Listed (moved y m.other) bs) (sym (live_boxes y l lives own)) (listed_image (moved y) m.other (boxes_of_parts l.parts) m.other_listed) in
-      let box = lot_box lots boxes h k l at (moved y m.other) stands in
+      let stands = subst (λ (bs : List IntegerBox). Listed (moved m.other) bs) (sym (live_boxes l lives)) (listed_image moved m.other (boxes_of_parts l.parts) m.other_listed) in
+      let box = lot_box y lots boxes h k l at own (moved m.other) stands in
       let axis = axis_of m.other in
-      let asked = moved_in axis (cube_number y) m.box in
-      let id = box_reached (is_closed r) asked (moved y m.other) boxes box.0 box.2 (moved_in_meet (is_closed r) axis (cube_number y) m.box m.other m.meet) in
-      number_listed k places (reached.same k ∙ listed_number k all (place_met r y from boxes (boxes_of_parts ps) m.box m.listed asked (turn_listed axis (cube_number y) m.box) k box.0 id box.1 f));
+      let asked = moved_in axis live_number m.box in
+      let id = box_reached (is_closed r) asked (moved m.other) boxes box.0 box.2 (moved_in_meet (is_closed r) axis live_number m.box m.other m.meet) in
+      number_listed k places (reached.same k ∙ listed_number k all (place_met r from boxes (boxes_of_parts ps) m.box m.listed asked (turn_listed axis live_number m.box) k box.0 id box.1 f));
 }
   where
     all : List ℕ
-    all = places_met r y from boxes (boxes_of_parts ps)
+    all = places_met r from boxes (boxes_of_parts ps)

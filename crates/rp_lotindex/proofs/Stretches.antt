@@ -4,10 +4,9 @@ use Rattle.std.proofs.Math.Nat.{pow-suc}
 use Rattle.std.proofs.lemmas.Bool.Decides.{Decides-eqb}
 use Rattle.rp_algebra.proofs.Listed.{Listed, first, later, listed_left, listed_right}
 use Rattle.rp_geometry.specs.Geometry.{IntegerBox}
-use Rattle.rp_language.specs.Name.{Label}
 use Rattle.rp_boxindex.specs.Boxes.{Boxes}
 use Rattle.rp_lotindex.specs.declared.stretch.Stretch.{Stretch}
-use Rattle.rp_lotindex.specs.Layers.{past_number, in_turns}
+use Rattle.rp_lotindex.specs.Cubes.{past_number, in_turns}
 use Rattle.rp_lotindex.specs.Owner.{boxes_past, first_in}
 use Rattle.rp_lotindex.specs.Stretches.{stretch_from, stretches_from}
 
@@ -73,24 +72,24 @@ stretch_listed (suc f) level a n b low high small =
     by false h rest = later rest
 
 -- a box that is asked about at one of some stretches is asked about at them
-pub past_listed : (y : Label) (unit : IntegerBox) (s : Stretch) (ss : List Stretch) → Listed s ss → (b : IntegerBox) → Listed b (in_turns (past_number y s) unit) → Listed b (boxes_past y unit ss)
-past_listed y unit s [] l b t = elim l [ ]
-past_listed y unit s (r ∷ ss) first b t = listed_left b (in_turns (past_number y s) unit) (boxes_past y unit ss) t
-past_listed y unit s (r ∷ ss) (later l) b t = listed_right b (in_turns (past_number y r) unit) (boxes_past y unit ss) (past_listed y unit s ss l b t)
+pub past_listed : (unit : IntegerBox) (s : Stretch) (ss : List Stretch) → Listed s ss → (b : IntegerBox) → Listed b (in_turns (past_number s) unit) → Listed b (boxes_past unit ss)
+past_listed unit s [] l b t = elim l [ ]
+past_listed unit s (r ∷ ss) first b t = listed_left b (in_turns (past_number s) unit) (boxes_past unit ss) t
+past_listed unit s (r ∷ ss) (later l) b t = listed_right b (in_turns (past_number r) unit) (boxes_past unit ss) (past_listed unit s ss l b t)
 
 -- ---- what is found at them, one after the other
 
-module _ (test : ℕ → Bool) (boxes : Boxes) (y : Label) (unit : IntegerBox) where
+module _ (test : ℕ → Bool) (boxes : Boxes) (unit : IntegerBox) where
   -- what is found at the stretches with a line that are left, so many, and what was found before
   abbrev pub found_from : ℕ → ℕ → ℕ → Option ℕ → Option ℕ
-  found_from f level n o = first_in test boxes (boxes_past y unit (stretches_from f level n)) o
+  found_from f level n o = first_in test boxes (boxes_past unit (stretches_from f level n)) o
 
   -- at one of them
-  pub found_next : (f g level n : ℕ) (old new : Option ℕ) (k : ℕ) → f ≡ g + 1 → k ≡ past_number y (record { level = level; mark = n }) → new ≡ first_in test boxes (in_turns k unit) old → found_from g (level + 1) (n / 2) new ≡ found_from f level n old
+  pub found_next : (f g level n : ℕ) (old new : Option ℕ) (k : ℕ) → f ≡ g + 1 → k ≡ past_number (record { level = level; mark = n }) → new ≡ first_in test boxes (in_turns k unit) old → found_from g (level + 1) (n / 2) new ≡ found_from f level n old
   found_next f g level n old new k count own is =
       ap (found_from g (level + 1) (n / 2)) (is ∙ ap (λ (i : ℕ). first_in test boxes (in_turns i unit) old) own)
-      ∙ sym (ap (λ (ss : List Stretch). first_in test boxes (boxes_past y unit ss) old) (stretches_next f g level n count))
+      ∙ sym (ap (λ (ss : List Stretch). first_in test boxes (boxes_past unit ss) old) (stretches_next f g level n count))
 
   -- behind the last
   pub found_end : (f level n : ℕ) (o : Option ℕ) → f ≡ 0 → o ≡ found_from f level n o
-  found_end f level n o count = sym (ap (λ (ss : List Stretch). first_in test boxes (boxes_past y unit ss) o) (stretches_end f level n count))
+  found_end f level n o count = sym (ap (λ (ss : List Stretch). first_in test boxes (boxes_past unit ss) o) (stretches_end f level n count))

@@ -1,14 +1,16 @@
--- The boxes of lots, in an index under ids of their places.
-use Rattle.std.specs.Prelude.{◌≡◌, ◌≢◌, ℕ, ◌+◌, ◌*◌, ◌/◌, ◌%◌, ◌<◌, ◌≤◌, Bool, true, false, cond, nat_le, List, [], ◌∷◌, map, Option, Some, None, option_map, is_some, slice_get, length}
-use Rattle.std.specs.FinMap.{get}
+-- The boxes of lots: an index for each layer, with the boxes of its lots under ids of their places.
+use Rattle.std.specs.Prelude.{◌≡◌, ◌≢◌, ℕ, ◌+◌, ◌*◌, ◌/◌, ◌%◌, ◌<◌, ◌≤◌, Bool, true, false, cond, nat_le, List, [], ◌∷◌, map, Option, Some, None, option_map, is_some, slice_get, length, unwrap_or}
+use Rattle.std.specs.FinMap.{get, empty}
+use Rattle.std.specs.Map.{lookup}
 use Rattle.rp_geometry.specs.Geometry.{IntegerBox, cube_box}
 use Rattle.rp_geometry.specs.sets.Shape.{Part}
 use Rattle.rp_geometry.specs.parts.LeastBox.{box_union}
-use Rattle.rp_language.specs.Name.{Label}
+use Rattle.rp_language.specs.Name.{Label, label_eq}
 use Rattle.rp_space.specs.Boxes.{integer_box}
-use Rattle.rp_model.specs.states.State.{Lot, bare_lot}
+use Rattle.rp_model.specs.states.State.{Lot, NewLot, bare_lot}
 use Rattle.rp_boxindex.specs.Boxes.{Boxes}
-use Rattle.rp_lotindex.specs.Layers.{moved, moved_past}
+use Rattle.rp_lotindex.specs.declared.boxes.LotBoxes.{LotBoxes}
+use Rattle.rp_lotindex.specs.Cubes.{moved, moved_past}
 use Rattle.rp_lotindex.specs.Stretches.{stretch_of}
 
 -- the boxes of parts, in order
@@ -33,13 +35,23 @@ hull_of_parts ps = hull_of (bounds_of ps)
 abbrev pub boxes_of_parts : List Part → List IntegerBox
 boxes_of_parts ps = cond (nat_le (length ps) 16) (bounds_of ps) (hull_of_parts ps ∷ [])
 
--- boxes, moved into the cube of a layer
-abbrev pub all_moved : Label → List IntegerBox → List IntegerBox
-all_moved y bs = map (moved y) bs
+-- boxes, moved into the cube of live lots
+abbrev pub all_moved : List IntegerBox → List IntegerBox
+all_moved bs = map moved bs
 
--- the boxes of a live lot of a layer with these parts
-abbrev pub boxes_of : Label → List Part → List IntegerBox
-boxes_of y ps = all_moved y (boxes_of_parts ps)
+-- the boxes of a live lot with these parts
+abbrev pub boxes_of : List Part → List IntegerBox
+boxes_of ps = all_moved (boxes_of_parts ps)
+
+-- ---- the boxes of a layer
+
+-- the index of a layer; a layer that has none has no boxes
+abbrev pub index_of : LotBoxes → Label → Boxes
+index_of a y = unwrap_or (lookup (label_eq y) a.layers.entries) empty
+
+-- all layers other than one have the boxes that they had
+abbrev pub OthersStay : Label → (Label → Boxes) → (Label → Boxes) → Type 0
+OthersStay y old new = (x : Label) → label_eq y x ≡ false → new x ≡ old x
 
 -- the box under an id
 abbrev pub box_at : Boxes → ℕ → Option IntegerBox
@@ -72,29 +84,75 @@ pub record IsSettled (old new : Boxes) (place : ℕ) (bs : List IntegerBox) : Ty
   pub here : (id : ℕ) → id / 16 ≡ place → is_some (box_at old id) ≡ is_some (slice_get bs (id % 16)) → box_at new id ≡ slice_get bs (id % 16)
   pub rest : (id : ℕ) → id / 16 ≢ place → box_at new id ≡ box_at old id
 
--- where a box of a lot stands: in the cube of its layer, or in that of the least stretch with its birth and its end
-abbrev pub box_by : {S : Type 0} → Lot S → IntegerBox → IntegerBox
-box_by l b = elim l.ended [ None ↦ moved l.layer b | Some t ↦ moved_past l.layer (stretch_of l.born t) b ]
+-- a place has no box any more, and every other place has the boxes that it had
+pub record IsTakenOut (old new : Boxes) (place : ℕ) : Type 0 where
+  pub gone : (id : ℕ) → id / 16 ≡ place → box_at new id ≡ None
+  pub rest : (id : ℕ) → id / 16 ≢ place → box_at new id ≡ box_at old id
 
--- where boxes of a lot stand
+-- ---- the boxes of lots
+
+-- where a box of a lot is: in the cube of live lots, or in that of the least stretch with its birth and its end
+abbrev pub box_by : {S : Type 0} → Lot S → IntegerBox → IntegerBox
+box_by l b = elim l.ended [ None ↦ moved b | Some t ↦ moved_past (stretch_of l.born t) b ]
+
+-- where boxes of a lot are
 abbrev pub boxes_by : {S : Type 0} → Lot S → List IntegerBox → List IntegerBox
 boxes_by l bs = map (box_by l) bs
 
--- the boxes of a lot, where they stand
+-- the boxes of a lot, where they are
 abbrev pub boxes_of_lot : {S : Type 0} → Lot S → List IntegerBox
 boxes_of_lot l = boxes_by l (boxes_of_parts l.parts)
 
--- of some lots those that pass the test have their boxes, if they had as many, the others what they had, and so do all places behind
-pub record AreSettled {S : Type 0} (lots : List (Lot S)) (test : Label → Bool) (old new : Boxes) : Type 0 where
-  pub settled : (id : ℕ) (l : Lot S) → slice_get lots (id / 16) ≡ Some l → test l.id ≡ true → is_some (box_at old id) ≡ is_some (slice_get (boxes_of_lot l) (id % 16)) → box_at new id ≡ slice_get (boxes_of_lot l) (id % 16)
+-- the boxes of a lot in the index of a layer: none if the lot is of another layer
+abbrev pub boxes_for : {S : Type 0} → Label → Lot S → List IntegerBox
+boxes_for y l = cond (label_eq l.layer y) (boxes_of_lot l) []
+
+-- the boxes of a new lot in the index of a layer
+abbrev pub boxes_born : {S : Type 0} → Label → NewLot S → List IntegerBox
+boxes_born y a = cond (label_eq a.layer y) (boxes_of a.parts) []
+
+-- the index of a layer has the boxes of each of its lots, and no others
+abbrev pub IsIndexAt : {S : Type 0} → Label → List (Lot S) → Boxes → Type 0
+IsIndexAt y lots boxes = (id : ℕ) → box_at boxes id ≡ box_among (map (boxes_for y) lots) id
+
+-- the index of each layer has the boxes of each of its lots, and no others
+abbrev pub IsIndexOf : {S : Type 0} → List (Lot S) → (Label → Boxes) → Type 0
+IsIndexOf lots index = (y : Label) → IsIndexAt y lots (index y)
+
+-- no layer has a box from a place on
+abbrev pub AreFree : (Label → Boxes) → ℕ → Type 0
+AreFree index n = (y : Label) → NoneBehind (index y) n
+
+-- new lots have their boxes in the indexes of their layers, from a place on and in order, and all earlier places have the boxes that they had
+abbrev pub AreBorn : {S : Type 0} → (Label → Boxes) → (Label → Boxes) → ℕ → List (NewLot S) → Type 0
+AreBorn old new first lots = (y : Label) → ArePut (old y) (new y) first (map (boxes_born y) lots)
+
+-- every place has the boxes that it had, in each layer
+abbrev pub AllStay : (Label → Boxes) → (Label → Boxes) → Type 0
+AllStay old new = (y : Label) → StaySame (old y) (new y)
+
+-- the layer is the one that is there, if any
+abbrev pub is_layer : Option Label → Label → Bool
+is_layer None y = false
+is_layer (Some x) y = label_eq x y
+
+-- from a place on, each of some layers has no box any more at the next place, and all else is as it was
+pub record AreRemoved (old new : Label → Boxes) (first : ℕ) (layers : List Label) : Type 0 where
+  pub gone : (y : Label) (id k : ℕ) → id / 16 ≡ first + k → is_layer (slice_get layers k) y ≡ true → box_at (new y) id ≡ None
+  pub kept : (y : Label) (id k : ℕ) → id / 16 ≡ first + k → is_layer (slice_get layers k) y ≡ false → box_at (new y) id ≡ box_at (old y) id
+  pub rest : (y : Label) (id : ℕ) → id < first * 16 → box_at (new y) id ≡ box_at (old y) id
+
+-- in the index of a layer those lots that pass the test have their boxes, if they had as many, the others what they had, and so do all places after the last lot
+pub record AreSettledAt {S : Type 0} (y : Label) (lots : List (Lot S)) (test : Label → Bool) (old new : Boxes) : Type 0 where
+  pub settled : (id : ℕ) (l : Lot S) → slice_get lots (id / 16) ≡ Some l → test l.id ≡ true → is_some (box_at old id) ≡ is_some (slice_get (boxes_for y l) (id % 16)) → box_at new id ≡ slice_get (boxes_for y l) (id % 16)
   pub kept : (id : ℕ) (l : Lot S) → slice_get lots (id / 16) ≡ Some l → test l.id ≡ false → box_at new id ≡ box_at old id
   pub rest : (id : ℕ) → length lots * 16 ≤ id → box_at new id ≡ box_at old id
 
--- the index has the boxes of each lot, and no others
-abbrev pub IsIndexOf : {S : Type 0} → List (Lot S) → Boxes → Type 0
-IsIndexOf lots boxes = (id : ℕ) → box_at boxes id ≡ box_among (map boxes_of_lot lots) id
+-- in the index of each layer those lots that pass the test have their boxes, if they had as many, and all else is as it was
+abbrev pub AreSettled : {S : Type 0} → List (Lot S) → (Label → Bool) → (Label → Boxes) → (Label → Boxes) → Type 0
+AreSettled lots test old new = (y : Label) → AreSettledAt y lots test (old y) (new y)
 
--- lots stand in a history without their parts, and their boxes in an index
-pub record AreKeptIn (history : List (Lot (Unit {0}))) (boxes : Boxes) (lots : List (Lot (Unit {0}))) : Type 0 where
+-- lots are in a history without their parts, and their boxes are in the indexes of their layers
+pub record AreKeptIn (history : List (Lot (Unit {0}))) (index : Label → Boxes) (lots : List (Lot (Unit {0}))) : Type 0 where
   pub bare : history ≡ map bare_lot lots
-  pub indexed : IsIndexOf lots boxes
+  pub indexed : IsIndexOf lots index

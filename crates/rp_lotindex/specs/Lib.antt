@@ -1,6 +1,6 @@
 pub mod Indexed
 pub mod Turns
-pub mod Layers
+pub mod Cubes
 pub mod Stretches
 pub mod Near
 pub mod Owner

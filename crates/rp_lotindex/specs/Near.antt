@@ -13,7 +13,7 @@ use Rattle.rp_boxindex.specs.Meeting.{meeting_ids}
 use Rattle.rp_lotindex.specs.declared.near.Reach.{Reach}
 use Rattle.rp_lotindex.specs.declared.near.Reach.TheVariants.{Overlap, Touch}
 use Rattle.rp_lotindex.specs.Indexed.{boxes_of_parts, AreKeptIn}
-use Rattle.rp_lotindex.specs.Layers.{cube_number, in_turns}
+use Rattle.rp_lotindex.specs.Cubes.{live_number, in_turns}
 
 -- the boxes of two parts let them meet
 abbrev pub may_meet : Reach → Part → Part → Bool
@@ -63,20 +63,20 @@ abbrev pub places_each : Reach → ℕ → Boxes → List IntegerBox → List �
 places_each r from boxes [] = []
 places_each r from boxes (b ∷ bs) = places_by r from boxes b ++ places_each r from boxes bs
 
--- so of some boxes, in each turn moved into the cube of a layer, one after the other
-abbrev pub places_met : Reach → Label → ℕ → Boxes → List IntegerBox → List ℕ
-places_met r y from boxes [] = []
-places_met r y from boxes (b ∷ bs) = places_each r from boxes (in_turns (cube_number y) b) ++ places_met r y from boxes bs
+-- so of some boxes, in each turn moved into the cube of live lots, one after the other
+abbrev pub places_met : Reach → ℕ → Boxes → List IntegerBox → List ℕ
+places_met r from boxes [] = []
+places_met r from boxes (b ∷ bs) = places_each r from boxes (in_turns live_number b) ++ places_met r from boxes bs
 
 -- a number stands in a list
 abbrev pub is_listed : ℕ → List ℕ → Bool
 is_listed k ks = list_any (λ i. i == k) ks
 
--- the places are those from one on of the live lots of the layer that have another id, of which a box meets one of these
-abbrev pub AreOthers : {S : Type 0} → Reach → List IntegerBox → Label → Label → ℕ → List (Lot S) → Boxes → List ℕ → Type 0
-AreOthers r bs y x from history boxes places = (k : ℕ) → is_listed k places ≡ (is_listed k (places_met r y from boxes bs) && is_other_at y x history k)
+-- the places are those from one on of the live lots of the layer that have another id, of which a box in the index of the layer meets one of these
+abbrev pub AreOthers : {S : Type 0} → Reach → List IntegerBox → Label → Label → ℕ → List (Lot S) → (Label → Boxes) → List ℕ → Type 0
+AreOthers r bs y x from history index places = (k : ℕ) → is_listed k places ≡ (is_listed k (places_met r from (index y) bs) && is_other_at y x history k)
 
--- of all lots that are kept in the history and the index, those at the places have among them, in order, exactly the live lots of the layer, from a place on, that have another id and a part that may meet one of the parts with these boxes
-abbrev pub AreNear : Reach → List IntegerBox → Label → Label → ℕ → List (Lot (Unit {0})) → Boxes → List ℕ → Type 0
-AreNear r bs y x from history boxes places =
-    (lots : List (Lot (Unit {0}))) (ps : List Part) → AreKeptIn history boxes lots → bs ≡ boxes_of_parts ps → filter (is_near r ps) (lots_at lots places) ≡ filter (is_near r ps) (others_in y x (drop from lots))
+-- of all lots that are kept in the history and the indexes, those at the places have among them, in order, exactly the live lots of the layer, from a place on, that have another id and a part that may meet one of the parts with these boxes
+abbrev pub AreNear : Reach → List IntegerBox → Label → Label → ℕ → List (Lot (Unit {0})) → (Label → Boxes) → List ℕ → Type 0
+AreNear r bs y x from history index places =
+    (lots : List (Lot (Unit {0}))) (ps : List Part) → AreKeptIn history index lots → bs ≡ boxes_of_parts ps → filter (is_near r ps) (lots_at lots places) ≡ filter (is_near r ps) (others_in y x (drop from lots))

@@ -14,7 +14,7 @@ use Rattle.rp_lotindex.specs.declared.moment.Moment.{Moment}
 use Rattle.rp_lotindex.specs.declared.stretch.Stretch.{Stretch}
 use Rattle.rp_lotindex.specs.declared.moment.Moment.TheVariants.{Now, After}
 use Rattle.rp_lotindex.specs.Indexed.{IsIndexOf}
-use Rattle.rp_lotindex.specs.Layers.{cube_number, past_number, in_turns}
+use Rattle.rp_lotindex.specs.Cubes.{live_number, past_number, in_turns}
 use Rattle.rp_lotindex.specs.Stretches.{stretches_with}
 
 -- a lot is there at a moment
@@ -26,15 +26,15 @@ is_there (After n) = is_alive_after n
 abbrev pub is_there_at : {S : Type 0} → Moment → Label → List (Lot S) → ℕ → Bool
 is_there_at m y lots k = elim (slice_get lots k) [ None ↦ false | Some l ↦ is_there m l && label_eq l.layer y ]
 
--- a box, in each turn moved into the cube of a layer for each of some stretches
-abbrev pub boxes_past : Label → IntegerBox → List Stretch → List IntegerBox
-boxes_past y unit [] = []
-boxes_past y unit (s ∷ stretches) = in_turns (past_number y s) unit ++ boxes_past y unit stretches
+-- a box, in each turn moved into the cube for each of some stretches
+abbrev pub boxes_past : IntegerBox → List Stretch → List IntegerBox
+boxes_past unit [] = []
+boxes_past unit (s ∷ stretches) = in_turns (past_number s) unit ++ boxes_past unit stretches
 
--- where boxes of the lots of a layer that are there at a moment stand, if they meet this one: after a line in the cubes of the stretches with the line, too
-abbrev pub boxes_asked : Moment → Label → IntegerBox → List IntegerBox
-boxes_asked Now y unit = in_turns (cube_number y) unit
-boxes_asked (After n) y unit = in_turns (cube_number y) unit ++ boxes_past y unit (stretches_with n)
+-- where boxes of lots that are there at a moment are, if they meet this one: after a line in the cubes of the stretches with the line, too
+abbrev pub boxes_asked : Moment → IntegerBox → List IntegerBox
+boxes_asked Now unit = in_turns live_number unit
+boxes_asked (After n) unit = in_turns live_number unit ++ boxes_past unit (stretches_with n)
 
 -- a moment is now, or after a line of a script
 abbrev pub IsLine : Moment → Type 0
@@ -65,7 +65,7 @@ KnowsOwners {S} has lots p = (k : ℕ) (l : Lot S) → slice_get lots k ≡ Some
 abbrev pub BoxesHold : {S : Type 0} → List (Lot S) → Type 0
 BoxesHold lots = AllByRecursion (λ l. AllByRecursion (λ (q : Part). BoxHoldsCell q.bounds q.cell) l.parts) lots
 
--- of all lots that are kept in the history and the index, the owner is the first one of the layer that is there at the moment and has the point
-abbrev pub IsOwner : (ℕ → Bool) → Label → Moment → RationalPoint → List (Lot (Unit {0})) → Boxes → Option Label → Type 0
-IsOwner has y m p history boxes owner =
-    (lots : List (Lot (Unit {0}))) → history ≡ map bare_lot lots → IsIndexOf lots boxes → BoxesHold lots → KnowsOwners has lots p → owner_verdict owner ≡ owner_line (lots_of_layer y (filter (is_there m) lots)) p
+-- of all lots that are kept in the history and the indexes, the owner is the first one of the layer that is there at the moment and has the point
+abbrev pub IsOwner : (ℕ → Bool) → Label → Moment → RationalPoint → List (Lot (Unit {0})) → (Label → Boxes) → Option Label → Type 0
+IsOwner has y m p history index owner =
+    (lots : List (Lot (Unit {0}))) → history ≡ map bare_lot lots → IsIndexOf lots index → BoxesHold lots → KnowsOwners has lots p → owner_verdict owner ≡ owner_line (lots_of_layer y (filter (is_there m) lots)) p

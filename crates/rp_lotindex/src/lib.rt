@@ -1,10 +1,11 @@
 #![tactic(auto)]
 //! The boxes of lots, in an index that finds the lots which may meet a shape, or have a point, without a look at each.
 //!
-//! The live lots of each layer have a cube of their own, as far as its name tells, into which their boxes are moved
-//! ([`moved`]), and those that ended have further ones, by the lines between which they lived: so what is asked of the
-//! lots of a layer, now or after a line, meets few others. The index goes by x first; so a box that is thin on another
-//! axis stands turned, that this one comes first, and what is asked is asked in each of the three turns.
+//! Each layer has an index of its own: what is asked of a layer visits no box of another one, whatever their names are.
+//! In the index of a layer, the boxes of live lots are moved into one cube, and those of lots that ended into further
+//! ones, by the lines between which they lived. So what is asked of the lots of a layer, now or after a line, meets few
+//! others. An index goes by x first. So a box that is thin on another axis is turned, that this axis comes first, and
+//! what is asked is asked in each of the three turns.
 //!
 //! A lot has at most 16 boxes ([`Bounded`]), so the place of each has 16 ids. The boxes of a new lot are all taken in,
 //! or none where memory runs out, and those of lots that end are moved without memory. [`LotBoxes::near`] answers the
@@ -16,7 +17,7 @@
 mod axis;
 mod bounded;
 mod boxes;
-mod layer;
+mod cube;
 mod moment;
 mod near;
 mod owner;
@@ -24,7 +25,6 @@ mod stretch;
 
 pub use bounded::Bounded;
 pub use boxes::LotBoxes;
-pub use layer::moved;
 pub use moment::{Moment, is_there};
 pub use near::Reach;
 pub use owner::Holder;

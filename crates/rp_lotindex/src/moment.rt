@@ -1,7 +1,7 @@
 //! When lots are looked for.
 ghost use Rattle.std.specs.Prelude.{◌≡◌};
 ghost use Rattle.rp_history.specs.Lots.{lot_of};
-ghost use Rattle.rp_lotindex.specs.Owner.{is_there};
+ghost use Rattle.rp_lotindex.specs.Owner.{is_there, IsLine};
 
 use rp_history::LotLine;
 
@@ -12,6 +12,18 @@ pub enum Moment {
     Now,
     /// After the line of this number.
     After(u32),
+}
+
+impl Moment {
+    /// Shows that the number of the line is below 2^32.
+    pub(crate) fn show_line(self)
+        ensures { IsLine self }
+    {
+        match self {
+            Moment::Now => {}
+            Moment::After(_line) => {}
+        }
+    }
 }
 
 /// Whether a lot is there at a moment.

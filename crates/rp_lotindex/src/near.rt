@@ -4,15 +4,15 @@ ghost use Rattle.std.specs.List.Sorted.{IsStrictlySortedBy};
 ghost use Rattle.std.specs.Ordering.{nat_cmp};
 ghost use Rattle.rp_space.specs.Boxes.{integer_box};
 ghost use Rattle.rp_history.specs.Lots.{lot_of};
-ghost use Rattle.rp_lotindex.specs.Indexed.{NoneBehind};
-ghost use Rattle.rp_lotindex.specs.Layers.{in_turns};
+ghost use Rattle.rp_lotindex.specs.Indexed.{index_of, NoneBehind};
+ghost use Rattle.rp_lotindex.specs.Cubes.{live_number, in_turns};
 ghost use Rattle.rp_lotindex.specs.Near.{is_other_in, is_other_at, places_by, places_each, places_met, AreOthers, AreWithin, AreNear};
 
 use crate::axis::Axis;
 use crate::bounded::Bounded;
 use crate::boxes::{LotBoxes, place_of};
-use crate::layer::{cube_number, moved_in};
-use rp_boxindex::{Steps, Watch};
+use crate::cube::{LIVE, moved_in};
+use rp_boxindex::{Index, Steps, Watch};
 use rp_history::{History, LotLine};
 use rp_lists::{Listed, Name};
 use rp_space::IntBox;
@@ -30,9 +30,9 @@ pub enum Reach {
 }
 
 impl LotBoxes {
-    /// The places, in rising order and at or behind `from`, of the live lots of `layer` in `history`, other than `id`,
-    /// of which a box meets one of `boxes`, as `reach` says, both in a cube of the layer: so of each of them that has a
-    /// part which may meet a part within `boxes`. `watch` is told of what is visited.
+    /// Returns the places, in rising order and at or after `from`, of the live lots of `layer` in `history`, other than
+    /// `id`, of which a box meets one of `boxes`, as `reach` says, both in a cube: so of each of them that has a part
+    /// which may meet a part within `boxes`. `watch` is told of what is visited: nodes of the index of `layer` alone.
     pub fn near<W: Watch, B: Bounded>(
         &self,
         alloc: Global,
@@ -45,9 +45,9 @@ impl LotBoxes {
         reach: Reach,
     ) -> Result<Listed<usize>, AllocError>
         requires from { from ≤ length history.now }
-        requires behind { NoneBehind self.now.index (length history.now) }
-        ensures exact { IfOk result (λ places. AreOthers reach (B.boxes boxes.now) layer.now id.now from history.now self.now.index places.items) }
-        ensures near { IfOk result (λ places. AreNear reach (B.boxes boxes.now) layer.now id.now from history.now self.now.index places.items) }
+        requires behind { NoneBehind (index_of self.now layer.now) (length history.now) }
+        ensures exact { IfOk result (λ places. AreOthers reach (B.boxes boxes.now) layer.now id.now from history.now (index_of self.now) places.items) }
+        ensures near { IfOk result (λ places. AreNear reach (B.boxes boxes.now) layer.now id.now from history.now (index_of self.now) places.items) }
         ensures within { IfOk result (λ places. AreWithin history.now places.items) }
         ensures rising { IfOk result (λ places. IsStrictlySortedBy nat_cmp places.items) }
         ensures few { IfOk result (λ places. length places.items ≤ length history.now) }
@@ -58,7 +58,7 @@ impl LotBoxes {
         others(alloc, history, &places, layer, id)
     }
 
-    /// The places from one on of the lots of which a box meets one of some boxes in a cube of a layer, box by box.
+    /// Returns the places from one on of the lots of a layer of which a box meets one of some boxes.
     fn met<W: Watch, B: Bounded>(
         &self,
         alloc: Global,
@@ -68,63 +68,76 @@ impl LotBoxes {
         from: usize,
         reach: Reach,
     ) -> Result<Vec<usize>, AllocError>
-        ensures { IfOk result (λ places. places.items ≡ places_met reach layer.now from self.now.index (B.boxes boxes.now)) }
+        ensures { IfOk result (λ places. places.items ≡ places_met reach from (index_of self.now layer.now) (B.boxes boxes.now)) }
     {
-        let cube = cube_number(layer) as u64;
-        let mut places = Vec::new(alloc);
-        for number in 0..boxes.count() {
-            let bounds = boxes.bounds(number);
-            let mut more = self.met_turned(alloc, watch, cube, &bounds, from, reach)?;
-            places.append(&mut more)?;
+        match self.index_of(layer) {
+            Some(index) => met_each(alloc, watch, index, boxes, from, reach),
+            None => Ok(Vec::new(alloc)),
         }
-        Ok(places)
     }
+}
 
-    /// The places from one on of the lots of which a box meets a box, turn by turn, in the cubes of a number.
-    fn met_turned<W: Watch>(
-        &self,
-        alloc: Global,
-        watch: &W,
-        cube: u64,
-        bounds: &IntBox,
-        from: usize,
-        reach: Reach,
-    ) -> Result<Vec<usize>, AllocError>
-        ensures { IfOk result (λ places. places.items ≡ places_each reach from self.now.index (in_turns cube (integer_box bounds.now))) }
-    {
-        let x = moved_in(Axis::X, cube, bounds);
-        let y = moved_in(Axis::Y, cube, bounds);
-        let z = moved_in(Axis::Z, cube, bounds);
-        let mut places = self.met_by::<W, Brand>(alloc, watch, &x, from, reach, Blank::new(1))?;
-        let mut beside = self.met_by::<W, Brand>(alloc, watch, &y, from, reach, Blank::new(1))?;
-        let mut above = self.met_by::<W, Brand>(alloc, watch, &z, from, reach, Blank::new(1))?;
-        places.append(&mut beside)?;
-        places.append(&mut above)?;
-        Ok(places)
+/// Returns the places from one on of the lots of which a box meets one of some boxes in the cube of live lots, box by box.
+fn met_each<W: Watch, B: Bounded>(
+    alloc: Global,
+    watch: &W,
+    index: &Index,
+    boxes: &B,
+    from: usize,
+    reach: Reach,
+) -> Result<Vec<usize>, AllocError>
+    ensures { IfOk result (λ places. places.items ≡ places_met reach from index.now (B.boxes boxes.now)) }
+{
+    let mut places = Vec::new(alloc);
+    for number in 0..boxes.count() {
+        let bounds = boxes.bounds(number);
+        let mut more = met_turned(alloc, watch, index, &bounds, from, reach)?;
+        places.append(&mut more)?;
     }
+    Ok(places)
+}
 
-    /// The places from one on of the lots of which a box meets a box.
-    fn met_by<W: Watch, L: Ledger>(
-        &self,
-        alloc: Global,
-        watch: &W,
-        bounds: &IntBox,
-        from: usize,
-        reach: Reach,
-        blank: Blank,
-    ) -> Result<Vec<usize>, AllocError>
-        requires name { blank.name ≡ L.name }
-        requires parts { blank.parts ≡ L.parts }
-        requires some { 0 < L.parts }
-        ensures { IfOk result (λ places. places.items ≡ places_by reach from self.now.index (integer_box bounds.now)) }
-    {
-        let closed = matches!(reach, Reach::Touch);
-        let mut steps = Steps::<L>::new(blank);
-        let ids = self
-            .index
-            .meeting(alloc, bounds, closed, watch, &mut steps)?;
-        places_from(alloc, &ids, from)
-    }
+/// Returns the places from one on of the lots of which a box meets a box, turn by turn, in the cubes of live lots.
+fn met_turned<W: Watch>(
+    alloc: Global,
+    watch: &W,
+    index: &Index,
+    bounds: &IntBox,
+    from: usize,
+    reach: Reach,
+) -> Result<Vec<usize>, AllocError>
+    ensures { IfOk result (λ places. places.items ≡ places_each reach from index.now (in_turns live_number (integer_box bounds.now))) }
+{
+    let x = moved_in(Axis::X, LIVE, bounds);
+    let y = moved_in(Axis::Y, LIVE, bounds);
+    let z = moved_in(Axis::Z, LIVE, bounds);
+    let mut places = met_by::<W, Brand>(alloc, watch, index, &x, from, reach, Blank::new(1))?;
+    let mut beside = met_by::<W, Brand>(alloc, watch, index, &y, from, reach, Blank::new(1))?;
+    let mut above = met_by::<W, Brand>(alloc, watch, index, &z, from, reach, Blank::new(1))?;
+    places.append(&mut beside)?;
+    places.append(&mut above)?;
+    Ok(places)
+}
+
+/// Returns the places from one on of the lots of which a box meets a box.
+fn met_by<W: Watch, L: Ledger>(
+    alloc: Global,
+    watch: &W,
+    index: &Index,
+    bounds: &IntBox,
+    from: usize,
+    reach: Reach,
+    blank: Blank,
+) -> Result<Vec<usize>, AllocError>
+    requires name { blank.name ≡ L.name }
+    requires parts { blank.parts ≡ L.parts }
+    requires some { 0 < L.parts }
+    ensures { IfOk result (λ places. places.items ≡ places_by reach from index.now (integer_box bounds.now)) }
+{
+    let closed = matches!(reach, Reach::Touch);
+    let mut steps = Steps::<L>::new(blank);
+    let ids = index.meeting(alloc, bounds, closed, watch, &mut steps)?;
+    places_from(alloc, &ids, from)
 }
 
 /// The places from one on of the lots whose boxes have some ids.

@@ -1,18 +1,19 @@
 //! The lot that has a point, found by the boxes of lots.
-ghost use Rattle.std.specs.Prelude.{◌≡◌, ◌<◌, ◌/◌, ◌^◌, ◌&&◌, true, false, ℕ, Bool, None, pos, ◌<ℤ◌};
+ghost use Rattle.std.specs.Prelude.{◌≡◌, ◌<◌, ◌/◌, ◌&&◌, true, false, ℕ, Bool, None, pos, ◌<ℤ◌};
 ghost use Rattle.rp_algebra.specs.Integer.{floor_of};
 ghost use Rattle.rp_algebra.specs.Within.{IsWithin};
 ghost use Rattle.rp_geometry.specs.Geometry.{IntegerBox, half_edge, is_cube_point, is_in_range};
 ghost use Rattle.rp_geometry.specs.parts.LeastBox.{IsInBox};
 ghost use Rattle.rp_space.specs.Boxes.{integer_box};
 ghost use Rattle.rp_boxindex.specs.Meeting.{do_meet, first_that, meeting_ids};
-ghost use Rattle.rp_lotindex.specs.Layers.{in_turns};
-ghost use Rattle.rp_lotindex.specs.Owner.{boxes_asked, boxes_past, first_in, lesser_of, is_there_at, IsLine, IsOwner};
+ghost use Rattle.rp_lotindex.specs.Indexed.{index_of};
+ghost use Rattle.rp_lotindex.specs.Cubes.{in_turns};
+ghost use Rattle.rp_lotindex.specs.Owner.{boxes_asked, boxes_past, first_in, lesser_of, is_there_at, IsOwner};
 ghost use Rattle.rp_lotindex.specs.Stretches.{stretches_with};
 
 use crate::axis::Axis;
 use crate::boxes::{LotBoxes, place_of};
-use crate::layer::{cube_number, moved_in, past_number};
+use crate::cube::{LIVE, moved_in, past_number};
 use crate::moment::{Moment, is_there};
 use crate::stretch::Stretch;
 use rp_boxindex::{Choice, Index, Steps, Watch};
@@ -55,9 +56,9 @@ impl<H: Holder> Choice for Owners<'_, H> {
 }
 
 impl LotBoxes {
-    /// The id of the first lot of `layer` in `history` that is there at `moment` and has `p`, as `holder` says; it is
-    /// found without a walk over all lots. `None` exactly where there is none. Takes no memory. `watch` is told of each
-    /// node that is visited.
+    /// Returns the id of the first lot of `layer` in `history` that is there at `moment` and has `p`, as `holder` says; it
+    /// is found without a walk over all lots. `None` iff there is none. Takes no memory. `watch` is told of each node that
+    /// is visited: nodes of the index of `layer` alone.
     pub fn owner<W: Watch, H: Holder>(
         &self,
         watch: &W,
@@ -67,7 +68,7 @@ impl LotBoxes {
         p: &Point,
         holder: &H,
     ) -> Option<Name>
-        ensures { IsOwner (H.has holder.now) layer.now moment p.now history.now self.now.index result }
+        ensures { IsOwner (H.has holder.now) layer.now moment p.now history.now (index_of self.now) result }
     {
         if !p.is_in_cube() {
             return None;
@@ -78,13 +79,15 @@ impl LotBoxes {
             moment,
             holder,
         };
+        // The line of the moment is below 2^32.
+        moment.show_line();
         let id = self.first(watch, layer, moment, &unit_box(p), &owners)?;
         let place = place_of(id);
         Some(history.lots()[place].id)
     }
 
-    /// The least id that passes a test, of the boxes of lots of a layer that may be there at a moment, and that meet a
-    /// box.
+    /// Returns the least id that passes a test, of the boxes of lots of a layer that may be there at a moment, and that
+    /// meet a box.
     fn first<W: Watch, C: Choice>(
         &self,
         watch: &W,
@@ -93,60 +96,73 @@ impl LotBoxes {
         unit: &IntBox,
         choice: &C,
     ) -> Option<u32>
-        ensures first { result ≡ first_in (C.passes choice.now) self.now.index (boxes_asked moment layer.now (integer_box unit.now)) None }
-        ensures small { IsLine moment }
+        ensures { result ≡ first_in (C.passes choice.now) (index_of self.now layer.now) (boxes_asked moment (integer_box unit.now)) None }
     {
-        let live = self.first_turned(watch, cube_number(layer) as u64, unit, choice, None);
-        match moment {
-            Moment::Now => live,
-            Moment::After(line) => self.first_past(watch, layer, line, unit, choice, live),
+        match self.index_of(layer) {
+            Some(index) => first_at(watch, index, moment, unit, choice),
+            None => None,
         }
     }
+}
 
-    /// The lesser of an id and the least one that passes a test, of the boxes of lots of a layer that ended and lived
-    /// within a stretch with a line, and that meet a box.
-    fn first_past<W: Watch, C: Choice>(
-        &self,
-        watch: &W,
-        layer: &Name,
-        line: u32,
-        unit: &IntBox,
-        choice: &C,
-        live: Option<u32>,
-    ) -> Option<u32>
-        ensures first { result ≡ first_in (C.passes choice.now) self.now.index (boxes_past layer.now (integer_box unit.now) (stretches_with line)) live }
-        ensures small { line < 2 ^ 32 }
-    {
-        let mut first = live;
-        let mut mark = line / 2;
-        for level in 0..32 {
-            let cube = past_number(layer, &Stretch { level, mark });
-            first = self.first_turned(watch, cube, unit, choice, first);
-            mark /= 2;
-        }
-        first
+/// Returns the least id that passes a test, of the boxes of lots that may be there at a moment, and that meet a box.
+fn first_at<W: Watch, C: Choice>(
+    watch: &W,
+    index: &Index,
+    moment: Moment,
+    unit: &IntBox,
+    choice: &C,
+) -> Option<u32>
+    ensures { result ≡ first_in (C.passes choice.now) index.now (boxes_asked moment (integer_box unit.now)) None }
+{
+    let live = first_turned(watch, index, LIVE, unit, choice, None);
+    match moment {
+        Moment::Now => live,
+        Moment::After(line) => first_past(watch, index, line, unit, choice, live),
     }
+}
 
-    /// The lesser of an id and the least one that passes a test, of the boxes that meet a box in any turn, in the cubes
-    /// of a number.
-    fn first_turned<W: Watch, C: Choice>(
-        &self,
-        watch: &W,
-        cube: u64,
-        unit: &IntBox,
-        choice: &C,
-        first: Option<u32>,
-    ) -> Option<u32>
-        ensures { result ≡ first_in (C.passes choice.now) self.now.index (in_turns cube (integer_box unit.now)) first }
-    {
-        let x = moved_in(Axis::X, cube, unit);
-        let y = moved_in(Axis::Y, cube, unit);
-        let z = moved_in(Axis::Z, cube, unit);
-        let found = first_that::<_, _, Brand>(watch, &self.index, &x, choice, Blank::new(1));
-        let beside = first_that::<_, _, Brand>(watch, &self.index, &y, choice, Blank::new(1));
-        let above = first_that::<_, _, Brand>(watch, &self.index, &z, choice, Blank::new(1));
-        lesser(lesser(lesser(first, found), beside), above)
+/// Returns the lesser of an id and the least one that passes a test, of the boxes of lots that ended and lived within a
+/// stretch with a line, and that meet a box.
+fn first_past<W: Watch, C: Choice>(
+    watch: &W,
+    index: &Index,
+    line: u32,
+    unit: &IntBox,
+    choice: &C,
+    live: Option<u32>,
+) -> Option<u32>
+    ensures { result ≡ first_in (C.passes choice.now) index.now (boxes_past (integer_box unit.now) (stretches_with line)) live }
+{
+    let mut first = live;
+    let mut mark = line / 2;
+    for level in 0..32 {
+        let cube = past_number(&Stretch { level, mark });
+        first = first_turned(watch, index, cube, unit, choice, first);
+        mark /= 2;
     }
+    first
+}
+
+/// Returns the lesser of an id and the least one that passes a test, of the boxes that meet a box in any turn, in the
+/// cubes of a number.
+fn first_turned<W: Watch, C: Choice>(
+    watch: &W,
+    index: &Index,
+    cube: u64,
+    unit: &IntBox,
+    choice: &C,
+    first: Option<u32>,
+) -> Option<u32>
+    ensures { result ≡ first_in (C.passes choice.now) index.now (in_turns cube (integer_box unit.now)) first }
+{
+    let x = moved_in(Axis::X, cube, unit);
+    let y = moved_in(Axis::Y, cube, unit);
+    let z = moved_in(Axis::Z, cube, unit);
+    let found = first_that::<_, _, Brand>(watch, index, &x, choice, Blank::new(1));
+    let beside = first_that::<_, _, Brand>(watch, index, &y, choice, Blank::new(1));
+    let above = first_that::<_, _, Brand>(watch, index, &z, choice, Blank::new(1));
+    lesser(lesser(lesser(first, found), beside), above)
 }
 
 /// The lesser of two ids, as far as they are there.

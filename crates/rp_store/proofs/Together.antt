@@ -27,7 +27,7 @@ all_lists (l ∷ ls) [] e = absurd (omega arith)
 all_lists (l ∷ ls) (ps ∷ lists) e = let f : length ls ≡ length lists = omega arith in ap (λ (qs : List (List Part)). ps ∷ qs) (all_lists ls lists f)
 
 -- what lots keep of their own
-module _ (ls : List (Lot (Unit {0}))) (lists : List (List Part)) (parts : ℕ) (boxes : Boxes) (lots : List (Lot (Unit {0}))) (h : AreLots ls lists parts boxes) (seen : lots_with_parts ls lists ≡ lots) where
+module _ (ls : List (Lot (Unit {0}))) (lists : List (List Part)) (parts : ℕ) (index : Label → Boxes) (lots : List (Lot (Unit {0}))) (h : AreLots ls lists parts index) (seen : lots_with_parts ls lists ≡ lots) where
   -- as many lots as lists
   pub lots_counted : length lots ≡ length lists
   lots_counted = sym (ap length seen) ∙ length-with_parts ls lists h.each
@@ -56,13 +56,13 @@ module _ (ls : List (Lot (Unit {0}))) (lists : List (List Part)) (parts : ℕ) (
   pub lot_parts_at : (k : ℕ) → option_map (λ l. l.parts) (slice_get lots k) ≡ slice_get lists k
   lot_parts_at k = sym (ap (λ (ms : List (Lot (Unit {0}))). option_map (λ (l : Lot (Unit {0})). l.parts) (slice_get ms k)) seen) ∙ parts_at ls lists h.each k
 
-  -- around them there are boxes in the index
-  pub lots_indexed : IsIndexOf lots boxes
-  lots_indexed = subst (λ (ms : List (Lot (Unit {0}))). IsIndexOf ms boxes) seen h.indexed
+  -- their boxes are in the indexes of their layers
+  pub lots_indexed : IsIndexOf lots index
+  lots_indexed = subst (λ (ms : List (Lot (Unit {0}))). IsIndexOf ms index) seen h.indexed
 
-  -- they stand in the history, and their boxes in the index
-  pub lots_kept_in : AreKeptIn ls boxes lots
-  lots_kept_in = kept_in lots boxes lots_indexed ls lots_bare
+  -- they are in the history, and their boxes in the indexes of their layers
+  pub lots_kept_in : AreKeptIn ls index lots
+  lots_kept_in = kept_in lots index lots_indexed ls lots_bare
 
   -- whose a point is, is known by the lists
   pub lists_know : (p : RationalPoint) → KnowsOwners (has_point lists p) lots p
@@ -73,10 +73,10 @@ module _ (ls : List (Lot (Unit {0}))) (lists : List (List Part)) (parts : ℕ) (
       by (Some ps) e = let same : ps ≡ l.parts = cc in ap (λ (qs : List Part). is_in_parts qs p) same
 
 -- lots are kept after a change
-pub lots_kept_after : (n : ℕ) (ids : List Label) (births : List Birth) (ls new : List (Lot (Unit {0}))) (lists more all : List (List Part)) (parts count : ℕ) (boxes next : Boxes) → AreLots ls lists parts boxes → length births ≡ length more →
+pub lots_kept_after : (n : ℕ) (ids : List Label) (births : List Birth) (ls new : List (Lot (Unit {0}))) (lists more all : List (List Part)) (parts count : ℕ) (index next : Label → Boxes) → AreLots ls lists parts index → length births ≡ length more →
     AreFew (lots_after n (lots_with_parts ls lists) (lots_replaced ids (new_lots births more))) → IsTrue (are_distinct (ids_of new)) → new ≡ lots_after n ls (lots_replaced ids (map new_lot_of births)) → all ≡ lists ++ more → count ≡ sum_by (λ ps. length ps) more →
     IsIndexOf (lots_after n (lots_with_parts ls lists) (lots_replaced ids (new_lots births more))) next → AreLots new all (parts + count) next
-lots_kept_after n ids births ls new lists more all parts count boxes next h e few distinct f g k indexed =
+lots_kept_after n ids births ls new lists more all parts count index next h e few distinct f g k indexed =
     let together = ap₂ lots_with_parts f g ∙ after_with_parts n ids births ls lists more h.each in
     record {
       each = ap length f ∙ length-append (map (ended_at n ids) ls) (map (born_at n) (map new_lot_of births)) ∙ ap₂ ◌+◌ (length-map ls (ended_at n ids) ∙ h.each) (length-map (map new_lot_of births) (born_at n) ∙ length-map births new_lot_of ∙ e) ∙ sym (length-append lists more) ∙ sym (ap length g);
@@ -93,9 +93,9 @@ ended_together n ids ls new lists lots seen e =
     ap (λ (ks : List (Lot (Unit {0}))). lots_with_parts ks lists) e ∙ all_ended_with_parts n ids ls lists ∙ ap (map (ended_at n ids)) seen ∙ sym (append-nil (map (ended_at n ids) lots))
 
 -- lots of which some end are kept
-pub lots_kept_ended : (n : ℕ) (ids : List Label) (ls new : List (Lot (Unit {0}))) (lists : List (List Part)) (parts : ℕ) (boxes next : Boxes) → AreLots ls lists parts boxes → IsTrue (are_distinct (ids_of new)) → new ≡ map (ended_at n ids) ls →
+pub lots_kept_ended : (n : ℕ) (ids : List Label) (ls new : List (Lot (Unit {0}))) (lists : List (List Part)) (parts : ℕ) (index next : Label → Boxes) → AreLots ls lists parts index → IsTrue (are_distinct (ids_of new)) → new ≡ map (ended_at n ids) ls →
     IsIndexOf (lots_after n (lots_with_parts ls lists) (lots_replaced ids [])) next → AreLots new lists parts next
-lots_kept_ended n ids ls new lists parts boxes next h distinct e indexed =
+lots_kept_ended n ids ls new lists parts index next h distinct e indexed =
     let together = ended_together n ids ls new lists (lots_with_parts ls lists) refl e in
     let after = append-nil (map (ended_at n ids) (lots_with_parts ls lists)) in
     let parts_stay = ended_parts n ids (lots_with_parts ls lists) in

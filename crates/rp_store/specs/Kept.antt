@@ -35,14 +35,14 @@ pub record AreFew (lots : List (Lot (Unit {0}))) : Type 0 where
   pub few_lots : length lots ≤ most_kept_parts
   pub few_parts : parts_under_lots lots ≤ most_kept_parts
 
--- a history and lists of parts make few lots with distinct ids, whose parts are counted, and whose boxes are in an index
-pub record AreLots (history : List (Lot (Unit {0}))) (lists : List (List Part)) (parts : ℕ) (boxes : Boxes) : Type 0 where
+-- a history and lists of parts make few lots with distinct ids, whose parts are counted, and whose boxes are in the indexes of their layers
+pub record AreLots (history : List (Lot (Unit {0}))) (lists : List (List Part)) (parts : ℕ) (index : Label → Boxes) : Type 0 where
   pub each : length history ≡ length lists
   pub bare : map bare_lot history ≡ history
   pub distinct : IsTrue (are_distinct (ids_of history))
   pub count : parts ≡ parts_under_lots (lots_with_parts history lists)
   pub few : AreFew (lots_with_parts history lists)
-  pub indexed : IsIndexOf (lots_with_parts history lists) boxes
+  pub indexed : IsIndexOf (lots_with_parts history lists) index
 
 -- the list at a place, if there is one, has the point
 abbrev pub has_point : List (List Part) → RationalPoint → ℕ → Bool

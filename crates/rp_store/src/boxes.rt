@@ -2,7 +2,7 @@
 ghost use Rattle.std.specs.Prelude.{◌≡◌, ◌+◌, ◌≤◌, map, length, OnOk, OnErr};
 ghost use Rattle.rp_model.specs.states.State.{most_kept_parts};
 ghost use Rattle.rp_history.specs.Parts.{new_lots};
-ghost use Rattle.rp_lotindex.specs.Indexed.{boxes_of, boxes_of_parts, NoneBehind, ArePut, StaySame};
+ghost use Rattle.rp_lotindex.specs.Indexed.{boxes_of_parts, index_of, AreFree, AreBorn, AllStay};
 
 use crate::forms::Forms;
 use crate::hulls::hull_of;
@@ -38,8 +38,8 @@ impl<F: Forms> Bounded for FormBoxes<'_, F> {
     }
 }
 
-/// Takes in the boxes of new lots with these forms, in order: at the places from `first` on, which have none yet. After
-/// `AllocError` all is as before.
+/// Takes the boxes of new lots with these forms into the indexes of their layers, in order: at the places from `first`
+/// on, which have none yet. After `AllocError` all is as before.
 pub(crate) fn add_all<F: Forms>(
     boxes: &mut LotBoxes,
     alloc: Global,
@@ -49,14 +49,14 @@ pub(crate) fn add_all<F: Forms>(
 ) -> Result<(), AllocError>
     requires each { length births.now ≡ length forms.now }
     requires small { first + length forms.now ≤ most_kept_parts }
-    requires free { NoneBehind boxes.old.index first }
-    ensures ok { OnOk result (ArePut boxes.old.index boxes.new.index first (map (λ a. boxes_of a.layer a.parts) (new_lots births.now (map F.parts_of forms.now)))) }
-    ensures err { OnErr result (StaySame boxes.old.index boxes.new.index) }
+    requires free { AreFree (index_of boxes.old) first }
+    ensures ok { OnOk result (AreBorn (index_of boxes.old) (index_of boxes.new) first (new_lots births.now (map F.parts_of forms.now))) }
+    ensures err { OnErr result (AllStay (index_of boxes.old) (index_of boxes.new)) }
 {
     for i in 0..forms.len() {
         let added = FormBoxes::<F> { form: &forms[i] };
         if let Err(error) = boxes.add(alloc, first + i, &births[i].layer, &added) {
-            boxes.remove_all(first, i);
+            boxes.remove_all(first, &births[..i]);
             return Err(error);
         }
     }

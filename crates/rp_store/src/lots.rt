@@ -5,7 +5,7 @@ ghost use Rattle.rp_model.specs.states.Sound.{are_distinct};
 ghost use Rattle.rp_model.specs.commands.Row.{lot_parts, owner_line};
 ghost use Rattle.rp_history.specs.Lots.{new_lot_of, lots_after, AreBornBefore, AreKeptWell, AreNew};
 ghost use Rattle.rp_history.specs.Parts.{new_lots};
-ghost use Rattle.rp_lotindex.specs.Indexed.{boxes_of, NoneBehind, ArePut, StaySame};
+ghost use Rattle.rp_lotindex.specs.Indexed.{index_of, AreFree, AreBorn, AllStay};
 ghost use Rattle.rp_lotindex.specs.Near.{others_in, is_near, lots_at, AreWithin};
 ghost use Rattle.rp_lotindex.specs.Owner.{is_there, owner_verdict, BoxesHold};
 ghost use Rattle.rp_store.specs.Kept.{AreFew, has_point};
@@ -24,7 +24,7 @@ use std::fmt;
 use std::marker::Model;
 
 /// All lots that were ever registered, in the order of registration, with their forms: at most 65,536 lots, with at
-/// most 65,536 parts together. Their ids are distinct, and the boxes of each are in an index.
+/// most 65,536 parts together. Their ids are distinct, and the boxes of each are in the index of its layer.
 #[derive(Drop)]
 pub struct Lots<F: Forms> {
     history: History,
@@ -46,13 +46,14 @@ impl<F: Forms> Model for Lots<F> {
     ghost use Rattle.std.specs.Prelude.{List, map};
     ghost use Rattle.rp_model.specs.states.State.{Lot};
     ghost use Rattle.rp_history.specs.Parts.{lots_with_parts};
+    ghost use Rattle.rp_lotindex.specs.Indexed.{index_of};
     ghost use Rattle.rp_store.specs.Kept.{AreLots};
 
     ghost Value = { List (Lot (Unit {0})) };
 
     ghost view = { λ a. lots_with_parts a.history (map F.parts_of a.forms.items) };
 
-    ghost invariant = { λ a. AreLots a.history (map F.parts_of a.forms.items) a.parts a.boxes.index };
+    ghost invariant = { λ a. AreLots a.history (map F.parts_of a.forms.items) a.parts (index_of a.boxes) };
 }
 
 impl<F: Forms> Lots<F> {
@@ -237,22 +238,22 @@ fn take_in<F: Forms>(
 ) -> Result<(), AllocError>
     requires each { length births.now ≡ length forms.now }
     requires small { length kept.old.items + length forms.now ≤ most_kept_parts }
-    requires free { NoneBehind boxes.old.index (length kept.old.items) }
+    requires free { AreFree (index_of boxes.old) (length kept.old.items) }
     requires later { AreBornBefore line history.old }
     requires new { AreNew history.old (map new_lot_of births.now) }
     ensures kept { kept.new.items ≡ kept.old.items }
     ensures room { OnOk result (length forms.now ≤ kept.new.spare) }
     ensures lots { OnOk result (history.new ≡ lots_after line history.old (lots_replaced ends.now (map new_lot_of births.now))) }
     ensures well { OnOk result (AreKeptWell history.new) }
-    ensures put { OnOk result (ArePut boxes.old.index boxes.new.index (length kept.old.items) (map (λ a. boxes_of a.layer a.parts) (new_lots births.now (map F.parts_of forms.now)))) }
+    ensures put { OnOk result (AreBorn (index_of boxes.old) (index_of boxes.new) (length kept.old.items) (new_lots births.now (map F.parts_of forms.now))) }
     ensures stays { OnErr result (history.new ≡ history.old) }
-    ensures same { OnErr result (StaySame boxes.old.index boxes.new.index) }
+    ensures same { OnErr result (AllStay (index_of boxes.old) (index_of boxes.new)) }
 {
     let first = kept.items().len();
     kept.reserve(forms.len())?;
     add_all::<F>(boxes, alloc, first, births, forms)?;
     if let Err(error) = history.note(alloc, line, births, ends) {
-        boxes.remove_all(first, forms.len());
+        boxes.remove_all(first, births);
         return Err(error);
     }
     Ok(())

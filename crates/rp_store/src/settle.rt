@@ -3,7 +3,7 @@ ghost use Rattle.std.specs.Prelude.{◌≡◌, ◌≤◌, length, map};
 ghost use Rattle.rp_language.specs.Name.{label_eq, is_among};
 ghost use Rattle.rp_model.specs.states.State.{most_kept_parts};
 ghost use Rattle.rp_history.specs.Parts.{lots_with_parts};
-ghost use Rattle.rp_lotindex.specs.Indexed.{AreSettled};
+ghost use Rattle.rp_lotindex.specs.Indexed.{index_of, AreSettled};
 
 use crate::boxes::FormBoxes;
 use crate::forms::Forms;
@@ -20,7 +20,7 @@ pub(crate) fn settle_all<F: Forms>(
 )
     requires each { length history.now ≡ length forms.now }
     requires few { length history.now ≤ most_kept_parts }
-    ensures { AreSettled (lots_with_parts history.now (map F.parts_of forms.now)) (λ y. is_among y ids.now) boxes.old.index boxes.new.index }
+    ensures { AreSettled (lots_with_parts history.now (map F.parts_of forms.now)) (λ y. is_among y ids.now) (index_of boxes.old) (index_of boxes.new) }
 {
     for id in ids {
         settle::<F>(boxes, history, forms, id);
@@ -31,7 +31,7 @@ pub(crate) fn settle_all<F: Forms>(
 fn settle<F: Forms>(boxes: &mut LotBoxes, history: &History, forms: &[F::Form], id: &Name)
     requires each { length history.now ≡ length forms.now }
     requires few { length history.now ≤ most_kept_parts }
-    ensures { AreSettled (lots_with_parts history.now (map F.parts_of forms.now)) (λ y. label_eq y id.now) boxes.old.index boxes.new.index }
+    ensures { AreSettled (lots_with_parts history.now (map F.parts_of forms.now)) (λ y. label_eq y id.now) (index_of boxes.old) (index_of boxes.new) }
 {
     if let Some(place) = history.place_of(id) {
         let form = &forms[place];

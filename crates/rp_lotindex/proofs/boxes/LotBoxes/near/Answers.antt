@@ -5,6 +5,7 @@ use Rattle.std.specs.List.Sorted.{IsStrictlySortedBy, IsSorted, IsPermutation}
 use Rattle.std.specs.Ordering.{nat_cmp}
 use Rattle.std.proofs.lemmas.Result.{IfOk-weaker}
 use Rattle.rp_lists.specs.Listed.{Listed}
+use Rattle.rp_lotindex.specs.Indexed.{index_of}
 use Rattle.rp_lotindex.specs.Near.{is_other_at, places_met, AreOthers, AreWithin, AreNear}
 use Rattle.rp_lotindex.proofs.Passed.{in_order, others_are, others_near, others_places}
 use Rattle.rp_lotindex.proofs.Reached.{AreInOrder, met_within}
@@ -22,25 +23,25 @@ pub others-requires : goal.others-requires
 others-requires g c =
     let a = c.args in
     let boxes = g.B.Bounded.boxes a.boxes.now in
-    met_within a.reach a.layer.now a.from a.self.now.index boxes c.deref.result.now a.history.now
-    (ordered (places_met a.reach a.layer.now a.from a.self.now.index boxes) c.in_ok-places.places.items c.sort_unstable.new.self.items c.dedup.new.self.items c.deref.result.now c.in_ok-places.ensures c.sort_unstable.ensures.permutation c.sort_unstable.ensures.sorted c.dedup.ensures.filtered c.deref.ensures.value) c.requires.behind
+    met_within a.reach a.from (index_of a.self.now a.layer.now) boxes c.deref.result.now a.history.now
+    (ordered (places_met a.reach a.from (index_of a.self.now a.layer.now) boxes) c.in_ok-places.places.items c.sort_unstable.new.self.items c.dedup.new.self.items c.deref.result.now c.in_ok-places.ensures c.sort_unstable.ensures.permutation c.sort_unstable.ensures.sorted c.dedup.ensures.filtered c.deref.ensures.value) c.requires.behind
 
 pub returns-clause-exact : goal.returns-clause-exact
 returns-clause-exact g c =
     let a = c.args in
     let boxes = g.B.Bounded.boxes a.boxes.now in
-    answered (AreOthers a.reach boxes a.layer.now a.id.now a.from a.history.now a.self.now.index) (is_other_at a.layer.now a.id.now a.history.now) c.others.result c.deref.result.now
-    (others_are a.reach boxes a.layer.now a.id.now a.from a.history.now a.self.now.index c.deref.result.now
-    (ordered (places_met a.reach a.layer.now a.from a.self.now.index boxes) c.in_ok-places.places.items c.sort_unstable.new.self.items c.dedup.new.self.items c.deref.result.now c.in_ok-places.ensures c.sort_unstable.ensures.permutation c.sort_unstable.ensures.sorted c.dedup.ensures.filtered c.deref.ensures.value))
+    answered (AreOthers a.reach boxes a.layer.now a.id.now a.from a.history.now (index_of a.self.now)) (is_other_at a.layer.now a.id.now a.history.now) c.others.result c.deref.result.now
+    (others_are a.reach boxes a.layer.now a.id.now a.from a.history.now (index_of a.self.now) c.deref.result.now
+    (ordered (places_met a.reach a.from (index_of a.self.now a.layer.now) boxes) c.in_ok-places.places.items c.sort_unstable.new.self.items c.dedup.new.self.items c.deref.result.now c.in_ok-places.ensures c.sort_unstable.ensures.permutation c.sort_unstable.ensures.sorted c.dedup.ensures.filtered c.deref.ensures.value))
     c.others.ensures
 
 pub returns-clause-near : goal.returns-clause-near
 returns-clause-near g c =
     let a = c.args in
     let boxes = g.B.Bounded.boxes a.boxes.now in
-    answered (AreNear a.reach boxes a.layer.now a.id.now a.from a.history.now a.self.now.index) (is_other_at a.layer.now a.id.now a.history.now) c.others.result c.deref.result.now
-    (others_near a.reach boxes a.layer.now a.id.now a.from a.history.now a.self.now.index c.deref.result.now c.requires.from
-    (ordered (places_met a.reach a.layer.now a.from a.self.now.index boxes) c.in_ok-places.places.items c.sort_unstable.new.self.items c.dedup.new.self.items c.deref.result.now c.in_ok-places.ensures c.sort_unstable.ensures.permutation c.sort_unstable.ensures.sorted c.dedup.ensures.filtered c.deref.ensures.value))
+    answered (AreNear a.reach boxes a.layer.now a.id.now a.from a.history.now (index_of a.self.now)) (is_other_at a.layer.now a.id.now a.history.now) c.others.result c.deref.result.now
+    (others_near a.reach boxes a.layer.now a.id.now a.from a.history.now (index_of a.self.now) c.deref.result.now c.requires.from
+    (ordered (places_met a.reach a.from (index_of a.self.now a.layer.now) boxes) c.in_ok-places.places.items c.sort_unstable.new.self.items c.dedup.new.self.items c.deref.result.now c.in_ok-places.ensures c.sort_unstable.ensures.permutation c.sort_unstable.ensures.sorted c.dedup.ensures.filtered c.deref.ensures.value))
     c.others.ensures
 
 pub returns-clause-within : goal.returns-clause-within
@@ -48,8 +49,8 @@ returns-clause-within g c =
     let a = c.args in
     let boxes = g.B.Bounded.boxes a.boxes.now in
     answered (AreWithin a.history.now) (is_other_at a.layer.now a.id.now a.history.now) c.others.result c.deref.result.now
-    (others_places a.reach boxes a.layer.now a.id.now a.from a.history.now a.self.now.index c.deref.result.now c.requires.behind
-    (ordered (places_met a.reach a.layer.now a.from a.self.now.index boxes) c.in_ok-places.places.items c.sort_unstable.new.self.items c.dedup.new.self.items c.deref.result.now c.in_ok-places.ensures c.sort_unstable.ensures.permutation c.sort_unstable.ensures.sorted c.dedup.ensures.filtered c.deref.ensures.value)).within
+    (others_places a.reach boxes a.layer.now a.id.now a.from a.history.now (index_of a.self.now a.layer.now) c.deref.result.now c.requires.behind
+    (ordered (places_met a.reach a.from (index_of a.self.now a.layer.now) boxes) c.in_ok-places.places.items c.sort_unstable.new.self.items c.dedup.new.self.items c.deref.result.now c.in_ok-places.ensures c.sort_unstable.ensures.permutation c.sort_unstable.ensures.sorted c.dedup.ensures.filtered c.deref.ensures.value)).within
     c.others.ensures
 
 pub returns-clause-rising : goal.returns-clause-rising
@@ -57,8 +58,8 @@ returns-clause-rising g c =
     let a = c.args in
     let boxes = g.B.Bounded.boxes a.boxes.now in
     answered (IsStrictlySortedBy nat_cmp) (is_other_at a.layer.now a.id.now a.history.now) c.others.result c.deref.result.now
-    (others_places a.reach boxes a.layer.now a.id.now a.from a.history.now a.self.now.index c.deref.result.now c.requires.behind
-    (ordered (places_met a.reach a.layer.now a.from a.self.now.index boxes) c.in_ok-places.places.items c.sort_unstable.new.self.items c.dedup.new.self.items c.deref.result.now c.in_ok-places.ensures c.sort_unstable.ensures.permutation c.sort_unstable.ensures.sorted c.dedup.ensures.filtered c.deref.ensures.value)).rising
+    (others_places a.reach boxes a.layer.now a.id.now a.from a.history.now (index_of a.self.now a.layer.now) c.deref.result.now c.requires.behind
+    (ordered (places_met a.reach a.from (index_of a.self.now a.layer.now) boxes) c.in_ok-places.places.items c.sort_unstable.new.self.items c.dedup.new.self.items c.deref.result.now c.in_ok-places.ensures c.sort_unstable.ensures.permutation c.sort_unstable.ensures.sorted c.dedup.ensures.filtered c.deref.ensures.value)).rising
     c.others.ensures
 
 pub returns-clause-few : goal.returns-clause-few
@@ -66,6 +67,6 @@ returns-clause-few g c =
     let a = c.args in
     let boxes = g.B.Bounded.boxes a.boxes.now in
     answered (λ (ks : List ℕ). length ks ≤ length a.history.now) (is_other_at a.layer.now a.id.now a.history.now) c.others.result c.deref.result.now
-    (others_places a.reach boxes a.layer.now a.id.now a.from a.history.now a.self.now.index c.deref.result.now c.requires.behind
-    (ordered (places_met a.reach a.layer.now a.from a.self.now.index boxes) c.in_ok-places.places.items c.sort_unstable.new.self.items c.dedup.new.self.items c.deref.result.now c.in_ok-places.ensures c.sort_unstable.ensures.permutation c.sort_unstable.ensures.sorted c.dedup.ensures.filtered c.deref.ensures.value)).few
+    (others_places a.reach boxes a.layer.now a.id.now a.from a.history.now (index_of a.self.now a.layer.now) c.deref.result.now c.requires.behind
+    (ordered (places_met a.reach a.from (index_of a.self.now a.layer.now) boxes) c.in_ok-places.places.items c.sort_unstable.new.self.items c.dedup.new.self.items c.deref.result.now c.in_ok-places.ensures c.sort_unstable.ensures.permutation c.sort_unstable.ensures.sorted c.dedup.ensures.filtered c.deref.ensures.value)).few
     c.others.ensures

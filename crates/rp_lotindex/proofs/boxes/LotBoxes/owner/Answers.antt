@@ -6,6 +6,7 @@ use Rattle.rp_model.specs.states.State.{Lot}
 use Rattle.rp_space.specs.Boxes.{integer_box}
 use Rattle.rp_history.specs.declared.lot.LotLine.{LotLine}
 use Rattle.rp_history.specs.Lots.{lot_of}
+use Rattle.rp_lotindex.specs.Indexed.{index_of}
 use Rattle.rp_lotindex.specs.Owner.{IsOwner}
 use Rattle.rp_lotindex.proofs.Owned.{outside_owner, found_within, owner_missing, owner_found}
 use Rattle.rp_lotindex.proofs.boxes.LotBoxes.owner.Goals as goal
@@ -17,20 +18,20 @@ line_at lines history k d e within = ap (λ (ls : List (Lot (Unit {0}))). slice_
 pub returns-then-not-is_in_cube : goal.returns-then-not-is_in_cube
 returns-then-not-is_in_cube g c =
     let a = c.args in
-    outside_owner (g.H.Holder.has a.holder.now) a.layer.now a.moment a.p.now a.history.now a.self.now.index (sym c.is_in_cube.ensures ∙ c.if-not-is_in_cube.true)
+    outside_owner (g.H.Holder.has a.holder.now) a.layer.now a.moment a.p.now a.history.now (index_of a.self.now) (sym c.is_in_cube.ensures ∙ c.if-not-is_in_cube.true)
 
 pub returns-in_err-id : goal.returns-in_err-id
 returns-in_err-id g c =
     let a = c.args in
     let has = g.H.Holder.has a.holder.now in
-    subst (IsOwner has a.layer.now a.moment a.p.now a.history.now a.self.now.index) (sym c.from_residual.ensures)
-    (owner_missing has a.layer.now a.moment a.p.now a.history.now a.self.now.index (integer_box c.unit_box.result) c.unit_box.ensures c.first.ensures.small (sym c.first.ensures.first ∙ c.in_err-id.was))
+    subst (IsOwner has a.layer.now a.moment a.p.now a.history.now (index_of a.self.now)) (sym c.from_residual.ensures)
+    (owner_missing has a.layer.now a.moment a.p.now a.history.now (index_of a.self.now) (integer_box c.unit_box.result) c.unit_box.ensures c.show_line.ensures (sym c.first.ensures ∙ c.in_err-id.was))
 
 pub bounds-lots-place : goal.bounds-lots-place
 bounds-lots-place g c =
     let a = c.args in
     let has = g.H.Holder.has a.holder.now in
-    let within = found_within has a.layer.now a.moment a.p.now a.history.now a.self.now.index (integer_box c.unit_box.result) c.unit_box.ensures c.first.ensures.small c.in_ok-id.id (sym c.first.ensures.first ∙ c.in_ok-id.was) in
+    let within = found_within has a.layer.now a.moment a.p.now a.history.now (index_of a.self.now) (integer_box c.unit_box.result) c.unit_box.ensures c.show_line.ensures c.in_ok-id.id (sym c.first.ensures ∙ c.in_ok-id.was) in
     let many = sym (ap length c.lots.ensures.value) ∙ length-map c.lots.result.now lot_of in
     let own = c.place_of-place.ensures in
     omega (arith, within, many, own)
@@ -44,12 +45,12 @@ returns g c =
     let has = g.H.Holder.has a.holder.now in
     let unit = integer_box c.unit_box.result in
     let id = c.in_ok-id.id in
-    let found = sym c.first.ensures.first ∙ c.in_ok-id.was in
-    let within = found_within has a.layer.now a.moment a.p.now a.history.now a.self.now.index unit c.unit_box.ensures c.first.ensures.small id found in
+    let found = sym c.first.ensures ∙ c.in_ok-id.was in
+    let within = found_within has a.layer.now a.moment a.p.now a.history.now (index_of a.self.now) unit c.unit_box.ensures c.show_line.ensures id found in
     let many = sym (ap length c.lots.ensures.value) ∙ length-map c.lots.result.now lot_of in
     let k = c.place_of-place.result in
     let own = c.place_of-place.ensures in
     let here : k < length c.lots.result.now = omega (arith, within, many, own) in
-    owner_found has a.layer.now a.moment a.p.now a.history.now a.self.now.index unit c.unit_box.ensures c.first.ensures.small id
+    owner_found has a.layer.now a.moment a.p.now a.history.now (index_of a.self.now) unit c.unit_box.ensures c.show_line.ensures id
     (lot_of (get_or c.lots.result.now k c.index-lots-place.result)) found
     (ap (slice_get a.history.now) (sym own) ∙ line_at c.lots.result.now a.history.now k c.index-lots-place.result c.lots.ensures.value here)

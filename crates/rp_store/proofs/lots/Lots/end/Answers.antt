@@ -6,7 +6,7 @@ use Rattle.rp_model.specs.states.State.{Lot, ended_at}
 use Rattle.rp_history.specs.Lots.{AreBornBefore}
 use Rattle.rp_history.specs.Parts.{lots_with_parts}
 use Rattle.rp_history.proofs.Together.{born_before}
-use Rattle.rp_lotindex.specs.Indexed.{AreSettled}
+use Rattle.rp_lotindex.specs.Indexed.{index_of, AreSettled}
 use Rattle.rp_store.proofs.Together.{lots_counted, lots_few, ended_together, lots_kept_ended}
 use Rattle.rp_store.proofs.Boxed.{indexed_retired}
 use Rattle.rp_store.proofs.lots.Lots.end.Goals as goal
@@ -30,8 +30,8 @@ pub settle_all-requires-clause-few : goal.settle_all-requires-clause-few
 settle_all-requires-clause-few g c =
     let i = c.self.inside in
     let parts = g.F.Forms.parts_of in
-    let few = (lots_few i.history (map parts i.forms.items) i.parts i.boxes.index c.args.self.now c.self.invariant c.self.view_is).few_lots in
-    let many = lots_counted i.history (map parts i.forms.items) i.parts i.boxes.index c.args.self.now c.self.invariant c.self.view_is in
+    let few = (lots_few i.history (map parts i.forms.items) i.parts (index_of i.boxes) c.args.self.now c.self.invariant c.self.view_is).few_lots in
+    let many = lots_counted i.history (map parts i.forms.items) i.parts (index_of i.boxes) c.args.self.now c.self.invariant c.self.view_is in
     let after = as_many c.args.line (c.args.id ∷ []) i.history c.end.new.self (map parts i.forms.items) c.end.ensures.lots c.self.invariant.each in
     omega (arith, few, many, after)
 
@@ -43,9 +43,9 @@ invariant_of-self g c =
     let ids : List Label = c.args.id ∷ [] in
     let before = lots_with_parts i.history lists in
     let together = ap (λ fs. lots_with_parts c.end.new.self (map parts fs)) c.items.ensures ∙ ended_together c.args.line ids i.history c.end.new.self lists before refl c.end.ensures.lots in
-    let settled = subst (λ (ls : List (Lot (Unit {0}))). AreSettled ls (λ y. is_among y ids) i.boxes.index c.settle_all.new.boxes.index) together c.settle_all.ensures in
-    let indexed = indexed_retired i.history lists i.parts i.boxes.index c.self.invariant (length lists) refl c.args.line ids c.settle_all.new.boxes.index settled in
-    lots_kept_ended c.args.line ids i.history c.end.new.self lists i.parts i.boxes.index c.settle_all.new.boxes.index c.self.invariant c.end.ensures.well.distinct c.end.ensures.lots indexed
+    let settled = subst (λ (ls : List (Lot (Unit {0}))). AreSettled ls (λ y. is_among y ids) (index_of i.boxes) (index_of c.settle_all.new.boxes)) together c.settle_all.ensures in
+    let indexed = indexed_retired i.history lists i.parts (index_of i.boxes) c.self.invariant (length lists) refl c.args.line ids (index_of c.settle_all.new.boxes) settled in
+    lots_kept_ended c.args.line ids i.history c.end.new.self lists i.parts (index_of i.boxes) (index_of c.settle_all.new.boxes) c.self.invariant c.end.ensures.well.distinct c.end.ensures.lots indexed
 
 pub returns : goal.returns
 returns g c =

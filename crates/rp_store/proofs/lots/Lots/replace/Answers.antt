@@ -7,10 +7,10 @@ use Rattle.rp_states.proofs.Plain.{image_sums}
 use Rattle.rp_history.specs.Lots.{new_lot_of, lots_after, AreBornBefore, AreNew}
 use Rattle.rp_history.specs.Parts.{lots_with_parts, new_lots}
 use Rattle.rp_history.proofs.Together.{born_before, new_to_history, after_with_parts, parts_after, new_parts}
-use Rattle.rp_lotindex.specs.Indexed.{ArePut, AreSettled}
+use Rattle.rp_lotindex.specs.Indexed.{index_of, AreBorn, AreSettled}
 use Rattle.rp_store.specs.Kept.{AreFew, AreLots}
 use Rattle.rp_store.proofs.Together.{lots_parts, lots_kept_after}
-use Rattle.rp_store.proofs.Boxed.{boxes_of_new, room_for, free_behind, lots_stay, indexed_replaced}
+use Rattle.rp_store.proofs.Boxed.{room_for, free_behind, lots_stay, indexed_replaced}
 use Rattle.rp_store.proofs.lots.Lots.replace.Goals as goal
 
 pub count_parts-parts-requires : goal.count_parts-parts-requires
@@ -30,7 +30,7 @@ take_in-requires-clause-small g c =
     let i = c.self.inside in
     let parts = g.F.Forms.parts_of in
     let more = map parts c.args.forms.items in
-    let room = room_for i.history (map parts i.forms.items) i.parts i.boxes.index c.self.invariant (length i.forms.items) (sym (length-map i.forms.items parts)) c.args.line c.args.ends.now c.args.births.now more (c.requires.each ∙ sym (length-map c.args.forms.items parts))
+    let room = room_for i.history (map parts i.forms.items) i.parts (index_of i.boxes) c.self.invariant (length i.forms.items) (sym (length-map i.forms.items parts)) c.args.line c.args.ends.now c.args.births.now more (c.requires.each ∙ sym (length-map c.args.forms.items parts))
     (subst (λ (ls : List (Lot (Unit {0}))). AreFew (lots_after c.args.line ls (lots_replaced c.args.ends.now (new_lots c.args.births.now more)))) (sym c.self.view_is) c.requires.few) in
     let new = ap length c.items-added.ensures in
     let many = length-map c.args.forms.items parts in
@@ -40,7 +40,7 @@ pub take_in-requires-clause-free : goal.take_in-requires-clause-free
 take_in-requires-clause-free g c =
     let i = c.self.inside in
     let parts = g.F.Forms.parts_of in
-    free_behind i.history (map parts i.forms.items) i.parts i.boxes.index c.self.invariant (length i.forms.items) (sym (length-map i.forms.items parts))
+    free_behind i.history (map parts i.forms.items) i.parts (index_of i.boxes) c.self.invariant (length i.forms.items) (sym (length-map i.forms.items parts))
 
 pub take_in-requires-clause-later : goal.take_in-requires-clause-later
 take_in-requires-clause-later g c =
@@ -60,9 +60,9 @@ invariant_of-self g c =
     let i = c.self.inside in
     let parts = g.F.Forms.parts_of in
     let new = c.take_in.new in
-    subst (λ (history : List (Lot (Unit {0}))). AreLots history (map parts new.kept.items) i.parts new.boxes.index) (sym c.in_err-take_in.ensures.stays)
-    (subst (λ (forms : List _). AreLots i.history (map parts forms) i.parts new.boxes.index) (sym c.in_err-take_in.ensures.kept)
-    (lots_stay i.history (map parts i.forms.items) i.parts i.boxes.index c.self.invariant (length i.forms.items) (sym (length-map i.forms.items parts)) new.boxes.index c.in_err-take_in.ensures.same))
+    subst (λ (history : List (Lot (Unit {0}))). AreLots history (map parts new.kept.items) i.parts (index_of new.boxes)) (sym c.in_err-take_in.ensures.stays)
+    (subst (λ (forms : List _). AreLots i.history (map parts forms) i.parts (index_of new.boxes)) (sym c.in_err-take_in.ensures.kept)
+    (lots_stay i.history (map parts i.forms.items) i.parts (index_of i.boxes) c.self.invariant (length i.forms.items) (sym (length-map i.forms.items parts)) (index_of new.boxes) c.in_err-take_in.ensures.same))
 
 pub unwrap-requires : goal.unwrap-requires
 unwrap-requires g c = c.append.ensures.room (subst (λ (fs : List _). length fs ≤ c.take_in.new.kept.spare) c.items-added.ensures c.in_ok-take_in.ensures.room)
@@ -88,7 +88,7 @@ settle_all-requires-clause-few g c =
     let more = map parts c.args.forms.items in
     let new = c.args.births.now in
     let first = sym (length-map i.forms.items parts) in
-    let room = room_for i.history (map parts i.forms.items) i.parts i.boxes.index c.self.invariant (length i.forms.items) first c.args.line c.args.ends.now new more (c.requires.each ∙ sym (length-map c.args.forms.items parts))
+    let room = room_for i.history (map parts i.forms.items) i.parts (index_of i.boxes) c.self.invariant (length i.forms.items) first c.args.line c.args.ends.now new more (c.requires.each ∙ sym (length-map c.args.forms.items parts))
     (subst (λ (ls : List (Lot (Unit {0}))). AreFew (lots_after c.args.line ls (lots_replaced c.args.ends.now (new_lots new more)))) (sym c.self.view_is) c.requires.few) in
     let lots = ap length c.in_ok-take_in.ensures.lots ∙ length-append (map (ended_at c.args.line c.args.ends.now) i.history) (map (born_at c.args.line) (map new_lot_of new)) in
     let old = length-map i.history (ended_at c.args.line c.args.ends.now) in
@@ -105,7 +105,7 @@ overflow_add-self g c =
     let few = c.requires.few.few_parts in
     let all = parts_after c.args.line c.args.ends.now new c.args.self.now in
     let own = new_parts c.args.births.now (map parts c.args.forms.items) (c.requires.each ∙ sym (length-map c.args.forms.items parts)) ∙ image_sums parts (λ (ps : List Part). length ps) c.args.forms.items ∙ ap (sum_by (λ f. length (parts f))) (sym c.items-added.ensures) ∙ sym c.count_parts-parts.ensures in
-    let before = lots_parts i.history (map parts i.forms.items) i.parts i.boxes.index c.args.self.now c.self.invariant c.self.view_is in
+    let before = lots_parts i.history (map parts i.forms.items) i.parts (index_of i.boxes) c.args.self.now c.self.invariant c.self.view_is in
     omega (arith, few, all, own, before)
 
 pub invariant_of-self-2 : goal.invariant_of-self-2
@@ -117,12 +117,12 @@ invariant_of-self-2 g c =
     let first = sym (length-map i.forms.items parts) in
     let appended = rw c.unwrap.ensures at c.append.ensures.ok in
     let all = ap (map parts) (appended ∙ ap (λ (fs : List _). fs ++ c.args.forms.items) c.in_ok-take_in.ensures.kept) ∙ map-append parts i.forms.items c.args.forms.items in
-    let put = subst (λ (fs : List _). ArePut i.boxes.index c.take_in.new.boxes.index (length i.forms.items) (boxes_of_new c.args.births.now (map parts fs))) c.items-added.ensures c.in_ok-take_in.ensures.put in
+    let put = subst (λ (fs : List _). AreBorn (index_of i.boxes) (index_of c.take_in.new.boxes) (length i.forms.items) (new_lots c.args.births.now (map parts fs))) c.items-added.ensures c.in_ok-take_in.ensures.put in
     let together = ap₂ lots_with_parts c.in_ok-take_in.ensures.lots (ap (map parts) c.items.ensures ∙ all) ∙ after_with_parts c.args.line c.args.ends.now c.args.births.now i.history (map parts i.forms.items) more c.self.invariant.each in
-    let settled = subst (λ (ls : List (Lot (Unit {0}))). AreSettled ls (λ y. is_among y c.args.ends.now) c.take_in.new.boxes.index c.settle_all.new.boxes.index) together c.settle_all.ensures in
-    let indexed = indexed_replaced i.history (map parts i.forms.items) i.parts i.boxes.index c.self.invariant (length i.forms.items) first c.args.line c.args.ends.now c.args.births.now more
-    c.take_in.new.boxes.index c.settle_all.new.boxes.index put settled in
-    lots_kept_after c.args.line c.args.ends.now c.args.births.now i.history c.take_in.new.history (map parts i.forms.items) more (map parts c.append.new.self.items) i.parts c.count_parts-parts.result i.boxes.index c.settle_all.new.boxes.index c.self.invariant each
+    let settled = subst (λ (ls : List (Lot (Unit {0}))). AreSettled ls (λ y. is_among y c.args.ends.now) (index_of c.take_in.new.boxes) (index_of c.settle_all.new.boxes)) together c.settle_all.ensures in
+    let indexed = indexed_replaced i.history (map parts i.forms.items) i.parts (index_of i.boxes) c.self.invariant (length i.forms.items) first c.args.line c.args.ends.now c.args.births.now more
+    (index_of c.take_in.new.boxes) (index_of c.settle_all.new.boxes) put settled in
+    lots_kept_after c.args.line c.args.ends.now c.args.births.now i.history c.take_in.new.history (map parts i.forms.items) more (map parts c.append.new.self.items) i.parts c.count_parts-parts.result (index_of i.boxes) (index_of c.settle_all.new.boxes) c.self.invariant each
     (subst (λ (ls : List (Lot (Unit {0}))). AreFew (lots_after c.args.line ls (lots_replaced c.args.ends.now (new_lots c.args.births.now more)))) (sym c.self.view_is) c.requires.few)
     c.in_ok-take_in.ensures.well.distinct c.in_ok-take_in.ensures.lots all
     (c.count_parts-parts.ensures ∙ ap (sum_by (λ f. length (parts f))) c.items-added.ensures ∙ sym (image_sums parts (λ (ps : List Part). length ps) c.args.forms.items)) indexed

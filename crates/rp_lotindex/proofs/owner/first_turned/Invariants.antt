@@ -1,4 +1,4 @@
-use Rattle.rp_lotindex.proofs.boxes.LotBoxes.first_turned.Given as goal
+use Rattle.rp_lotindex.proofs.owner.first_turned.Given as goal
 
 -- the ledger of the count of steps
 abbrev pub ghosts-first_that : goal.ghosts-first_that

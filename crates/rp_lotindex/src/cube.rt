@@ -1,15 +1,19 @@
-//! Where the boxes of each layer stand in the index: its live lots have a cube of their own, in a grid of 64 by 64 by 64
-//! cubes, as far as the name of the layer tells. So what is asked of one layer does not meet the lots of the others that
-//! share its place. Lots that ended have further cubes, one for each stretch of lines. And boxes that are turned, so that
-//! an axis comes first on which they are thin, have cubes of their own for each turn.
+//! Cubes of the index of a layer, in a grid of 64 by 64 by 64.
+//!
+//! The boxes of live lots are in one cube, and those of lots that ended in further cubes, one for each stretch of lines
+//! ([`Stretch`]). Boxes that are turned, so that an axis comes first on which they are thin, have cubes of their own for
+//! each turn.
+//!
+//! Two stretches share a cube of a turn iff their numbers are equal modulo 262,144. A script of 16 MB has at most 2^24
+//! lines, so at most 67 stretches share a cube. Lots of one layer that lived in one stretch all lived at its middle line,
+//! so at most one of them has any given point. So no more than 67 lots that ended have one point in one cube of a turn.
 ghost use Rattle.std.specs.Prelude.{◌≡◌, ◌<◌, ◌+◌, ◌%◌, ◌/◌, ◌+ℤ◌};
 ghost use Rattle.rp_algebra.specs.Within.{IsWithin};
 ghost use Rattle.rp_space.specs.Boxes.{integer_box};
-ghost use Rattle.rp_lotindex.specs.Layers.{cube_number, past_number, turn_number, step_of, is_near_domain, moved_low, moved_high, moved_to, moved_in, moved_own, moved, moved_past};
+ghost use Rattle.rp_lotindex.specs.Cubes.{live_number, past_number, turn_number, step_of, is_near_domain, moved_low, moved_high, moved_to, moved_in, moved_own, moved, moved_past};
 
 use crate::axis::{Axis, axis_of, turned};
 use crate::stretch::Stretch;
-use rp_lists::Name;
 use rp_space::IntBox;
 
 /// How many cubes there are.
@@ -21,28 +25,30 @@ const EDGE: i32 = 67_108_864;
 /// How far the coordinates are from 0 that are moved: half the edge of the domain, and one more.
 const FAR: i32 = 16_777_217;
 
-/// The box, in its own turn moved into the cube of a layer. A side that lies outside of the domain goes as far as a
+/// The number of the cube of live lots.
+pub(crate) const LIVE: u64 = 0;
+
+/// Moves the box, in its own turn, into the cube of live lots. A side that lies outside of the domain goes as far as a
 /// number does, so that what meets before the move meets after it.
-pub fn moved(layer: &Name, bounds: &IntBox) -> IntBox
-    ensures { integer_box result ≡ moved layer.now (integer_box bounds.now) }
+pub(crate) fn moved(bounds: &IntBox) -> IntBox
+    ensures { integer_box result ≡ moved (integer_box bounds.now) }
 {
-    moved_own(cube_number(layer) as u64, bounds)
+    moved_own(LIVE, bounds)
 }
 
-/// The box, in its own turn moved into the cube of a layer for the lots that ended and lived within a stretch of lines.
-pub(crate) fn moved_past(layer: &Name, stretch: &Stretch, bounds: &IntBox) -> IntBox
-    ensures { integer_box result ≡ moved_past layer.now stretch.now (integer_box bounds.now) }
+/// Moves the box, in its own turn, into the cube of the lots that ended and lived within a stretch of lines.
+pub(crate) fn moved_past(stretch: &Stretch, bounds: &IntBox) -> IntBox
+    ensures { integer_box result ≡ moved_past stretch.now (integer_box bounds.now) }
 {
-    moved_own(past_number(layer, stretch), bounds)
+    moved_own(past_number(stretch), bounds)
 }
 
-/// The number of the cube of a layer for a stretch of lines.
-pub(crate) fn past_number(layer: &Name, stretch: &Stretch) -> u64
-    ensures { result ≡ past_number layer.now stretch.now }
+/// Returns the number of the cube for a stretch of lines.
+pub(crate) fn past_number(stretch: &Stretch) -> u64
+    ensures { result ≡ past_number stretch.now }
 {
-    // The first stretches of a level come to other cubes than those of the next levels.
-    let level = stretch.level as u64 * 70_001;
-    cube_number(layer) as u64 + level + stretch.mark as u64
+    // The first stretches of a level have other cubes than those of the next levels, and than the live lots.
+    1 + stretch.level as u64 * 70_001 + stretch.mark as u64
 }
 
 /// The box, in its own turn moved into the cube of a number.
@@ -84,17 +90,6 @@ fn moved_to(number: u64, bounds: &IntBox) -> IntBox
         lo: [moved_low(x, x1), moved_low(y, y1), moved_low(z, z1)],
         hi: [moved_high(x, x2), moved_high(y, y2), moved_high(z, z2)],
     }
-}
-
-/// A number below 64 times 64 times 64 for a layer, made of the bytes of its name.
-pub(crate) fn cube_number(layer: &Name) -> u32
-    ensures { result ≡ cube_number layer.now }
-{
-    let mut number = 0;
-    for byte in layer.bytes() {
-        number = (number * 131 + *byte as u32) % 262_144;
-    }
-    number
 }
 
 /// How far the cube of a number is moved along an axis.

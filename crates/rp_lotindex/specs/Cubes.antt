@@ -1,20 +1,10 @@
--- Where the boxes of each layer stand: those of live lots in cubes of its own, as far as its name tells, one for each turn, and those of lots that ended in others, by the stretches of lines in which they lived.
+-- Where boxes are in the index of a layer: those of live lots in one cube for each turn, and those of lots that ended in further cubes, by the stretches of lines in which they lived.
 use Rattle.std.specs.Prelude.{ℕ, ◌+◌, ◌*◌, ◌/◌, ◌%◌, Bool, cond, ◌&&◌, ℤ, pos, negsuc, ◌+ℤ◌, ◌-ℤ◌, ◌*ℤ◌, int_le, List, [], ◌∷◌}
 use Rattle.rp_geometry.specs.Geometry.{IntegerBox}
-use Rattle.rp_language.specs.Name.{Label}
 use Rattle.rp_lotindex.specs.declared.axis.Axis.{Axis}
 use Rattle.rp_lotindex.specs.declared.axis.Axis.TheVariants.{X, Y, Z}
 use Rattle.rp_lotindex.specs.declared.stretch.Stretch.{Stretch}
 use Rattle.rp_lotindex.specs.Turns.{axis_of, turned}
-
--- a number below 64 * 64 * 64 that is made of bytes, after another number
-abbrev pub mixed : ℕ → List ℕ → ℕ
-mixed n [] = n
-mixed n (b ∷ bs) = mixed ((n * 131 + b) % 262144) bs
-
--- the number of a layer
-abbrev pub cube_number : Label → ℕ
-cube_number y = mixed 0 y
 
 -- how far the cube of a number is moved along an axis
 abbrev pub step_of : ℕ → ℤ
@@ -58,14 +48,18 @@ moved_own n b = moved_in (axis_of b) n b
 abbrev pub in_turns : ℕ → IntegerBox → List IntegerBox
 in_turns n b = moved_in X n b ∷ moved_in Y n b ∷ moved_in Z n b ∷ []
 
--- a box in its own turn, moved into the cube of a layer
-abbrev pub moved : Label → IntegerBox → IntegerBox
-moved y b = moved_own (cube_number y) b
+-- the number of the cube of live lots
+abbrev pub live_number : ℕ
+live_number = 0
 
--- the number of the cube of a layer for a stretch of lines
-abbrev pub past_number : Label → Stretch → ℕ
-past_number y s = cube_number y + s.level * 70001 + s.mark
+-- a box in its own turn, moved into the cube of live lots
+abbrev pub moved : IntegerBox → IntegerBox
+moved b = moved_own live_number b
+
+-- the number of the cube for a stretch of lines
+abbrev pub past_number : Stretch → ℕ
+past_number s = 1 + s.level * 70001 + s.mark
 
 -- a box in its own turn, moved into that cube
-abbrev pub moved_past : Label → Stretch → IntegerBox → IntegerBox
-moved_past y s b = moved_own (past_number y s) b
+abbrev pub moved_past : Stretch → IntegerBox → IntegerBox
+moved_past s b = moved_own (past_number s) b

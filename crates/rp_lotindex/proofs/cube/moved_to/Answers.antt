@@ -1,8 +1,8 @@
 use Rattle.std.proofs.Common.{◌≡◌, ℕ, ◌%◌, ◌/◌, ℤ, pos, rules, w32, to_z, of_z, get_or, ◌∙◌}
 use Rattle.std.proofs.lemmas.Int.{to_z-of_z}
 use mir.Val.{SFits}
-use Rattle.rp_lotindex.specs.Layers.{step_of, moved_low, moved_high, moved_to}
-use Rattle.rp_lotindex.proofs.layer.moved_to.Goals as goal
+use Rattle.rp_lotindex.specs.Cubes.{step_of, moved_low, moved_high, moved_to}
+use Rattle.rp_lotindex.proofs.cube.moved_to.Goals as goal
 
 -- a side that was moved by a step
 as_read : (move : ℤ → ℤ → ℤ) (r s t v : ℤ) → SFits w32 r → SFits w32 s → SFits w32 v → s ≡ t → r ≡ move (to_z w32 (of_z w32 s)) (to_z w32 (of_z w32 v)) → to_z w32 (of_z w32 r) ≡ move t v

@@ -1,4 +1,4 @@
-use Rattle.rp_lotindex.proofs.boxes.LotBoxes.met_turned.Given as goal
+use Rattle.rp_lotindex.proofs.near.met_turned.Given as goal
 
 -- the ledger of the count of steps
 abbrev pub ghosts-met_by : goal.ghosts-met_by
