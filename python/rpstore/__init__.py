@@ -34,6 +34,6 @@ All but `plan` need Python 3.9 and nothing else.
 class Fault(Exception):
     """Why nothing is written, with the status of the program."""
 
-    def __init__(self, said, status=1):
+    def __init__(self, said: str, status: int = 1) -> None:
         super().__init__(said)
         self.status = status

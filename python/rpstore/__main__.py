@@ -58,7 +58,8 @@ def read(given: argparse.Namespace) -> bytes:
 def line_of(given: argparse.Namespace) -> Optional[int]:
     """Returns the line that --asof names; a date is the last line that was added to a book on it or before."""
     if not isinstance(given.asof, str):
-        return given.asof
+        line: Optional[int] = given.asof
+        return line
     if not given.file or not os.path.isfile(given.file):
         raise Fault("--asof takes a date of a book, and no file of a book is named. Nothing was written.", 2)
     with open(given.file, "rb") as file:

@@ -9,7 +9,7 @@ from typing import Any, Iterator, Optional
 from . import Fault, outline, shape, told
 from .gis import attributes, bounded
 from .lots import Body, Seen
-from .points import Ring, edges, lowest
+from .points import Point, Ring, edges, lowest
 
 # A face is its outer ring and its holes; a shell is a closed surface; a solid is its outer shell and its cavities.
 Face = list[Ring]
@@ -61,7 +61,7 @@ def hanging(cells: list[shape.Cell]) -> list[list[shape.Cell]]:
     return list(found.values())
 
 
-def all_edges(face: Face) -> Iterator[tuple]:
+def all_edges(face: Face) -> Iterator[outline.Edge]:
     for ring in face:
         yield from edges(ring)
 
@@ -94,20 +94,21 @@ def pieces(body: Body) -> Iterator[tuple[str, Body, list[Solid]]]:
         piece = body if len(groups) == 1 else Body(body.label, True, body.layer, body.born, body.origins, group)
         name = body.label if len(groups) == 1 else f"{body.label} {number}"
         whole = shells(group)
-        yield name, piece, [whole] if whole else [shells([each]) for each in group]
+        yield name, piece, [whole] if whole else [*filter(None, (shells([each]) for each in group))]
 
 
 class Vertices:
     """The corners of a city model, each once, as whole numbers of its scale, so many to the metre."""
 
     def __init__(self, scale: int):
-        self.scale, self.places = scale, {}
+        self.scale = scale
+        self.places: dict[tuple[int, ...], int] = {}
 
-    def place(self, point: tuple) -> int:
+    def place(self, point: Point) -> int:
         numbers = tuple(round(Fraction(number, point[3]) * self.scale / 1000) for number in point[:3])
         return self.places.setdefault(numbers, len(self.places))
 
-    def boundaries(self, solid: Solid) -> list:
+    def boundaries(self, solid: Solid) -> list[list[list[list[int]]]]:
         return [[[[self.place(point) for point in ring] for ring in face] for face in shell] for shell in solid]
 
     def geometry(self, solids: list[Solid]) -> dict[str, Any]:

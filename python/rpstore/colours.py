@@ -10,7 +10,7 @@ PALETTE = ["#7fb2d8", "#f2b66d", "#93c98b", "#e59a96", "#b7a3d6", "#d9cf7a", "#8
 
 def touching(boxes: list[Box]) -> Iterator[tuple[int, int]]:
     """The places in `boxes` of each two that touch or overlap."""
-    active = []
+    active: list[int] = []
     for at in sorted(range(len(boxes)), key=lambda at: boxes[at][0]):
         low, high = boxes[at]
         active = [other for other in active if boxes[other][1][0] >= low[0]]
@@ -23,16 +23,17 @@ def touching(boxes: list[Box]) -> Iterator[tuple[int, int]]:
 
 def chosen(count: int, pairs: dict[tuple[int, int], int]) -> list[int]:
     """The places in `PALETTE` for `count` things. `pairs` has for each two things how much they want different ones."""
-    near = [[] for _ in range(count)]
+    near: list[list[tuple[int, int]]] = [[] for _ in range(count)]
     for (one, other), weight in pairs.items():
         near[one].append((other, weight))
         near[other].append((one, weight))
-    found, used = [None] * count, [0] * len(PALETTE)
+    found: list[int] = []
+    used = [0] * len(PALETTE)
     for at in range(count):
         cost = [0] * len(PALETTE)
         for other, weight in near[at]:
-            if found[other] is not None:
+            if other < at:
                 cost[found[other]] += weight
-        found[at] = min(range(len(PALETTE)), key=lambda colour: (cost[colour], used[colour], colour))
+        found.append(min(range(len(PALETTE)), key=lambda colour: (cost[colour], used[colour], colour)))
         used[found[at]] += 1
     return found

@@ -112,7 +112,7 @@ class Reader:
         if not (DECIMAL if due.is_decimal(self.version) else WHOLE).fullmatch(word) or word == "-0.000":
             self.fault("syntax", due)
         digits = word.replace(".", "")
-        if len(digits) > MOST_DIGITS or not due.least <= int(digits) <= due.most:
+        if len(digits) > MOST_DIGITS or int(digits) < due.least or due.most is not None and int(digits) > due.most:
             self.fault("range", due)
         self.at += 1
         return int(digits)

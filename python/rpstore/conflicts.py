@@ -66,7 +66,7 @@ def regions_of(run: store.Run) -> dict[str, Body]:
     for answer in report.read(io.BytesIO(run.text)):
         name = lots.name_of(answer.command) if answer.command and answer.command.word == "show" else None
         cells = lots.cells_of(answer) if name else []
-        if cells:
+        if name and cells:
             found[name] = Body(name, False, "conflicts", answer.number, (), cells)
     return found
 
@@ -119,7 +119,7 @@ def attributes(each: Conflict) -> dict[str, Any]:
 def inner(body: Body) -> list[Number]:
     """Returns a point in a body: the mean of the corners of its largest convex part."""
     part = max(body.cells, key=lambda cell: cell.volume)
-    return [sum(Fraction(point[axis], point[3]) for point in part.points) / len(part.points) for axis in range(3)]
+    return [sum((Fraction(point[axis], point[3]) for point in part.points), Fraction(0)) / len(part.points) for axis in range(3)]
 
 
 def point(place: Place, body: Body) -> gis.Geometry:

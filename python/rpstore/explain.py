@@ -8,6 +8,7 @@ from fractions import Fraction
 from typing import Callable, Collection, Iterator, Sequence
 
 from . import command, hints, lots, report, told
+from .place import Place
 from .script import fresh
 
 UNDONE = {"register": "{0} was not registered", "cut": "{0} was not cut", "subdivide": "{0} was not subdivided",
@@ -18,7 +19,7 @@ MANY = 1000
 GIVEN = re.compile(rb"^> [0-9]+ let ([A-Za-z0-9_.-]+) ", re.M)
 
 
-def listed(words: list[str]) -> str:
+def listed(words: Sequence[str]) -> str:
     return ", ".join(words[:-1]) + f" and {words[-1]}" if len(words) > 1 else "".join(words)
 
 
@@ -30,8 +31,8 @@ def line(number: int, version: int) -> str:
 # ---- lines that are no commands
 
 def bounds(due: command.Due, version: int) -> str:
-    spelled = command.spelled if due.is_decimal(version) else str
-    return f"from {spelled(due.least)} to {spelled(due.most)}"
+    least, most = due.least, due.most or 0
+    return f"from {command.spelled(least)} to {command.spelled(most)}" if due.is_decimal(version) else f"from {least} to {most}"
 
 
 def short(word: str) -> str:
@@ -76,17 +77,18 @@ class Case:
 
     answer: report.Answer
     register: lots.Register
-    place: lots.Place
+    place: Place
     names: set[str]
 
     @property
     def command(self) -> command.Command:
-        return self.answer.command
+        return self.answer.parsed
 
     @property
     def told(self) -> tuple[str, ...]:
         """The names or numbers behind the cause."""
-        return self.answer.verdict.told
+        told: tuple[str, ...] = self.answer.verdict.told
+        return told
 
     @property
     def lot(self) -> str:
@@ -251,7 +253,7 @@ def exchanged_ends(expression: str) -> str:
 
 # ---- where it is
 
-def on_ground(point: list[Fraction], place: lots.Place) -> str:
+def on_ground(point: list[Fraction], place: Place) -> str:
     """A point in metres: from the local origin, or on the map where that is known."""
     if not place.is_given:
         return "x {}, y {}, z {} m".format(*map(told.metres, point))
@@ -265,7 +267,7 @@ def shown(answer: report.Answer) -> list[list[Fraction]]:
     return [[Fraction(number, point[3]) for number in point[:3]] for point in report.tuples(answer.proof[-1])]
 
 
-def extent(points: list[list[Fraction]], what: str, place: lots.Place) -> str:
+def extent(points: list[list[Fraction]], what: str, place: Place) -> str:
     """A point of what the report shows, and how far its points reach."""
     middle = [sum(numbers) / len(points) for numbers in zip(*points)]
     reach = [max(numbers) - min(numbers) for numbers in zip(*points)]
@@ -340,15 +342,15 @@ def head(case: Case) -> str:
 
 def sentence(case: Case) -> str:
     """What is said of one refused line, and the lines of a script that show where it is."""
-    return head(case) + (of_words(case) if case.command is None else of_command(case))
+    return head(case) + (of_words(case) if case.answer.command is None else of_command(case))
 
 
 def short_sentence(case: Case) -> str:
     """Returns what is said of one refused line, without a place."""
-    return head(case) + (of_words(case) if case.command is None else summary(case, reason_of(case)))
+    return head(case) + (of_words(case) if case.answer.command is None else summary(case, reason_of(case)))
 
 
-def cases(text: bytes, place: lots.Place) -> Iterator[Case]:
+def cases(text: bytes, place: Place) -> Iterator[Case]:
     """Yields the refused lines of a report. The register of a case is that before its line until the next case is taken."""
     register, names = lots.Register(), {name.decode() for name in GIVEN.findall(text)}
     for answer in report.read(io.BytesIO(text)):
@@ -358,6 +360,6 @@ def cases(text: bytes, place: lots.Place) -> Iterator[Case]:
             register.take(answer)
 
 
-def explained(text: bytes, place: lots.Place) -> Iterator[str]:
+def explained(text: bytes, place: Place) -> Iterator[str]:
     """What is to be said of each refused line of a report."""
     return map(sentence, cases(text, place))

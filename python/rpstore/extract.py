@@ -2,7 +2,7 @@
 import io
 import itertools
 from dataclasses import dataclass, field
-from typing import Iterable, Iterator
+from typing import Any, Iterable, Iterator
 
 from . import Fault, command, lots, report, store
 from .notes import is_head, notes_on
@@ -27,7 +27,7 @@ class Book:
     layers: dict[int, int] = field(default_factory=dict)
     register: lots.Register = field(default_factory=lots.Register)
     refused: list[report.Refused] = field(default_factory=list)
-    answers: dict[bytes, object] = field(default_factory=dict)
+    answers: dict[bytes, Any] = field(default_factory=dict)
 
 
 def lines_of(text: bytes) -> list[bytes]:
@@ -43,11 +43,11 @@ def asked(lines: list[bytes], questions: Iterable[bytes], program: str) -> Book:
         if isinstance(answer.verdict, report.Refused):
             book.refused += [answer.verdict] * (answer.number <= last)
         elif answer.number > last:
-            book.answers[answer.text.encode()] = answer.verdict
+            book.answers[(answer.text or "").encode()] = answer.verdict
         elif answer.verdict == "ok":
-            book.commands[answer.number], book.layers[answer.number] = answer.command, layer
+            book.commands[answer.number], book.layers[answer.number] = answer.parsed, layer
             book.register.take(answer)
-            layer = answer.number if answer.command.word == "layer" else layer
+            layer = answer.number if answer.parsed.word == "layer" else layer
     return book
 
 
@@ -96,7 +96,7 @@ def emptied(book: Book, numbers: Iterable[int]) -> list[bytes]:
 def in_the_way(part: Book, whole: Book) -> set[str]:
     """Lots that ended in the whole script and not in a part of it, where they overlap a later lot or are neighbours."""
     found = {refused.told[0] for refused in part.refused if refused.cause == "overlaps"}
-    return found.union(*({*answer} - {*whole.answers[question]} for question, answer in part.answers.items() if question.startswith(b"neighbours ")))
+    return found.union(*[{*answer} - {*whole.answers[question]} for question, answer in part.answers.items() if question.startswith(b"neighbours ")])
 
 
 def fewest(whole: Book, ids: Iterable[str], program: str) -> set[int]:

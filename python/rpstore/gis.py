@@ -5,28 +5,30 @@ from fractions import Fraction
 from typing import Any, Iterable, Optional
 
 from . import Fault, outline, shape, told
-from .lots import Body, Place, Seen
+from .lots import Body, Seen
+from .place import Place
+from .points import Number, Point
 
 Geometry = dict[str, Any]
 
 
-def on_map(place: Place, point: tuple) -> list[float]:
+def on_map(place: Place, point: Point) -> list[float]:
     """Metres on the map, to the micrometre, of a point of a plan or of space."""
     return [float(told.decimal(place.metres(Fraction(number, point[-1]), axis), 6)) for axis, number in enumerate(point[:-1])]
 
 
-def closed(place: Place, ring: Iterable[tuple]) -> list[list[float]]:
+def closed(place: Place, ring: Iterable[Point]) -> list[list[float]]:
     """A ring on the map, which ends with the point at which it begins."""
     placed = [on_map(place, point) for point in ring]
     return [*placed, placed[0]]
 
 
-def multipolygon(place: Place, regions: Iterable[tuple]) -> Geometry:
+def multipolygon(place: Place, regions: Iterable[outline.Outline]) -> Geometry:
     """Of outer rings with their holes: the outer ones counterclockwise, as GeoJSON wants them."""
     return {"type": "MultiPolygon", "coordinates": [[closed(place, ring) for ring in (outer, *holes)] for outer, holes in regions]}
 
 
-def metres(units: Fraction) -> float:
+def metres(units: Number) -> float:
     return float(told.decimal(Fraction(units) / 10**3, 6))
 
 

@@ -1,7 +1,7 @@
 """The grid of a plan, and of the register to which it goes; the local origin of a script."""
 import math
 from decimal import Decimal
-from typing import Callable, Optional, Sequence
+from typing import Any, Callable, Optional, Sequence
 
 from . import Fault
 from .command import spelled
@@ -14,7 +14,8 @@ try:
 except ImportError as error:
     MISSING = error
 
-Grid = Optional["CRS"]
+# A CRS of pyproj, which may not be there, or None.
+Grid = Any
 Point = tuple[float, float]
 Ring = list[Point]
 # The word in the place of a grid for coordinates that are metres of no grid.
@@ -34,14 +35,14 @@ def named(word: Optional[str]) -> Grid:
 
 def unit(grid: Grid) -> str:
     """The unit of a grid's first axis."""
-    return grid.axis_info[0].unit_name if grid.axis_info else "metre"
+    return str(grid.axis_info[0].unit_name) if grid.axis_info else "metre"
 
 
 def at_middle(found: Grid, points: Sequence[Point]) -> str:
     """A grid in metres that would do for points in a grid: the zone of UTM in which their middle lies."""
     try:
-        ends = [(min(axis) + max(axis)) / 2 for axis in [*zip(*points)][:2]]
-        east, north = Transformer.from_crs(found, "EPSG:4326", always_xy=True).transform(*ends, errcheck=True)
+        x, y = ((min(axis) + max(axis)) / 2 for axis in [*zip(*points)][:2])
+        east, north = Transformer.from_crs(found, "EPSG:4326", always_xy=True).transform(x, y, errcheck=True)
     except (ProjError, ValueError):
         return ""
     if not (abs(east) <= 180 and abs(north) <= 84):
@@ -85,7 +86,7 @@ def grids(given: str, source: Optional[str], target: Optional[str], points: Sequ
 def projection(found: Grid, wanted: Grid) -> Callable[[Ring], Ring]:
     """What brings a ring from its grid to that of the register. Of each point it takes two coordinates alone."""
     if found is None or found == wanted:
-        return lambda ring: [tuple(point[:2]) for point in ring]
+        return lambda ring: [(point[0], point[1]) for point in ring]
     try:
         transformer = Transformer.from_crs(found, wanted, always_xy=True, allow_ballpark=False)
     except ProjError:
@@ -104,7 +105,8 @@ def projection(found: Grid, wanted: Grid) -> Callable[[Ring], Ring]:
 def code(grid: Grid) -> Optional[int]:
     """The EPSG number of a grid, where that is sure, or is that of a grid with the same name and nearly the same numbers."""
     sure, likely = grid.to_epsg(), grid.to_epsg(min_confidence=50)
-    return sure or (likely if likely and CRS.from_epsg(likely).name == grid.name else None)
+    number: Optional[int] = sure or (likely if likely and CRS.from_epsg(likely).name == grid.name else None)
+    return number
 
 
 # ---- the origin
@@ -120,7 +122,7 @@ def chosen_origin(points: Sequence[Point]) -> tuple[int, int]:
     axes = [sorted(Decimal(repr(number)) for number in numbers) for numbers in zip(*points)]
     middle = [(axis[0] + axis[-1]) / 2 for axis in axes]
     most = [axis[len(axis) // 2] for axis in axes]
-    tried = [(0, 0)] + [tuple(near(number, step) for number in at) for at, step in ((middle, 1000), (middle, 1), (most, 1000))]
+    tried = [(0, 0)] + [(near(at[0], step), near(at[1], step)) for at, step in ((middle, 1000), (middle, 1), (most, 1000))]
     return next((at for at in tried if all(abs(units(end) - 1000 * origin) <= MOST_CORNER for axis, origin in zip(axes, at)
                                            for end in (axis[0], axis[-1]))), tried[-1])
 

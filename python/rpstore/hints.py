@@ -2,7 +2,7 @@
 import difflib
 import re
 from decimal import Decimal
-from typing import Callable, Optional
+from typing import Callable, Iterable, Optional
 
 from .command import A_COMMAND, AN_EXPRESSION, COMMANDS, CORNERS, EQUALS, NAME, NODES, THE_END, Refusal, spelled
 
@@ -15,7 +15,7 @@ Known = Callable[[str], Optional[str]]
 
 def of_bytes(fault: Refusal) -> str:
     """What stands in a word that an editor does not show."""
-    word = fault.word
+    word = fault.word or ""
     if word == "":
         place = "at the beginning" if not fault.place else "at the end" if fault.place == len(fault.words) - 1 else "too many"
         return f"there is a space {place}: words have exactly one space between them"
@@ -32,14 +32,15 @@ def of_bytes(fault: Refusal) -> str:
     return ""
 
 
-def nearest(word: str, words) -> str:
+def nearest(word: str, words: Iterable[str]) -> str:
     """The word of the language that was meant, by its small letters or by most of its letters."""
+    words = [*words]
     found = [word.lower()] if word.lower() in words else difflib.get_close_matches(word.lower(), words, 1)
     return f"`{found[0]}` may be meant" if found else ""
 
 
 def of_command(fault: Refusal) -> str:
-    word = fault.word
+    word = fault.word or ""
     if word == "rp":
         return "the mark `rp 2` stands alone in the first line, and nowhere else"
     if word.startswith(OTHER_NOTES):
@@ -52,7 +53,7 @@ def of_command(fault: Refusal) -> str:
 def of_count(fault: Refusal) -> str:
     """Where a number stands right behind the last corner of a prism."""
     before = fault.words[: fault.place]
-    if "prism" in before and NUMBER.fullmatch(fault.word):
+    if "prism" in before and NUMBER.fullmatch(fault.word or ""):
         count = before[::-1].index("prism") - 3
         if count > 0 and before[-count - 1] == str(count // 2):
             return f"the prism before it has {count // 2} corners by its count"
@@ -60,7 +61,7 @@ def of_count(fault: Refusal) -> str:
 
 
 def of_expression(fault: Refusal, known: Known) -> str:
-    word = fault.word
+    word = fault.word or ""
     if BRACKETS.search(word):
         return "no brackets are needed: a word stands before what it joins"
     kind = known(word)
@@ -70,7 +71,7 @@ def of_expression(fault: Refusal, known: Known) -> str:
 
 
 def of_end(fault: Refusal) -> str:
-    word = fault.word
+    word = fault.word or ""
     if word in ("and", "or", "minus"):
         return f"`{word}` stands before the two expressions that it joins"
     if word in NODES:
@@ -84,7 +85,7 @@ def of_end(fault: Refusal) -> str:
 
 def of_label(fault: Refusal) -> str:
     """What a name or an id has that none may have."""
-    word = fault.word
+    word = fault.word or ""
     if "=" in word:
         return "`=` is a word of its own"
     if BRACKETS.search(word):
@@ -104,7 +105,7 @@ def of_corner(fault: Refusal) -> str:
 
 
 def of_number(fault: Refusal, version: int) -> str:
-    word, due = fault.word, fault.due
+    word, due = fault.word or "", fault.due
     if "," in word:
         return "numbers have a space between them, and no comma" if word.endswith(",") else "a decimal has a point, and no comma"
     if not NUMBER.fullmatch(word):
@@ -118,9 +119,9 @@ def of_number(fault: Refusal, version: int) -> str:
 
 
 def of_range(fault: Refusal) -> str:
-    due = fault.due
+    word, due = fault.word or "", fault.due
     if due is CORNERS:
-        return "docs/plans.md tells how a ring of more corners is cut" if fault.word[0] != "-" and len(fault.word) > 2 else ""
+        return "docs/plans.md tells how a ring of more corners is cut" if word[0] != "-" and len(word) > 2 else ""
     return "of map coordinates the local origin is to be taken away" if due.is_coordinate and "point" not in due.what else ""
 
 

@@ -6,10 +6,10 @@ from dataclasses import dataclass
 from decimal import Decimal
 from fractions import Fraction
 from functools import cached_property
-from typing import Optional, Sequence
+from typing import BinaryIO, Optional, Sequence
 
 from . import outline, report, shape, store
-from .command import spelled
+from .command import Command, spelled
 from .place import Place, place_of
 from .points import Box, Ring, box_round, lowest
 from .script import Script, front, needed_script, script_of
@@ -27,7 +27,7 @@ class Body:
     is_lot: bool
     layer: str
     born: int
-    origins: tuple
+    origins: tuple[str, ...]
     cells: list[shape.Cell]
     ended: Optional[int] = None
 
@@ -48,7 +48,7 @@ class Body:
     @cached_property
     def area(self) -> Fraction:
         """The area in plan: what lies over each other counts once."""
-        return sum(map(outline.area, self.footprint))
+        return sum(map(outline.area, self.footprint), Fraction(0))
 
     @cached_property
     def box(self) -> Box:
@@ -78,7 +78,7 @@ class Slice:
         return outline.apart(self.rings)
 
     @cached_property
-    def outlines(self) -> list[tuple]:
+    def outlines(self) -> list[outline.Outline]:
         return outline.outlines(self.polygons) if self.polygons else []
 
     @cached_property
@@ -103,19 +103,19 @@ class Seen:
     version: int
 
 
-def lot_of(parsed) -> Optional[str]:
+def lot_of(parsed: Command) -> Optional[str]:
     """The id of the lot where an expression is one lot and nothing else."""
     words = parsed.words[slice(*parsed.expressions[0])]
     return words[1] if words[0] == "lot" and len(words) == 2 else None
 
 
-def name_of(parsed) -> Optional[str]:
+def name_of(parsed: Command) -> Optional[str]:
     """The name where an expression is one name and nothing else."""
     words = parsed.words[slice(*parsed.expressions[0])]
     return words[1] if words[0] == "name" and len(words) == 2 else None
 
 
-def label_of(parsed) -> str:
+def label_of(parsed: Command) -> str:
     """How a picture and a table call what a line shows."""
     told = parsed.expression()
     return lot_of(parsed) or name_of(parsed) or (told if len(told) < LONGEST else told[:LONGEST - 3] + "...")
@@ -128,27 +128,29 @@ class Known:
 
     layer: str
     born: int
-    origins: tuple
+    origins: tuple[str, ...]
     ended: Optional[int] = None
-    into: tuple = ()
+    into: tuple[str, ...] = ()
 
 
 class Register:
     """Which names and lots there are, as far as the lines tell."""
 
-    def __init__(self):
-        self.layer, self.names, self.lots = "base", {}, {}
+    def __init__(self) -> None:
+        self.layer = "base"
+        self.names: dict[str, int] = {}
+        self.lots: dict[str, Known] = {}
 
-    def end(self, lot: str, number: int, into: tuple):
+    def end(self, lot: str, number: int, into: tuple[str, ...]) -> None:
         if lot in self.lots:
             self.lots[lot].ended, self.lots[lot].into = number, into
 
     def layer_of(self, lot: Optional[str]) -> str:
-        return self.lots[lot].layer if lot in self.lots else "base"
+        return self.lots[lot].layer if lot and lot in self.lots else "base"
 
-    def take(self, answer: report.Answer):
+    def take(self, answer: report.Answer) -> None:
         """The change of a line that was answered with `ok`."""
-        parsed, number = answer.command, answer.number
+        parsed, number = answer.parsed, answer.number
         first, *others = parsed.names
         if parsed.word == "layer":
             self.layer = first
@@ -183,7 +185,7 @@ def body_of(answer: report.Answer, register: Register) -> Optional[Body]:
     cells = cells_of(answer)
     if not cells:
         return None
-    parsed, lot = answer.command, lot_of(answer.command)
+    parsed, lot = answer.parsed, lot_of(answer.parsed)
     if lot:
         known = register.lots.get(lot, Known("base", answer.number, ()))
     else:
@@ -193,27 +195,29 @@ def body_of(answer: report.Answer, register: Register) -> Optional[Body]:
 
 def slice_of(answer: report.Answer, register: Register) -> Slice:
     """What a line `section` shows."""
-    parsed, lot = answer.command, lot_of(answer.command)
+    parsed, lot = answer.parsed, lot_of(answer.parsed)
     rings = [[lowest((x, y, w)) for x, y, _, w in ring] for ring in answer.verdict if ring]
     return Slice(answer.number, lot, register.layer_of(lot) if lot else None, label_of(parsed), parsed.numbers[0], rings)
 
 
-def seen(file, place: Optional[Place] = None, check: str = "") -> Seen:
+def seen(file: BinaryIO, place: Optional[Place] = None, check: str = "") -> Seen:
     """What a report shows. A region that is shown twice is taken where it is shown last, and a lot that ended is left out."""
-    register, bodies, slices, refused, version = Register(), {}, [], 0, 1
+    register, refused, version = Register(), 0, 1
+    bodies: dict[str, Body] = {}
+    slices: list[Slice] = []
     for answer in report.read(file):
         version = answer.version
         if isinstance(answer.verdict, report.Refused):
             refused += 1
         elif answer.verdict == "ok":
             register.take(answer)
-        elif answer.command.word == "show":
-            key = answer.command.expression()
+        elif answer.parsed.word == "show":
+            key = answer.parsed.expression()
             bodies.pop(key, None)
             body = body_of(answer, register)
             if body:
                 bodies[key] = body
-        elif answer.command.word == "section":
+        elif answer.parsed.word == "section":
             slices.append(slice_of(answer, register))
     ended = {lot for lot, known in register.lots.items() if known.ended is not None}
     left = [body for body in bodies.values() if not (body.is_lot and body.label in ended)]
@@ -238,7 +242,7 @@ class Options:
 def names_of(script: Script, program: str) -> list[str]:
     """Returns the names that the `let` lines of a `script` give."""
     answers = report.read(io.BytesIO(store.run(program, script.text, "run", "brief")))
-    return [answer.command.names[0] for answer in answers if answer.verdict == "ok" and answer.command.word == "let"]
+    return [answer.parsed.names[0] for answer in answers if answer.verdict == "ok" and answer.parsed.word == "let"]
 
 
 def lines_to_show(script: Script, program: str, names: bool = False, heights: Sequence[Decimal] = ()) -> list[str]:

@@ -10,7 +10,7 @@ from .lots import Seen
 HEAD = ("what", "layer", "line", "from_m", "to_m", "area_m2", "volume_m3")
 
 
-def rows(seen: Seen) -> Iterator[tuple]:
+def rows(seen: Seen) -> Iterator[tuple[object, ...]]:
     """For each body how it is called, its layer, the line at which it came, its lowest and highest points in metres, its area in
     plan and its volume; for each slice the same of its height, without a volume."""
     for body in seen.bodies:

@@ -20,7 +20,9 @@ def is_head(line: bytes) -> bool:
 def notes_on(lines: list[bytes], places: Collection[int]) -> set[int]:
     """Returns the places of the notes on the lines at some `places`: of each the nearest notes above it, however many lines of its
     deed are between, the nearest notes above it that have a day, and the attributes after it."""
-    found, nearest, dated = set(), [], []
+    found: set[int] = set()
+    nearest: list[int] = []
+    dated: list[int] = []
     for place, line in enumerate(lines):
         if is_note(line):
             # Notes that follow each other are one list, also as the notes with the day.

@@ -8,17 +8,22 @@ import bisect
 import functools
 from collections import Counter, defaultdict
 from fractions import Fraction
-from typing import Iterable, Iterator
+from typing import Iterable, Iterator, Optional, Sequence
 
-from .points import Point, Ring, box_of, clipped, edges, lowest, overlap, ratio
+from .points import Box, Point, Ring, box_of, clipped, edges, lowest, overlap, ratio
+
+Vector = tuple[int, int]
+Edge = tuple[Point, Point]
+# An outer ring, and the holes in it.
+Outline = tuple[Ring, list[Ring]]
 
 
 def area(ring: Ring) -> Fraction:
     """The area that `ring` goes round, below 0 where it goes clockwise."""
-    return sum(ratio(p[0] * q[1] - p[1] * q[0], p[2] * q[2]) for p, q in edges(ring)) / Fraction(2)
+    return Fraction(sum(ratio(p[0] * q[1] - p[1] * q[0], p[2] * q[2]) for p, q in edges(ring))) / 2
 
 
-def line_of(p: Point, q: Point) -> tuple:
+def line_of(p: Point, q: Point) -> tuple[int, int, int]:
     """(a, b, c) of the line through `p` and `q`, so that ax + by + cw is above 0 on its left and 0 on it."""
     return p[1] * q[2] - p[2] * q[1], p[2] * q[0] - p[0] * q[2], p[0] * q[1] - p[1] * q[0]
 
@@ -29,16 +34,16 @@ def turn(p: Point, q: Point, r: Point) -> int:
     return a * r[0] + b * r[1] + c * r[2]
 
 
-def way(p: Point, q: Point) -> tuple[int, int]:
+def way(p: Point, q: Point) -> Vector:
     """The direction from `p` to `q`."""
     return q[0] * p[2] - p[0] * q[2], q[1] * p[2] - p[1] * q[2]
 
 
-def dot(u: tuple, v: tuple) -> int:
+def dot(u: Sequence[int], v: Sequence[int]) -> int:
     return u[0] * v[0] + u[1] * v[1]
 
 
-def cross(u: tuple, v: tuple) -> int:
+def cross(u: Vector, v: Vector) -> int:
     return u[0] * v[1] - u[1] * v[0]
 
 
@@ -72,7 +77,7 @@ def minus(polygon: Ring, other: Ring) -> list[Ring]:
     return left
 
 
-def without(polygons: Iterable[Ring], others: Iterable[tuple]) -> list[Ring]:
+def without(polygons: Iterable[Ring], others: Iterable[tuple[Ring, Box]]) -> list[Ring]:
     """What is left of convex `polygons` outside `others`, which are convex polygons each with its box."""
     left = [(polygon, box_of(polygon)) for polygon in polygons]
     for other, box in others:
@@ -83,7 +88,7 @@ def without(polygons: Iterable[Ring], others: Iterable[tuple]) -> list[Ring]:
 
 def apart(polygons: Iterable[Ring]) -> list[Ring]:
     """Convex polygons that share no area and have together what the convex `polygons` have."""
-    found = []
+    found: list[tuple[Ring, Box]] = []
     for polygon in polygons:
         found += [(piece, box_of(piece)) for piece in without([polygon], list(found))]
     return [piece for piece, _ in found]
@@ -91,9 +96,9 @@ def apart(polygons: Iterable[Ring]) -> list[Ring]:
 
 # ---- from polygons to edges
 
-def outer_edges(polygons: Iterable[Ring]) -> Iterator[tuple]:
+def outer_edges(polygons: Iterable[Ring]) -> Iterator[Edge]:
     """The edges of `polygons`, which share no area, where no edge of another one runs the other way. No two cross."""
-    lines = defaultdict(Counter)
+    lines: defaultdict[Point, Counter[Point]] = defaultdict(Counter)
     for polygon in polygons:
         for p, q in edges(polygon):
             a, b, c = lowest(line_of(p, q))
@@ -101,15 +106,16 @@ def outer_edges(polygons: Iterable[Ring]) -> Iterator[tuple]:
             steps[p] += 1
             steps[q] -= 1
     for (a, b, _), steps in lines.items():
-        before, net = None, 0
+        before: Optional[Point] = None
+        net = 0
         # Along (b, -a), which has (a, b) on its left.
         for at in sorted(steps, key=lambda point: ratio(b * point[0] - a * point[1], point[2])):
-            if net:
+            if before and net:
                 yield (before, at) if net > 0 else (at, before)
             before, net = at, net + steps[at]
 
 
-def divided(given: list) -> Iterator[tuple]:
+def divided(given: list[Edge]) -> Iterator[Edge]:
     """The `given` edges, each divided where another one ends on it."""
     ends = sorted({(ratio(point[0], point[2]), point) for edge in given for point in edge})
     places = [x for x, _ in ends]
@@ -128,7 +134,7 @@ def sharpest_left(before: Point, at: Point, ends: list[Point]) -> Point:
     """The one of `ends` to which the way from `before` over `at` turns most to the left."""
     back = way(at, before)
 
-    def quarter(u: tuple) -> int:
+    def quarter(u: Vector) -> int:
         side = cross(back, u)
         return 0 if side < 0 else 1 if side == 0 and dot(back, u) < 0 else 2 if side > 0 else 3
 
@@ -139,7 +145,7 @@ def sharpest_left(before: Point, at: Point, ends: list[Point]) -> Point:
     return min(ends, key=functools.cmp_to_key(compare))
 
 
-def walk(ways: dict, start: Point) -> list[Point]:
+def walk(ways: dict[Point, list[Point]], start: Point) -> list[Point]:
     """A closed way from `start` back to it, along edges that are taken out of `ways`."""
     path = [start]
     while ways[path[-1]]:
@@ -152,7 +158,8 @@ def walk(ways: dict, start: Point) -> list[Point]:
 
 def loops(path: list[Point]) -> Iterator[Ring]:
     """The rings of which a closed `path` is made: none goes through a point twice."""
-    open_, places = [], {}
+    open_: Ring = []
+    places: dict[Point, int] = {}
     for point in path:
         if point in places:
             ring = open_[places[point]:]
@@ -170,9 +177,9 @@ def straightened(ring: Ring) -> Ring:
     return [at for before, at, after in zip(ring[-1:] + ring[:-1], ring, ring[1:] + ring[:1]) if turn(before, at, after)]
 
 
-def rings_of(given: Iterable[tuple]) -> Iterator[Ring]:
+def rings_of(given: Iterable[Edge]) -> Iterator[Ring]:
     """The rings along the `given` edges, which meet in their ends alone."""
-    ways = defaultdict(list)
+    ways: defaultdict[Point, list[Point]] = defaultdict(list)
     for p, q in given:
         ways[p].append(q)
     for start in list(ways):
@@ -209,12 +216,12 @@ def surrounds(outer: Ring, hole: Ring) -> bool:
     return False
 
 
-def outlines(polygons: list[Ring]) -> list[tuple]:
+def outlines(polygons: list[Ring]) -> list[Outline]:
     """Of convex `polygons` that share no area: each outer ring, and a list of the holes in it. The smallest one comes first."""
     if len(polygons) == 1:
         return [(list(polygons[0]), [])]
     sized = [(area(ring), ring) for ring in rings_of(divided(list(outer_edges(polygons))))]
-    found = [(ring, []) for _, ring in sorted((each for each in sized if each[0] > 0), key=lambda each: each[0])]
+    found: list[Outline] = [(ring, []) for _, ring in sorted((each for each in sized if each[0] > 0), key=lambda each: each[0])]
     for size, hole in sized:
         if size < 0:
             next(holes for outer, holes in found if surrounds(outer, hole)).append(hole)
@@ -223,7 +230,7 @@ def outlines(polygons: list[Ring]) -> list[tuple]:
 
 def middle(polygon: Ring) -> Point:
     """The average of the corners of a convex `polygon`, which is inside of it."""
-    x, y = (sum(ratio(point[axis], point[2]) for point in polygon) / Fraction(len(polygon)) for axis in (0, 1))
+    x, y = (Fraction(sum(ratio(point[axis], point[2]) for point in polygon)) / len(polygon) for axis in (0, 1))
     return lowest((x.numerator * y.denominator, y.numerator * x.denominator, x.denominator * y.denominator))
 
 

@@ -10,7 +10,7 @@ from typing import Iterable, Iterator, NamedTuple
 
 from . import Fault, colours, fitting, told
 from .lots import Seen, Slice
-from .points import Point, box_of, box_round, ratio
+from .points import Box, Point, box_of, box_round, ratio
 
 # All lengths of the page are hundredths of a pixel.
 PIXEL = 100
@@ -29,7 +29,7 @@ class Area(NamedTuple):
 
     label: str
     colour: str
-    pieces: list[list[list[tuple]]]
+    pieces: list[list[list[tuple[int, int]]]]
 
 
 class Frame(NamedTuple):
@@ -53,7 +53,7 @@ def label_of(each: Slice) -> str:
     return each.label if " " not in each.label else f"line {each.number}"
 
 
-def boxes_of(shown: list[Slice]) -> list:
+def boxes_of(shown: list[Slice]) -> list[Box]:
     return [box_round(map(box_of, each.rings)) for each in shown]
 
 
@@ -100,7 +100,9 @@ class Names:
     """The words of one drawing, each in its area, and none over another one."""
 
     def __init__(self, areas: list[Area]):
-        self.areas, self.taken, self.found = areas, [], []
+        self.areas = areas
+        self.taken: list[fitting.Area] = []
+        self.found: list[tuple[str, int, float, float]] = []
 
     def put(self, word: str, area: Area, sizes: Iterable[int]) -> bool:
         """Puts a `word` into an `area`, in the first of the `sizes` for which there is room, and answers whether there is."""
@@ -202,7 +204,7 @@ def legend_lines(legend: Legend, found: dict[str, str], top: int, columns: int) 
 
 def areas_of(shown: list[Slice], frame: Frame, found: dict[str, str]) -> dict[int, list[Area]]:
     """What is shown at each height, from the lowest to the highest; of a region that two lines show at one height the last."""
-    levels = {height: {} for height in sorted({each.height for each in shown})}
+    levels: dict[int, dict[str, Area]] = {height: {} for height in sorted({each.height for each in shown})}
     for each in shown:
         pieces = [[[frame.place(point) for point in ring] for ring in (outer, *holes)] for outer, holes in reversed(each.outlines)]
         levels[each.height][label_of(each)] = Area(label_of(each), found[label_of(each)], pieces)

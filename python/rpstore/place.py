@@ -12,14 +12,29 @@ import re
 from dataclasses import dataclass
 from decimal import Decimal
 from fractions import Fraction
-from typing import Callable, Iterable, Iterator, Optional, Sequence, TypeVar
+from typing import Callable, Iterable, Iterator, Optional, Protocol, Sequence, TypeVar
 
 from . import Fault, notes
+from .points import Number
 
 # A note, after the number of its line in the file, from 1.
 Note = tuple[int, str]
 Origin = tuple[Decimal, Decimal]
 Value = TypeVar("Value")
+
+
+class Given(Protocol):
+    """What the words of the command line say of the place, in metres."""
+
+    @property
+    def origin(self) -> Optional[Sequence[Decimal]]:
+        """Returns the local origin."""
+
+    @property
+    def epsg(self) -> Optional[int]:
+        """Returns the number of the grid."""
+
+
 
 FORM = "`# Grid: EPSG:25832. Local origin: E 412000, N 5765000.`"
 IN_PLACE = "in its own line, so that no other line gets another number"
@@ -64,7 +79,7 @@ class Place:
     def is_given(self) -> bool:
         return bool(self.east or self.north or self.epsg)
 
-    def metres(self, number, axis: int) -> Fraction:
+    def metres(self, number: Number, axis: int) -> Fraction:
         """Returns the map coordinate in metres of a coordinate in units."""
         return Fraction(number) / 1000 + Fraction((self.east, self.north, 0)[axis])
 
@@ -108,7 +123,7 @@ def are_clear(numbers: Sequence[str]) -> bool:
     return not any(map(GROUPED.fullmatch, numbers)) or any(map(CLEAR.fullmatch, numbers))
 
 
-def origin_at(number: int, text: str, mark: re.Match, has_grid: bool) -> Optional[Origin]:
+def origin_at(number: int, text: str, mark: re.Match[str], has_grid: bool) -> Optional[Origin]:
     """Returns the origin that a note names after a mark, or None if it speaks of something else there."""
     rest, is_sure = text[mark.end():], mark["local"] or has_grid
     pair = PAIR.match(rest)
@@ -132,7 +147,7 @@ def origins(found: Iterable[Note]) -> Iterator[tuple[int, Origin]]:
     """
     for number, text in found:
         has_grid = bool(GRID.search(text))
-        named = {origin_at(number, text, mark, has_grid) for mark in MARK.finditer(text)} - {None}
+        named = {origin for mark in MARK.finditer(text) if (origin := origin_at(number, text, mark, has_grid)) is not None}
         if len(named) > 1:
             raise two_ways(number, "local origin", "--origin E N")
         yield from ((number, origin) for origin in named)
@@ -166,7 +181,7 @@ def agreed(found: list[tuple[int, Value]], what: str, spell: Callable[[Value], s
     return found[0][1] if found else None
 
 
-def place_of(script: bytes, given) -> Place:
+def place_of(script: bytes, given: Given) -> Place:
     """Returns where a script lies on the map: by the options `given`, otherwise by its notes, otherwise at E 0, N 0 of no grid.
 
     # Errors
@@ -180,4 +195,5 @@ def place_of(script: bytes, given) -> Place:
         who = f"the note in line {numbers[0][0]} of the file" if numbers else "--epsg"
         raise Unplaced(f"{who} names the grid EPSG:{epsg}, and nothing names a local origin", (f"Spell the note as {FORM} {IN_PLACE}, or give" if numbers
                        else "Give") + " --origin E N, which is 0 0 if the coordinates of the script are those of the map")
-    return Place(*(origin or (Decimal(0), Decimal(0))), epsg)
+    east, north = origin or (Decimal(0), Decimal(0))
+    return Place(east, north, epsg)

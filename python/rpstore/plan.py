@@ -145,7 +145,8 @@ def id_of(feature: Feature, options: Options) -> str:
 
 def polygons_of(_: Feature, geometry: Optional[dict[str, Any]]) -> list[list[grid.Ring]]:
     """The polygons of a geometry, each a list of rings: the outer one, and then its holes. A closed line of a drawing is one."""
-    kind = geometry["type"] if geometry else "none at all"
+    geometry = geometry or {"type": "none at all"}
+    kind = geometry["type"]
     if kind == "Polygon":
         found = [geometry["coordinates"]]
     elif kind == "MultiPolygon":
@@ -174,7 +175,7 @@ def crossing(corners: list[Corner]) -> str:
 
 def placed(feature: Feature, origin: Corner) -> list[list[list[Corner]]]:
     """The polygons of a feature in units from the origin."""
-    found = []
+    found: list[list[list[Corner]]] = []
     for number, polygon in enumerate(feature.polygons, 1):
         found.append([])
         for place, ring in enumerate(polygon):
@@ -211,19 +212,22 @@ def lots_of(feature: Feature, origin: Corner, options: Options) -> dict[str, tup
     """The lots of a feature by their ids: the heights of each, and its line."""
     feature.id = feature.attempt(id_of, options) or ""
     heights = heights_of(feature, options)
-    if None not in heights:
-        feature.attempt(check_heights, heights)
+    known = [height for height in heights if height is not None]
+    if len(known) == len(heights):
+        feature.attempt(check_heights, known)
     polygons = placed(feature, origin)
     if feature.unfit:
         return {}
     ids = [feature.id] if options.storeys is None else [f"{feature.id}.{storey}" for storey in range(1, len(heights))]
     return {name: (low, high, feature.attempt(register_line, name, polygons, (low, high)))
-            for name, low, high in zip(ids, heights, heights[1:])}
+            for name, low, high in zip(ids, known, known[1:])}
 
 
 def lines_of(features: list[Feature], origin: Corner, options: Options) -> list[str]:
     """The lines of the script behind its head."""
-    lines, sections, ids = [], [], {}
+    lines: list[str] = []
+    sections: list[str] = []
+    ids: dict[str, int] = {}
     for feature in features:
         made = lots_of(feature, origin, options)
         taken = [ids[name] for name in made if name in ids]
@@ -261,7 +265,7 @@ def about_coordinates(found: grid.Grid, wanted: grid.Grid) -> str:
         return f"{says} The plan names no grid; its numbers are taken as metres."
     if not grid.code(wanted):
         says += f" The grid is called {wanted.name}."
-    if found != wanted:
+    if found is not None and found != wanted:
         says += f" Projected from {found.name}."
     # A name may have a line feed.
     return " ".join(says.split())
@@ -324,7 +328,8 @@ def script_of(path: str, options: Options) -> tuple[int, str, list[str]]:
         said.append("points have heights of their own, which are not used")
     grids = to_register(features, given, options)
     points = points_of(features)
-    origin = tuple(units(Decimal(number)) for number in options.origin or (grid.chosen_origin(points) if points else (0, 0)))
+    east, north = options.origin or (grid.chosen_origin(points) if points else (0, 0))
+    origin = units(Decimal(east)), units(Decimal(north))
     lines = lines_of(features, origin, options)
     said += grouped([(feature, warning) for feature in features for warning in feature.warned], len(features))
     unfit = [feature for feature in features if feature.unfit]

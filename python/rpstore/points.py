@@ -7,13 +7,14 @@ from __future__ import annotations
 
 from fractions import Fraction
 from math import gcd
-from typing import Iterable, Sequence, Union
+from typing import Iterable, Iterator, Sequence, TypeVar, Union
 
-Point = tuple
+Point = tuple[int, ...]
 Number = Union[int, Fraction]
-Ring = list
+Ring = list[Point]
 # The least and the greatest number on each axis.
-Box = tuple
+Box = tuple[tuple[Number, ...], tuple[Number, ...]]
+Item = TypeVar("Item")
 
 
 def lowest(numbers: Sequence[int]) -> Point:
@@ -27,9 +28,9 @@ def ratio(number: int, divisor: int) -> Number:
     return number if divisor == 1 else Fraction(number, divisor)
 
 
-def edges(ring: Ring) -> Iterable:
+def edges(ring: Sequence[Item]) -> Iterator[tuple[Item, Item]]:
     """Each corner of `ring` with the next one."""
-    return zip(ring, ring[1:] + ring[:1])
+    return zip(ring, [*ring[1:], *ring[:1]])
 
 
 def between(p: Point, q: Point, at_p: int, at_q: int) -> Point:

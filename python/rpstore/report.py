@@ -8,9 +8,10 @@ from __future__ import annotations
 
 import re
 from dataclasses import dataclass
-from typing import BinaryIO, Iterator, NoReturn, Optional
+from typing import Any, BinaryIO, Iterator, NoReturn, Optional
 
 from . import Fault, command, outline, points
+from .command import Command
 
 MOST = 67108864
 LONG = {1: 65536, 2: 262144}
@@ -25,7 +26,7 @@ TIMES = ONE + rb"\*" + HALF
 NUMBERS = re.compile(rb"\(([^)]*)\)")
 
 
-def several(item, least, most):
+def several(item: bytes, least: int, most: int) -> bytes:
     return item + rb"(?: " + item + rb"){%d,%d}" % (least - 1, most - 1)
 
 
@@ -59,7 +60,7 @@ class Refused:
     """A refusal: its cause, and the names or numbers behind it."""
 
     cause: str
-    told: tuple
+    told: tuple[str, ...]
 
 
 @dataclass(frozen=True)
@@ -70,7 +71,7 @@ class Lot:
     born: int
     ended: Optional[int]
     layer: str
-    origins: tuple
+    origins: tuple[str, ...]
 
 
 @dataclass(frozen=True)
@@ -87,11 +88,17 @@ class Answer:
     number: int
     text: Optional[str]
     command: Optional[command.Command]
-    proof: tuple
-    verdict: object
+    proof: tuple[bytes, ...]
+    verdict: Any
+
+    @property
+    def parsed(self) -> Command:
+        """Returns the command of a line that has one, as each line that is not refused has."""
+        assert self.command is not None
+        return self.command
 
 
-def tuples(line: bytes) -> tuple:
+def tuples(line: bytes) -> tuple[tuple[int, ...], ...]:
     """The numbers of a `line`, bracket by bracket."""
     return tuple(tuple(map(int, numbers.split())) for numbers in NUMBERS.findall(line))
 
@@ -100,15 +107,16 @@ class Lines:
     """The lines of a report, with one that can be looked at before it is taken."""
 
     def __init__(self, file: BinaryIO):
-        self.file, self.number, self.bytes, self.next = file, 0, 0, None
+        self.file, self.number, self.bytes = file, 0, 0
+        self.next: Optional[bytes] = None
         self.take()
 
     def take(self) -> Optional[bytes]:
-        line, self.next = self.next, self.file.readline(MOST + 2)
-        self.bytes += len(self.next)
+        line, read = self.next, self.file.readline(MOST + 2)
+        self.bytes += len(read)
         if self.bytes > MOST:
             raise Fault(f"the report has more than {MOST} bytes", 6)
-        self.next = self.next[:-1] if self.next.endswith(b"\n") else self.next or None
+        self.next = read[:-1] if read.endswith(b"\n") else read or None
         self.number += line is not None
         return line
 
@@ -120,7 +128,7 @@ class Lines:
         """The next line cannot stand there."""
         raise Fault(f"line {self.number + 1} of the report: {said}")
 
-    def due(self, pattern: re.Pattern, what: str) -> re.Match:
+    def due(self, pattern: re.Pattern[bytes], what: str) -> re.Match[bytes]:
         """Takes the next line, which must have the form of a `pattern`: it is called `what`."""
         if self.next is None:
             self.wrong(f"it ends in an answer; {what} is due here")
@@ -140,10 +148,10 @@ def fits(cause: str, told: list[str]) -> bool:
     return len(shapes) == len(told) and all(map(re.fullmatch, shapes, told))
 
 
-def refused(lines: Lines, parsed: Optional[command.Command], fault: Optional[str]) -> Refused:
+def refused(lines: Lines, parsed: Optional[command.Command], fault: str) -> Refused:
     """The refusal of a line that has a command, `parsed`, or a `fault`."""
-    told = lines.next[len(b"= refused "):].decode("utf-8", "replace").split(" ")
-    word = parsed.word if parsed else None
+    told = (lines.next or b"")[len(b"= refused "):].decode("utf-8", "replace").split(" ")
+    word = parsed.word if parsed else ""
     may = [fault] if fault else CAUSES.get(word, "").split("|")
     may += ["unknown X"] if parsed and word not in NO_UNKNOWN else []
     may += ["limit"] if parsed and word not in NO_LIMIT else []
@@ -153,13 +161,13 @@ def refused(lines: Lines, parsed: Optional[command.Command], fault: Optional[str
     return Refused(told[0], tuple(told[1:]))
 
 
-def counted(lines: Lines, word: bytes, item: re.Pattern, what: str) -> Iterator[re.Match]:
+def counted(lines: Lines, word: bytes, item: re.Pattern[bytes], what: str) -> Iterator[re.Match[bytes]]:
     """`= word k` and then k lines, each of the form of an item."""
     found = lines.due(re.compile(b"= " + word + rb" (0|" + ONE + rb")"), f"the line `= {word.decode()}` with a number")
     return (lines.due(item, what) for _ in range(int(found[1])))
 
 
-def slices(lines: Lines) -> tuple:
+def slices(lines: Lines) -> tuple[Optional[tuple[tuple[int, ...], ...]], ...]:
     """For each part the corners of its ring, which go round it once, or None where it is flat."""
     rings = []
     for found in counted(lines, b"sections", SLICE, "a line that shows a slice"):
@@ -175,11 +183,11 @@ def lot_lines(lines: Lines, word: bytes) -> tuple[Lot, ...]:
                      tuple((found[5] or b"").decode().split())) for found in counted(lines, word, LOT, "a lot line"))
 
 
-def accepted(lines: Lines, parsed: command.Command) -> object:
+def accepted(lines: Lines, parsed: command.Command) -> Any:
     """The verdict of a command that was not refused."""
     word = parsed.word
 
-    def one_of(*words):
+    def one_of(*words: bytes) -> str:
         return lines.due(re.compile(b"= (" + b"|".join(map(re.escape, words)) + b")"), "a verdict of this command")[1].decode()
 
     if word in YES:
@@ -210,9 +218,9 @@ def accepted(lines: Lines, parsed: command.Command) -> object:
     return tuple(chain)
 
 
-def echoed(lines: Lines, version: int, last: int) -> tuple:
+def echoed(lines: Lines, version: int, last: int) -> tuple[int, Optional[str], Optional[command.Command], str]:
     """The number and the text of an echo, which stands behind that of the line `last`; and its command, or its fault."""
-    found = ECHO.fullmatch(lines.next)
+    found = ECHO.fullmatch(lines.next or b"")
     if not found:
         lines.wrong("an echo, `> ` and a number, is due here")
     number, told = int(found[1]), found[2]
@@ -225,7 +233,7 @@ def echoed(lines: Lines, version: int, last: int) -> tuple:
         return number, None, None, "long"
     text = told.decode("utf-8", "replace")
     try:
-        return number, text, command.read(text, version), None
+        return number, text, command.read(text, version), ""
     except command.Refusal as refusal:
         return number, text, None, refusal.cause
 
@@ -237,6 +245,7 @@ def answer(lines: Lines, version: int, last: int) -> Answer:
     proof = []
     while lines.begins(b"  "):
         proof.append(lines.due(PROOF, "a proof line")[0])
+    verdict: Any
     if lines.begins(b"= refused "):
         verdict = refused(lines, parsed, fault)
     elif parsed:

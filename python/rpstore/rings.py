@@ -7,7 +7,7 @@ from .command import BOX, CORNERS, spelled, corners as corner_places
 Corner = tuple[int, int]
 Number = Union[int, float, Decimal]
 # The bounds of a script, lengths in units.
-MOST_CORNERS, MOST_CORNER, MOST_SIDE = CORNERS.most, corner_places(CORNERS.least)[0].most, BOX[0].most
+MOST_CORNERS, MOST_CORNER, MOST_SIDE = CORNERS.most or 0, corner_places(CORNERS.least)[0].most or 0, BOX[0].most or 0
 MILLI = Decimal("0.001")
 
 
@@ -43,7 +43,7 @@ def placed(ring: Sequence[Sequence[Number]], origin: Corner, name: str) -> list[
     corners: list[Corner] = []
     for point in ring[:-1]:
         corner = units(point[0]) - origin[0], units(point[1]) - origin[1]
-        if max(map(abs, corner)) > MOST_CORNER:
+        if max(abs(number) for number in corner) > MOST_CORNER:
             raise Unfit(f"a corner is more than {spelled(MOST_CORNER)} m east, west, north or south of the origin", f"{name} at {point[0]} {point[1]}")
         if corners[-1:] != [corner]:
             corners.append(corner)

@@ -14,7 +14,9 @@ from typing import Iterable, Iterator, NamedTuple, Optional
 from . import outline
 from .points import Box, Number, Point, Ring, box_of, clipped, edges, lowest, overlap, ratio
 
-Half = tuple
+Half = tuple[int, ...]
+# A line of space: its direction, and its moment.
+Line = tuple[Point, tuple[Number, ...]]
 # The domain goes from -EDGE to EDGE on each axis.
 EDGE = 2**24
 
@@ -35,7 +37,7 @@ def determinant(p: Point, q: Point, r: Point) -> int:
 def fan_volume(polygon: Ring) -> Fraction:
     """The volume, with its sign, between the origin and a `polygon` of space."""
     first = polygon[0]
-    return sum(ratio(determinant(first, q, r), first[3] * q[3] * r[3]) for q, r in zip(polygon[1:], polygon[2:])) / Fraction(6)
+    return Fraction(sum(ratio(determinant(first, q, r), first[3] * q[3] * r[3]) for q, r in zip(polygon[1:], polygon[2:]))) / 6
 
 
 class Cell:
@@ -59,11 +61,11 @@ class Cell:
     @property
     def is_bounded(self) -> bool:
         """Whether no face lies in the boundary of the domain."""
-        return all(sum(map(bool, half[:3])) > 1 or abs(half[3]) != EDGE * max(map(abs, half[:3])) for half in self.halves)
+        return all(sum(map(bool, half[:3])) > 1 or abs(half[3]) != EDGE * max(abs(number) for number in half[:3]) for half in self.halves)
 
     @property
     def volume(self) -> Fraction:
-        return sum(fan_volume(polygon) for _, polygon in self.faces)
+        return sum((fan_volume(polygon) for _, polygon in self.faces), Fraction(0))
 
     def cut(self, half: Half) -> Optional[Cell]:
         """What the body has in a half-space, or None where that has no volume."""
@@ -72,7 +74,8 @@ class Cell:
             return self
         if max(values.values()) <= 0:
             return None
-        faces, after = [], {}
+        faces: list[tuple[Half, Ring]] = []
+        after: dict[Point, Point] = {}
         for face, polygon in self.faces:
             at = [values[point] for point in polygon]
             if max(at) <= 0:
@@ -88,15 +91,16 @@ class Cell:
 
     def minus(self, other: Cell) -> list[Cell]:
         """What is left of the body outside another one: bodies that share no volume."""
-        left, inside = [], self
+        left: list[Cell] = []
+        inside: Optional[Cell] = self
         for half in other.halves:
+            if not inside:
+                return [self]
             outside = inside.cut(turned(half))
             if outside:
                 left.append(outside)
             inside = inside.cut(half)
-            if not inside:
-                return [self]
-        return left
+        return left if inside else [self]
 
 
 def sides_of(halves: Iterable[Half]) -> tuple[list[list[Half]], list[Half]]:
@@ -146,7 +150,7 @@ def cell(halves: Iterable[Half]) -> Optional[Cell]:
 
 def apart(cells: Iterable[Cell]) -> list[Cell]:
     """Bodies that share no volume and have together what `cells` have: parts of an `or` may overlap."""
-    found = []
+    found: list[Cell] = []
     for each in cells:
         left = [each]
         for other in list(found):
@@ -206,7 +210,7 @@ class Facet(NamedTuple):
 def planes_of(cells: Iterable[Cell]) -> dict[Half, tuple[list[Ring], list[Ring]]]:
     """The planes in which `cells` have faces. A plane is named by one of its two half-spaces, and has the polygons of the bodies
     that lie in the other one, and of those that lie in it."""
-    planes = defaultdict(lambda: ([], []))
+    planes: defaultdict[Half, tuple[list[Ring], list[Ring]]] = defaultdict(lambda: ([], []))
     for each in cells:
         for half, polygon in each.faces:
             key = lowest(half)
@@ -245,7 +249,7 @@ def footprint(found: Iterable[Facet]) -> list[Ring]:
 
 # ---- edges of boundaries
 
-def line_in_space(p: Point, q: Point) -> tuple:
+def line_in_space(p: Point, q: Point) -> Line:
     """The line through two points of space, the same for both ways along it: its direction, and its moment."""
     along = lowest([b * p[3] - a * q[3] for a, b in zip(p[:3], q[:3])])
     if next(number for number in along if number) < 0:
@@ -254,7 +258,7 @@ def line_in_space(p: Point, q: Point) -> tuple:
     return along, tuple(ratio(number, p[3]) for number in moment)
 
 
-def place_along(line: tuple, point: Point) -> Number:
+def place_along(line: Line, point: Point) -> Number:
     """Where a `point` of a `line` comes along it."""
     return ratio(sum(a * b for a, b in zip(line[0], point)), point[3])
 
@@ -262,7 +266,7 @@ def place_along(line: tuple, point: Point) -> Number:
 def split_rings(found: list[Facet]) -> list[list[Ring]]:
     """The rings of the facets `found`, each edge divided at the corners of others that lie on it: so each edge of a closed
     boundary stands as often in one direction as in the other."""
-    on_line = defaultdict(set)
+    on_line: defaultdict[Line, set[Point]] = defaultdict(set)
     for facet in found:
         for ring in facet.rings:
             for p, q in edges(ring):

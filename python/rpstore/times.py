@@ -48,7 +48,7 @@ def changes(book: extract.Book) -> bytes:
 
 def body_of(answer: report.Answer, book: extract.Book) -> Optional[Body]:
     """Returns the lot that a line `show lot X` shows, with the lines of the book at which it came and ended; None if it is refused."""
-    label = lots.lot_of(answer.command)
+    label = lots.lot_of(answer.parsed) or ""
     known = book.register.lots[label]
     return lots.lot_body(report.Lot(label, known.born, known.ended, known.layer, known.origins), lots.cells_of(answer))
 

@@ -9,7 +9,7 @@ from dataclasses import dataclass, field
 from fractions import Fraction
 from itertools import product
 from math import isqrt
-from typing import Iterable, Iterator
+from typing import Any, Iterable, Iterator
 
 from . import outline, shape
 from .lots import Body
@@ -30,7 +30,7 @@ def area(half: shape.Half, ring: Ring) -> Fraction:
 
 
 def distance(p: Point, q: Point) -> Fraction:
-    return root(sum((Fraction(a, p[3]) - Fraction(b, q[3])) ** 2 for a, b in zip(p[:3], q[:3])))
+    return root(sum(((Fraction(a, p[3]) - Fraction(b, q[3])) ** 2 for a, b in zip(p[:3], q[:3])), Fraction(0)))
 
 
 @dataclass
@@ -60,7 +60,7 @@ class Contact:
 
 def joined(segments: Iterable[tuple[Point, Point]]) -> Iterator[tuple[Point, Point]]:
     """Yields segments that share no length and have together what `segments` have."""
-    lines: dict[tuple, list[tuple]] = {}
+    lines: dict[shape.Line, list[Any]] = {}
     for p, q in segments:
         line = shape.line_in_space(p, q)
         lines.setdefault(line, []).append(tuple(sorted((shape.place_along(line, point), point) for point in (p, q))))

@@ -6,10 +6,11 @@ import gzip
 import html
 import json
 from pathlib import Path
-from typing import Iterable, Sequence
+from typing import Any, Iterable, Sequence, Union
 
 from . import Fault, colours, outline, told
-from .lots import Body, Place, Seen
+from .lots import Body, Seen
+from .place import Place
 from .points import Number, Point, Ring, box_round, ratio
 
 # Lots whose lowest heights are less than this apart, in units, are of one storey.
@@ -26,7 +27,8 @@ def short(units: Number) -> str:
 
 def storeys_of(lows: list[Number], step: int) -> tuple[list[int], list[str]]:
     """The storey of each lowest height, from 0, and how each storey is called. One goes up to less than `step` above its lowest."""
-    place, ends = {}, []
+    place: dict[Number, int] = {}
+    ends: list[list[Number]] = []
     for low in sorted(set(lows)):
         if not ends or low - ends[-1][0] >= step:
             ends.append([low, low])
@@ -45,7 +47,7 @@ def colours_of(bodies: list[Body]) -> list[int]:
     return colours.chosen(len(bodies), {pair: weight(*pair) for pair in colours.touching(boxes)})
 
 
-def coordinate(value: Number) -> Number:
+def coordinate(value: Number) -> Union[int, float]:
     """A coordinate of the page, in units: whole where it is whole, else to the thousandth."""
     return value if isinstance(value, int) else round(float(value), 3)
 
@@ -54,7 +56,10 @@ class Mesh:
     """Corners, triangles and edges of a body, from a centre in whole units."""
 
     def __init__(self, body: Body, centre: list[int]):
-        self.centre, self.places, self.points, self.triangles = centre, {}, [], []
+        self.centre = centre
+        self.places: dict[Point, int] = {}
+        self.points: list[Union[int, float]] = []
+        self.triangles: list[int] = []
         edges = set()
         for facet in body.facets:
             for piece in facet.pieces:
@@ -83,7 +88,7 @@ def middle_of(body: Body, centre: list[int]) -> list[int]:
     return [round(sum(point[axis] / point[3] for point in piece) / len(piece) - centre[axis]) for axis in range(3)]
 
 
-def entry(body: Body, layer: int, storey: int, colour: int, place: Place, centre: list[int]) -> dict:
+def entry(body: Body, layer: int, storey: int, colour: int, place: Place, centre: list[int]) -> dict[str, Any]:
     """What the page knows of a body. Numbers that it shows are texts, so that no browser rounds them."""
     mesh, (low, high) = Mesh(body, centre), body.box
     found = {
@@ -121,7 +126,7 @@ def layers_of(bodies: Iterable[Body]) -> list[str]:
     return list(dict.fromkeys(body.layer for body in sorted(bodies, key=lambda body: (not body.is_lot, body.layer == "other regions"))))
 
 
-def assembled(title: str, data: dict) -> str:
+def assembled(title: str, data: dict[str, Any]) -> str:
     """The page with its styles, scripts and data."""
     packed = base64.b64encode(gzip.compress(json.dumps(data, separators=(",", ":")).encode(), 9, mtime=0)).decode()
     style, *scripts = ((PAGE / name).read_text(encoding="utf-8") for name in ("page.css", *SCRIPTS))

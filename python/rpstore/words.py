@@ -3,12 +3,21 @@ from __future__ import annotations
 
 import argparse
 from decimal import Decimal, InvalidOperation
+from importlib import metadata
 from typing import TYPE_CHECKING, Optional, Union
 
 from . import book, conflicts, meets_forms, picture, place
 
 if TYPE_CHECKING:
     Words = argparse._SubParsersAction[argparse.ArgumentParser]
+
+
+def version() -> str:
+    """Returns the version of the installed package. The commands of a checkout and of a release answer --version themselves."""
+    try:
+        return metadata.version("rpstore-gis")
+    except metadata.PackageNotFoundError:
+        return "unknown: not installed as a package"
 
 
 def decimal(word: str) -> Decimal:
@@ -41,7 +50,10 @@ def line_or_date(word: str) -> Union[int, str]:
 def add(words: Words, word: str, says: str, file: Optional[str] = "?") -> argparse.ArgumentParser:
     """Adds a `word` with its FILE, which may be left out unless `file` is None, and returns its parser."""
     made = words.add_parser(word, help=says, description=says)
-    made.add_argument("file", nargs=file, metavar="FILE")
+    if file:
+        made.add_argument("file", nargs=file, metavar="FILE")
+    else:
+        made.add_argument("file", metavar="FILE")
     made.add_argument("-o", "--output", metavar="PATH", help="where to write, in the place of standard output")
     return made
 
@@ -163,6 +175,7 @@ def add_plan(words: Words) -> None:
 def parser(says: str) -> argparse.ArgumentParser:
     """Returns the parser of the command line, whose help begins with what it `says`."""
     made = argparse.ArgumentParser(prog="rpstore-gis", description=says, formatter_class=argparse.RawDescriptionHelpFormatter)
+    made.add_argument("--version", action="version", version=f"rpstore-gis {version()}", help="show the version of this package")
     words = made.add_subparsers(dest="word", required=True, metavar="WORD")
     add_view(words)
     add_picture(words)
