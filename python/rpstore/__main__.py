@@ -20,11 +20,11 @@ import sys
 from dataclasses import fields
 from typing import Any, Callable, NamedTuple, Optional, Type, TypeVar, Union
 
-from . import Fault, book, city, conflicts, explain, extract, gis, lots, measures, meets, meets_forms, picture, place, report, script, store, times, view, walls, words
+from . import Fault, book, city, conflicts, explain, extract, gis, lots, measures, meets, meets_forms, picture, place, postgis, report, script, store, times, view, walls, words
 
 Kind = TypeVar("Kind")
 # The words, and the forms of `meets`, that write map coordinates.
-ON_MAP = {"view", "city", "sections", "lots", "faces"}
+ON_MAP = {"view", "city", "sections", "lots", "faces", "postgis"}
 
 
 class Written(NamedTuple):
@@ -138,10 +138,20 @@ def read_script(given: argparse.Namespace, what: str, on_map: bool = False) -> t
     return whole if given.asof is None else whole.front(given.asof), where
 
 
+def region_of(given: argparse.Namespace, where: place.Place, version: int) -> tuple[str, list[str]]:
+    """Returns the expression of the region that the words `given` name, and what is to be said of it."""
+    if not given.drawn:
+        return given.region, []
+    # GDAL and PROJ are imported for what is drawn alone.
+    from . import drawn
+    return drawn.expression(options_of(drawn.Options, given), where, version)
+
+
 def write_meets(given: argparse.Namespace) -> Written:
-    asked, where = read_script(given, "meets", given.form in ON_MAP)
-    found = meets.meets(asked, given.region, store.program(given.store), where, given.layer, given.touch)
-    return Written(int(bool(found.limited or found.unshown)), meets_forms.FORMS[given.form](found), meets_forms.said(found))
+    asked, where = read_script(given, "meets", given.form in ON_MAP or given.drawn)
+    region, said = region_of(given, where, asked.version)
+    found = meets.meets(asked, region, store.program(given.store), where, given.layer, given.touch)
+    return Written(int(bool(found.limited or found.unshown)), meets_forms.FORMS[given.form](found), said + meets_forms.said(found))
 
 
 def write_rights(given: argparse.Namespace) -> Written:
@@ -167,6 +177,26 @@ def write_extract(given: argparse.Namespace) -> Written:
     return Written(0, made.script, [said])
 
 
+def read_times(given: argparse.Namespace) -> Optional[times.Times]:
+    """Reads all lots that ever were, with --time."""
+    if not given.time:
+        return None
+    asked, where = read_script(given, f"{given.word} --time", True)
+    return times.times(asked, where, store.program(given.store))
+
+
+def write_geometries(given: argparse.Namespace) -> Written:
+    """Writes the lots of `lots` or `faces`, with --time all lots that ever were."""
+    geometry, found = gis.GEOMETRIES[given.word], read_times(given)
+    return Written(0, as_json(gis.lifetimes(found, geometry) if found else gis.features(read_seen(given), geometry)), [])
+
+
+def write_postgis(given: argparse.Namespace) -> Written:
+    found = read_times(given)
+    seen = found.seen if found else read_seen(given)
+    return Written(0, postgis.sql(seen, found), postgis.left_out(seen))
+
+
 def write_plan(given: argparse.Namespace) -> Written:
     # GDAL and PROJ are imported for this word alone.
     from . import plan
@@ -179,8 +209,7 @@ WORDS: dict[str, Callable[[argparse.Namespace], Written]] = {
     "extract": write_extract, "plan": write_plan,
     "measures": lambda given: Written(0, measures.table(read_seen(given)), []),
     "sections": lambda given: Written(0, as_json(gis.sections(read_seen(given))), []),
-    "lots": lambda given: Written(0, as_json(gis.footprints(read_seen(given))), []),
-    "faces": lambda given: Written(0, as_json(gis.faces(read_seen(given))), []),
+    "lots": write_geometries, "faces": write_geometries, "postgis": write_postgis,
     "city": lambda given: Written(0, city.text(read_seen(given)), []),
 }
 

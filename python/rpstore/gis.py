@@ -1,13 +1,15 @@
 """GeoJSON of sections and lots. `ogr2ogr` takes it into every other format that GDAL writes."""
 from __future__ import annotations
 
+import functools
 from fractions import Fraction
-from typing import Any, Iterable, Optional
+from typing import Any, Callable, Iterable, Optional
 
-from . import Fault, outline, shape, told
+from . import Fault, outline, surface, told
 from .lots import Body, Seen
 from .place import Place
 from .points import Number, Point
+from .times import Times
 
 Geometry = dict[str, Any]
 
@@ -17,15 +19,17 @@ def on_map(place: Place, point: Point) -> list[float]:
     return [float(told.decimal(place.metres(Fraction(number, point[-1]), axis), 6)) for axis, number in enumerate(point[:-1])]
 
 
-def closed(place: Place, ring: Iterable[Point]) -> list[list[float]]:
+def closed(ring: Iterable[Point], placed: Callable[[Point], list[float]]) -> list[list[float]]:
     """A ring on the map, which ends with the point at which it begins."""
-    placed = [on_map(place, point) for point in ring]
-    return [*placed, placed[0]]
+    points = [placed(point) for point in ring]
+    return [*points, points[0]]
 
 
 def multipolygon(place: Place, regions: Iterable[outline.Outline]) -> Geometry:
     """Of outer rings with their holes: the outer ones counterclockwise, as GeoJSON wants them."""
-    return {"type": "MultiPolygon", "coordinates": [[closed(place, ring) for ring in (outer, *holes)] for outer, holes in regions]}
+    # A corner of a boundary is one of three faces or more.
+    placed = functools.lru_cache(maxsize=None)(lambda point: on_map(place, point))
+    return {"type": "MultiPolygon", "coordinates": [[closed(ring, placed) for ring in (outer, *holes)] for outer, holes in regions]}
 
 
 def metres(units: Number) -> float:
@@ -86,16 +90,36 @@ def covered(place: Place, body: Body) -> Geometry:
 
 
 def boundary(place: Place, body: Body) -> Geometry:
-    """Returns the boundary of a body, as polygons with heights. Each edge of one is an edge of another, the other way round, as
-    databases want it of a solid."""
-    return multipolygon(place, [(outer, holes) for outer, *holes in shape.split_rings(body.facets)])
+    """Returns the boundary of a body, as polygons with heights. Each edge of one is an edge of another, the other way round, and each
+    is flat, as databases want it of a solid."""
+    faces = surface.faces(body.facets, lambda point: on_map(place, point))
+    return multipolygon(place, [(outer, holes) for outer, *holes in faces])
+
+
+# What a word shows of each lot.
+GEOMETRIES: dict[str, Callable[[Place, Body], Geometry]] = {"lots": covered, "faces": boundary}
+
+
+def features(seen: Seen, geometry: Callable[[Place, Body], Geometry]) -> dict[str, Any]:
+    """Returns a feature for each lot, with a `geometry`."""
+    return collection(seen.place, [(attributes(body), geometry(seen.place, body)) for body in bounded(seen)])
 
 
 def footprints(seen: Seen) -> dict[str, Any]:
     """A feature for each lot: what it covers in plan, and from where to where it reaches."""
-    return collection(seen.place, [(attributes(body), covered(seen.place, body)) for body in bounded(seen)])
+    return features(seen, covered)
 
 
 def faces(seen: Seen) -> dict[str, Any]:
     """A feature for each lot: its boundary, as polygons with heights."""
-    return collection(seen.place, [(attributes(body), boundary(seen.place, body)) for body in bounded(seen)])
+    return features(seen, boundary)
+
+
+def lifetimes(found: Times, geometry: Callable[[Place, Body], Geometry]) -> dict[str, Any]:
+    """Returns a feature for each lot that ever was, with a `geometry`; the lines at which it came and ended, and the days of the notes
+    before them, each None if there is none. On the day `ends` it is no longer there."""
+    def told_of(body: Body) -> dict[str, Any]:
+        return {**attributes(body), "ended": body.ended, "begins": found.day_of(body.born) or None, "ends": found.day_of(body.ended) or None}
+
+    place, bodies = found.seen.place, bounded(found.seen)
+    return collection(place, [(told_of(body), geometry(place, body)) for body in sorted(bodies, key=lambda body: body.born)])

@@ -27,12 +27,16 @@ class Times:
     days: list[tuple[int, str]]
     last: int
 
+    def day_of(self, line: Optional[int]) -> str:
+        """Returns the day of the last note before a `line`, or "" if there is none."""
+        at = 0 if line is None else bisect.bisect_left([dated for dated, _ in self.days], line)
+        return self.days[at - 1][1] if at else ""
+
     @property
     def moments(self) -> list[tuple[int, str]]:
         """Returns the lines at which lots came or ended, and the last line, each with the day of the last note before it, or ""."""
         lines = {line for body in self.seen.bodies for line in (body.born, body.ended) if line is not None} | {self.last}
-        dated = [line for line, _ in self.days]
-        return [(line, self.days[at - 1][1] if at else "") for line in sorted(lines) for at in [bisect.bisect_left(dated, line)]]
+        return [(line, self.day_of(line)) for line in sorted(lines)]
 
 
 def changes(book: extract.Book) -> bytes:

@@ -89,6 +89,11 @@ def add_at(made: argparse.ArgumentParser) -> None:
                       "metres; may stand several times")
 
 
+def add_in_time(made: argparse.ArgumentParser) -> None:
+    made.add_argument("--time", action="store_true", help="of a script: all lots that ever were, each with the lines and the days at which it came and "
+                      "ended")
+
+
 def add_view(words: Words) -> None:
     made = add_shown(words, "view", "one page that shows lots in a browser")
     made.add_argument("--title", help="the head of the page (the name of the file)")
@@ -123,6 +128,11 @@ def add_on_map(words: Words, word: str, says: str) -> argparse.ArgumentParser:
 def add_meets(words: Words) -> None:
     made = add_on_map(words, "meets", "the live lots of a script that a region meets, what each has of it, and a report that shows that these are all")
     made.add_argument("region", metavar="EXPRESSION", help="the region, as an expression of the language: 'box ..', 'name X', 'lot X'")
+    made.add_argument("--drawn", action="store_true", help="EXPRESSION is a file with polygons that GDAL reads: all of them are the region, each between two "
+                      "heights")
+    made.add_argument("--drawn-layer", metavar="NAME", help="the layer of this file, if it has several")
+    made.add_argument("--floor", default="base", metavar="WHAT", help="the lower height of what is drawn: a number for all, or the property with it (base)")
+    made.add_argument("--top", default="height", metavar="WHAT", help="the upper height, likewise (height)")
     made.add_argument("--touch", action="store_true", help="with the lots that touch the region and share no point with it")
     made.add_argument("--layer", action="append", default=[], metavar="NAME", help="of this layer alone; may stand several times")
     made.add_argument("--as", dest="form", choices=list(meets_forms.FORMS), default="table", help="what is written: a table; GeoJSON of what is in common, in "
@@ -181,8 +191,9 @@ def parser(says: str) -> argparse.ArgumentParser:
     add_picture(words)
     add_shown(words, "measures", "a table of areas and volumes, of what `show` and `section` lines show")
     add_at(add_shown(words, "sections", "GeoJSON of the `section` lines of a report: one area for each, with lot, height and area"))
-    add_shown(words, "lots", "GeoJSON of what each lot covers in plan, with its heights, area and volume")
-    add_shown(words, "faces", "GeoJSON of the boundary of each lot, as polygons with heights")
+    add_in_time(add_shown(words, "lots", "GeoJSON of what each lot covers in plan, with its heights, area and volume"))
+    add_in_time(add_shown(words, "faces", "GeoJSON of the boundary of each lot, as polygons with heights"))
+    add_in_time(add_shown(words, "postgis", "SQL that puts the lots into PostGIS, in plan and as solids"))
     add_shown(words, "city", "CityJSON 2.0 of the lots, as solids")
     add_explain(words)
     add_meets(words)

@@ -92,16 +92,16 @@ def volumes(seen, script):
     return {body.label: (sfcgal.solid(gis.boundary(found.place, body)["coordinates"]), float(body.volume / 10**9)) for body in found.bodies}
 
 
-@pytest.mark.parametrize("region", CLOSED)
+@pytest.mark.parametrize("region", [*CLOSED, BALCONY])
 def test_faces_are_a_solid_by_sfcgal(seen, region):
     [(found, wanted)] = volumes(seen, lines("register a " + region)).values()
     assert found == pytest.approx(wanted, rel=1e-9)
 
 
 def test_faces_of_a_block_are_solids_by_sfcgal(root, seen):
-    """Rounded to the micrometre, the hole in the slanted wall of mill-4 no longer lies in its plane."""
+    """Rounded to the micrometre, the hole in the slanted wall of mill-4 no longer lies in its plane: this wall is triangles."""
     found = volumes(seen, (root / "examples/block.rp").read_text())
-    assert [lot for lot, (by_sfcgal, wanted) in found.items() if by_sfcgal != pytest.approx(wanted, rel=1e-9)] == ["mill-4"] and len(found) == 40
+    assert [lot for lot, (by_sfcgal, wanted) in found.items() if by_sfcgal != pytest.approx(wanted, rel=1e-8)] == [] and len(found) == 40
 
 
 def test_gdal_reads_it(root, seen, tmp_path):

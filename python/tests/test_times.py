@@ -1,11 +1,12 @@
 """The lots of a script at every line."""
 import io
+import json
 import random
 
 import browsing
 import pytest
 from conftest import PROGRAM
-from rpstore import lots, measures, report, script, times, view
+from rpstore import gis, lots, measures, report, script, times, view
 from test_view import data_of
 from test_words import ran
 
@@ -97,6 +98,25 @@ def test_the_words(store):
     assert data_of(page)["moments"] == [[2, "2024-03-01"], [3, "2024-03-01"], [6, "2025-06-12"], [9, "2026-01-07"], [11, "2026-01-07"], [12, "2026-01-07"]]
     assert not data_of(ran(["view"], BOOK.encode())[1].decode())["moments"]
     assert "6 lots, 4 of which ended, 1 refused line, report accepted." in data_of(page)["about"]
+
+
+def test_lots_with_their_days(history):
+    """A lot has the days of the notes before the lines at which it came and ended."""
+    found = gis.lifetimes(history(BOOK), gis.covered)["features"]
+    days = [(each["properties"]["id"], *(each["properties"][name] for name in ("ended", "begins", "ends"))) for each in found]
+    assert days == [("a", 6, "2024-03-01", "2025-06-12"), ("b", 9, "2024-03-01", "2026-01-07"), ("a-east", 9, "2025-06-12", "2026-01-07"),
+                    ("a-west", 12, "2025-06-12", "2026-01-07"), ("c", None, "2026-01-07", None), ("way", None, "2026-01-07", None)]
+    undated = gis.lifetimes(history("register a box 0 0 0 10 10 3\n"), gis.boundary)["features"]
+    assert [(each["properties"]["begins"], len(each["geometry"]["coordinates"])) for each in undated] == [(None, 6)]
+
+
+def test_the_words_for_a_gis(store):
+    assert json.loads(ran(["lots", "--time"], BOOK.encode())[1])["features"][0]["properties"]["ends"] == "2025-06-12"
+    told = ran(["postgis", "--time"], BOOK.encode())[1].decode()
+    assert "VALUES ('a-east', 'base', 6, 9, '2025-06-12', '2026-01-07', ARRAY['a']::text[], 0.000000, 3.000000, 60.000000, 180.000000000," in told
+    for word in ("lots", "faces", "postgis"):
+        assert ran([word, "--time"], store(BOOK))[::2] == (
+            2, f"rpstore-gis: {word} --time needs a script, and this is a report: name the script that was run. Nothing was written.\n")
 
 
 def test_the_slider(history, browser, tmp_path):

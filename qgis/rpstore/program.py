@@ -1,26 +1,36 @@
-"""Runs rpstore-gis."""
+"""Finds and runs rpstore-gis."""
 import os
 import shutil
 import subprocess
 from typing import Sequence
 
+from processing.core.ProcessingConfig import ProcessingConfig
 from qgis.core import QgsProcessingException, QgsProcessingFeedback
 
+# The settings, which are named as the variables whose place they take, and how the options of Processing call them.
+SETTINGS = {"RPSTORE_GIS": "Program rpstore-gis, if it is not in the PATH", "RPSTORE": "Program of the store, if it is not next to rpstore-gis"}
 # QGIS sets these for its own libraries and its own Python.
 OF_QGIS = ("PYTHONHOME", "LD_LIBRARY_PATH")
 # Status 1: written, and something is to be said, as that some line of a script is refused.
 MOST_STATUS = 1
 
 
+def settings() -> dict[str, str]:
+    """Returns the settings that are set."""
+    found = {name: ProcessingConfig.getSetting(name) for name in SETTINGS}
+    return {name: text for name, text in found.items() if text}
+
+
 def program() -> str:
-    """Returns the command rpstore-gis: the one that the variable RPSTORE_GIS names, or that of the PATH.
+    """Returns the command rpstore-gis: by the setting, the variable RPSTORE_GIS, or the PATH.
 
     # Errors
     `QgsProcessingException` if there is none.
     """
-    found = os.environ.get("RPSTORE_GIS") or shutil.which("rpstore-gis")
+    found = settings().get("RPSTORE_GIS") or os.environ.get("RPSTORE_GIS") or shutil.which("rpstore-gis")
     if not found:
-        raise QgsProcessingException("rpstore-gis is not found. Nothing was run: put it in the PATH, or name it in the variable RPSTORE_GIS.")
+        raise QgsProcessingException("rpstore-gis is not found. Nothing was run: name it in the options of Processing under Providers, rpstore, put it in the "
+                                     "PATH, or name it in the variable RPSTORE_GIS.")
     return found
 
 
@@ -32,7 +42,10 @@ def write(words: Sequence[str], path: str, feedback: QgsProcessingFeedback) -> N
     """
     feedback.pushInfo(" ".join(["rpstore-gis", *words]))
     free = {name: text for name, text in os.environ.items() if name not in OF_QGIS}
-    done = subprocess.run([program(), *words, "-o", path], stdout=subprocess.PIPE, stderr=subprocess.PIPE, env=free)
+    try:
+        done = subprocess.run([program(), *words, "-o", path], stdout=subprocess.PIPE, stderr=subprocess.PIPE, env={**free, **settings()})
+    except OSError as error:
+        raise QgsProcessingException(f"rpstore-gis cannot be run: {error}. Nothing was run.")
     said = done.stderr.decode("utf-8", "replace").strip()
     if done.returncode > MOST_STATUS or not os.path.exists(path):
         raise QgsProcessingException(said or f"rpstore-gis ended with status {done.returncode}, and wrote nothing.")
