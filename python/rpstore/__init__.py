@@ -17,17 +17,23 @@ view      one page for a browser, of what is in the folder page
 picture   a picture in SVG of sections; colours, and fitting for its names
 times     the lots as they were after every line
 measures  a table of areas and volumes
-gis       GeoJSON
+gis       GeoJSON; surface makes boundaries of flat polygons
 city      CityJSON
+postgis   SQL for PostGIS
 explain   what is wrong with each refused line, with hints
+limits    the limits of the store, and which of them a refused line met; tree reads an expression
 conflicts the refused lines of a script as GeoJSON
-meets     which lots a region meets, asked of the store; meets_forms writes them
-walls     what lots have in common with those that touch them; touch finds it
+meets     which lots a region meets, asked of the store by region; meets_forms writes them, drawn reads a region of polygons
+crosses   which lots a line crosses, asked of the store by region, with line; crosses_forms writes them
+walls     what lots have in common with those that touch them; touch finds it, walls_forms writes it
 extract   the lines of a script on which some lots rest
 words     the words of the command line
-plan      a script of a plan in any format and grid that GDAL and PROJ read, by grid and rings
+plan      a script of a plan in any format and grid that GDAL and PROJ read, by grid, rings and usage
+solids    a script of the solids of a model: citymodel reads CityJSON, ifc reads IFC by step and ifcclip, model is what they read;
+          corners makes planes and sees that corners stay, plane finds planes, solid cuts solids into convex parts, solid_region
+          spells them
 
-All but `plan` need Python 3.9 and nothing else.
+All but `plan` and `meets --drawn` need Python 3.9 and nothing else; `solids` needs PROJ if a model names a grid.
 """
 
 

@@ -4,27 +4,33 @@ FILE is a script, which the store then runs and checks, or a report, or a book, 
 is standard input. docs/gis.md has an example of each word.
 
 status 0    all was written, and no line was refused
-status 1    explain: some line was refused; meets, rights and walls: a limit of the store leaves something unanswered; plan:
-            --leave-out left features out; else: the file is no report, or the report is not accepted or shows nothing,
-            or it is not known where the script lies on the map
+status 1    explain: some line was refused; meets, rights, crosses and walls: a limit of the store leaves something unanswered;
+            plan and solids: --leave-out left features out; else: the file is no report, or the report is not accepted or
+            shows nothing, or it is not known where the script lies on the map
 status 2    the words are not known, or do not fit the file
 status 3    the input could not be read
-status 4    the output could not be written; plan: some feature cannot be registered, which is named, and nothing was written
+status 4    the output could not be written; plan and solids: some feature cannot be registered, which is named, and nothing
+            was written
 status 5    the store, a package or a grid is missing
-status 6    the report has more than 67,108,864 bytes
+status 6    the report has more than 67,108,864 bytes, and nothing was written
+status 7    all was written, and is not checked: the report of the script has more than 67,108,864 bytes
 """
 import argparse
 import json
 import os
 import sys
-from dataclasses import fields
-from typing import Any, Callable, NamedTuple, Optional, Type, TypeVar, Union
+from dataclasses import fields, replace
+from typing import Any, Callable, NamedTuple, Optional, Sequence, Type, TypeVar, Union
 
-from . import Fault, book, city, conflicts, explain, extract, gis, lots, measures, meets, meets_forms, picture, place, postgis, report, script, store, times, view, walls, words
+from . import (
+    Fault, book, city, conflicts, crosses, crosses_forms, explain, extract, gis, limits, lots, measures, meets, meets_forms, picture, place, postgis, report,
+    script, store, times, view, walls, walls_forms, words)
 
 Kind = TypeVar("Kind")
 # The words, and the forms of `meets`, that write map coordinates.
 ON_MAP = {"view", "city", "sections", "lots", "faces", "postgis"}
+# The status if all was written, of a report that is too long to be checked.
+NOT_CHECKED = 7
 
 
 class Written(NamedTuple):
@@ -76,26 +82,46 @@ def as_json(made: dict[str, Any]) -> str:
     return json.dumps(made) + "\n"
 
 
+def written(seen: lots.Seen, text: Union[str, bytes], said: Sequence[str] = ()) -> Written:
+    """Returns the `text` that was made of what was `seen`, with what is `said`, and with a warning if that is not checked."""
+    return Written(NOT_CHECKED if seen.warnings else 0, text, [*said, *seen.warnings])
+
+
+def status_of(run: store.Run, is_partial: object) -> int:
+    """Returns the status of answers that a `run` gave: 1 if they are partial."""
+    return 1 if is_partial else 0 if run.is_checked else NOT_CHECKED
+
+
 def write_view(given: argparse.Namespace) -> Written:
     title = given.title or (os.path.basename(given.file) if given.file else "lots")
     step = int(given.storey * 1000)
     if not given.time:
-        return Written(0, view.page(read_seen(given), title, step), [])
+        seen = read_seen(given)
+        return written(seen, view.page(seen, title, step))
     asked, where = read_script(given, "view --time", True)
     found = times.times(asked, where, store.program(given.store))
-    return Written(0, view.page(found.seen, title, step, found.moments), [])
+    return written(found.seen, view.page(found.seen, title, step, found.moments))
 
 
 def write_picture(given: argparse.Namespace) -> Written:
     seen = read_seen(given)
-    return Written(0, picture.picture(seen, given.width), [picture.summary(seen)])
+    return written(seen, picture.picture(seen, given.width), [picture.summary(seen)])
+
+
+def shown_as(form: Callable[[lots.Seen], str]) -> Callable[[argparse.Namespace], Written]:
+    """Returns what writes a `form` of what the file shows."""
+    def write_form(given: argparse.Namespace) -> Written:
+        seen = read_seen(given)
+        return written(seen, form(seen))
+
+    return write_form
 
 
 def write_conflicts(given: argparse.Namespace) -> Written:
     asked, where = read_script(given, "explain --geojson", True)
     found, run = conflicts.conflicts(asked, where, store.program(given.store))
     said = f"{len(found):,} refused line{'s' * (len(found) != 1)}; {run.said}"
-    return Written(int(bool(found)), as_json(conflicts.features(found, where, given.geojson)), [said])
+    return Written(status_of(run, found), as_json(conflicts.features(found, where, given.geojson)), [said, *run.warnings])
 
 
 def write_overlaps(given: argparse.Namespace) -> Written:
@@ -121,13 +147,13 @@ def write_explanations(given: argparse.Namespace) -> Written:
     (where, said), program = ground(text, options), store.program(options.store)
     text = script.front(text, options.asof)
     if not store.is_report(text):
-        full = store.run(program, text, "run")
-        # A full report may be too long to be read; then no points are shown.
-        text = store.run(program, text, "run", "brief") if len(full) > report.MOST else full
+        text, size = store.full_or_brief(program, text)
+        said += explain.said_of_length(size)
     elif not store.is_brief(text) and not options.unchecked:
         # A brief report shows no points, and `check` takes full ones alone.
         store.accepted(store.checked(text, program))
-    sentences = list(explain.explained(text, where))
+    met = {} if options.unchecked else limits.met(text, program)
+    sentences = list(explain.explained(text, where, met))
     return Written(int(bool(sentences)), "".join(f"{sentence}\n" for sentence in sentences), said)
 
 
@@ -151,19 +177,28 @@ def write_meets(given: argparse.Namespace) -> Written:
     asked, where = read_script(given, "meets", given.form in ON_MAP or given.drawn)
     region, said = region_of(given, where, asked.version)
     found = meets.meets(asked, region, store.program(given.store), where, given.layer, given.touch)
-    return Written(int(bool(found.limited or found.unshown)), meets_forms.FORMS[given.form](found), said + meets_forms.said(found))
+    return Written(status_of(found.run, found.is_partial), meets_forms.FORMS[given.form](found), said + meets_forms.said(found))
 
 
 def write_rights(given: argparse.Namespace) -> Written:
     asked, where = read_script(given, "rights", given.form in ON_MAP)
     found = meets.rights(asked, given.lot, store.program(given.store), where)
-    return Written(int(bool(found.limited or found.unshown)), meets_forms.FORMS[given.form](found), meets_forms.said_of_rights(found, given.lot))
+    return Written(status_of(found.run, found.is_partial), meets_forms.FORMS[given.form](found),
+                   meets_forms.said_of_rights(found, given.lot))
+
+
+def write_crosses(given: argparse.Namespace) -> Written:
+    asked, where = read_script(given, "crosses", given.map or given.form == "lines")
+    line = crosses.line_of(crosses.local([int(number * 1000) for number in given.points], where if given.map else place.Place()))
+    found = crosses.crosses(asked, line, store.program(given.store), where, given.layer)
+    return Written(status_of(found.run, found.unshown), crosses_forms.FORMS[given.form](found), crosses_forms.said(found))
 
 
 def write_walls(given: argparse.Namespace) -> Written:
-    asked, _ = read_script(given, "walls")
+    asked, where = read_script(given, "walls", given.geojson)
     found = walls.walls(asked, given.lot, store.program(given.store))
-    return Written(int(bool(found.limited)), walls.table(found), walls.said(found))
+    made = walls_forms.features(found, where) if given.geojson else walls_forms.table(found)
+    return Written(status_of(found.run, found.limited), made, walls_forms.said(found))
 
 
 def write_extract(given: argparse.Namespace) -> Written:
@@ -188,29 +223,35 @@ def read_times(given: argparse.Namespace) -> Optional[times.Times]:
 def write_geometries(given: argparse.Namespace) -> Written:
     """Writes the lots of `lots` or `faces`, with --time all lots that ever were."""
     geometry, found = gis.GEOMETRIES[given.word], read_times(given)
-    return Written(0, as_json(gis.lifetimes(found, geometry) if found else gis.features(read_seen(given), geometry)), [])
+    seen = found.seen if found else read_seen(given)
+    return written(seen, as_json(gis.lifetimes(found, geometry) if found else gis.features(seen, geometry)))
 
 
 def write_postgis(given: argparse.Namespace) -> Written:
     found = read_times(given)
     seen = found.seen if found else read_seen(given)
-    return Written(0, postgis.sql(seen, found), postgis.left_out(seen))
+    return written(seen, postgis.sql(seen, found), postgis.left_out(seen))
 
 
 def write_plan(given: argparse.Namespace) -> Written:
     # GDAL and PROJ are imported for this word alone.
     from . import plan
-    return Written(*plan.script_of(given.file or "/vsistdin/", options_of(plan.Options, given)))
+    options = replace(options_of(plan.Options, given), program=store.program(given.store))
+    return Written(*plan.script_of(given.file or "/vsistdin/", options))
+
+
+def write_solids(given: argparse.Namespace) -> Written:
+    # PROJ is imported for this word and `plan` alone.
+    from . import solids
+    return Written(*solids.script_of(read(given), options_of(solids.Options, given)))
 
 
 # What each word writes.
 WORDS: dict[str, Callable[[argparse.Namespace], Written]] = {
-    "view": write_view, "picture": write_picture, "explain": write_explanations, "meets": write_meets, "rights": write_rights, "walls": write_walls,
-    "extract": write_extract, "plan": write_plan,
-    "measures": lambda given: Written(0, measures.table(read_seen(given)), []),
-    "sections": lambda given: Written(0, as_json(gis.sections(read_seen(given))), []),
+    "view": write_view, "picture": write_picture, "explain": write_explanations, "meets": write_meets, "rights": write_rights, "crosses": write_crosses,
+    "walls": write_walls, "extract": write_extract, "plan": write_plan, "solids": write_solids,
+    "measures": shown_as(measures.table), "city": shown_as(city.text), "sections": shown_as(lambda seen: as_json(gis.sections(seen))),
     "lots": write_geometries, "faces": write_geometries, "postgis": write_postgis,
-    "city": lambda given: Written(0, city.text(read_seen(given)), []),
 }
 
 

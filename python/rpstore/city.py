@@ -6,9 +6,10 @@ from collections import defaultdict
 from fractions import Fraction
 from typing import Any, Iterator, Optional
 
-from . import Fault, outline, shape, told
+from . import outline, plane, shape, told
 from .gis import attributes, bounded
 from .lots import Body, Seen
+from .place import Place
 from .points import Point, Ring, edges, lowest
 
 # A face is its outer ring and its holes; a shell is a closed surface; a solid is its outer shell and its cavities.
@@ -126,18 +127,30 @@ def is_whole(solids: list[Solid]) -> bool:
     return all(point[3] == 1 for solid in solids for shell in solid for face in shell for ring in face for point in ring)
 
 
+def planes(where: Place, piece: Body, solids: list[Solid]) -> dict[str, list[str]]:
+    """Returns the attribute `planes` of a piece that has corners that are no whole units, otherwise nothing: for each plane four whole
+    numbers A, B, C and D, so that Ax + By + Cz + D is 0 at its points, in millimetres on the map. Corners that are rounded to the
+    micrometre do not tell the planes."""
+    if is_whole(solids):
+        return {}
+    east, north = 1000 * Fraction(where.east), 1000 * Fraction(where.north)
+    found = {plane.canonical(half) for each in piece.cells for half in each.halves}
+    return {"planes": sorted(" ".join(map(str, plane.whole([a, b, c, d - a * east - b * north]))) for a, b, c, d in found)}
+
+
 def model(seen: Seen) -> dict[str, Any]:
     """A CityJSON 2.0 model: each piece of a lot is a BuildingUnit, of a Building that stands for its layer. Other regions are
     left out."""
     units = [unit for body in bounded(seen) if body.is_lot for unit in pieces(body)]
     if not units:
-        raise Fault("the report shows no lot: a line `show lot X` shows the lot X")
+        raise seen.without("no lot with an end")
     vertices = Vertices(MILLIMETRES if all(is_whole(solids) for _, _, solids in units) else MICROMETRES)
     objects: dict[str, Any] = {}
     for name, piece, solids in units:
         layer = f"layer {piece.layer}"
         objects.setdefault(layer, {"type": "Building", "attributes": {"layer": piece.layer}, "children": []})["children"].append(name)
-        objects[name] = {"type": "BuildingUnit", "parents": [layer], "attributes": attributes(piece), "geometry": [vertices.geometry(solids)]}
+        told_of = {**attributes(piece), **planes(seen.place, piece, solids)}
+        objects[name] = {"type": "BuildingUnit", "parents": [layer], "attributes": told_of, "geometry": [vertices.geometry(solids)]}
     origin = [float(seen.place.east), float(seen.place.north), 0.0]
     metadata: dict[str, Any] = {"geographicalExtent": vertices.extent(origin)}
     if seen.place.epsg:

@@ -2,7 +2,7 @@
 import functools
 import re
 from dataclasses import dataclass, field
-from typing import NoReturn, Optional
+from typing import Callable, NoReturn, Optional
 
 WHOLE = re.compile("0|-?[1-9][0-9]*")
 DECIMAL = re.compile(r"-?(?:0|[1-9][0-9]*)\.[0-9]{3}")
@@ -55,6 +55,13 @@ def corners(count: int) -> list[Due]:
 def spelled(units: int) -> str:
     """A coordinate in units as version 2 spells it."""
     return f"{'-' if units < 0 else ''}{abs(units) // 1000}.{abs(units) % 1000:03d}"
+
+
+def speller(version: int) -> Callable[[int], str]:
+    """Returns how a script of a `version` spells a coordinate in units."""
+    if version == 2:
+        return spelled
+    return str
 
 
 class Refusal(Exception):

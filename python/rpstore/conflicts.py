@@ -10,7 +10,7 @@ from dataclasses import dataclass
 from fractions import Fraction
 from typing import Any, Callable, Iterator, Optional
 
-from . import explain, gis, lots, meets, report, store, told
+from . import explain, gis, limits, lots, meets, report, store, told
 from .lots import Body
 from .place import Place
 from .points import Number
@@ -42,7 +42,7 @@ class Conflict:
 
 def refused_line(case: explain.Case) -> RefusedLine:
     """Returns what is to be told of a refused line. The register of the `case` changes with the next line."""
-    if case.command is None:
+    if case.answer.command is None:
         return RefusedLine(case.answer, None, (), explain.short_sentence(case), [])
     others = tuple(map(case.child, case.told)) if case.answer.verdict.cause in OF_CHILDREN else case.told
     return RefusedLine(case.answer, case.lot or None, others, explain.short_sentence(case), explain.named_steps(case, explain.reason_of(case)))
@@ -74,7 +74,8 @@ def regions_of(run: store.Run) -> dict[str, Body]:
 def conflicts(script: Script, place: Place, program: str) -> tuple[list[Conflict], store.Run]:
     """Asks the store `program` for the refused lines of a `script` and for the region in the way of each; returns these, and the
     report that shows the regions."""
-    cases = explain.cases(store.run(program, script.text, "run", "brief"), place)
+    told = store.run(program, script.text, "run", "brief")
+    cases = explain.cases(told, place, limits.met(told, program))
     refused = {case.answer.number: refused_line(case) for case in cases}
     run = store.run_and_check(with_regions(script, refused), program)
     regions = regions_of(run)

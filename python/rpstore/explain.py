@@ -5,7 +5,8 @@ import math
 import re
 from dataclasses import dataclass
 from fractions import Fraction
-from typing import Callable, Collection, Iterator, Sequence
+from types import MappingProxyType
+from typing import Callable, Collection, Iterator, Mapping, Sequence
 
 from . import command, hints, lots, report, told
 from .place import Place
@@ -72,13 +73,14 @@ def of_no_command(answer: report.Answer, known: hints.Known) -> str:
 
 @dataclass
 class Case:
-    """A command that was refused: its answer, what the lines before it registered, where it is on the map, and the names that any
-    line gives or was advised to give."""
+    """A command that was refused: its answer, what the lines before it registered, where it is on the map, the names that any
+    line gives or was advised to give, and which limit of the store it met, if that is known."""
 
     answer: report.Answer
     register: lots.Register
     place: Place
     names: set[str]
+    met: str = ""
 
     @property
     def command(self) -> command.Command:
@@ -150,9 +152,9 @@ def known(case: Case) -> Reason:
     return Reason(f"the id {name} was given in {case.line(case.register.lots[name].born)}, and an id is never given again")
 
 
-def limit(_: Case) -> Reason:
-    return Reason("a limit of the store is met, in making its parts, in the tests that it needs or in what is kept; docs/language.md "
-                  "has them under Limits, with ways round each")
+def limit(case: Case) -> Reason:
+    why = f": {case.met}" if case.met else ", in making its parts, in the tests that it needs or in what is kept"
+    return Reason(f"a limit of the store is met{why}; docs/language.md has them under Limits, with ways round each")
 
 
 def overlaps(case: Case) -> Reason:
@@ -309,6 +311,13 @@ def lines_to_show(case: Case, reason: Reason, points: list[list[Fraction]]) -> l
 
 # ---- sentences
 
+def said_of_length(size: int) -> list[str]:
+    """Returns a line for standard error if the full report has a `size` in bytes that is too long to be read."""
+    if size <= report.MOST:
+        return []
+    return [f"the report has {size:,} bytes, and {report.MOST:,} are read: no points are shown; `explain --geojson points` shows them on a map"]
+
+
 def reason_of(case: Case) -> Reason:
     return CAUSES[case.answer.verdict.cause](case)
 
@@ -350,16 +359,17 @@ def short_sentence(case: Case) -> str:
     return head(case) + (of_words(case) if case.answer.command is None else summary(case, reason_of(case)))
 
 
-def cases(text: bytes, place: Place) -> Iterator[Case]:
-    """Yields the refused lines of a report. The register of a case is that before its line until the next case is taken."""
+def cases(text: bytes, place: Place, met: Mapping[int, str] = MappingProxyType({})) -> Iterator[Case]:
+    """Yields the refused lines of a report, with the limits that they `met` by their numbers. The register of a case is that before
+    its line until the next case is taken."""
     register, names = lots.Register(), {name.decode() for name in GIVEN.findall(text)}
     for answer in report.read(io.BytesIO(text)):
         if isinstance(answer.verdict, report.Refused):
-            yield Case(answer, register, place, names)
+            yield Case(answer, register, place, names, met.get(answer.number, ""))
         elif answer.verdict == "ok":
             register.take(answer)
 
 
-def explained(text: bytes, place: Place) -> Iterator[str]:
-    """What is to be said of each refused line of a report."""
-    return map(sentence, cases(text, place))
+def explained(text: bytes, place: Place, met: Mapping[int, str] = MappingProxyType({})) -> Iterator[str]:
+    """What is to be said of each refused line of a report, with the limits that lines `met` by their numbers."""
+    return map(sentence, cases(text, place, met))

@@ -1,8 +1,8 @@
 """Of a long script the lines on which some of its lots rest, each under its own number, and its report."""
 import io
 import itertools
-from dataclasses import dataclass, field
-from typing import Any, Iterable, Iterator
+from dataclasses import dataclass, field, replace
+from typing import Any, Collection, Iterable, Iterator, Optional
 
 from . import Fault, command, lots, report, store
 from .notes import is_head, notes_on
@@ -19,7 +19,7 @@ SAYS = """# This is an extract for {ids}: of the {lines:,} lines of a script {ke
 class Book:
     """A script and what came of it: its lines; its version; the commands that changed something, by the numbers of their lines;
     for each of these the number of the `layer` line that held then, or 0; the names and lots; what was refused; and the
-    answers to the questions behind it."""
+    verdicts on the questions after it."""
 
     lines: list[bytes]
     version: int = 1
@@ -27,7 +27,11 @@ class Book:
     layers: dict[int, int] = field(default_factory=dict)
     register: lots.Register = field(default_factory=lots.Register)
     refused: list[report.Refused] = field(default_factory=list)
-    answers: dict[bytes, Any] = field(default_factory=dict)
+    answers: list[tuple[bytes, Any]] = field(default_factory=list)
+
+    @property
+    def questions(self) -> list[bytes]:
+        return [question for question, _ in self.answers]
 
 
 def lines_of(text: bytes) -> list[bytes]:
@@ -35,15 +39,20 @@ def lines_of(text: bytes) -> list[bytes]:
 
 
 def asked(lines: list[bytes], questions: Iterable[bytes], program: str) -> Book:
-    """What the store answers to the lines of a script and to questions behind them."""
-    told = store.run(program, b"\n".join([*lines, *questions, b""]), "run", "brief")
+    """Asks the store `program` questions after the lines of a script."""
+    return book_of(lines, store.run(program, b"\n".join([*lines, *questions, b""]), "run", "brief"))
+
+
+def book_of(lines: list[bytes], told: bytes) -> Book:
+    """Returns the book of the lines of a script by a report `told` of these and of questions after them."""
     book, layer = Book(lines, 2 if told.startswith(b"> 0 rp 2\n") else 1), 0
     last = len(lines) - (book.version == 2)
     for answer in report.read(io.BytesIO(told)):
-        if isinstance(answer.verdict, report.Refused):
-            book.refused += [answer.verdict] * (answer.number <= last)
-        elif answer.number > last:
-            book.answers[(answer.text or "").encode()] = answer.verdict
+        if answer.number > last:
+            if answer.text is not None:
+                book.answers.append((answer.text.encode(), answer.verdict))
+        elif isinstance(answer.verdict, report.Refused):
+            book.refused.append(answer.verdict)
         elif answer.verdict == "ok":
             book.commands[answer.number], book.layers[answer.number] = answer.parsed, layer
             book.register.take(answer)
@@ -71,10 +80,10 @@ def before(book: Book, number: int) -> Iterator[int]:
         yield book.layers[number]
 
 
-def needed(book: Book, ids: Iterable[str]) -> set[int]:
-    """The lines by which lots came and ended, and all on which these rest."""
+def needed(book: Book, ids: Iterable[str], numbers: Iterable[int] = ()) -> set[int]:
+    """Returns the lines by which lots came and ended, the lines `numbers`, and all on which these rest."""
     found: set[int] = set()
-    wanted = [number for lot in ids for number in (book.register.lots[lot].born, book.register.lots[lot].ended) if number]
+    wanted = [*numbers, *(number for lot in ids for number in (book.register.lots[lot].born, book.register.lots[lot].ended) if number)]
     while wanted:
         number = wanted.pop()
         if number not in found:
@@ -94,23 +103,89 @@ def emptied(book: Book, numbers: Iterable[int]) -> list[bytes]:
 
 
 def in_the_way(part: Book, whole: Book) -> set[str]:
-    """Lots that ended in the whole script and not in a part of it, where they overlap a later lot or are neighbours."""
-    found = {refused.told[0] for refused in part.refused if refused.cause == "overlaps"}
-    return found.union(*[{*answer} - {*whole.answers[question]} for question, answer in part.answers.items() if question.startswith(b"neighbours ")])
+    """Returns the lots that ended in the whole script and not in a part of it, and that overlap a later lot there or are neighbours."""
+    refused = [*part.refused, *(verdict for _, verdict in part.answers if isinstance(verdict, report.Refused))]
+    found = {each.told[0] for each in refused if each.cause == "overlaps"}
+    for question, verdict in part.answers:
+        if question.startswith(b"neighbours ") and isinstance(verdict, tuple):
+            found.update(verdict)
+    return {lot for lot in found if lot in whole.register.lots and whole.register.lots[lot].ended is not None}
 
 
-def fewest(whole: Book, ids: Iterable[str], program: str) -> set[int]:
-    """The lines by which lots are what they are, and the questions behind the script are answered as they are."""
-    numbers = needed(whole, ids)
+class Unlike(Fault):
+    """Says that some lines of a script alone are not answered as in the whole script."""
+
+
+def are_answered(part: Book, whole: Book) -> bool:
+    """Returns whether no line of a part is refused, and each question that the whole script answers has the same verdict. A limit that
+    the whole script meets may not be met by the part."""
+    return not part.refused and all(answer == wanted for answer, wanted in zip(part.answers, whole.answers)
+                                    if not isinstance(wanted[1], report.Refused))
+
+
+def fewest(whole: Book, ids: Iterable[str], program: str, numbers: Iterable[int] = ()) -> set[int]:
+    """Returns the lines by which lots are what they are, and by which the questions after the script are answered as they are; with
+    the lines `numbers` and all on which these rest.
+
+    # Errors
+    `Unlike` if these lines alone are not answered as in the whole script.
+    """
+    found = needed(whole, ids, numbers)
     while True:
-        part = asked(emptied(whole, numbers), whole.answers, program)
-        more = needed(whole, in_the_way(part, whole)) - numbers
+        part = asked(emptied(whole, found), whole.questions, program)
+        more = needed(whole, in_the_way(part, whole)) - found
         if not more:
             break
-        numbers |= more
-    if part.refused or part.answers != whole.answers:
-        raise Fault("the lines of these lots alone are not answered as in the whole script")
-    return numbers
+        found |= more
+    if not are_answered(part, whole):
+        raise Unlike("the lines of these lots alone are not answered as in the whole script")
+    return found
+
+
+# ---- a report that is short enough to be checked
+
+@dataclass(frozen=True)
+class Excerpt:
+    """The report of the lines on which some live lots rest, with questions after them, which `check` accepted; the ids of the live
+    lots that it has, and how many lots are live in the whole script."""
+
+    run: store.Run
+    live: Collection[str]
+    of: int
+
+    @property
+    def said(self) -> str:
+        return f"report accepted, of an extract with {len(self.live):,} of {self.of:,} live lots"
+
+
+def named_lines(whole: Book, questions: Iterable[bytes]) -> set[int]:
+    """Returns the lines that give the names, and those that make the lots, that the expressions of questions name."""
+    register, found = whole.register, set()
+    for question in questions:
+        for kind, label in command.read(question.decode(), whole.version).named:
+            known = register.names.get(label) if kind == "name" else label in register.lots and register.lots[label].born
+            found.update([known] if known else [])
+    return found
+
+
+def live_lots(book: Book) -> dict[str, int]:
+    """Returns the live lots of a book, each with the line at which it came."""
+    return {lot: known.born for lot, known in book.register.lots.items() if known.ended is None}
+
+
+def excerpt(lines: list[bytes], told: bytes, ids: Iterable[str], program: str) -> Optional[Excerpt]:
+    """Asks the questions of a report `told`, which come after the `lines` of a script, after those lines alone on which the lots `ids`
+    and the names in the questions rest. Returns None if this report is too long to be checked, too, or the answers differ."""
+    whole = book_of(lines, told)
+    try:
+        numbers = fewest(whole, ids, program, named_lines(whole, whole.questions))
+    except Unlike:
+        return None
+    run = store.run_and_check(b"\n".join([*emptied(whole, numbers), *whole.questions, b""]), program)
+    if not run.is_checked:
+        return None
+    live = live_lots(whole)
+    return Excerpt(run, {lot for lot, born in live.items() if born in numbers}, len(live))
 
 
 # ---- the extract
@@ -129,15 +204,17 @@ def extract(text: bytes, ids: list[str], program: str, with_neighbours: bool = F
     """The extract of a script for some of its lots, with their neighbours if that is wished. `check` accepted its report."""
     words = ["history", "show lot"] + ["neighbours"] * with_neighbours
     whole = asked(lines_of(text), [f"{word} {lot}".encode() for lot in ids for word in words], program)
+    # Of a lot that ended the history alone is known.
+    whole = replace(whole, answers=[(question, verdict) for question, verdict in whole.answers if not isinstance(verdict, report.Refused)])
     missing = [lot for lot in ids if lot not in whole.register.lots]
     if missing:
         raise Fault(f"the script registers no lot {', '.join(missing)}")
-    beside = [lot for question, answer in whole.answers.items() if question.startswith(b"neighbours ") for lot in answer]
+    beside = [lot for question, answer in whole.answers if question.startswith(b"neighbours ") for lot in answer]
     numbers = fewest(whole, [*ids, *beside], program)
     says = SAYS.format(ids=", ".join(ids), lines=len(whole.lines), kept=len(numbers), unseen="" if with_neighbours else " or touches them",
                        shown="what each of them holds, and which lots touch them" if with_neighbours else "and what each of them holds")
-    script = b"\n".join([*emptied(whole, numbers), *whole.answers, says.encode()])
-    told = store.run(program, script, "run")
-    if store.checked(told, program) != "accepted":
-        raise Fault("the report of the extract is not accepted")
-    return Extract(script, told, len(numbers), len(whole.lines))
+    script = b"\n".join([*emptied(whole, numbers), *whole.questions, says.encode()])
+    run = store.run_and_check(script, program)
+    if not run.is_checked:
+        raise Fault(f"the report of the extract has {run.size:,} bytes, and check reads {report.MOST:,}. Nothing was written: name fewer lots", 6)
+    return Extract(script, run.text, len(numbers), len(whole.lines))

@@ -69,7 +69,7 @@ def bounded(seen: Seen) -> list[Body]:
     """The bodies that end within the domain cube."""
     found = [body for body in seen.bodies if body.is_bounded]
     if not found:
-        raise Fault("the report shows no lot and no region with an end: a line `show lot X` shows the lot X")
+        raise seen.without("no lot and no region with an end")
     return found
 
 

@@ -2,13 +2,13 @@
 from __future__ import annotations
 
 import io
-from dataclasses import dataclass
+from dataclasses import dataclass, replace
 from decimal import Decimal
 from fractions import Fraction
 from functools import cached_property
 from typing import BinaryIO, Optional, Sequence
 
-from . import outline, report, shape, store
+from . import Fault, outline, report, shape, store
 from .command import Command, spelled
 from .place import Place, place_of
 from .points import Box, Ring, box_round, lowest
@@ -93,7 +93,8 @@ class Slice:
 @dataclass
 class Seen:
     """What was read: bodies and slices in the order of their lines, where they are on the map, how many lines were refused,
-    what `check` says of the report, or why it was not asked, and the version of its script."""
+    what `check` says of the report, or why it was not asked, the version of its script, and lines for standard error if a script
+    has too long a report to be checked; and whether it was a script that was read."""
 
     bodies: list[Body]
     slices: list[Slice]
@@ -101,6 +102,15 @@ class Seen:
     refused: int
     check: str
     version: int
+    warnings: Sequence[str] = ()
+    is_script: bool = False
+
+    def without(self, what: str) -> Fault:
+        """Returns the refusal of a file that has nothing to be written: `what` is not there."""
+        if self.is_script:
+            return Fault(f"after the script there is {what}. Nothing was written.")
+        return Fault(f"the report shows {what}. Nothing was written: name the script that was run in its place, and its live lots are shown; or run the "
+                     "script again with a line `show lot X` after it for each lot X.")
 
 
 def lot_of(parsed: Command) -> Optional[str]:
@@ -268,5 +278,5 @@ def load(text: bytes, given: Options, on_map: bool = True) -> Seen:
     if store.is_report(text):
         return seen(io.BytesIO(text), place, "not checked" if given.unchecked else store.judged(text, program))
     script = script_of(text)
-    told = store.run(program, script.then(lines_to_show(script, program, given.names, given.at)), "run")
-    return seen(io.BytesIO(told), place, store.judged(told, program))
+    run = store.run_and_check(script.then(lines_to_show(script, program, given.names, given.at)), program)
+    return replace(seen(io.BytesIO(run.text), place, run.check), warnings=run.warnings, is_script=True)

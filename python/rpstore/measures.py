@@ -4,7 +4,7 @@ from __future__ import annotations
 from fractions import Fraction
 from typing import Iterator
 
-from . import Fault, told
+from . import told
 from .lots import Seen
 
 HEAD = ("what", "layer", "line", "from_m", "to_m", "area_m2", "volume_m3")
@@ -28,5 +28,5 @@ def table(seen: Seen) -> str:
     """The rows as comma-separated values. No name, layer or expression has a comma."""
     found = list(rows(seen))
     if not found:
-        raise Fault("the report shows no lot, no region with an end and no section: a line `show lot X` shows the lot X")
+        raise seen.without("no lot, no region with an end and no section")
     return "".join(",".join(map(str, row)) + "\n" for row in (HEAD, *found))

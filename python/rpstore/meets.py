@@ -4,49 +4,25 @@ After the script come a name for the region and, for each lot that shares a poin
 what both have in common (`show`). That no other lot shares a point with the region is answered by the store as well: these lots are
 retired, and the region is registered in their layer. A live lot of the layer that shares a point with it has that line refused.
 `neighbours` then has the lots that only touch the region. The script on disk stays as it is.
+
+If the report of all that is too long to be checked, or the register is too full for the region, the questions are asked again after an
+extract of the script: the lines on which the lots near the region rest.
 """
 from __future__ import annotations
 
-import io
-from dataclasses import dataclass, replace
-from typing import Iterator, Optional, Sequence
+import math
+from dataclasses import dataclass, field, replace
+from typing import Collection, Iterator, Optional, Sequence
 
-from . import Fault, command, explain, hints, lots, report, store
+from . import Fault, command, extract, lots, report, shape, store
 from .lots import Body
 from .place import Place
-from .script import Script, fresh
+from .points import box_round
+from .region import Answers, Region, answers_of, questions, region_of, see_expression, see_region
+from .script import Script
 
 # The relation of a lot that only touches the region.
 TOUCHES = "EC"
-
-
-@dataclass(frozen=True)
-class Region:
-    """A region after a script: the name it has there, its expression, and for each layer an id under which it is registered."""
-
-    name: str
-    expression: str
-    probes: dict[str, str]
-
-    @property
-    def let(self) -> str:
-        return f"let {self.name} = {self.expression}"
-
-    @property
-    def show(self) -> str:
-        return f"show name {self.name}"
-
-    def rcc(self, lot: report.Lot) -> str:
-        return f"rcc lot {lot.id} name {self.name}"
-
-    def common(self, lot: report.Lot) -> str:
-        return f"show and lot {lot.id} name {self.name}"
-
-    def register(self, layer: str) -> str:
-        return f"register {self.probes[layer]} name {self.name}"
-
-    def neighbours(self, layer: str) -> str:
-        return f"neighbours {self.probes[layer]}"
 
 
 @dataclass(frozen=True)
@@ -62,8 +38,16 @@ class Meeting:
 
 @dataclass(frozen=True)
 class Result:
-    """The lots that a region meets, in the order in which they came; the region, if it has a volume; the report; the ids of lots for
-    which some question met a limit; and the layers of which the report does not show that no other lot is met."""
+    """What a region meets, and how much of that is shown.
+
+    - `meetings`: the lots that the region meets, in the order in which they came.
+    - `region`: the region, if it has a volume.
+    - `run`: the report, of the script or of an `excerpt`, an extract of it.
+    - `limited`: the ids of lots for which some question met a limit.
+    - `unshown`: the layers of which the report does not show that no other lot is met, since a limit is met.
+    - `untouched`: the layers of which it is not known which lots only touch the region, since a limit is met.
+    - `unseen`: the lots of which the store says that the region does not meet them, and the checked report does not show it.
+    """
 
     meetings: list[Meeting]
     region: Optional[Body]
@@ -72,41 +56,14 @@ class Result:
     unshown: list[str]
     place: Place
     version: int
+    excerpt: Optional[extract.Excerpt] = None
+    untouched: list[str] = field(default_factory=list)
+    unseen: list[report.Lot] = field(default_factory=list)
 
-
-# ---- the region
-
-def see_expression(expression: str, version: int) -> None:
-    """Reads the expression of a region.
-
-    # Errors
-    `Fault` if it is no expression, or too long for a line.
-    """
-    try:
-        command.read(f"show {expression}", version)
-    except command.Refusal as fault:
-        # Words are counted from the first one of the expression.
-        shifted = command.Refusal(fault.cause, fault.words[1:], fault.place - 1, fault.due)
-        hint = hints.hint(shifted, version, lambda word: None)
-        raise Fault(f"the region is no expression: {explain.misread(shifted, version)}{f' ({hint})' if hint else ''}. Nothing was asked: write it as "
-                    f"after `show` in this script, which is of version {version}.", 2)
-    if len(expression) + len("let  = ") + 32 > report.LONG[version]:
-        raise Fault(f"the region has {len(expression):,} bytes, and a line of version {version} {report.LONG[version]:,}. Nothing was asked: give parts of "
-                    "it a name by `let` in the script.", 2)
-
-
-def see_region(let: report.Answer, empty: report.Answer, expression: str) -> None:
-    """Sees that the store took a region, and that it has a point.
-
-    # Errors
-    `Fault` if one of the two is not so.
-    """
-    if isinstance(let.verdict, report.Refused):
-        if let.verdict.cause == "unknown":
-            raise Fault(f"the region names {let.verdict.told[0]}, which is no live lot and no name of the script. Nothing was asked.", 2)
-        raise Fault("the region meets a limit of the store. Nothing was asked: divide it (docs/language.md has the limits, with ways round each).", 2)
-    if empty.verdict == "yes":
-        raise Fault(f"the region has no point, so it meets no lot{explain.exchanged_ends(expression)}. Nothing was written.", 2)
+    @property
+    def is_partial(self) -> bool:
+        """Returns whether a limit of the store leaves something unanswered."""
+        return bool(self.limited or self.unshown or self.untouched)
 
 
 # ---- questions
@@ -120,42 +77,19 @@ def overlapping(script: Script, region: Region, wanted: Sequence[report.Lot], pr
     return [lot for lot, verdict in said if verdict == "yes"], [lot for lot, verdict in said if isinstance(verdict, report.Refused)]
 
 
-def questions(region: Region, shared: Sequence[report.Lot]) -> Iterator[str]:
-    """Yields the lines after the script, of which the lots `shared` share a point with the region."""
-    yield region.let
-    yield region.show
-    for lot in shared:
-        yield from (region.rcc(lot), f"show lot {lot.id}", region.common(lot))
-    for layer in region.probes:
-        yield from (f"retire {lot.id}" for lot in shared if lot.layer == layer)
-        yield from (f"layer {layer}", region.register(layer), region.neighbours(layer))
-
-
 # ---- answers
 
-def meeting_of(lot: report.Lot, region: Region, told: dict[str, report.Answer]) -> Meeting:
-    """Returns what the answers, by their lines, say of a lot that shares a point with the region."""
+def meeting_of(lot: report.Lot, region: Region, answers: Answers) -> Meeting:
+    """Returns what the answers say of a lot that shares a point with the region."""
+    told = answers.told
     relation = told[region.rcc(lot)].verdict
     return Meeting(lot, relation if isinstance(relation, str) else "", lots.lot_body(lot, lots.cells_of(told[f"show lot {lot.id}"])),
                    lots.lot_body(lot, lots.cells_of(told[region.common(lot)])))
 
 
-def is_limited(lot: report.Lot, region: Region, told: dict[str, report.Answer]) -> bool:
+def is_limited(lot: report.Lot, region: Region, answers: Answers) -> bool:
     """Returns whether a question about a lot met a limit."""
-    return any(isinstance(told[line].verdict, report.Refused) for line in (region.rcc(lot), f"show lot {lot.id}", region.common(lot)))
-
-
-def touching_lots(region: Region, told: dict[str, report.Answer]) -> tuple[set[str], list[str]]:
-    """Returns the ids of the lots that only touch the region, and the layers of which it is not shown that no other lot is met."""
-    beside: set[str] = set()
-    unshown = []
-    for layer in region.probes:
-        asked = told[region.neighbours(layer)].verdict
-        if told[region.register(layer)].verdict != "ok" or isinstance(asked, report.Refused):
-            unshown.append(layer)
-        else:
-            beside.update(asked)
-    return beside, unshown
+    return any(map(answers.is_refused, (region.rcc(lot), f"show lot {lot.id}", region.common(lot))))
 
 
 def wanted_of(live: Sequence[report.Lot], only: Sequence[str]) -> list[report.Lot]:
@@ -171,10 +105,47 @@ def wanted_of(live: Sequence[report.Lot], only: Sequence[str]) -> list[report.Lo
     return [lot for lot in live if not only or lot.layer in only]
 
 
-def region_of(script: Script, expression: str, wanted: Sequence[report.Lot]) -> Region:
-    """Returns a region with a name and ids that stand nowhere in the `script`, nor in its expression."""
-    words = script.words | set(expression.split(" "))
-    return Region(fresh("region", words), expression, {layer: fresh("probe", words) for layer in dict.fromkeys(lot.layer for lot in wanted)})
+# ---- an extract
+
+def box_text(cells: Sequence[shape.Cell], version: int) -> str:
+    """Returns the least box with whole corners round a region with these `cells`, as a script of a `version` spells it."""
+    low, high = box_round(each.box for each in cells)
+    numbers = [math.floor(number) for number in low] + [math.ceil(number) for number in high]
+    return f"box {' '.join(map(command.speller(version), numbers))}"
+
+
+def near(script: Script, box: str, wanted: Sequence[report.Lot], program: str) -> list[str]:
+    """Returns the ids of the lots of `wanted` that share a point with a `box` or touch it, and of those for which a limit is met."""
+    answers = script.answers([f"contact lot {lot.id} {box}" for lot in wanted], program)
+    return [lot.id for lot, answer in zip(wanted, answers) if answer.verdict != "no"]
+
+
+def choices(script: Script, region: Region, met: Collection[str], wanted: Sequence[report.Lot], whole: Answers, program: str) -> Iterator[Collection[str]]:
+    """Yields the ids of lots for an extract, fewer each time: those near the box round the region, unless most lots are; and those that
+    meet or touch the region, of which `met` may share a point with it."""
+    cells = lots.cells_of(whole.told[region.show])
+    boxed = near(script, box_text(cells, script.version), wanted, program) if cells else []
+    # A report is as long as its lots are many, nearly.
+    if boxed and len(boxed) * whole.run.size <= len(wanted) * report.MOST:
+        yield boxed
+    yield [*met, *whole.beside(region)]
+
+
+def of_extract(script: Script, region: Region, met: Collection[str], wanted: Sequence[report.Lot], whole: Answers, program: str) -> Answers:
+    """Asks the questions about the region again after an extract of the `script`, and returns these answers if their report is checked;
+    otherwise those after the `whole` script."""
+    for ids in choices(script, region, met, wanted, whole, program):
+        found = extract.excerpt(extract.lines_of(script.text), whole.run.text, ids, program)
+        if found:
+            return answers_of(script, found.run, found)
+    return whole
+
+
+def unseen(wanted: Sequence[report.Lot], shared: Sequence[report.Lot], answers: Answers, unshown: Collection[str]) -> list[report.Lot]:
+    """Returns the lots of which the report does not show that the region does not meet them: those that its extract does not have, and
+    those of the layers `unshown`."""
+    met = {lot.id for lot in shared}
+    return [lot for lot in wanted if lot.id not in met and (lot.layer in unshown or answers.excerpt and lot.id not in answers.excerpt.live)]
 
 
 def meets(script: Script, expression: str, program: str, place: Place, only: Sequence[str] = (), touch: bool = False) -> Result:
@@ -184,16 +155,18 @@ def meets(script: Script, expression: str, program: str, place: Place, only: Seq
     wanted = wanted_of(script.live(program), only)
     region = region_of(script, expression, wanted)
     shared, unasked = overlapping(script, region, wanted, program)
-    run = store.run_and_check(script.then(questions(region, shared)), program)
-    told = {answer.text: answer for answer in report.read(io.BytesIO(script.tail(run.text))) if answer.text}
-    beside, unshown = touching_lots(region, told)
-    found = {lot.id: meeting_of(lot, region, told) for lot in shared}
+    answers = answers_of(script, store.run_and_check(script.then(questions(region, shared)), program))
+    if not answers.run.is_checked or answers.unshown(region):
+        answers = of_extract(script, region, [lot.id for lot in (*shared, *unasked)], wanted, answers, program)
+    unshown, beside = answers.unshown(region), answers.beside(region)
+    found = {lot.id: meeting_of(lot, region, answers) for lot in shared}
     found.update((lot.id, Meeting(lot, TOUCHES)) for lot in wanted if touch and lot.id in beside)
-    cells = lots.cells_of(told[region.show])
+    cells = lots.cells_of(answers.told[region.show])
     # A layer in which the region registers has no other lot that meets it, whatever question met a limit.
-    limited = [lot.id for lot in unasked if lot.layer in unshown] + [lot.id for lot in shared if is_limited(lot, region, told)]
+    limited = [lot.id for lot in unasked if lot.layer in unshown] + [lot.id for lot in shared if is_limited(lot, region, answers)]
     return Result([found[lot.id] for lot in wanted if lot.id in found], Body("the region", False, "the region", 0, (), cells) if cells else None,
-                  run, limited, unshown, place, script.version)
+                  answers.run, limited, unshown, place, script.version, answers.excerpt, answers.untouched(region) if touch else [],
+                  unseen(wanted, shared, answers, unshown))
 
 
 def rights(script: Script, lot: str, program: str, place: Place) -> Result:

@@ -6,7 +6,7 @@ from dataclasses import replace
 from fractions import Fraction
 from typing import Any, Callable, Iterator, Union
 
-from . import city, gis, told, view
+from . import Fault, city, gis, told, view
 from .lots import Body, Seen
 from .meets import TOUCHES, Meeting, Result
 from .place import Place
@@ -42,7 +42,14 @@ def commons(found: Result) -> Iterator[Body]:
 
 
 def seen(found: Result, bodies: list[Body]) -> Seen:
-    return Seen(bodies, [], found.place, 0, found.run.check, found.version)
+    """Returns `bodies` as what was seen.
+
+    # Errors
+    `Fault` if none of them ends within the domain.
+    """
+    if not any(body.is_bounded for body in bodies):
+        raise Fault("the region meets no lot with an end, so there is nothing to draw. Nothing was written.")
+    return Seen(bodies, [], found.place, 0, found.run.check, found.version, found.run.warnings)
 
 
 def model(found: Result) -> str:
@@ -96,9 +103,14 @@ def count_of(found: Result) -> str:
     return shared + (f", {beside:,} more only touch{'es' if beside == 1 else ''} it" if beside else "")
 
 
+def what_report(found: Result) -> str:
+    """Says whether the report is checked, and of what it is."""
+    return found.excerpt.said if found.excerpt else found.run.said
+
+
 def said(found: Result) -> list[str]:
     """Returns the lines for standard error: how many lots, whether the report was checked, what is in no lot, what is not known."""
-    lines = [f"{count_of(found)}; {found.run.said}"]
+    lines = [f"{count_of(found)}; {what_report(found)}"]
     lines += [f"of the region {told.cubic_metres(volume)} m3 are in no lot of the layer {layer}" for layer, volume in in_no_lot(found).items() if volume]
     return lines + unknown(found)
 
@@ -106,16 +118,22 @@ def said(found: Result) -> list[str]:
 def said_of_rights(found: Result, lot: str) -> list[str]:
     """Returns the lines for standard error beside the lots that lie on a `lot`."""
     count = len(found.meetings)
-    return [f"{count:,} lot{'s lie' if count != 1 else ' lies'} on {lot}; {found.run.said}", *unknown(found)]
+    return [f"{count:,} lot{'s lie' if count != 1 else ' lies'} on {lot}; {what_report(found)}", *unknown(found)]
 
 
 def unknown(found: Result) -> list[str]:
-    """Returns a line for each thing that a limit of the store leaves unknown."""
-    lines = []
+    """Returns a line for each thing that is not known, or not shown by a checked report."""
+    lines = list(found.run.warnings)
     if found.limited:
         lines.append(f"a limit of the store is met for {told.few(found.limited)}: whether these lots meet the region, or what they have of it, is not "
                      "known; ask for parts of the region")
-    if found.unshown:
-        lines.append(f"the report does not show that no other lot is met in the layer {', '.join(found.unshown)}: registering the region meets a limit, as "
-                     "in a register that is full; the store answered so to `overlap` for each lot")
+    for layer in found.unshown:
+        others = [lot.id for lot in found.unseen if lot.layer == layer]
+        lines.append(f"the report does not show that the region meets none of the {len(others):,} other lots of the layer {layer}, {told.few(others)}: "
+                     "registering the region there meets a limit, as in a register that is full; the store answered so to `overlap` for each lot")
+    if found.untouched:
+        lines.append(f"which lots of the layer {', '.join(found.untouched)} only touch the region is not known: `neighbours` meets a limit")
+    outside = [lot for lot in found.unseen if lot.layer not in found.unshown]
+    if outside:
+        lines.append(f"the extract has the lots near the region; that the region meets none of the other {len(outside):,} is the answer of the store alone")
     return lines

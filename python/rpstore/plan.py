@@ -8,8 +8,9 @@ from dataclasses import dataclass, field
 from decimal import Decimal
 from typing import Any, Callable, Iterator, Optional, Sequence
 
-from . import Fault, grid, rings
+from . import Fault, grid, rings, usage
 from .command import MOST_NODES, NAME, NODES, spelled
+from .limits import MOST_SCRIPT
 from .place import Place
 from .report import LONG
 from .rings import Corner, Unfit, units
@@ -24,7 +25,7 @@ try:
 except ImportError as error:
     MISSING = error
 
-MOST_SCRIPT, MOST_STOREYS = 16777216, 999
+MOST_STOREYS = 999
 NUMBER = re.compile(r"[+-]?([0-9]+(\.[0-9]*)?|\.[0-9]+)([eE][+-]?[0-9]{1,3})?")
 # Formats that GDAL reads and fiona does not try by itself. A driver that this GDAL does not have is no fault.
 MORE_FORMATS = ("KML", "LIBKML", "OSM", "PostgreSQL", "MySQL", "MSSQLSpatial", "OCI", "PDF", "JML", "WFS", "OAPIF", "GMLAS", "NAS",
@@ -35,8 +36,10 @@ FEW = 5
 
 @dataclass
 class Options:
-    """What the words of the command line say; `__main__` tells what each is for."""
+    """What the words of the command line say; `words` tells what each is for. The store `program` is asked for the parts of lots;
+    without it nothing is said of limits."""
 
+    program: Optional[str] = None
     layer: Optional[str] = None
     id: str = "id"
     number: bool = False
@@ -208,7 +211,11 @@ def note(feature: Feature) -> list[str]:
     return [line] if told and len(line) <= LONG[2] else []
 
 
-def lots_of(feature: Feature, origin: Corner, options: Options) -> dict[str, tuple[int, int, str]]:
+# The lots of a feature by their ids: the heights of each, and its line.
+Lots = dict[str, tuple[int, int, str]]
+
+
+def lots_of(feature: Feature, origin: Corner, options: Options) -> Lots:
     """The lots of a feature by their ids: the heights of each, and its line."""
     feature.id = feature.attempt(id_of, options) or ""
     heights = heights_of(feature, options)
@@ -223,22 +230,39 @@ def lots_of(feature: Feature, origin: Corner, options: Options) -> dict[str, tup
             for name, low, high in zip(ids, known, known[1:])}
 
 
-def lines_of(features: list[Feature], origin: Corner, options: Options) -> list[str]:
-    """The lines of the script behind its head."""
-    lines: list[str] = []
-    sections: list[str] = []
+def lots_of_all(features: list[Feature], origin: Corner, options: Options) -> list[Lots]:
+    """The lots of each feature; none of one that cannot be registered, or that has the id of a feature before."""
+    found: list[Lots] = []
     ids: dict[str, int] = {}
     for feature in features:
         made = lots_of(feature, origin, options)
         taken = [ids[name] for name in made if name in ids]
         if taken:
             feature.unfit.append(Unfit("the id is that of a feature before", f"feature {taken[0]}"))
+        found.append({} if feature.unfit else made)
+        ids.update(dict.fromkeys(found[-1], feature.number))
+    return found
+
+
+def see_limits(features: list[Feature], made: list[Lots], program: str) -> usage.Forms:
+    """Asks the store `program` for the parts of the lots `made` of features. A feature with a lot that it refuses cannot be registered."""
+    placed = [(feature, line) for feature, lots in zip(features, made) for _, _, line in lots.values()]
+    found = usage.forms_of([line for _, line in placed], program)
+    for place, (feature, _) in enumerate(placed):
+        if found.forms and found.forms[place] is None:
+            feature.unfit.append(Unfit("the store refuses its form, which meets a limit", found.met.get(place, "")))
+    return found
+
+
+def lines_of(features: list[Feature], made: list[Lots], options: Options) -> list[str]:
+    """The lines of the script after its head."""
+    lines, sections = [], []
+    for feature, lots in zip(features, made):
         if feature.unfit:
             lines.append(f"# left out: {feature.said}: {'; '.join(map(str, feature.unfit))}")
             continue
         lines += [f"# {feature.said}: {warning}" for warning in feature.warned]
-        for name, (low, high, line) in made.items():
-            ids[name] = feature.number
+        for name, (low, high, line) in lots.items():
             lines += [line] + ([] if options.bare else note(feature))
             sections += [f"section lot {name} {spelled(units(at))}" for at in options.section if low <= units(at) < high]
     return lines + sections
@@ -317,6 +341,22 @@ def to_register(features: list[Feature], given: str, options: Options) -> tuple[
     return found, wanted
 
 
+def about_limits(features: list[Feature], made: list[Lots], forms: Optional[usage.Forms], size: int) -> list[str]:
+    """What is to be said of the limits of the store: of a script with a `size` in bytes and with the lots `made` of features that have
+    these `forms`.
+
+    # Errors
+    `Fault` if no register has room for them.
+    """
+    if forms is None:
+        return []
+    placed = [(feature, line) for feature, lots in zip(features, made) for _, _, line in lots.values()]
+    lines = [line for feature, line in placed if not feature.unfit]
+    kept = forms._replace(forms=[form for (feature, _), form in zip(placed, forms.forms) if not feature.unfit])
+    usage.see_room(lines, kept)
+    return [usage.said(lines, kept, size)]
+
+
 def script_of(path: str, options: Options) -> tuple[int, str, list[str]]:
     """The status, the script, and the lines on standard error."""
     if MISSING:
@@ -330,14 +370,15 @@ def script_of(path: str, options: Options) -> tuple[int, str, list[str]]:
     points = points_of(features)
     east, north = options.origin or (grid.chosen_origin(points) if points else (0, 0))
     origin = units(Decimal(east)), units(Decimal(north))
-    lines = lines_of(features, origin, options)
+    made = lots_of_all(features, origin, options)
+    forms = see_limits(features, made, options.program) if options.program else None
     said += grouped([(feature, warning) for feature in features for warning in feature.warned], len(features))
     unfit = [feature for feature in features if feature.unfit]
     told = [*grouped([(feature, cause) for feature in unfit for cause in feature.unfit], len(features))]
     clip = grid.how_to_clip(points, origin, grids[1], path) if points else []
     if unfit and not (options.leave_out and len(unfit) < len(features)):
         return 4, "", said + told + clip + [f"nothing was written: {len(unfit)} of {len(features)} cannot be registered"]
-    script = "\n".join(["rp 2", *notes_of(features, origin, grids), *lines, ""])
+    script = "\n".join(["rp 2", *notes_of(features, origin, grids), *lines_of(features, made, options), ""])
     if len(script) > MOST_SCRIPT:
         raise Fault(f"the script would have more than {MOST_SCRIPT} bytes: divide the plan, and give each part one --origin", 4)
-    return int(bool(unfit)), script, said + [f"left out: {line}" for line in told] + clip
+    return int(bool(unfit)), script, said + [f"left out: {line}" for line in told] + clip + about_limits(features, made, forms, len(script))

@@ -5,7 +5,7 @@ from dataclasses import dataclass
 from fractions import Fraction
 from typing import Any, Iterable, Iterator, Optional
 
-from . import Fault, city, gis, shape, surface, told
+from . import city, gis, shape, surface, told
 from .lots import Body, Seen
 from .place import Place
 from .times import Times
@@ -107,7 +107,7 @@ def rows_of(seen: Seen, found: Optional[Times]) -> list[Row]:
     """
     bodies = [body for body in gis.bounded(seen) if body.is_lot]
     if not bodies:
-        raise Fault("the report shows no lot: a line `show lot X` shows the lot X. No SQL was written.")
+        raise seen.without("no lot with an end")
     return [Row(body, found.day_of(body.born), found.day_of(body.ended)) if found else Row(body) for body in bodies]
 
 

@@ -79,9 +79,9 @@ class Answer:
     """One answer: the line of the report at which it begins, the version, the number and the text of its line (None where that
     is too long to be echoed), its command (None where the line is none), its proof lines as they stand, and its verdict.
 
-    The verdict is a `Refused`; or a word (`yes`, `ok`, `PO`, `nobody`); or for `show` the half-spaces of each part, for
-    `section` for each part the corners of its ring or None where it is flat, for `list` and `history` lots, for `at`,
-    `neighbours` and `access` ids, for `pieces` numbers of parts, and for `audit` a number."""
+    The verdict is a `Refused`; or a word (`yes`, `ok`, `PO`); or for `show` the half-spaces of each part, for
+    `section` for each part the corners of its ring or None where it is flat, for `list` and `history` lots, for `at`
+    and `asof` an id, or None for `nobody`, for `neighbours` and `access` ids, for `pieces` numbers of parts, and for `audit` a number."""
 
     at: int
     version: int
@@ -204,7 +204,7 @@ def accepted(lines: Lines, parsed: command.Command) -> Any:
         return tuple(tuple(map(int, found[0].split()[2:])) for found in counted(lines, b"pieces", PIECE, "a line with a piece"))
     if word in ("at", "asof"):
         found = lines.due(re.compile(PARCEL.pattern + b"|= (nobody)"), "a parcel or `nobody`")
-        return found[1].decode() if found[1] else "nobody"
+        return found[1].decode() if found[1] else None
     if word == "neighbours":
         return tuple(found[1].decode() for found in counted(lines, b"neighbours", PARCEL, "a parcel"))
     if word in ("list", "history"):

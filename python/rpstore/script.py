@@ -61,7 +61,8 @@ class Script:
 
     def tail(self, told: bytes) -> bytes:
         """Returns, of the report `told` of this script with lines after it, the report of these lines."""
-        begin = told.find(f"\n> {len(self.lines) + 1} ".encode()) + 1
+        first = f"> {len(self.lines) + 1} ".encode()
+        begin = 0 if told.startswith(first) else told.find(b"\n" + first) + 1 or len(told)
         return b"> 0 rp 2\n" * self.is_marked + told[begin:]
 
     def answers(self, lines: Iterable[str], program: str) -> Iterator[report.Answer]:

@@ -2,11 +2,13 @@
 from __future__ import annotations
 
 import io
+import itertools
 import os
 import re
 import subprocess
+import tempfile
 from pathlib import Path
-from typing import NamedTuple, Optional
+from typing import IO, NamedTuple, Optional
 
 from . import Fault, report
 
@@ -18,20 +20,79 @@ def program(given: Optional[str] = None) -> str:
     return given or os.environ.get("RPSTORE") or str(Path(__file__).resolve().parents[2] / "rpstore")
 
 
+def is_built(command: str) -> bool:
+    """Returns whether the store can be run without a build: that of the repository builds its program first, which takes long."""
+    root = Path(command).resolve().parent
+    return not (root / "crates/rp_cli/src").is_dir() or (root / "crates/rp_cli/out/rp_cli").is_file()
+
+
+def quiet() -> dict[str, str]:
+    """Returns the environment in which the store says nothing about a checked report."""
+    return {**os.environ, "RPSTORE_NOTES": "no"}
+
+
+def not_run(command: str, error: OSError) -> Fault:
+    return Fault(f"the store {command} cannot be run: {error.strerror}", 5)
+
+
+def see_status(status: int) -> None:
+    """Sees that the store ended well.
+
+    # Errors
+    `Fault` if its `status` is above 1, or a signal ended it.
+    """
+    if status not in (0, 1):
+        raise Fault(f"the store ended with status {status}", 5)
+
+
 def run(command: str, text: bytes, *words: str) -> bytes:
     """Runs the store `command` with `words` over a `text`, and returns what it writes. It says nothing about a checked report.
 
     # Errors
     `Fault` if the store cannot be run, or ends with a status above 1.
     """
-    quiet = {**os.environ, "RPSTORE_NOTES": "no"}
     try:
-        done = subprocess.run([command, *words], input=text, stdout=subprocess.PIPE, env=quiet)
+        done = subprocess.run([command, *words], input=text, stdout=subprocess.PIPE, env=quiet())
     except OSError as error:
-        raise Fault(f"the store {command} cannot be run: {error.strerror}", 5)
-    if done.returncode > 1:
-        raise Fault(f"the store ended with status {done.returncode}", 5)
+        raise not_run(command, error)
+    see_status(done.returncode)
     return done.stdout
+
+
+def shortened(file: IO[bytes]) -> tuple[bytes, int]:
+    """Reads a full report: returns it, or the brief one, without proof lines, if `check` does not take it; and the bytes of the full
+    report. Needs memory for 64 MiB and the brief report."""
+    front = file.read(report.MOST + 1)
+    if len(front) <= report.MOST:
+        return front, len(front)
+    # The front may end within a line.
+    size, kept, front = 0, [], front + file.readline()
+    for line in itertools.chain(io.BytesIO(front), file):
+        size += len(line)
+        if not line.startswith(b"  "):
+            kept.append(line)
+    return b"".join(kept), size
+
+
+def full_or_brief(command: str, script: bytes) -> tuple[bytes, int]:
+    """Runs the store `command` over a `script` once: returns the full report, or the brief one if `check` does not take the full
+    one; and the bytes of the full report.
+
+    # Errors
+    `Fault` if the store cannot be run, or ends with a status above 1.
+    """
+    with tempfile.TemporaryFile() as given:
+        given.write(script)
+        given.seek(0)
+        try:
+            process = subprocess.Popen([command, "run"], stdin=given, stdout=subprocess.PIPE, env=quiet())
+        except OSError as error:
+            raise not_run(command, error)
+        with process:
+            assert process.stdout is not None
+            found = shortened(process.stdout)
+    see_status(process.returncode)
+    return found
 
 
 def is_report(text: bytes) -> bool:
@@ -72,10 +133,11 @@ def judged(text: bytes, command: str) -> str:
 
 
 class Run(NamedTuple):
-    """A report, and what `check` says of it."""
+    """A report, what `check` says of it, and the bytes of the full report."""
 
     text: bytes
     check: str
+    size: int
 
     @property
     def is_checked(self) -> bool:
@@ -83,14 +145,18 @@ class Run(NamedTuple):
 
     @property
     def said(self) -> str:
+        return f"report {self.check}" if self.is_checked else "report not checked"
+
+    @property
+    def warnings(self) -> list[str]:
+        """Returns a line for standard error if the report is not checked."""
         if self.is_checked:
-            return f"report {self.check}"
-        return f"not checked: the report has more than {report.MOST:,} bytes, which `check` does not take, so these are the answers of the store alone"
+            return []
+        return [f"not checked: the report has {self.size:,} bytes, and check reads {report.MOST:,}: these are the answers of the store alone"]
 
 
 def run_and_check(script: bytes, command: str) -> Run:
     """Runs the store `command` over a `script` and returns the report, which `check` accepted. Returns the brief report instead
     if the full one has more than 64 MiB, which `check` does not take: `Run.is_checked` says which."""
-    full = run(command, script, "run")
-    said = accepted(checked(full, command))
-    return Run(full if said != UNCHECKED else run(command, script, "run", "brief"), said)
+    text, size = full_or_brief(command, script)
+    return Run(text, UNCHECKED if size > report.MOST else accepted(checked(text, command)), size)

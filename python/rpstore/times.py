@@ -64,4 +64,5 @@ def times(script: Script, place: Place, program: str) -> Times:
     shown = [body_of(answer, book) for answer in report.read(io.BytesIO(run.text)) if answer.command and answer.command.word == "show"]
     bodies = [body for body in shown if body]
     days = [(number, found[1].decode()) for number, line in enumerate(script.lines, 1) for found in [DAY.match(line)] if found]
-    return Times(Seen(bodies, [], place, len(book.refused) + len(shown) - len(bodies), run.check, book.version), days, len(script.lines))
+    refused = len(book.refused) + len(shown) - len(bodies)
+    return Times(Seen(bodies, [], place, refused, run.check, book.version, run.warnings, is_script=True), days, len(script.lines))

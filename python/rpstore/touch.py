@@ -13,7 +13,7 @@ from typing import Any, Iterable, Iterator
 
 from . import outline, shape
 from .lots import Body
-from .points import Box, Point, Ring, clipped
+from .points import Box, Point, Ring, clipped, lowest
 
 DIGITS = 10**40
 
@@ -88,6 +88,19 @@ def within(ring: Ring, other: shape.Cell) -> Ring:
         if not ring:
             return []
     return ring
+
+
+def outlines(walls: Iterable[tuple[shape.Half, Ring]]) -> Iterator[tuple[shape.Half, Ring, list[Ring]]]:
+    """Yields the outlines of polygons that share no area, each with the half-space of its plane: an outer ring and its holes. Polygons
+    of one plane that have an edge in common have one outline."""
+    planes: dict[shape.Half, list[Ring]] = {}
+    for half, ring in walls:
+        planes.setdefault(lowest(half), []).append(ring)
+    for half, rings in planes.items():
+        # The rings go round counterclockwise seen from outside the half-space.
+        flat = shape.Flattened(half, -1)
+        for outer, holes in outline.outlines([flat.there(ring) for ring in rings]):
+            yield half, flat.back(outer), list(map(flat.back, holes))
 
 
 def is_on_a_line(ring: Ring) -> bool:

@@ -8,7 +8,7 @@ import json
 from pathlib import Path
 from typing import Any, Iterable, Sequence, Union
 
-from . import Fault, colours, outline, told
+from . import colours, outline, told
 from .lots import Body, Seen
 from .place import Place
 from .points import Number, Point, Ring, box_round, ratio
@@ -141,7 +141,7 @@ def page(seen: Seen, title: str, step: int = STOREY, moments: Sequence[tuple[int
     `moments`, lines each with a day or "", it has a slider, and shows the lots that were live after a line."""
     bodies = [body for body in seen.bodies if body.is_bounded]
     if not bodies:
-        raise Fault("the report shows no lot and no region with an end: a line `show lot X` shows the lot X")
+        raise seen.without("no lot and no region with an end")
     low, high = box_round(body.box for body in bodies)
     centre = [(a + b) // 2 for a, b in zip(low, high)]
     layers = layers_of(bodies)

@@ -1,17 +1,14 @@
-"""A table of what lots have in common with those that touch them. The store says which these are (`neighbours`)."""
+"""What lots have in common with those that touch them. The store says which these are (`neighbours`)."""
 from __future__ import annotations
 
 import io
-from collections import Counter
 from dataclasses import dataclass
-from typing import Iterable, NamedTuple, Sequence
+from typing import Collection, Iterable, NamedTuple, Optional, Sequence
 
-from . import Fault, lots, report, store, told
+from . import Fault, extract, lots, report, store
 from .lots import Body
 from .script import Script
 from .touch import Contact, contact_of
-
-HEAD = ("lot", "other", "layer", "meets_at", "wall_m2", "edge_m")
 
 
 class Pair(NamedTuple):
@@ -25,11 +22,12 @@ class Pair(NamedTuple):
 @dataclass(frozen=True)
 class Result:
     """Each two lots that touch, once; the lots whose neighbours are not known, or whose shape is not, since a limit of the store is
-    met; and what `check` says of the report."""
+    met; the report; and the extract of which it is, if it is of one."""
 
     pairs: list[Pair]
     limited: list[str]
     run: store.Run
+    excerpt: Optional[extract.Excerpt] = None
 
 
 def lots_asked(live: Sequence[report.Lot], ids: Sequence[str]) -> list[str]:
@@ -52,37 +50,33 @@ def pairs_of(beside: dict[str, Iterable[str]], bodies: dict[str, Body]) -> list[
     return [Pair(bodies[lot], bodies[other], contact_of(bodies[lot], bodies[other])) for lot, other in found]
 
 
+def with_neighbours(script: Script, asked: Sequence[str], program: str) -> set[str]:
+    """Returns the ids `asked` with those of the lots that touch these, as far as no limit of the store is met."""
+    verdicts = [answer.verdict for answer in script.answers([f"neighbours {lot}" for lot in asked], program)]
+    return {*asked, *(lot for verdict in verdicts if not isinstance(verdict, report.Refused) for lot in verdict)}
+
+
+def answered(script: Script, lines: Sequence[str], ids: Collection[str], program: str) -> tuple[store.Run, Optional[extract.Excerpt]]:
+    """Asks the store `program` the questions `lines` after a `script`, or after an extract for the lots `ids`, if there are some and the
+    report is too long to be checked; returns the report, and the extract if it is of one."""
+    run = store.run_and_check(script.then(lines), program)
+    found = None if run.is_checked or not ids else extract.excerpt(extract.lines_of(script.text), run.text, ids, program)
+    return (found.run, found) if found else (run, None)
+
+
 def walls(script: Script, ids: Sequence[str], program: str) -> Result:
     """Asks the store `program` which lots of a `script` touch those with the `ids`, or which touch each other without ids, and
     computes what each two have in common."""
     live = script.live(program)
     asked = lots_asked(live, ids)
-    lines = [f"show lot {lot.id}" for lot in live] + [f"neighbours {lot}" for lot in asked]
-    run = store.run_and_check(script.then(lines), program)
+    near = with_neighbours(script, asked, program) if ids else set(asked)
+    wanted = [lot for lot in live if lot.id in near]
+    lines = [f"show lot {lot.id}" for lot in wanted] + [f"neighbours {lot}" for lot in asked]
+    run, excerpt = answered(script, lines, near if ids else (), program)
     answers = {answer.text: answer for answer in report.read(io.BytesIO(script.tail(run.text)))}
-    shown = {lot.id: lots.lot_body(lot, lots.cells_of(answers[f"show lot {lot.id}"])) for lot in live}
+    shown = {lot.id: lots.lot_body(lot, lots.cells_of(answers[f"show lot {lot.id}"])) for lot in wanted}
     bodies = {lot: body for lot, body in shown.items() if body}
     verdicts = {lot: answers[f"neighbours {lot}"].verdict for lot in asked}
     beside = {lot: verdict for lot, verdict in verdicts.items() if not isinstance(verdict, report.Refused)}
     limited = [lot for lot in shown if lot not in bodies or lot in verdicts and lot not in beside]
-    return Result(pairs_of(beside, bodies), limited, run)
-
-
-def row(pair: Pair) -> tuple[str, ...]:
-    edge = told.decimal(pair.contact.edge / 1000, 6) if pair.contact.kind == "edge" else ""
-    return pair.lot.label, pair.other.label, pair.lot.layer, pair.contact.kind, told.decimal(pair.contact.wall / 10**6, 6), edge
-
-
-def table(found: Result) -> str:
-    """Returns the rows as comma-separated values; the head alone if no two lots touch."""
-    return "".join(",".join(line) + "\n" for line in (HEAD, *map(row, found.pairs)))
-
-
-def said(found: Result) -> list[str]:
-    """Returns the lines for standard error: how many pairs of each kind, whether the report was checked, what is not known."""
-    kinds = Counter(pair.contact.kind for pair in found.pairs)
-    counts = ", ".join(f"{kinds[kind]:,} {kind}{'s' * (kinds[kind] != 1)}" for kind in ("wall", "edge", "corner"))
-    lines = [f"{counts}; {found.run.said}"]
-    if found.limited:
-        lines.append(f"a limit of the store is met for {told.few(found.limited)}: what touches these lots is not known; ask for others by --lot")
-    return lines
+    return Result(pairs_of(beside, bodies), limited, run, excerpt)

@@ -2,11 +2,12 @@
 from __future__ import annotations
 
 import argparse
+import re
 from decimal import Decimal, InvalidOperation
 from importlib import metadata
 from typing import TYPE_CHECKING, Optional, Union
 
-from . import book, conflicts, meets_forms, picture, place
+from . import book, conflicts, crosses_forms, meets_forms, picture, place
 
 if TYPE_CHECKING:
     Words = argparse._SubParsersAction[argparse.ArgumentParser]
@@ -28,6 +29,14 @@ def decimal(word: str) -> Decimal:
         raise argparse.ArgumentTypeError(f"{word!a} is no number")
     if not number.is_finite() or abs(number) > 10**9 or number * 1000 % 1:
         raise argparse.ArgumentTypeError("metres with at most three digits behind the point are wanted")
+    return number
+
+
+def millimetres(word: str) -> Decimal:
+    """Reads millimetres above 0, to the nanometre, up to a metre."""
+    number = Decimal(word) if re.fullmatch(r"[0-9]{1,4}(\.[0-9]{1,6})?", word) else Decimal(0)
+    if not 0 < number <= 1000:
+        raise argparse.ArgumentTypeError("millimetres above 0 and up to 1000 are needed, with at most six digits after the point")
     return number
 
 
@@ -145,11 +154,22 @@ def add_rights(words: Words) -> None:
     made.add_argument("--as", dest="form", choices=list(meets_forms.FORMS), default="table", help="what is written, as with `meets`")
 
 
+def add_crosses(words: Words) -> None:
+    made = add_on_map(words, "crosses", "the live lots of a script that a line crosses, in order from its start, with the length in each")
+    made.add_argument("points", nargs="+", type=decimal, metavar="NUMBER", help="the points of the line, X Y Z of each in metres from the local origin")
+    made.add_argument("--map", action="store_true", help="the points are E N H of each, in metres of the map")
+    made.add_argument("--layer", action="append", default=[], metavar="NAME", help="of this layer alone; may stand several times")
+    made.add_argument("--as", dest="form", choices=list(crosses_forms.FORMS), default="table", help="what is written: a table; GeoJSON of what each lot "
+                      "has of the line (lines); the report")
+
+
 def add_walls(words: Words) -> None:
     made = add(words, "walls", "what the live lots of a script have in common with those that touch them: walls with areas, edges with lengths, corners")
+    add_place(made)
     add_store(made)
     add_asof(made)
     made.add_argument("--lot", action="append", default=[], metavar="ID", help="of this lot alone; may stand several times")
+    made.add_argument("--geojson", action="store_true", help="GeoJSON: each wall as a polygon, each edge as a line, each corner as a point, with heights")
 
 
 def add_extract(words: Words) -> None:
@@ -162,6 +182,7 @@ def add_extract(words: Words) -> None:
 
 def add_plan(words: Words) -> None:
     made = add(words, "plan", "a script that registers the polygons of a plan, in any format that GDAL reads")
+    add_store(made)
     made.add_argument("--layer", help="the layer of the plan, where it has several")
     made.add_argument("--id", default="id", metavar="NAME", help="the property with the id (id)")
     made.add_argument("--number", action="store_true", help="take the place in the plan, 1, 2, .., for the id; wants --prefix")
@@ -182,6 +203,26 @@ def add_plan(words: Words) -> None:
     made.add_argument("--leave-out", action="store_true", help="leave out the features that cannot be registered, each with a note")
 
 
+def add_solids(words: Words) -> None:
+    made = add(words, "solids", "a script that registers the solids of a model: of CityJSON, or the spaces of IFC")
+    made.add_argument("--id", default="id", metavar="NAME", help="the property with the id; without it `id`, or else the name of the feature in its file")
+    made.add_argument("--number", action="store_true", help="take the place in the model, 1, 2, .., for the id; wants --prefix")
+    made.add_argument("--prefix", default="", metavar="LETTERS", help="put this before each id, and _ in the place of each / in it")
+    made.add_argument("--layer", default="layer", metavar="NAME", help="the property with the layer of the lot (layer); without it the layer is base")
+    made.add_argument("--kind", action="append", default=[], metavar="TYPE", help="features of this type alone, as BuildingPart; may stand several times")
+    made.add_argument("--lod", metavar="LEVEL", help="the level of detail, as 2.2 (the finest one that has solids)")
+    made.add_argument("--planar", type=millimetres, metavar="MM", help="how far corners may be moved, in millimetres, so that each face gets a plane with "
+                      "whole numbers; without it no corner is moved")
+    made.add_argument("--section", type=decimal, action="append", default=[], metavar="HEIGHT", help="write a line `section` after the lots for each that "
+                      "reaches over this height; may stand several times")
+    made.add_argument("--bare", action="store_true", help="write no note with the attributes of each feature after its lines")
+    made.add_argument("--from", dest="source", metavar="GRID", help="the grid of the model, if its file does not say or says it wrongly; `metres` for "
+                      "metres of no grid")
+    made.add_argument("--origin", nargs=2, type=decimal, metavar=("E", "N"), help="the local origin; without it that of the model if it has one, else one "
+                      "is chosen as for a plan")
+    made.add_argument("--leave-out", action="store_true", help="leave out the features that cannot be registered, each with a note")
+
+
 def parser(says: str) -> argparse.ArgumentParser:
     """Returns the parser of the command line, whose help begins with what it `says`."""
     made = argparse.ArgumentParser(prog="rpstore-gis", description=says, formatter_class=argparse.RawDescriptionHelpFormatter)
@@ -198,7 +239,9 @@ def parser(says: str) -> argparse.ArgumentParser:
     add_explain(words)
     add_meets(words)
     add_rights(words)
+    add_crosses(words)
     add_walls(words)
     add_extract(words)
     add_plan(words)
+    add_solids(words)
     return made

@@ -44,7 +44,7 @@ def test_a_date_is_the_last_line_of_the_book_on_it(town, capsys):
     assert lots_told(town, "measures", town, "--asof", "1") == ["west"]
     # Before its first line a book has no lot.
     assert __main__.main(["measures", town, "--asof", "2000-01-01"]) == 1
-    assert "the report shows no lot" in capsys.readouterr().err
+    assert "after the script there is no lot" in capsys.readouterr().err
 
 
 def test_what_is_no_book_is_named(town, tmp_path, capsys, monkeypatch):

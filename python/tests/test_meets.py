@@ -10,7 +10,7 @@ import buildings
 import pytest
 import second
 from conftest import PROGRAM
-from rpstore import Fault, lots, meets, meets_forms, report, script
+from rpstore import Fault, extract, lots, meets, meets_forms, report, script
 from rpstore import store as program
 from test_words import ran
 
@@ -127,20 +127,101 @@ def test_a_limit_is_said(asked):
     assert "a limit of the store is met for comb: " in meets_forms.said(found)[-1] and found.run.check == "accepted"
 
 
-def test_a_full_register_takes_no_probe(asked):
-    """128 lots of 512 boxes are all parts that a register may keep."""
-    text = "".join(f"register l{row} {'or ' * 511}{' '.join(f'box {2 * at} {2 * row} 0 {2 * at + 1} {2 * row + 1} 1' for at in range(512))}\n"
-                   for row in range(128))
-    found = asked(text, "box 0 0 0 5 5 5")
-    assert [each.lot.id for each in found.meetings] == ["l0", "l1", "l2"] and found.unshown == ["base"] and found.limited == []
-    assert "does not show that no other lot is met in the layer base" in meets_forms.said(found)[-1] and meets_forms.in_no_lot(found) == {}
+FULL = "".join(f"register l{row} {'or ' * 511}{' '.join(f'box {2 * at} {2 * row} 0 {2 * at + 1} {2 * row + 1} 1' for at in range(512))}\n" for row in range(128))
 
 
-def test_a_report_that_is_too_long_is_said_to_be_unchecked(asked, monkeypatch):
-    monkeypatch.setattr(report, "MOST", 1500)
-    found = asked(FLATS, TUNNEL)
-    assert {each.lot.id: each.common.volume / 10**9 for each in found.meetings} == {"west": 4, "east": 12, "way": 2}
-    assert not found.run.is_checked and program.is_brief(found.run.text) and "; not checked: the report has more than" in meets_forms.said(found)[0]
+def test_a_full_register_has_an_extract_probed(asked):
+    """128 lots of 512 boxes are all parts that a register may keep. Three of them have a point of the box, and no other touches it."""
+    found = asked(FULL, "box 0 0 0 5 5 5")
+    assert [each.lot.id for each in found.meetings] == ["l0", "l1", "l2"] and found.unshown == found.limited == [] and not found.is_partial
+    assert set(found.excerpt.live) == {"l0", "l1", "l2"} and [lot.id for lot in found.unseen] == [f"l{row}" for row in range(3, 128)]
+    assert meets_forms.said(found) == [
+        "3 lots share a point with the region; report accepted, of an extract with 3 of 128 live lots",
+        f"of the region {(125 - 27) / 10**9:.3f} m3 are in no lot of the layer base",
+        "the extract has the lots near the region; that the region meets none of the other 125 is the answer of the store alone"]
+
+
+def test_lots_that_are_not_shown_are_named(asked, monkeypatch):
+    """A full register of which no extract helps."""
+    monkeypatch.setattr(extract, "excerpt", lambda *_: None)
+    found = asked(FULL, "box 0 0 0 5 5 5")
+    assert [each.lot.id for each in found.meetings] == ["l0", "l1", "l2"] and found.unshown == ["base"] and found.is_partial
+    assert ("the report does not show that the region meets none of the 125 other lots of the layer base, l3, l4, l5, l6, l7, l8, l9, l10, l11 and 116 more: "
+            "registering the region there meets a limit") in meets_forms.said(found)[-1]
+    assert meets_forms.in_no_lot(found) == {}
+
+
+# ---- reports that are too long to be checked
+
+# Lots in a row, a name that one of them rests on, and a lot that ended where the last ones are.
+ROW = "rp 2\nregister old box 50.000 0.000 0.000 60.000 1.000 1.000\nlet shape = lot old\nretire old\nlet cut-off = half 1 0 0 -20300\n" + "".join(
+    f"register n{at} box {at}.000 0.000 0.000 {at + 1}.000 1.000 1.000\n" for at in range(60)) + (
+    "cut n20 name cut-off n20-e n20-w\nlayer rights\nregister way and name shape box 51.000 0.000 0.000 53.500 1.000 0.500\n")
+BAR = "box 20.200 0.500 0.200 22.000 2.000 0.700"
+
+
+@pytest.fixture
+def too_long(asked, monkeypatch):
+    """Asks twice, the second time with reports of one byte less that `check` may read than the first one has."""
+    most = report.MOST
+
+    def of(text, region, **more):
+        monkeypatch.setattr(report, "MOST", most)
+        whole = asked(text, region, **more)
+        assert whole.excerpt is None and whole.run.is_checked
+        monkeypatch.setattr(report, "MOST", len(whole.run.text) - 1)
+        return whole, asked(text, region, **more)
+
+    return of
+
+
+def rows(found):
+    return [meets_forms.row(each) for each in found.meetings]
+
+
+def test_an_extract_is_asked_if_the_report_is_too_long(too_long, store):
+    whole, found = too_long(ROW, BAR, touch=True)
+    assert rows(found) == rows(whole) and [each.lot.id for each in found.meetings] == ["n21", "n22", "n20-e", "n20-w"]
+    assert [each.relation for each in found.meetings] == ["PO", "EC", "PO", "PO"]
+    assert set(found.excerpt.live) == {"n20-e", "n20-w", "n21", "n22"} and found.excerpt.of == 62 and len(found.unseen) == 58
+    assert found.run.check == "accepted" and store(found.run.text.decode(), "check") == b"accepted\n" and 3 * len(found.run.text) < 2 * len(whole.run.text)
+    assert meets_forms.in_no_lot(found) == meets_forms.in_no_lot(whole)
+    said = meets_forms.said(found)
+    assert said[0] == "3 lots share a point with the region, 1 more only touches it; report accepted, of an extract with 4 of 62 live lots"
+    assert said[-1] == "the extract has the lots near the region; that the region meets none of the other 58 is the answer of the store alone"
+
+
+def test_the_lines_of_an_extract_have_their_numbers(too_long):
+    whole, found = too_long(ROW, BAR)
+    lines = [set(re.findall(rb"^> ([0-9]+ (?:register|cut|let|retire|show|rcc) .*)$", each.run.text, re.M)) for each in (whole, found)]
+    assert lines[1] < lines[0] and any(line.endswith(b"cut n20 name cut-off n20-e n20-w") for line in lines[1])
+
+
+def test_a_lot_that_ended_is_not_in_the_way_of_an_extract(too_long):
+    """The right rests on the lot that ended, which is live in the extract unless its end is in it."""
+    whole, found = too_long(ROW, "box 52.000 0.200 0.200 57.000 0.400 0.400")
+    assert rows(found) == rows(whole) and "way" in {each.lot.id for each in found.meetings} and not found.unshown
+
+
+def test_a_region_by_a_name_and_a_lot_of_the_script(too_long):
+    for region in ("lot n30", "minus box 20.000 0.000 0.000 22.000 1.000 1.000 name cut-off"):
+        whole, found = too_long(ROW, region)
+        assert rows(found) == rows(whole) and found.meetings and found.excerpt
+
+
+def test_a_region_that_is_everywhere_and_meets_few_lots(too_long):
+    """The box round a diagonal of 60 m meets all lots, and the lots that it meets make the extract."""
+    whole, found = too_long(ROW, "or box 20.200 0.500 0.200 20.900 0.700 0.300 or box -5.000 5.000 0.000 -4.000 6.000 0.500 box 70.000 5.000 0.000 71.000 6.000 0.500")
+    assert rows(found) == rows(whole) and set(found.excerpt.live) == {"n20-e", "n20-w"}
+
+
+def test_a_report_without_a_short_extract_is_not_checked(too_long):
+    """A region that all lots are in."""
+    whole, found = too_long(ROW, "box -1.000 -1.000 -1.000 70.000 2.000 2.000")
+    assert rows(found) == rows(whole) and len(found.meetings) == 62 and found.excerpt is None
+    assert not found.run.is_checked and program.is_brief(found.run.text) and found.run.size == len(whole.run.text) and not found.unseen
+    assert meets_forms.said(found)[0] == "62 lots share a point with the region; report not checked"
+    assert f"not checked: the report has {found.run.size:,} bytes, and check reads {found.run.size - 1:,}: these are the answers of the store alone" in meets_forms.said(found)
 
 
 def convex(rng):

@@ -5,11 +5,12 @@ import random
 from decimal import Decimal
 
 import pytest
-from rpstore import Fault, plan
+from rpstore import Fault, plan, usage
 
 if plan.MISSING:
     pytest.skip(f"python3-fiona, python3-pyproj or python3-shapely is not there: {plan.MISSING}", allow_module_level=True)
 import fiona
+from conftest import PROGRAM
 from pyproj import CRS
 from test_words import ran
 
@@ -393,8 +394,66 @@ def test_drawn_polygons_keep_their_points(seed, written, store):
 
 def test_the_words_of_the_command_line(written):
     path = written(lot())
-    status, told, said = ran(["plan", path, "--from", "metres", "--bare", "--section", "1", "--section", "9", "--origin", "0", "0"])
-    assert (status, said) == (0, "") and told.decode() == "\n".join(["rp 2", HEAD, NO_GRID, f"register a {PRISM}", "section lot a 1.000", ""])
+    words = ["plan", path, "--from", "metres", "--bare", "--section", "1", "--section", "9", "--origin", "0", "0"]
+    status, told, said = ran([*words, "--store", "/none"])
+    assert status == 0 and told.decode() == "\n".join(["rp 2", HEAD, NO_GRID, f"register a {PRISM}", "section lot a 1.000", ""])
+    assert said == (f"rpstore-gis: limits: 1 of 1,024 words of a line, 4 of 256 corners of a prism, {len('register a ' + PRISM)} of 262,144 bytes of a line, "
+                    f"{len(told)} of 16,777,216 bytes of a script; parts are not counted, of which all lots have at most 65,536: the store /none cannot be run: "
+                    "No such file or directory\n")
     assert ran(["plan", path])[::2] == (5, "rpstore-gis: the plan is in degrees, of WGS 84, and a register in metres: --to EPSG:NUMBER names its grid, "
                                            "as EPSG:32631 would do here; --from metres says that the plan is in metres of no grid\n")
     assert ran(["plan", path + "x"])[0] == 3 and ran(["plan", path, "--from", "metres", "--top", "roof"])[0] == 4
+
+
+# ---- how near to the limits
+
+def test_how_near_a_plan_comes_to_each_limit(written, store):
+    """A square with a court: above the court is a part, and below it, left and right of it."""
+    features = [lot([UNIT, COURT]), lot([closed((10, 0), (12, 0), (12, 9), (10, 9))], id="b"), lot([closed((20, 0), (29, 0), (25, 9))], id="c")]
+    status, lines, said = script(written(*features), program=PROGRAM)
+    register = [line for line in lines if line.startswith("register")]
+    size = sum(len(line) + 1 for line in ["rp 2", *lines])
+    assert status == 0 and said[-1].startswith("limits: ")
+    told = dict(reversed(each.split(" of ", 1)) for each in said[-1][len("limits: "):].split(", ") if " of " in each)
+    parts = [len(answer) for answer in shown(store, register)]
+    assert parts == [4, 1, 2] and said[-1] == (
+        "limits: 7 of 65,536 parts of all lots, 4 of 1,024 parts of a lot, 6 of 32 half-spaces of a part, 3 of 1,024 words of a line, 4 of 256 corners of a prism, "
+        f"{max(map(len, register))} of 262,144 bytes of a line, {size:,} of 16,777,216 bytes of a script")
+
+
+def shown(store, register):
+    """The parts of each lot."""
+    from rpstore import report
+    import io
+    ids = [line.split(" ")[1] for line in register]
+    told = store("\n".join(["rp 2", *register, *(f"show lot {name}" for name in ids), ""]), "run", "brief")
+    return [answer.verdict for answer in report.read(io.BytesIO(told)) if answer.command.word == "show"]
+
+
+def test_a_lot_that_the_store_would_refuse_is_told_before(written, store):
+    """250 houses with a court of four corners each, five parts or more, where a lot may have 1,024."""
+    def moved(ring, x):
+        return [[at[0] + x, at[1]] for at in ring]
+
+    court = closed((2, 2), (5, 3), (5, 5), (3, 5))
+    houses = lot([[moved(UNIT, 10 * at), moved(court, 10 * at)] for at in range(250)], "MultiPolygon", id="street")
+    status, lines, said = script(written(houses, lot([closed((0, 20), (9, 20), (9, 29))], id="b")), program=PROGRAM)
+    assert (status, lines) == (4, []) and said[-1] == "nothing was written: 1 of 2 cannot be registered"
+    assert said[0].startswith("feature 1, street (") and "250 operands, and a form has at most 1,024): the store refuses its form, which meets a limit" in said[0]
+    status, lines, said = script(written(houses, lot([closed((0, 20), (9, 20), (9, 29))], id="b")), program=PROGRAM, leave_out=True)
+    assert status == 1 and [line.split(" ")[1] for line in lines if line.startswith("register")] == ["b"] and "limits: 1 of 65,536 parts of all lots" in said[-1]
+
+
+def test_a_register_without_room():
+    forms = usage.Forms([usage.Form(1000, 6)] * 66, {})
+    with pytest.raises(Fault, match="the lots have 66,000 parts, and all lots of a register keep at most 65,536") as fault:
+        usage.see_room(["register a all"] * 66, forms)
+    assert fault.value.status == 4
+    usage.see_room(["register a all"] * 65, usage.Forms([usage.Form(1000, 6)] * 65, {}))
+    with pytest.raises(Fault, match="the lots have 65,537 parts"):
+        usage.see_room(["register a all"] * 65537, usage.Forms([], {}, "the store is not there"))
+
+
+def test_a_store_that_is_not_built_is_not_asked(tmp_path):
+    (tmp_path / "crates/rp_cli/src").mkdir(parents=True)
+    assert usage.forms_of(["register a all"], str(tmp_path / "rpstore")).unknown == f"the store {tmp_path}/rpstore is not built"

@@ -114,7 +114,7 @@ def test_what_has_no_row(store):
     assert status == 0 and said == "rpstore-gis: no row has rest, up: a lot that reaches the end of the domain cube has no end\n"
     assert told.count(b"\nINSERT INTO rpstore.lot VALUES ('a',") == told.count(b"\nINSERT INTO rpstore.lot ") == 1
     status, told, said = ran(["postgis"], b"let a = box 0 0 0 9 9 9\n")
-    assert (status, told) == (1, b"") and "the report shows no lot" in said and "No SQL was written." in said
+    assert (status, told) == (1, b"") and "after the script there is no lot" in said and "Nothing was written." in said
 
 
 # ---- the page

@@ -1,12 +1,13 @@
 """What lots have in common with those that touch them, by hand and by shapely."""
 import csv
 import io
+import json
 import random
 
 import buildings
 import pytest
 from conftest import PROGRAM
-from rpstore import script, shape, touch, walls
+from rpstore import report, script, shape, touch, walls, walls_forms
 from test_view import box, lot
 from test_words import ran
 
@@ -117,3 +118,73 @@ def test_a_report_has_no_lines_to_ask_after(store):
 def test_a_root_is_right_to_forty_digits():
     assert touch.root(touch.Fraction(49, 4)) == touch.Fraction(7, 2)
     assert touch.root(touch.Fraction(2)) ** 2 < 2 < (touch.root(touch.Fraction(2)) + touch.Fraction(1, 10**40)) ** 2
+
+
+# ---- as features
+
+FLATS = b"""rp 2
+# Grid: EPSG:25832. Local origin: E 412000, N 5765000.
+register a box 0.000 0.000 0.000 4.000 5.000 3.000
+register b box 4.000 0.000 1.000 9.000 5.000 3.000
+register c box 4.000 5.000 0.000 9.000 9.000 3.000
+register d box 4.000 5.000 3.000 9.000 9.000 6.000
+"""
+
+
+def test_polygons_of_a_plane_have_one_outline():
+    """A wall round a niche: of eight parts one polygon with a hole, and an area apart from it."""
+    niche = [box(4, x, z, 9, x + 1, z + 1) for x in range(3) for z in range(3) if (x, z) != (1, 1)] + [box(4, 4, 0, 9, 5, 1)]
+    found = touch.contact_of(lot("a", box(0, 0, 0, 4, 5, 3)), lot("b", *niche))
+    outlines = list(touch.outlines(found.walls))
+    assert {half for half, _, _ in outlines} == {(-1, 0, 0, 4000)}
+    assert sorted((len(outer), [len(hole) for hole in holes]) for _, outer, holes in outlines) == [(4, []), (4, [4])]
+    assert sum(touch.area(half, outer) - sum(touch.area(half, hole) for hole in holes) for half, outer, holes in outlines) == 9 * 10**6 == found.wall
+
+
+def test_walls_edges_and_corners_as_features(store):
+    geometry = pytest.importorskip("shapely.geometry", reason="python3-shapely is not there")
+    status, out, said = ran(["walls", "--geojson"], FLATS)
+    found = json.loads(out)
+    assert status == 0 and said == "rpstore-gis: 3 walls, 2 edges, 1 corner; report accepted\n" and found["crs"]["properties"]["name"].endswith(":25832")
+    told = {(each["properties"]["lot"], each["properties"]["other"]): each for each in found["features"]}
+    assert len(told) == 6 == len(found["features"])
+    assert {pair: (each["geometry"]["type"], each["properties"]["area"], each["properties"]["length"]) for pair, each in told.items()} == {
+        ("a", "b"): ("Polygon", 10, 0), ("a", "c"): ("LineString", 0, 3), ("a", "d"): ("Point", 0, 0), ("b", "c"): ("Polygon", 10, 0),
+        ("b", "d"): ("LineString", 0, 5), ("c", "d"): ("Polygon", 20, 0)}
+    wall = geometry.shape(told["a", "b"]["geometry"])
+    assert sorted(set(wall.exterior.coords)) == [(412004, 5765000, 1), (412004, 5765000, 3), (412004, 5765005, 1), (412004, 5765005, 3)]
+    assert sorted(geometry.shape(told["a", "c"]["geometry"]).coords) == [(412004, 5765005, 0), (412004, 5765005, 3)]
+    assert told["a", "d"]["geometry"]["coordinates"] == [412004, 5765005, 3]
+    assert geometry.shape(told["c", "d"]["geometry"]).area == 20
+    assert (told["a", "b"]["properties"]["base"], told["a", "b"]["properties"]["height"]) == (1, 3)
+
+
+def test_a_slanted_wall_has_its_area_as_it_lies(store):
+    """A slope 5 m long and 7 m deep."""
+    script = (b"register low and box 0 0 0 4000 7000 3000 half -3 0 -4 12000\n"
+              b"register high and box 0 0 0 4000 7000 3000 not half -3 0 -4 12000\n")
+    [feature] = json.loads(ran(["walls", "--geojson"], script)[1])["features"]
+    assert feature["properties"]["area"] == 35 and sorted(feature["geometry"]["coordinates"][0][:4]) == [[0, 0, 3], [0, 7, 3], [4, 0, 0], [4, 7, 0]]
+
+
+def test_a_lot_that_touches_no_other_has_no_feature(store):
+    assert json.loads(ran(["walls", "--geojson", "--lot", "d"], SCRIPT)[1]) == {"type": "FeatureCollection", "features": []}
+
+
+def test_an_extract_if_the_report_is_too_long(store, monkeypatch):
+    """Of a lot of many: the rows are the same, and the report is that of the lot and of those that touch it."""
+    row, most = script.script_of(("rp 2\n" + "".join(f"register n{at} box {at}.000 0.000 0.000 {at + 1}.000 1.000 1.000\n" for at in range(60))).encode()), report.MOST
+    whole = walls.walls(row, ["n20"], PROGRAM)
+    monkeypatch.setattr(report, "MOST", len(whole.run.text) - 1)
+    found = walls.walls(row, ["n20"], PROGRAM)
+    told = [[walls_forms.row(pair) for pair in each.pairs] for each in (whole, found)]
+    assert told[0] == told[1] == [("n19", "n20", "base", "wall", "1.000000", ""), ("n20", "n21", "base", "wall", "1.000000", "")]
+    assert whole.excerpt is None and set(found.excerpt.live) == {"n19", "n20", "n21"} and found.run.check == "accepted"
+    assert walls_forms.said(found) == [
+        "2 walls, 0 edges, 0 corners; report accepted, of an extract with 3 of 60 live lots",
+        "the extract has these lots and those that touch them; that no other lot touches them is the answer of the store alone"]
+    # Of all lots there is no extract.
+    monkeypatch.setattr(report, "MOST", most)
+    monkeypatch.setattr(report, "MOST", len(walls.walls(row, [], PROGRAM).run.text) - 1)
+    found = walls.walls(row, [], PROGRAM)
+    assert not found.run.is_checked and found.excerpt is None and len(found.pairs) == 59

@@ -31,13 +31,19 @@ def test_a_picture_of_a_script(store):
     assert ran(["picture"], script)[:2] == (0, (ROOT / "examples/plan.svg").read_bytes())
 
 
+NOTHING = ("Nothing was written: name the script that was run in its place, and its live lots are shown; or run the script again with a line `show lot X` "
+           "after it for each lot X.")
 # The words, what they read, the status, and what is said.
 REFUSED = [
     (["picture"], SECTION.replace(b"= ring", b"= circle", 1), 1, "line 5 of the report: a line that shows a slice is due here"),
     (["picture"], b"\n".join(SECTION.splitlines()[:3]) + b"\n", 1, "line 4 of the report: it ends in an answer; the line `= sections` with a number is due here"),
     (["picture"], b"> 1 list\n= parcels 0\n", 1, "the report has no line `section` that shows something: `section lot X 1.500` cuts the lot X at 1.5 m"),
     (["measures"], b"> 1 list\n= parcels 0\n", 1,
-     "the report shows no lot, no region with an end and no section: a line `show lot X` shows the lot X"),
+     f"the report shows no lot, no region with an end and no section. {NOTHING}"),
+    (["view"], b"> 1 list\n= parcels 0\n", 1, f"the report shows no lot and no region with an end. {NOTHING}"),
+    (["lots"], b"> 1 list\n= parcels 0\n", 1, f"the report shows no lot and no region with an end. {NOTHING}"),
+    (["view"], b"register a box 0 0 0 1 1 1\nretire a\n", 1, "after the script there is no lot and no region with an end. Nothing was written."),
+    (["city"], b"let a = box 0 0 0 1 1 1\n", 1, "after the script there is no lot with an end. Nothing was written."),
     (["extract", "-", "a"], SECTION, 2, "extract needs a script, and this is a report: name the script that was run. Nothing was written."),
     (["view", "no such file"], b"", 3, "the input cannot be read: No such file or directory"),
 ]
@@ -60,6 +66,40 @@ def test_a_report_that_is_too_long():
     proof = b"  in" + 4 * (b" (" + 900 * b"1" + b" 0 0 1)") + b"\n"
     report = b"> 1 member all 0 0 0 1\n" + proof * (67108864 // len(proof) + 1)
     assert ran(["picture", "--unchecked"], report) == (6, b"", "rpstore-gis: the report has more than 67108864 bytes\n")
+
+
+# Runs the words with reports of which `check` reads one byte less than they have.
+ONE_BYTE_LESS = """
+import sys
+from rpstore import __main__, report, store
+most, whole = report.MOST, store.full_or_brief
+def shortened(command, script):
+    report.MOST = most
+    report.MOST = whole(command, script)[1] - 1
+    return whole(command, script)
+store.full_or_brief = shortened
+sys.exit(__main__.main(sys.argv[1:]))
+"""
+LONG = b"""rp 2
+register a box 0.000 0.000 0.000 4.000 5.000 3.000
+register b box 4.000 0.000 0.000 9.000 5.000 3.000
+section lot a 1.000
+"""
+
+
+@pytest.mark.parametrize("words", [["view"], ["view", "--time"], ["picture"], ["measures"], ["sections"], ["lots"], ["faces"], ["city"], ["walls"], ["meets", "all"]])
+def test_scripts_with_reports_that_are_too_long_to_be_checked(words, store, tmp_path):
+    """What is written is the same, but for the page, which says it; the status is 7, and a line of its own says why."""
+    path = tmp_path / "long.rp"
+    path.write_bytes(LONG)
+    line = [words[0], str(path), *words[1:]]
+    status, full, said = ran(line)
+    assert status == 0 and "not checked" not in said
+    done = subprocess.run([sys.executable, "-B", "-c", ONE_BYTE_LESS, *line], capture_output=True, env={"RPSTORE": PROGRAM, "PYTHONPATH": str(ROOT / "python")})
+    [warning] = re.findall("^rpstore-gis: not checked: .*$", done.stderr.decode(), re.M)
+    assert done.returncode == 7 and re.fullmatch(r"rpstore-gis: not checked: the report has [0-9,]+ bytes, and check reads [0-9,]+: these are the answers of "
+                                                 "the store alone", warning)
+    assert done.stdout == full or words[0] == "view" and abs(len(done.stdout) - len(full)) < 60
 
 
 @pytest.mark.parametrize("words", [["picture", "--width", "199"], ["picture", "--width", "20001"], ["picture", "--width", "x"], ["draw"], []])

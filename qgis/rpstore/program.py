@@ -11,8 +11,8 @@ from qgis.core import QgsProcessingException, QgsProcessingFeedback
 SETTINGS = {"RPSTORE_GIS": "Program rpstore-gis, if it is not in the PATH", "RPSTORE": "Program of the store, if it is not next to rpstore-gis"}
 # QGIS sets these for its own libraries and its own Python.
 OF_QGIS = ("PYTHONHOME", "LD_LIBRARY_PATH")
-# Status 1: written, and something is to be said, as that some line of a script is refused.
-MOST_STATUS = 1
+# Written, and something is to be said: that some line of a script is refused (1), or that the report is too long to be checked (7).
+WRITTEN = (0, 1, 7)
 
 
 def settings() -> dict[str, str]:
@@ -47,7 +47,7 @@ def write(words: Sequence[str], path: str, feedback: QgsProcessingFeedback) -> N
     except OSError as error:
         raise QgsProcessingException(f"rpstore-gis cannot be run: {error}. Nothing was run.")
     said = done.stderr.decode("utf-8", "replace").strip()
-    if done.returncode > MOST_STATUS or not os.path.exists(path):
+    if done.returncode not in WRITTEN or not os.path.exists(path):
         raise QgsProcessingException(said or f"rpstore-gis ended with status {done.returncode}, and wrote nothing.")
     for line in said.splitlines():
         (feedback.pushWarning if done.returncode else feedback.pushInfo)(line)
