@@ -1,22 +1,26 @@
 //! A file that is made a book, or opened as one.
 
+use crate::path::{PathFault, begins_as_database, path_fault};
 use rp_disk_book::{DiskBook, OpenFault};
 use sqlite::{Alter, Connection, Error, ErrorCode, FileStore};
 use sqlite_disk::Disk;
 use std::alloc::Global;
-use std::fs;
 
 /// Why a file was not made a book, or not opened as one.
 #[derive(Clone, Copy)]
 pub enum FileFault {
     /// The file is no book.
     NoBook,
+    /// The file is a database that cannot be read.
+    Damaged,
     /// The file is a book of another layout.
     Layout,
     /// The database that is to be made a book has tables already.
     Taken,
-    /// The file is not there, or cannot be opened for reading and writing.
-    CannotOpen,
+    /// The file that is to be made a copy is there already.
+    There,
+    /// The file cannot be opened for reading and writing.
+    CannotOpen(PathFault),
     /// Another process has the file open.
     Busy,
     /// Memory ran out.
@@ -36,8 +40,8 @@ impl From<Error> for FileFault {
             ErrorCode::OutOfMemory => FileFault::Memory,
             ErrorCode::DatabaseBusy => FileFault::Busy,
             ErrorCode::DiskFull => FileFault::Full,
-            ErrorCode::CannotOpen => FileFault::CannotOpen,
-            ErrorCode::NotADatabase | ErrorCode::DatabaseCorrupt => FileFault::NoBook,
+            ErrorCode::CannotOpen => FileFault::CannotOpen(PathFault::Denied),
+            ErrorCode::NotADatabase | ErrorCode::DatabaseCorrupt => FileFault::Damaged,
             _ => FileFault::Disk,
         }
     }
@@ -54,9 +58,13 @@ impl From<OpenFault> for FileFault {
     }
 }
 
-/// Whether there is a file at `path`.
-pub fn is_there(rt: &HostRuntime, path: &str) -> bool {
-    fs::metadata(rt, path).is_ok()
+/// Returns why the database at `path` was not opened, from what SQLite says and from the file itself.
+pub fn fault_at(rt: &HostRuntime, path: &str, error: Error) -> FileFault {
+    match FileFault::from(error) {
+        FileFault::Damaged if !begins_as_database(rt, path) => FileFault::NoBook,
+        FileFault::CannotOpen(_) => FileFault::CannotOpen(path_fault(rt, path)),
+        fault => fault,
+    }
 }
 
 /// Closes a connection. What its log has comes into the file; where the disk does not let it, it stays in the log, and the
@@ -77,7 +85,17 @@ pub fn make<S: Alter + Drop>(alloc: Global, conn: Connection<S>) -> Result<DiskB
     Ok(book)
 }
 
-/// Opens the book in a database. Beside it answers the time, in UTC, as 2026-11-30 12:00:00.
+/// Makes a database that has no tables yet an empty book. Beside it returns the time, in UTC, as 2026-11-30 12:00:00.
+pub fn make_now<S: Alter + Drop>(
+    alloc: Global,
+    mut conn: Connection<S>,
+) -> Result<(DiskBook<S>, String), FileFault> {
+    let time = time_of(&mut conn)?;
+    let book = make(alloc, conn)?;
+    Ok((book, time))
+}
+
+/// Opens the book in a database. Beside it returns the time, in UTC, as 2026-11-30 12:00:00.
 pub fn open<S: Alter + Drop>(
     alloc: Global,
     mut conn: Connection<S>,

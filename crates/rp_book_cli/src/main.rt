@@ -5,15 +5,25 @@
 //! why.
 
 mod act;
+mod brief;
+mod copy;
+mod date;
 mod fault;
 mod file;
+mod input;
+mod layers;
+mod path;
+mod size;
+mod version;
 mod words;
 mod work;
 
 use fault::{Fault, status_of};
+use layers::tell_new;
+use rp_command::Version;
 use rp_registrar::add::Outcome;
+use std::io;
 use std::process::ExitCode;
-use std::{io, str};
 use words::{have_control, words_of};
 use work::{Done, work};
 
@@ -22,22 +32,35 @@ fn tell_added(rt: &impl Eprint, outcome: &Outcome) -> io::Result<()> {
     match outcome {
         Outcome::Refused => eprintln!(rt; "rpstore-book: a line is refused; nothing was added"),
         Outcome::Empty => eprintln!(rt; "rpstore-book: there are no lines; nothing was added"),
-        Outcome::Added(layers) => {
-            for layer in layers {
-                let name = str::from_utf8(layer.bytes()).unwrap_or("");
-                eprintln!(rt;
-                    "rpstore-book: layer {name} is named here for the first time; a mistyped one would be new too"
-                )?;
-            }
-            Ok(())
-        }
+        Outcome::Added(addition) => tell_new(rt, &addition.layers),
+    }
+}
+
+/// Says on standard error that refused lines look like those of the version that a book does not have.
+fn tell_version(rt: &impl Eprint, version: Version) -> io::Result<()> {
+    let versions = match version {
+        Version::One =>
+            "version 1 (whole numbers), and the lines look like version 2 (three decimals)",
+        Version::Two =>
+            "version 2 (three decimals), and the lines look like version 1 (whole numbers)",
+    };
+    eprintln!(rt; "rpstore-book: a line is refused; nothing was added: the book has {versions}")
+}
+
+/// Says on standard error what came of work that was done, where its output does not tell it.
+fn tell_done(rt: &impl Eprint, done: &Done) -> io::Result<()> {
+    match done {
+        Done::Written(_) => Ok(()),
+        Done::Added(added) => tell_added(rt, added),
+        Done::OtherVersion(version) => tell_version(rt, *version),
+        Done::Copied(count) => eprintln!(rt; "rpstore-book: {count} acts were copied"),
     }
 }
 
 /// The status of an outcome.
 fn status(outcome: &Result<Done, Fault>) -> u8 {
     match outcome {
-        Ok(Done::Written(true) | Done::Added(Outcome::Refused)) => 1,
+        Ok(Done::Written(true) | Done::Added(Outcome::Refused) | Done::OtherVersion(_)) => 1,
         Ok(_) => 0,
         Err(fault) => status_of(*fault),
     }
@@ -55,8 +78,7 @@ fn main(rt: HostRuntime) -> ExitCode {
         Err(_) => Err(Fault::Words),
     };
     let _ = match &outcome {
-        Ok(Done::Written(_)) => Ok(()),
-        Ok(Done::Added(added)) => tell_added(&rt, added),
+        Ok(done) => tell_done(&rt, done),
         Err(fault) => eprintln!(rt; "rpstore-book: {fault}"),
     };
     ExitCode::from(status(&outcome))

@@ -1,4 +1,5 @@
 pub mod AnswerLemmas
 pub mod CauseLemmas
+pub mod ChildrenLemmas
 pub mod LayerLemmas
 pub mod ScriptLemmas

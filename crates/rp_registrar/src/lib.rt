@@ -8,6 +8,7 @@
 pub mod add;
 mod answers;
 pub mod ask;
+mod children;
 pub mod date;
 pub mod history;
 mod layers;
@@ -15,5 +16,6 @@ mod lines;
 mod read;
 mod stop;
 
+pub use layers::{Addition, Choice, Inherited, last_choice};
 pub use read::{put_report, put_script};
 pub use stop::{Length, Stop};
