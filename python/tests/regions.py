@@ -23,8 +23,8 @@ def between(low, high):
     return within([half for axis in range(3) for half in (tuple(int(at == axis) for at in range(3)) + (-low[axis],), tuple(-int(at == axis) for at in range(3)) + (high[axis],))])
 
 
-def prism(low, high, corners):
-    """Between two neighbouring x at which the polygon has corners or crosses itself its edges are sorted by their y."""
+def places_of(corners):
+    """Returns in order the x at which a polygon has corners, or at which the lines of two edges cross."""
     ends = list(zip(corners, corners[1:] + corners[:1]))
     places = {Fraction(x) for x, _ in corners}
     for at, ((ax, ay), (bx, by)) in enumerate(ends):
@@ -32,7 +32,13 @@ def prism(low, high, corners):
             below = (bx - ax) * (dy - cy) - (by - ay) * (dx - cx)
             if below:
                 places.add(ax + Fraction((cx - ax) * (dy - cy) - (cy - ay) * (dx - cx), below) * (bx - ax))
-    found, places = [], sorted(places)
+    return sorted(places)
+
+
+def prism(low, high, corners):
+    """Between two neighbouring x at which the polygon has corners or crosses itself its edges are sorted by their y."""
+    ends, places = list(zip(corners, corners[1:] + corners[:1])), places_of(corners)
+    found = []
     for west, east in zip(places, places[1:]):
         x = (west + east) / 2
         over = sorted((ay + Fraction(by - ay, bx - ax) * (x - ax), sorted([(ax, ay), (bx, by)])) for (ax, ay), (bx, by) in ends if min(ax, bx) < x < max(ax, bx))

@@ -12,19 +12,12 @@ import pytest
 from conftest import PROGRAM
 from rpstore import crosses, crosses_forms, report, script
 from rpstore.place import Place
-from test_meets import convex
+from test_meets import LOTS, convex
 from test_words import ran
 
-FLATS = """rp 2
+FLATS = f"""rp 2
 # Grid: EPSG:25832. Local origin: E 412000, N 5765000.
-register west box 0.000 0.000 0.000 5.000 8.000 3.000
-register east box 5.000 0.000 0.000 10.000 8.000 3.000
-register above box 0.000 0.000 3.000 10.000 8.000 6.000
-register far box 50.000 0.000 0.000 60.000 8.000 3.000
-layer rights
-register way box 4.000 2.000 0.000 6.000 3.000 2.000
-retire far
-"""
+{LOTS}"""
 
 
 @pytest.fixture

@@ -5,6 +5,7 @@ from fractions import Fraction
 import pytest
 import second
 import sfcgal
+from regions import places_of
 from rpstore import Fault, measures, outline, shape
 
 
@@ -27,14 +28,8 @@ def drawn_half(rng):
 def base_area(corners):
     """The area of the points above which an odd number of edges lies: between two neighbouring x at which edges meet or cross,
     the y of the edges over the middle tell it."""
-    ends = list(zip(corners, corners[1:] + corners[:1]))
-    places = {Fraction(x) for x, _ in corners}
-    for at, ((ax, ay), (bx, by)) in enumerate(ends):
-        for (cx, cy), (dx, dy) in ends[:at]:
-            below = (bx - ax) * (dy - cy) - (by - ay) * (dx - cx)
-            if below:
-                places.add(ax + Fraction((cx - ax) * (dy - cy) - (cy - ay) * (dx - cx), below) * (bx - ax))
-    total, places = Fraction(0), sorted(places)
+    ends, places = list(zip(corners, corners[1:] + corners[:1])), places_of(corners)
+    total = Fraction(0)
     for west, east in zip(places, places[1:]):
         x = (west + east) / 2
         over = sorted(ay + Fraction(by - ay, bx - ax) * (x - ax) for (ax, ay), (bx, by) in ends if min(ax, bx) < x < max(ax, bx))

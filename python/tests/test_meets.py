@@ -14,9 +14,7 @@ from rpstore import Fault, extract, lots, meets, meets_forms, report, script
 from rpstore import store as program
 from test_words import ran
 
-FLATS = """rp 2
-# Local origin: E 412000.000, N 5765000.000. Metres from there.
-# Grid: EPSG:25832.
+LOTS = """\
 register west box 0.000 0.000 0.000 5.000 8.000 3.000
 register east box 5.000 0.000 0.000 10.000 8.000 3.000
 register above box 0.000 0.000 3.000 10.000 8.000 6.000
@@ -25,6 +23,11 @@ layer rights
 register way box 4.000 2.000 0.000 6.000 3.000 2.000
 retire far
 """
+# The grid and the origin as older scripts name them.
+FLATS = f"""rp 2
+# Local origin: E 412000.000, N 5765000.000. Metres from there.
+# Grid: EPSG:25832.
+{LOTS}"""
 TUNNEL = "box 4.000 2.000 1.000 8.000 4.000 3.000"
 
 
