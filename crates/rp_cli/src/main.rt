@@ -4,7 +4,7 @@
 //! The words behind the program's name say what it does. On a status from 2 to 7 one line on standard error says what
 //! happened.
 
-use rp_io::{StdSink, StdSource};
+use rp_io::{BufferedSink, StdSink, StdSource};
 use rp_tool::status::{OUT_OF_MEMORY, PUT_FAILED, READ_FAILED, TOO_LONG, UNLISTED};
 use rp_tool::tool;
 use std::process::ExitCode;
@@ -46,13 +46,23 @@ fn message(status: u8) -> Option<&'static str> {
     }
 }
 
+/// Does what `words` ask for, over standard input and standard output. Output is written in pieces of up to 65,536 bytes.
+/// Returns the status: `PUT_FAILED` also if the last piece is not written.
+fn status_of(rt: &HostRuntime, words: &[String]) -> u8 {
+    let Ok(mut sink) = BufferedSink::new(rt.alloc(), StdSink::new(rt.stdout())) else {
+        return OUT_OF_MEMORY;
+    };
+    let mut source = StdSource::new(rt.stdin());
+    let status = tool(rt, rt.alloc(), words, &mut source, &mut sink);
+    match sink.finish() {
+        Ok(()) => status,
+        Err(_) => PUT_FAILED,
+    }
+}
+
 fn main(rt: HostRuntime) -> ExitCode {
     let status = match words_of(&rt) {
-        Ok(words) => {
-            let mut source = StdSource::new(rt.stdin());
-            let mut sink = StdSink::new(rt.stdout());
-            tool(&rt, rt.alloc(), &words, &mut source, &mut sink)
-        }
+        Ok(words) => status_of(&rt, &words),
         Err(error) => status_of_error(&error),
     };
     if let Some(text) = message(status) {

@@ -1,4 +1,5 @@
 pub mod Faults
+pub mod Buffered
 pub mod Bytes
 pub mod Intake
 pub mod Memory

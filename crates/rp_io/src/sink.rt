@@ -204,7 +204,7 @@ fn entry_of(entries: &[(u32, usize)], call: u64) -> Option<usize>
 }
 
 // Appends a piece that there is room for.
-fn append(bytes: &mut Vec<u8>, piece: &[u8])
+pub(super) fn append(bytes: &mut Vec<u8>, piece: &[u8])
     requires { vec_len bytes.old + length piece.now ≤ vec_capacity bytes.old }
     ensures items { bytes.new.items ≡ bytes.old.items ++ piece.now }
     ensures len { vec_len bytes.new ≡ vec_len bytes.old + length piece.now }

@@ -3,6 +3,7 @@ use rp_io::{
 };
 use std::process::Abort;
 
+mod buffered;
 mod standard;
 mod told;
 

@@ -11,7 +11,7 @@ use std::test::Fail;
 
 /// The one call of a writer that goes wrong, by its number from 1.
 #[derive(Clone, Copy, Debug, PartialEq, Eq)]
-enum Fault {
+pub(super) enum Fault {
     No,
     FailedWrite(u32),
     WriteOfNothing(u32),
@@ -20,12 +20,12 @@ enum Fault {
 
 /// A writer that takes at most so many bytes in a write.
 #[derive(Debug, Drop)]
-struct Paper {
-    taken: Vec<u8>,
-    most: usize,
-    fault: Fault,
-    writes: u32,
-    flushes: u32,
+pub(super) struct Paper {
+    pub(super) taken: Vec<u8>,
+    pub(super) most: usize,
+    pub(super) fault: Fault,
+    pub(super) writes: u32,
+    pub(super) flushes: u32,
 }
 
 impl Write for Paper {
