@@ -1,0 +1,10 @@
+pub mod Splits
+pub mod Trees
+pub mod Binding
+pub mod InclusionPaths
+pub mod ConsistencyPaths
+pub mod Collisions
+pub mod Sound
+pub mod Steps
+pub mod ActBytes
+pub mod Subtrees
