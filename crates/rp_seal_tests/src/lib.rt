@@ -1,0 +1,11 @@
+#![tactic(auto)]
+//! Tests of `rp_seal` and `rp_checkpoint` against vectors from outside.
+
+#[cfg(test)]
+mod acts;
+#[cfg(test)]
+mod checkpoints;
+#[cfg(test)]
+mod trees;
+#[cfg(test)]
+mod vectors;
