@@ -2,7 +2,7 @@
 use Rattle.std.specs.Prelude.{◌≡◌, ◌≢◌, ℕ, List, Contains}
 use Rattle.sha2.specs.Sha256.{sha256}
 
--- two different strings of the list have one SHA-256. The list is part of the statement, since of all strings together this is true of every hash
+-- two different strings of the list have one SHA-256. Without a list the statement is true of every hash, as there are more strings than hashes
 pub record HasCollision (strings : List (List ℕ)) : Type 0 where
   pub one : List ℕ
   pub other : List ℕ

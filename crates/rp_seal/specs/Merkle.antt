@@ -12,7 +12,7 @@ pub record IsSplitPoint (n k : ℕ) : Type 0 where
   pub below : k < n
   pub largest : n ≤ 2 * k
 
--- k, doubled as long as the double is below n, and at most so many times
+-- the number k, doubled as long as the double is below n, and at most so many times
 unfoldable pub doubled_below : ℕ → ℕ → ℕ → ℕ
 doubled_below zero k n = k
 doubled_below (suc times) k n = if nat_lt (2 * k) n then doubled_below times (2 * k) n else k
