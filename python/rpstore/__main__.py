@@ -61,6 +61,14 @@ def read(given: argparse.Namespace) -> bytes:
     return book.script(path, store.program(given.store))
 
 
+def is_book_file(path: Optional[str]) -> bool:
+    """Returns whether the file at a `path` is a book; standard input, "-" or no path, is none."""
+    if not path or not os.path.isfile(path):
+        return False
+    with open(path, "rb") as file:
+        return book.is_book(file.read(len(book.MAGIC)))
+
+
 def line_of(given: argparse.Namespace) -> Optional[int]:
     """Returns the line that --asof names; a date is the last line that was added to a book on it or before."""
     if not isinstance(given.asof, str):
@@ -68,10 +76,16 @@ def line_of(given: argparse.Namespace) -> Optional[int]:
         return line
     if not given.file or not os.path.isfile(given.file):
         raise Fault("--asof takes a date of a book, and no file of a book is named. Nothing was written.", 2)
-    with open(given.file, "rb") as file:
-        if not book.is_book(file.read(len(book.MAGIC))):
-            raise Fault(f"--asof takes a date of a book, and {given.file} is none: give the number of a line. Nothing was written.", 2)
+    if not is_book_file(given.file):
+        raise Fault(f"--asof takes a date of a book, and {given.file} is none: give the number of a line. Nothing was written.", 2)
     return book.last_line(given.file, given.asof, store.program(given.store))
+
+
+def asked_times(given: argparse.Namespace) -> times.Times:
+    """Returns all lots that ever were in a script or a book."""
+    asked, where = read_script(given, f"{given.word} --time", True)
+    added = book.days(given.file) if is_book_file(given.file) else []
+    return times.times(asked, where, store.program(given.store), added)
 
 
 def read_seen(given: argparse.Namespace) -> lots.Seen:
@@ -98,8 +112,7 @@ def write_view(given: argparse.Namespace) -> Written:
     if not given.time:
         seen = read_seen(given)
         return written(seen, view.page(seen, title, step))
-    asked, where = read_script(given, "view --time", True)
-    found = times.times(asked, where, store.program(given.store))
+    found = asked_times(given)
     return written(found.seen, view.page(found.seen, title, step, found.moments))
 
 
@@ -214,10 +227,7 @@ def write_extract(given: argparse.Namespace) -> Written:
 
 def read_times(given: argparse.Namespace) -> Optional[times.Times]:
     """Reads all lots that ever were, with --time."""
-    if not given.time:
-        return None
-    asked, where = read_script(given, f"{given.word} --time", True)
-    return times.times(asked, where, store.program(given.store))
+    return asked_times(given) if given.time else None
 
 
 def write_geometries(given: argparse.Namespace) -> Written:

@@ -1,9 +1,12 @@
-"""A book, the SQLite file in which `rpstore-book` keeps a script: its script, and the last line that was added on a date."""
+"""A book, the SQLite file in which `rpstore-book` keeps a script: its script, the last line that was added on a date, and the days of its acts."""
 from __future__ import annotations
 
 import os
 import re
+import sqlite3
 import subprocess
+from contextlib import closing
+from pathlib import Path
 
 from . import Fault
 
@@ -46,3 +49,16 @@ def script(path: str, store: str) -> bytes:
 def last_line(path: str, date: str, store: str) -> int:
     """Returns the number of the last line that was added to the book at `path` on a `date` or before, 0 if none was."""
     return int(asked(path, store, "line", date))
+
+
+def days(path: str) -> list[tuple[int, str]]:
+    """Returns for each act of the book at `path` the line before its first one, and the day on which it was added, in UTC.
+
+    # Errors
+    `Fault` if another process has the book open, or the file is a database of another layout.
+    """
+    try:
+        with closing(sqlite3.connect(f"{Path(path).absolute().as_uri()}?mode=ro", uri=True, timeout=1)) as database:
+            return [(first - 1, added[:10]) for first, added in database.execute("SELECT first, added FROM entry ORDER BY number")]
+    except sqlite3.Error as error:
+        raise Fault(f"the days of the book {path} were not read: {error}. Nothing was written.", 3)

@@ -1,4 +1,4 @@
-"""The lots of a script as they were after every line: each is shown before the line that ends it.
+"""The lots of a script as they were after every line: each is shown before the line that ends it. Lines have days, by notes or by a book.
 
 The store runs the lines that changed something, with lines `show` between them, and the report is checked.
 """
@@ -8,7 +8,7 @@ import bisect
 import io
 import re
 from dataclasses import dataclass
-from typing import Optional
+from typing import Optional, Sequence
 
 from . import extract, lots, notes, report, store
 from .lots import Body, Seen
@@ -20,21 +20,21 @@ DAY = re.compile(notes.DAY + rb"([0-9]{4}-[0-9]{2}-[0-9]{2})\b")
 
 @dataclass(frozen=True)
 class Times:
-    """The lots that ever were, those that ended first, in the order in which they ended; the notes with days, each with the number of
-    its line; and the number of the last line."""
+    """The lots that ever were, those that ended first, in the order in which they ended; the days, each with the number of the line after
+    which it begins; and the number of the last line."""
 
     seen: Seen
     days: list[tuple[int, str]]
     last: int
 
     def day_of(self, line: Optional[int]) -> str:
-        """Returns the day of the last note before a `line`, or "" if there is none."""
+        """Returns the last day that begins before a `line`, or "" if there is none."""
         at = 0 if line is None else bisect.bisect_left([dated for dated, _ in self.days], line)
         return self.days[at - 1][1] if at else ""
 
     @property
     def moments(self) -> list[tuple[int, str]]:
-        """Returns the lines at which lots came or ended, and the last line, each with the day of the last note before it, or ""."""
+        """Returns the lines at which lots came or ended, and the last line, each with its day, or ""."""
         lines = {line for body in self.seen.bodies for line in (body.born, body.ended) if line is not None} | {self.last}
         return [(line, self.day_of(line)) for line in sorted(lines)]
 
@@ -57,12 +57,13 @@ def body_of(answer: report.Answer, book: extract.Book) -> Optional[Body]:
     return lots.lot_body(report.Lot(label, known.born, known.ended, known.layer, known.origins), lots.cells_of(answer))
 
 
-def times(script: Script, place: Place, program: str) -> Times:
-    """Asks the store `program` for all lots that ever were in a `script`."""
+def times(script: Script, place: Place, program: str, added: Sequence[tuple[int, str]] = ()) -> Times:
+    """Asks the store `program` for all lots that ever were in a `script`. Its days are those of its notes; if no note has a day, those on
+    which the lines were `added` to a book."""
     book = extract.asked(extract.lines_of(script.text), [], program)
     run = store.run_and_check(changes(book), program)
     shown = [body_of(answer, book) for answer in report.read(io.BytesIO(run.text)) if answer.command and answer.command.word == "show"]
     bodies = [body for body in shown if body]
     days = [(number, found[1].decode()) for number, line in enumerate(script.lines, 1) for found in [DAY.match(line)] if found]
     refused = len(book.refused) + len(shown) - len(bodies)
-    return Times(Seen(bodies, [], place, refused, run.check, book.version, run.warnings, is_script=True), days, len(script.lines))
+    return Times(Seen(bodies, [], place, refused, run.check, book.version, run.warnings, is_script=True), days or list(added), len(script.lines))

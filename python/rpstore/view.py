@@ -16,7 +16,7 @@ from .points import Number, Point, Ring, box_round, ratio
 # Lots whose lowest heights are less than this apart, in units, are of one storey.
 STOREY = 2000
 PAGE = Path(__file__).parent / "page"
-SCRIPTS = ("scene.js", "eye.js", "paint.js", "panel.js", "hand.js")
+SCRIPTS = ("scene.js", "eye.js", "paint.js", "names.js", "panel.js", "hand.js")
 
 
 def short(units: Number) -> str:

@@ -1,5 +1,7 @@
 """Words over a book, with the program that keeps books."""
+import json
 import os
+import sqlite3
 import subprocess
 
 import pytest
@@ -45,6 +47,26 @@ def test_a_date_is_the_last_line_of_the_book_on_it(town, capsys):
     # Before its first line a book has no lot.
     assert __main__.main(["measures", town, "--asof", "2000-01-01"]) == 1
     assert "after the script there is no lot" in capsys.readouterr().err
+
+
+def test_lots_of_a_book_have_the_days_of_their_acts(town):
+    with sqlite3.connect(town) as database:
+        wanted = [(first - 1, added[:10]) for first, added in database.execute("SELECT first, added FROM entry")]
+    database.close()
+    assert book.days(town) == wanted and [line for line, _ in wanted] == [-1, 1]
+    assert __main__.main(["lots", town, "--time", "-o", f"{town}.json"]) == 0
+    with open(f"{town}.json", encoding="utf-8") as file:
+        found = {each["properties"]["id"]: each["properties"]["begins"] for each in json.load(file)["features"]}
+    assert found == {"west": wanted[0][1], "east": wanted[1][1]}
+
+
+def test_a_book_that_is_open_elsewhere_has_no_days(town):
+    with sqlite3.connect(town) as other:
+        other.execute("PRAGMA locking_mode = EXCLUSIVE")
+        other.execute("BEGIN EXCLUSIVE")
+        with pytest.raises(Fault, match="the days of the book .* were not read: database is locked"):
+            book.days(town)
+    other.close()
 
 
 def test_what_is_no_book_is_named(town, tmp_path, capsys, monkeypatch):

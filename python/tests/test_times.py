@@ -87,6 +87,15 @@ def test_as_of_a_line(seen):
     assert [row[0] for row in measures.rows(seen(BOOK))] == ["c", "way"]
 
 
+def test_days_of_a_book(store):
+    """Without notes that have days the lines have those on which they were added."""
+    added = [(-1, "2024-05-01"), (4, "2025-06-30"), (9, "2026-02-01")]
+    plain = script.script_of(BOOK.replace("# day", "# on").encode())
+    assert times.times(plain, lots.Place(), PROGRAM, added).moments == [
+        (2, "2024-05-01"), (3, "2024-05-01"), (6, "2025-06-30"), (9, "2025-06-30"), (11, "2026-02-01"), (12, "2026-02-01")]
+    assert times.times(script.script_of(BOOK.encode()), lots.Place(), PROGRAM, added).day_of(12) == "2026-01-07"
+
+
 def test_the_words(store):
     assert ran(["measures", "--asof", "3"], BOOK.encode())[1].count(b"\n") == 3
     assert ran(["measures", "--asof", "99"], BOOK.encode()) == (2, b"", "rpstore-gis: the script has 12 lines, and no line 99: give --asof a number up to 12. "
@@ -129,6 +138,9 @@ def test_the_slider(history, browser, tmp_path):
     for line, wanted in ((2, "a"), (3, "a,b"), (6, "a-east,a-west,b"), (9, "a-west,c"), (11, "a-west,c,way")):
         browsing.opened(browser, path, f"line={line}")
         assert browser.execute_script(live) == wanted and browser.execute_script("return state.line") == line
+        layers, storeys = (browser.execute_script(f"return [...document.querySelectorAll('#{kind} .count')].map(it => +it.textContent)") for kind in ("layers", "storeys"))
+        assert sum(layers) == sum(storeys) == wanted.count(",") + 1 and layers == [sum(name != "way" for name in wanted.split(",")), wanted.count("way")]
+        assert browser.execute_script("return $('liveCount').textContent") == f"{sum(layers)} of 6 live"
     browser.execute_script("$('earlier').click()")
     browsing.rested(browser)
     assert browser.execute_script(live) == "a-west,c" and "line=9" in browser.current_url

@@ -212,6 +212,70 @@ def test_the_address_holds_the_view(browser, block):
     assert browser.execute_script("return JSON.stringify(state)") == view_ and colour_at(browser, "flat-00") == colour
 
 
+@pytest.fixture(scope="module")
+def site(tmp_path_factory):
+    """A page of four flats of 10 m by 10 m round a shaft of 1 m by 1 m, and a crane that reaches 100 m far, in a layer of its own."""
+    flats = [lot(f"flat-{number}", box(x, y, 0, x + 10, y + 10, 3)) for number, (x, y) in enumerate(((0, 0), (11, 0), (0, 10), (11, 10)))]
+    path = tmp_path_factory.mktemp("page") / "site.html"
+    path.write_text(view.page(shown(*flats, lot("service-shaft", box(10, 0, 0, 11, 1, 3)), lot("crane", box(-90, -90, 10, 110, 110, 12), layer="crane")), "A site"),
+                    encoding="utf-8")
+    return path
+
+
+def width_of(browser, name):
+    """How wide a lot is on the screen, seen from above."""
+    return browser.execute_script("const lot = lots.find(lot => lot.name === arguments[0]); return (lot.high[0] - lot.low[0]) * state.zoom", name)
+
+
+def test_what_reaches_far_leaves_the_frame_to_the_lots(browser, site):
+    browsing.opened(browser, site, "yaw=0&pitch=90&names=0")
+    # The crane is over all flats, and see-through: a flat keeps the colour of its lot, mixed with that of the crane.
+    assert width_of(browser, "flat-0") > 200 and browser.execute_script("return state.clear") == [False, True]
+    hand(browser, *place(browser, "flat-3"))
+    assert text(browser, "tip")[0] == "flat-3"
+    press(browser, "//button[@id='fit']")
+    assert 400 < width_of(browser, "crane") < 928 and width_of(browser, "flat-0") < 50
+    press(browser, "//div[@id='layers']//span[text()='base']/following-sibling::button[text()='fit']")
+    assert width_of(browser, "flat-0") > 200
+    hand(browser, *place(browser, "flat-1"), click=True)
+    press(browser, "//button[@id='near']")
+    assert 500 < width_of(browser, "flat-1") < 928
+
+
+def test_a_layer_that_is_switched_off_is_looked_at(browser, site):
+    browsing.opened(browser, site, "yaw=0&pitch=90&names=0&layers=0")
+    press(browser, "//div[@id='layers']//span[text()='crane']/following-sibling::button[text()='fit']")
+    assert browser.execute_script("return state.layers") == [True, True] and 400 < width_of(browser, "crane") < 928
+
+
+@pytest.mark.parametrize("width, height", [(390, 780), (1200, 800), (1920, 1080)])
+def test_a_name_is_led_out_of_its_shaft(browser, site, width, height):
+    browsing.sized(browser, width, height)
+    browsing.opened(browser, site, "yaw=0&pitch=90&names=1&layers=0")
+    assert names(browser) == {"flat-0", "flat-1", "flat-2", "flat-3", "service-shaft"}
+    led, boxes, lead = browser.execute_script("""const box = it => { const at = it.getBoundingClientRect(); return [at.left, at.top, at.right, at.bottom]; };
+        const line = document.querySelector('#leads line'), [left, top] = box($('canvas')), end = name => +line.getAttribute(name);
+        return [[...document.querySelectorAll('#labels .led')].map(it => it.textContent), [...document.querySelectorAll('#labels span')].map(box),
+          [end('x1') + left, end('y1') + top, end('x2') + left, end('y2') + top]]""")
+    assert led == ["service-shaft"]
+    # No name is over another one, and the line begins in the shaft and ends at its name.
+    for at, one in enumerate(boxes):
+        for other in boxes[:at]:
+            assert one[2] <= other[0] or other[2] <= one[0] or one[3] <= other[1] or other[3] <= one[1]
+    assert lead[:2] == pytest.approx(place(browser, "service-shaft"), abs=1)
+    west, north, east, south = boxes[-1]
+    assert west - 1 <= lead[2] <= east + 1 and north - 1 <= lead[3] <= south + 1
+
+
+def test_many_small_lots_have_no_names(browser, tmp_path):
+    path = tmp_path / "small.html"
+    path.write_text(view.page(shown(*(lot(f"n{number}", box(number % 20, number // 20, 0, number % 20 + 1, number // 20 + 1, 3)) for number in range(400))), "Small"),
+                    encoding="utf-8")
+    browsing.sized(browser, 390, 780)
+    browsing.opened(browser, path, "yaw=0&pitch=90&names=1")
+    assert names(browser) == set() and not browser.execute_script("return document.querySelectorAll('#leads *').length")
+
+
 @pytest.mark.parametrize("width, height", [(390, 780), (1200, 800), (1920, 1080)])
 def test_sizes_of_screens(browser, block, width, height):
     browsing.sized(browser, width, height)

@@ -26,10 +26,11 @@ function screen(point) {
   return [clientWidth / 2 + dot(right, away) * state.zoom, clientHeight / 2 - dot(up, away) * state.zoom];
 }
 
-// Looks at all that is shown.
-function fit() {
+// Looks at those of the shown lots that `has` takes, or at all that is shown if it takes none.
+function fit(has = () => true) {
   const { right, up } = axes(), ends = [[Infinity, -Infinity], [Infinity, -Infinity]], z = cutHeight();
-  for (const lot of lots) if (isShown(lot) && lot.low[2] < z) for (let at = 0; at < 8; at++) {
+  const shown = lots.filter(lot => isShown(lot) && lot.low[2] < z), some = shown.filter(has);
+  for (const lot of some.length ? some : shown) for (let at = 0; at < 8; at++) {
     const corner = lifted(AXES.map(axis => at >> axis & 1 ? lot.high[axis] : lot.low[axis]), lot);
     [right, up].forEach((axis, k) => { const n = dot(axis, corner); ends[k] = [Math.min(ends[k][0], n), Math.max(ends[k][1], n)]; });
   }

@@ -103,7 +103,8 @@ function takeView() {
   }
   showSwitches(); showTime();
   $("spread").value = state.spread; $("cut").value = 1000 * state.cut; $("colour").value = state.colour; $("named").checked = state.labels;
-  rebuild(); recolour(); layGround(); fit();
+  rebuild(); recolour(); layGround();
+  fit(lot => !far[lot.layer]);
   const at = (asked.get("at") || "").split("_").map(Number), near = Number(asked.get("zoom"));
   if (near > 0 && at.length === 3 && at.every(isFinite)) { state.zoom = near; state.target = at; repaint(); }
   const wanted = lots.findIndex(lot => lot.name === asked.get("lot"));

@@ -1,20 +1,4 @@
-// What stands round the picture: names, scale, the numbers of a lot, the switches.
-const MOST_LABELS = 200;
-
-// A name stands where most of it is on its lot; on one that is see-through it always does.
-function placeLabels() {
-  const box = $("labels"), taken = [];
-  box.replaceChildren();
-  if (state.labels) for (const [at, lot] of lots.entries()) if (isShown(lot) && lot.low[2] < cutHeight() && taken.length < MOST_LABELS) {
-    const [x, y] = screen(lifted([lot.middle[0], lot.middle[1], Math.min(lot.middle[2], cutHeight())], lot)), wide = lot.name.length * 3.6 + 3;
-    if (!state.clear[lot.layer] && ![-.7, 0, .7].every(part => lotAt(x + part * wide, y) === at)) continue;
-    if (taken.some(other => Math.abs(other.x - x) < other.wide + wide && Math.abs(other.y - y) < 16)) continue;
-    taken.push({ x, y, wide });
-    const made = element("span", lot.name);
-    made.style.left = x + "px"; made.style.top = y + "px";
-    box.append(made);
-  }
-}
+// What stands round the picture: scale, the numbers of a lot, the switches. names.js has the names in it.
 
 // What goes with each movement.
 function furnish() {
@@ -22,7 +6,7 @@ function furnish() {
   $("scale").firstElementChild.textContent = shown; $("scale").lastElementChild.style.width = length * state.zoom + "px";
   $("needle").setAttribute("transform", `rotate(${-state.yaw})`);
   $("north").style.opacity = state.pitch < 5 ? .15 : 1;
-  $("labels").replaceChildren();
+  clearLabels();
   $("cutValue").textContent = state.cut >= 1 ? "none" : (cutHeight() + data.centre[2]).toFixed(2) + " m";
   $("spreadValue").textContent = state.spread ? spreadMetres().toFixed(1) + " m" : "none";
 }
@@ -68,19 +52,34 @@ function pick(at) {
 
 const switches = { layers: [], storeys: [] };
 
-// A switch for the lots that `has` says are in it, with a button behind it.
-function addSwitch(kind, at, name, has, button) {
-  const made = element("label", "", "row"), box = element("input", "");
+// A switch for the lots that `has` says are in it, with buttons after it.
+function addSwitch(kind, at, name, has, ...buttons) {
+  const made = element("label", "", "row"), box = element("input", ""), count = element("span", "", "count");
   made.title = name; box.type = "checkbox";
   box.onchange = () => { state[kind][at] = box.checked; rebuild(); };
-  made.append(box, element("span", name, "name"), element("span", lots.filter(has).length, "count"), button);
-  switches[kind].push({ box, button });
+  made.append(box, element("span", name, "name"), count, ...buttons);
+  switches[kind].push({ box, count, has, button: buttons[0] });
+  return made;
+}
+
+// A button that leaves the switch in whose row it is as it was.
+function rowButton(text, title, act) {
+  const made = element("button", text);
+  made.title = title;
+  made.onclick = event => { event.preventDefault(); act(); };
   return made;
 }
 
 function showSwitches() {
   for (const kind of ["layers", "storeys"]) switches[kind].forEach(({ box }, at) => { box.checked = state[kind][at]; });
   switches.layers.forEach(({ button }, at) => button.setAttribute("aria-pressed", state.clear[at]));
+}
+
+// Counts the lots that are live after the line at which the view is.
+function showCounts() {
+  const live = lots.filter(isLive);
+  for (const kind of ["layers", "storeys"]) for (const { count, has } of switches[kind]) count.textContent = live.filter(has).length;
+  $("liveCount").textContent = `${live.length} of ${lots.length} live`;
 }
 
 function setStoreys(on) {
@@ -90,13 +89,13 @@ function setStoreys(on) {
 
 function addSwitches() {
   data.layers.forEach((name, at) => {
-    const clear = element("button", "see-through");
-    clear.onclick = event => { event.preventDefault(); state.clear[at] = !state.clear[at]; showSwitches(); rebuild(); };
-    $("layers").append(addSwitch("layers", at, name, lot => lot.layer === at, clear));
+    const has = lot => lot.layer === at;
+    const clear = rowButton("see-through", "let this layer shine through", () => { state.clear[at] = !state.clear[at]; showSwitches(); rebuild(); });
+    const near = rowButton("fit", "look at this layer", () => { state.layers[at] = true; showSwitches(); rebuild(); fit(has); });
+    $("layers").append(addSwitch("layers", at, name, has, clear, near));
   });
   data.storeys.forEach((name, at) => {
-    const only = element("button", "only");
-    only.onclick = event => { event.preventDefault(); setStoreys(other => other === at); };
+    const only = rowButton("only", "show this storey alone", () => setStoreys(other => other === at));
     $("storeys").prepend(addSwitch("storeys", at, name, lot => lot.storey === at, only));
   });
   $("all").onclick = () => setStoreys(() => true);
@@ -107,6 +106,7 @@ function addSwitches() {
 const momentAt = line => data.moments.reduce((found, [number], at) => number <= line ? at : found, 0);
 
 function showTime() {
+  showCounts();
   if (!data.moments.length) return;
   const at = momentAt(state.line), [line, day] = data.moments[at];
   $("time").value = at; $("timeValue").textContent = line + (day ? ", " + day : "");
@@ -145,11 +145,12 @@ function startPanel() {
   addSwitches(); startTime();
   $("find").oninput = () => find($("find").value);
   document.querySelectorAll("[data-view]").forEach(button => { button.onclick = () => { [state.yaw, state.pitch] = VIEWS[button.dataset.view]; fit(); }; });
-  $("fit").onclick = fit;
+  $("fit").onclick = () => fit();
+  $("near").onclick = () => fit((_, at) => at === state.pick);
   $("spread").oninput = () => { state.spread = +$("spread").value; repaint(); };
   $("cut").oninput = () => { state.cut = $("cut").value / 1000; recut(); };
   $("colour").onchange = () => { state.colour = $("colour").value; recolour(); };
   $("named").onchange = () => { state.labels = $("named").checked; repaint(); };
-  $("card").firstElementChild.onclick = () => pick(-1);
+  $("close").onclick = () => pick(-1);
   $("menu").onclick = () => { $("menu").setAttribute("aria-expanded", document.body.classList.toggle("open")); };
 }

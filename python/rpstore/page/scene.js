@@ -2,7 +2,7 @@
 // What is shown: the lots as view.py wrote them, and the state of the view. Lengths are metres from the middle of all lots.
 const $ = name => document.getElementById(name);
 const AXES = [0, 1, 2];
-let data, lots, bounds, vertices = 0;
+let data, lots, bounds, far, vertices = 0;
 const state = { yaw: 32, pitch: 34, zoom: 1, target: [0, 0, 0], spread: 0, cut: 1, colour: "lot", labels: true, pick: -1, hover: -1, layers: [], clear: [], storeys: [], line: Infinity };
 
 async function unpacked() {
@@ -23,7 +23,14 @@ function takeScene(given) {
     AXES.map(axis => lots.reduce((most, lot) => Math.max(most, lot.high[axis]), -Infinity))];
   state.labels = lots.length <= 60;
   if (data.moments.length) state.line = data.moments[data.moments.length - 1][0];
-  state.layers = data.hidden.map(hidden => !hidden); state.clear = data.layers.map(() => false); state.storeys = data.storeys.map(() => true);
+  state.layers = data.hidden.map(hidden => !hidden); far = data.layers.map((_, at) => reachesFar(at)); state.clear = [...far]; state.storeys = data.storeys.map(() => true);
+}
+
+// Whether a layer reaches much farther than the first one and may hide it, as the circle of a crane. Such a layer is see-through at first,
+// and the first view is not of it.
+function reachesFar(at) {
+  const span = layer => Math.max(...[0, 1].map(axis => lots.reduce(([low, high], lot) => lot.layer === layer ? [Math.min(low, lot.low[axis]), Math.max(high, lot.high[axis])] : [low, high], [Infinity, -Infinity]).reduce((low, high) => high - low)));
+  return at > 0 && span(at) > 2 * span(0);
 }
 
 // Whether a lot was live after the line at which the view is; on a page without moments, whether it is there at all.
