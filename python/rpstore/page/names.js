@@ -9,14 +9,20 @@ function clearLabels() {
   $("labels").replaceChildren(); $("leads").replaceChildren();
 }
 
-// The shown lots that are seen at their middle, each with the place of its name and half of the name's width.
+// Where on its lot a name is tried, in half widths and half heights of the name from the middle of the lot.
+const SHIFTS = [0, 2, -2, 4, -4].flatMap(down => [0, .5, -.5, 1, -1].map(right => [right, down]));
+
+// The shown lots that are seen at their middle, each with half of its name's width, and with the place of the name: on the lot if it `fits`
+// there, else the middle.
 function namesInSight() {
   const found = [];
   lots.forEach((lot, at) => {
     if (!isShown(lot) || lot.low[2] >= cutHeight()) return;
-    const [x, y] = screen(lifted([lot.middle[0], lot.middle[1], Math.min(lot.middle[2], cutHeight())], lot));
-    const wide = lot.name.length * LETTER + 3, has = part => lotAt(x + part * wide, y) === at;
-    if (state.clear[lot.layer] || has(0)) found.push({ lot, x, y, wide, fits: state.clear[lot.layer] || has(-.9) && has(.9) });
+    const [x, y] = screen(lifted([lot.middle[0], lot.middle[1], Math.min(lot.middle[2], cutHeight())], lot)), wide = lot.name.length * LETTER + 3;
+    if (state.clear[lot.layer]) found.push({ lot, x, y, wide, fits: true });
+    if (state.clear[lot.layer] || lotAt(x, y) !== at) return;
+    const spot = SHIFTS.map(([right, down]) => [x + right * wide, y + down * HIGH]).find(([x, y]) => [-.9, 0, .9].every(part => lotAt(x + part * wide, y) === at));
+    found.push({ lot, x: spot ? spot[0] : x, y: spot ? spot[1] : y, wide, fits: Boolean(spot) });
   });
   return found;
 }
