@@ -140,7 +140,7 @@ def test_the_hand_and_a_click_tell_exact_numbers(browser, block):
     hand(browser, *place(browser, "flat-13"), click=True)
     hand(browser, 5, 5)
     card = text(browser, "card")
-    assert card[1] == "flat-13" and "volume   300.000 m³" in card and card[-3:] == ["layer base", "came in line 1", "parts 2"]
+    assert card[:3] == ["fit", "×", "flat-13"] and "volume   300.000 m³" in card and card[-3:] == ["layer base", "came in line 1", "parts 2"]
     assert "lot=flat-13" in browser.current_url
     browser.find_element("css selector", "body").send_keys("\ue00c")
     assert text(browser, "card") == [] and "lot=" not in browser.current_url
