@@ -112,8 +112,7 @@ fn is_consistent(
 }
 
 /// Returns whether `proof` shows that the list of `second_size` entries with the root hash `second` begins with the list of
-/// `first_size` entries with the root hash `first`. It reads at most 64 hashes of
-/// `proof`.
+/// `first_size` entries with the root hash `first`. It reads at most 64 hashes of `proof`.
 pub fn check_consistency(
     first_size: u64,
     first: &NodeHash,
