@@ -1,2 +1,2 @@
-pub mod BufferLemmas
 pub mod IntakeLemmas
+pub mod PutLemmas

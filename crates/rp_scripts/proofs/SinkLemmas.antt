@@ -3,6 +3,7 @@ use Rattle.std.proofs.Common.{◌≡◌, ℕ, suc, ◌+◌, List, [], ◌∷◌,
 use Rattle.std.proofs.lemmas.List.{append-nil, take-append-le}
 use Rattle.std.proofs.lemmas.List.Concat.{flat_map-append}
 use Rattle.rp_io.specs.Bytes.{Appends, AppendsPrefix}
+use Rattle.rp_io.proofs.PutLemmas.{AppendsPrefix-after}
 use Rattle.rp_reports.specs.Text.{text_of_lines, line_end}
 
 -- no piece
@@ -26,31 +27,10 @@ pub HasPut-more : (old now new : Option (List ℕ)) (text rest line behind : Lis
 HasPut-more old now new text rest line behind h parts put =
     (h.0 ++ line, append_assoc h.0 line behind ∙ ap (λ xs. h.0 ++ xs) parts ∙ h.1, Appends-append old now new h.0 line h.2 put)
 
--- where no rest is left, the whole text was put
-pub HasPut-all : (old now : Option (List ℕ)) (text rest : List ℕ) → HasPut old now text rest → rest ≡ [] → Appends old now text
-HasPut-all old now text rest h e = subst (Appends old now) (sym (append-nil h.0) ∙ ap (λ xs. h.0 ++ xs) (sym e) ∙ h.1) h.2
-
--- a front behind other bytes
-take-behind : (xs ys : List ℕ) (n : ℕ) → take (length xs + n) (xs ++ ys) ≡ xs ++ take n ys
-take-behind [] ys n = let e : 0 + n ≡ n = omega arith in ap (λ k. take k ys) e
-take-behind (x ∷ xs) ys n = let e : suc (length xs) + n ≡ suc (length xs + n) = omega arith in ap (λ k. take k (x ∷ (xs ++ ys))) e ∙ ap (λ l. x ∷ l) (take-behind xs ys n)
-
 -- no byte is a front of every piece
 pub AppendsPrefix-nothing : (said : Option (List ℕ)) (piece : List ℕ) → AppendsPrefix said said piece
 AppendsPrefix-nothing None piece = _
 AppendsPrefix-nothing (Some bytes) piece = (bytes, 0, omega arith, refl, sym (append-nil bytes))
-
--- one piece and then a front of another
-AppendsPrefix-behind : (old middle new : Option (List ℕ)) (first second : List ℕ) → Appends old middle first → AppendsPrefix middle new second → AppendsPrefix old new (first ++ second)
-AppendsPrefix-behind old middle None first second h k = _
-AppendsPrefix-behind old middle (Some after) first second h k =
-    let was = subst (λ o. Appends old o first) k.3 h in (
-      was.0,
-      length first + k.1,
-      omega (arith, k.2, length-append first second),
-      was.1,
-      k.4 ∙ ap (λ xs. xs ++ take k.1 second) was.2 ∙ append_assoc was.0 first (take k.1 second) ∙ ap (λ xs. was.0 ++ xs) (sym (take-behind first second k.1)),
-    )
 
 -- a front of a piece is one of it with more behind it
 AppendsPrefix-longer : (old new : Option (List ℕ)) (piece more : List ℕ) → AppendsPrefix old new piece → AppendsPrefix old new (piece ++ more)
@@ -62,7 +42,7 @@ AppendsPrefix-longer old (Some after) piece more h =
 pub AppendsPrefix-within : (old middle new : Option (List ℕ)) (first second more all : List ℕ) → Appends old middle first → AppendsPrefix middle new second → first ++ (second ++ more) ≡ all
     → AppendsPrefix old new all
 AppendsPrefix-within old middle new first second more all h k e =
-    subst (AppendsPrefix old new) (append_assoc first second more ∙ e) (AppendsPrefix-longer old new (first ++ second) more (AppendsPrefix-behind old middle new first second h k))
+    subst (AppendsPrefix old new) (append_assoc first second more ∙ e) (AppendsPrefix-longer old new (first ++ second) more (AppendsPrefix-after old middle new first second h k))
 
 -- a front of some lines, where all before them were put
 pub AppendsPrefix-lines : (old middle new : Option (List ℕ)) (first second more all : List (List ℕ)) → Appends old middle (text_of_lines first) → AppendsPrefix middle new (text_of_lines second)
