@@ -3,10 +3,11 @@ from __future__ import annotations
 
 import os
 import re
+import shutil
 import sqlite3
 import subprocess
 from contextlib import closing
-from pathlib import Path
+from tempfile import TemporaryDirectory
 
 from . import Fault
 
@@ -52,13 +53,17 @@ def last_line(path: str, date: str, store: str) -> int:
 
 
 def days(path: str) -> list[tuple[int, str]]:
-    """Returns for each act of the book at `path` the line before its first one, and the day on which it was added, in UTC.
+    """Returns for each act of the book at `path` the line before its first one, and the day on which it was added, in UTC. A copy of the book
+    and its log is read, since SQLite leaves files next to what it reads.
 
     # Errors
-    `Fault` if another process has the book open, or the file is a database of another layout.
+    `Fault` if the book cannot be copied or read, as one that another process writes.
     """
     try:
-        with closing(sqlite3.connect(f"{Path(path).absolute().as_uri()}?mode=ro", uri=True, timeout=1)) as database:
-            return [(first - 1, added[:10]) for first, added in database.execute("SELECT first, added FROM entry ORDER BY number")]
-    except sqlite3.Error as error:
+        with TemporaryDirectory() as room:
+            for each in filter(os.path.exists, (path, f"{path}-wal")):
+                shutil.copyfile(each, os.path.join(room, f"book{each[len(path):]}"))
+            with closing(sqlite3.connect(os.path.join(room, "book"))) as database:
+                return [(first - 1, added[:10]) for first, added in database.execute("SELECT first, added FROM entry ORDER BY number")]
+    except (OSError, sqlite3.Error) as error:
         raise Fault(f"the days of the book {path} were not read: {error}. Nothing was written.", 3)

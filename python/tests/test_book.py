@@ -60,13 +60,11 @@ def test_lots_of_a_book_have_the_days_of_their_acts(town):
     assert found == {"west": wanted[0][1], "east": wanted[1][1]}
 
 
-def test_a_book_that_is_open_elsewhere_has_no_days(town):
-    with sqlite3.connect(town) as other:
-        other.execute("PRAGMA locking_mode = EXCLUSIVE")
-        other.execute("BEGIN EXCLUSIVE")
-        with pytest.raises(Fault, match="the days of the book .* were not read: database is locked"):
-            book.days(town)
-    other.close()
+def test_days_are_read_of_a_copy(town, tmp_path):
+    before = {path.name: path.read_bytes() for path in tmp_path.iterdir()}
+    assert len(book.days(town)) == 2 and {path.name: path.read_bytes() for path in tmp_path.iterdir()} == before
+    with pytest.raises(Fault, match="the days of the book .* were not read: no such table"):
+        book.days(str(tmp_path / "none"))
 
 
 def test_what_is_no_book_is_named(town, tmp_path, capsys, monkeypatch):
