@@ -53,16 +53,16 @@ def test_lots_of_a_book_have_the_days_of_their_acts(town):
     with sqlite3.connect(town) as database:
         wanted = [(first - 1, added[:10]) for first, added in database.execute("SELECT first, added FROM entry")]
     database.close()
-    assert book.days(town) == wanted and [line for line, _ in wanted] == [-1, 1]
+    assert book.days(town) == wanted and wanted[-1][0] == 1
     assert __main__.main(["lots", town, "--time", "-o", f"{town}.json"]) == 0
     with open(f"{town}.json", encoding="utf-8") as file:
         found = {each["properties"]["id"]: each["properties"]["begins"] for each in json.load(file)["features"]}
-    assert found == {"west": wanted[0][1], "east": wanted[1][1]}
+    assert found == {lot: [day for before, day in wanted if before < line][-1] for lot, line in (("west", 1), ("east", 2))}
 
 
 def test_days_are_read_of_a_copy(town, tmp_path):
     before = {path.name: path.read_bytes() for path in tmp_path.iterdir()}
-    assert len(book.days(town)) == 2 and {path.name: path.read_bytes() for path in tmp_path.iterdir()} == before
+    assert len(book.days(town)) >= 2 and {path.name: path.read_bytes() for path in tmp_path.iterdir()} == before
     with pytest.raises(Fault, match="the days of the book .* were not read: no such table"):
         book.days(str(tmp_path / "none"))
 
