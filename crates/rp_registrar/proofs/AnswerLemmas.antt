@@ -5,9 +5,10 @@ use Rattle.std.proofs.lemmas.List.{append-nil}
 use Rattle.std.proofs.lemmas.List.Concat.{flat_map-append}
 use Rattle.rp_io.specs.Bytes.{Appends}
 use Rattle.rp_language.specs.Grammar.{Version}
+use Rattle.rp_language.specs.Name.{Label}
 use Rattle.rp_model.specs.states.State.{PlainState, opening}
 use Rattle.rp_reports.specs.Text.{answer_lines, text_of_lines, line_end}
-use Rattle.rp_reports.specs.Report.{script_lines, script_version, script_body}
+use Rattle.rp_reports.specs.Report.{IsReport, script_lines, script_version, script_body}
 use Rattle.rp_reports.specs.Machine.{Running, after_line, step_answer, step_state, lines_from, report}
 use Rattle.rp_reports.specs.Output.{is_refused_line, run_script}
 use Rattle.rp_scripts.specs.Output.{PutsOutput}
@@ -18,6 +19,8 @@ use Rattle.rp_book.specs.Lines.{HasEnd}
 use Rattle.rp_registrar.specs.Added.{PutsBehind}
 use Rattle.rp_book.specs.Act.{Told, HasActs}
 use Rattle.rp_registrar.specs.Acts.{PutsAsOf, PutsHistory, as_of_line, history_line, last_by}
+use Rattle.rp_registrar.specs.Children.{children_text}
+use Rattle.rp_registrar.specs.Layers.{lines_in}
 use Rattle.rp_registrar.specs.Answered.{Answers, AnswersBehind, lines_by}
 use Rattle.rp_registrar.proofs.ScriptLemmas.{IsReport-computed, IsReport-nothing, report-behind, report-refused}
 
@@ -124,28 +127,38 @@ PutsBehind-nothing lines old new mark h =
     }
 
 -- the answer as of a date behind a script that a book tells
-pub as_of_put : {E : Type 0} (r : Result Bool E) (told : Option (List ℕ)) (text line date : List ℕ) (point : List (List ℕ)) (acts : List Told) (old new : Option (List ℕ)) → IfSome told (λ kept. text ≡ kept) → IfSome told (λ kept. HasActs kept acts)
-    → line ≡ as_of_line (last_by date acts) point → IfOk r (λ mark. PutsBehind text line old new mark) → IfOk r (λ mark. IfSome told (λ script. PutsAsOf script date point mark old new))
-as_of_put (Err e) told text line date point acts old new same have is h = tt
-as_of_put (Ok mark) None text line date point acts old new same have is h = tt
-as_of_put (Ok mark) (Some kept) text line date point acts old new same have is h =
+pub as_of_put : {E : Type 0} (r : Result Bool E) (told : Option (List ℕ)) (text line date : List ℕ) (layer : Option Label) (point : List (List ℕ)) (acts : List Told) (old new : Option (List ℕ)) → IfSome told (λ kept. text ≡ kept) → IfSome told (λ kept. HasActs kept acts)
+    → line ≡ lines_in layer (as_of_line (last_by date acts) point) → IfOk r (λ mark. PutsBehind text line old new mark) → IfOk r (λ mark. IfSome told (λ script. PutsAsOf script date layer point mark old new))
+as_of_put (Err e) told text line date layer point acts old new same have is h = tt
+as_of_put (Ok mark) None text line date layer point acts old new same have is h = tt
+as_of_put (Ok mark) (Some kept) text line date layer point acts old new same have is h =
     record { acts = acts; kept = have; answer = subst (λ l. PutsBehind kept l old new mark) is (subst (λ s. PutsBehind s line old new mark) same h) }
 
--- what was kept of answers, put elsewhere
-put_elsewhere : (script lines said : List ℕ) (old new : Option (List ℕ)) (mark : Bool) → PutsBehind script lines (Some []) (Some said) mark → Appends old new said → PutsBehind script lines old new mark
-put_elsewhere script lines said old new mark h put =
+-- what was kept of answers is their text
+kept_text : (script lines said : List ℕ) (mark : Bool) (h : PutsBehind script lines (Some []) (Some said) mark) → said ≡ text_of_lines h.told
+kept_text script lines said mark h =
     let none : h.text.0 ≡ [] = let e = h.text.1 in cc in
-    let whole : said ≡ text_of_lines h.told = h.text.2 ∙ ap (λ before. before ++ text_of_lines h.told) none in
-    record { before = h.before; told = h.told; report_before = h.report_before; report = h.report; text = subst (Appends old new) whole put; marks = h.marks }
+    h.text.2 ∙ ap (λ before. before ++ text_of_lines h.told) none
 
--- an answer that was kept, and something behind it
-pub history_put : (told : Option (List ℕ)) (text id said more : List ℕ) (old between new : Option (List ℕ)) (mark : Bool) → IfSome told (λ kept. text ≡ kept) → PutsBehind text (history_line id) (Some []) (Some said) mark
-    → Appends old between said → Appends between new more → IfSome told (λ script. PutsHistory script id mark old new)
-history_put None text id said more old between new mark same h first second = tt
-history_put (Some kept) text id said more old between new mark same h first second =
+-- an answer that was kept, the acts after it, and what its lots became
+pub history_put : (told : Option (List ℕ)) (text id said events became : List ℕ) (old between later new : Option (List ℕ)) (mark : Bool) → IfSome told (λ kept. text ≡ kept) → PutsBehind text (history_line id) (Some []) (Some said) mark
+    → Appends old between said → Appends between later events → Appends later new became → became ≡ children_text (script_version text) (script_body text) said → IfSome told (λ script. PutsHistory script id mark old new)
+history_put None text id said events became old between later new mark same h first second third is = tt
+history_put (Some kept) text id said events became old between later new mark same h first second third is =
+    let whole = kept_text text (history_line id) said mark h in
+    let all : became ≡ children_text (script_version kept) (script_body kept) (text_of_lines h.told) =
+    is ∙ ap (λ s. children_text (script_version s) (script_body s) said) same ∙ ap (children_text (script_version kept) (script_body kept)) whole in
     record {
       between = between;
-      behind = more;
-      answer = subst (λ s. PutsBehind s (history_line id) old between mark) same (put_elsewhere text (history_line id) said old between mark h first);
-      others = second;
+      events = events;
+      answer =
+          record {
+            before = h.before;
+            told = h.told;
+            report_before = subst (λ s. IsReport s h.before) same h.report_before;
+            report = subst (λ s. IsReport (s ++ history_line id) (h.before ++ h.told)) same h.report;
+            text = subst (Appends old between) whole first;
+            marks = h.marks;
+          };
+      others = subst (λ text. Appends between new (events ++ text)) all (Appends-append between later new events became second third);
     }

@@ -1,5 +1,5 @@
 -- The layers that lines choose, and the set in which they are looked up.
-use Rattle.std.proofs.Common.{◌≡◌, ◌≤◌, ℕ, Bool, true, false, ◌||◌, if◌then◌else◌, List, [], ◌∷◌, ◌++◌, take, drop, length, Option, None, Some, codes, refl, sym, ap, ◌∙◌, true≢false, append_assoc, length-append, arith}
+use Rattle.std.proofs.Common.{◌≡◌, ◌≤◌, ℕ, Bool, true, false, ◌||◌, if◌then◌else◌, List, [], ◌∷◌, ◌++◌, take, drop, length, Option, None, Some, codes, IfSome, refl, sym, ap, subst, ◌∙◌, true≢false, append_assoc, length-append, arith}
 use Rattle.std.specs.List.{cons_option, filter_map, list_any}
 use Rattle.std.specs.Str.{bytes_eq}
 use Rattle.std.proofs.lemmas.List.{append-nil, drop_at}
@@ -10,15 +10,11 @@ use Rattle.rp_states.proofs.Labels.{label_is}
 use Rattle.rp_history.proofs.Placed.{key_found}
 use Rattle.rp_reports.specs.Report.{script_lines}
 use Rattle.rp_scripts.proofs.RefusalLemmas.{list_any-append}
-use Rattle.rp_registrar.specs.Layers.{layer_of_line, layers_of, unknown_of, first_layers}
-
--- a line that does not begin with `layer ` chooses no layer
-pub layer_of_line-other : (line : List ℕ) → bytes_eq (take 6 line) (codes "layer ") ≡ false → None ≡ layer_of_line line
-layer_of_line-other line e = sym (ap (λ (b : Bool). elim b [ true ↦ name_of (drop 6 line) | false ↦ None ]) e)
-
--- a line that begins with `layer ` chooses the name behind it
-pub layer_of_line-word : (line word : List ℕ) (o : Option Label) → bytes_eq (take 6 line) (codes "layer ") ≡ true → word ≡ drop 6 line → o ≡ name_of word → o ≡ layer_of_line line
-layer_of_line-word line word o e is h = h ∙ ap name_of is ∙ sym (ap (λ (b : Bool). elim b [ true ↦ name_of (drop 6 line) | false ↦ None ]) e)
+use Rattle.rp_registrar.specs.Layers.{HasAddition, IsAdded, IsAddition, first_layers, layer_of_line, layers_of, lines_in, unknown_of}
+use Rattle.rp_registrar.specs.Added.{ended}
+use Rattle.rp_registrar.specs.declared.add.Outcome.{Outcome}
+use Rattle.rp_registrar.specs.declared.add.Outcome.TheVariants.{Added, Empty, Refused}
+use Rattle.rp_registrar.specs.declared.layers.Addition.{Addition}
 
 -- the layers of lines are inserted one line after the other
 pub insert_all-line : (keys : List Label) (line : List ℕ) (text rest : List ℕ) → script_lines text ≡ line ∷ script_lines rest
@@ -96,3 +92,16 @@ first_layers-inserted script lines base known all first second third =
     ap (λ (ls : List Label). drop (length known) ls) (third ∙ insert_all-unknown known (layers_of lines))
     ∙ drop_at known (unknown_of known (layers_of lines)) (length known) refl
     ∙ unknown_of-same known (base_layer ∷ layers_of script) (layers_of lines) names
+
+-- the outcome of lines that were added says of the script that a book tells what they do with layers
+pub HasAddition-added : (told : Option (List ℕ)) (text lines : List ℕ) (addition : Addition) (done : Outcome) → IfSome told (λ kept. text ≡ kept) → IsAddition text lines addition → IsAdded lines addition done → HasAddition told lines done
+HasAddition-added None text lines addition (Added also) same h is = tt
+HasAddition-added (Some kept) text lines addition (Added also) same h is = subst (λ (a : Addition). IsAddition kept lines a) (sym is) (subst (λ (s : List ℕ). IsAddition s lines addition) same h)
+HasAddition-added told text lines addition Empty same h is = is
+HasAddition-added told text lines addition Refused same h is = absurd is
+
+-- the outcome says it of the lines that a source gave
+pub HasAddition-read : (told left : Option (List ℕ)) (layer : Option Label) (text lines : List ℕ) (addition : Addition) (done : Outcome) → IfSome told (λ kept. text ≡ kept) → IfSome left (λ input. lines ≡ lines_in layer (ended input))
+    → IsAddition text lines addition → IsAdded lines addition done → IfSome left (λ input. HasAddition told (lines_in layer (ended input)) done)
+HasAddition-read told None layer text lines addition done same is h added = tt
+HasAddition-read told (Some input) layer text lines addition done same is h added = subst (λ (ls : List ℕ). HasAddition told ls done) is (HasAddition-added told text lines addition done same h added)

@@ -5,7 +5,12 @@ use Rattle.std.specs.Ordering.{is_le, nat_cmp}
 use Rattle.rp_book.specs.Act.{Told, HasActs}
 use Rattle.rp_book.specs.declared.act.Act.{Act}
 use Rattle.rp_io.specs.Bytes.{Appends}
+use Rattle.rp_language.specs.Name.{Label}
+use Rattle.rp_reports.specs.Report.{script_body, script_version}
+use Rattle.rp_reports.specs.Text.{text_of_lines}
 use Rattle.rp_registrar.specs.Added.{PutsBehind}
+use Rattle.rp_registrar.specs.Children.{children_text}
+use Rattle.rp_registrar.specs.Layers.{lines_in}
 
 -- what was added at a time was added on a date or before: a time begins with its date, and of two dates the earlier one comes first
 abbrev pub is_by : List ℕ → List ℕ → Bool
@@ -37,21 +42,21 @@ as_of_line n words = codes "asof " ++ decimal n ++ spaced words ++ 10 ∷ []
 abbrev pub history_line : List ℕ → List ℕ
 history_line id = codes "history " ++ id ++ 10 ∷ []
 
--- the answer to `asof` for a point was put, as of the last line that was added on a date or before, and the mark says whether it is a refusal
-pub record PutsAsOf (script date : List ℕ) (point : List (List ℕ)) (mark : Bool) (old new : Option (List ℕ)) : Type 0 where
+-- the answer to `asof` for a point was put, as of the last line that was added on a date or before; if a layer is named, the answer to the line that chooses it was put first; the mark says whether a line is refused
+pub record PutsAsOf (script date : List ℕ) (layer : Option Label) (point : List (List ℕ)) (mark : Bool) (old new : Option (List ℕ)) : Type 0 where
   pub acts : List Told
   pub kept : HasActs script acts
-  pub answer : PutsBehind script (as_of_line (last_by date acts) point) old new mark
+  pub answer : PutsBehind script (lines_in layer (as_of_line (last_by date acts) point)) old new mark
 
--- a script with that line behind it has so many bytes
-pub record HasAsOfLength (date : List ℕ) (point : List (List ℕ)) (n : ℕ) (script : List ℕ) : Type 0 where
+-- a script with this question after it has so many bytes
+pub record HasAsOfLength (date : List ℕ) (layer : Option Label) (point : List (List ℕ)) (n : ℕ) (script : List ℕ) : Type 0 where
   pub acts : List Told
   pub kept : HasActs script acts
-  pub is : n ≡ length script + length (as_of_line (last_by date acts) point)
+  pub is : n ≡ length script + length (lines_in layer (as_of_line (last_by date acts) point))
 
--- the answer to `history` for a lot was put, the mark says whether it is a refusal, and something behind it
+-- the answer to `history` for a lot was put, and the mark says whether it is a refusal; then something about acts was put, and then, for each line of the answer that says that a lot ended, what the lot became
 pub record PutsHistory (script id : List ℕ) (mark : Bool) (old new : Option (List ℕ)) : Type 0 where
   pub between : Option (List ℕ)
-  pub behind : List ℕ
+  pub events : List ℕ
   pub answer : PutsBehind script (history_line id) old between mark
-  pub others : Appends between new behind
+  pub others : Appends between new (events ++ children_text (script_version script) (script_body script) (text_of_lines answer.told))

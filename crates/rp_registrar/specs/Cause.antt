@@ -4,6 +4,7 @@ use Rattle.rp_io.specs.Faults.{HasRisen}
 use Rattle.rp_io.specs.declared.intake.IntakeFault.{IntakeFault}
 use Rattle.rp_io.specs.declared.intake.IntakeFault.TheVariants as input
 use Rattle.rp_book.specs.Kept.{HasBookCause}
+use Rattle.rp_language.specs.Name.{Label}
 use Rattle.rp_reports.specs.Output.{most_script_bytes}
 use Rattle.rp_reports.specs.Report.{script_version}
 use Rattle.rp_scripts.specs.declared.fault.OutputFault.{OutputFault}
@@ -13,16 +14,17 @@ use Rattle.rp_registrar.specs.declared.stop.Length.TheVariants.{Exactly, MoreTha
 use Rattle.rp_registrar.specs.declared.stop.Stop.{Stop}
 use Rattle.rp_registrar.specs.declared.stop.Stop.TheVariants.{Read, Put, Memory, TooLong, Change, Book}
 use Rattle.rp_registrar.specs.Added.{ended, has_change}
+use Rattle.rp_registrar.specs.Layers.{lines_in}
 
 -- what the fault of an output becomes
 abbrev pub stop_of_output : OutputFault → Stop
 stop_of_output output.Put = Put
 stop_of_output (output.Memory e) = Memory e
 
--- a script with the lines of an input would have so many bytes
-abbrev pub HasLength : List ℕ → List ℕ → Length → Type 0
-HasLength script input (Exactly n) = (n ≡ length script + length (ended input)) × (most_script_bytes < n)
-HasLength script input (MoreThan n) = (n ≡ length script + most_script_bytes) × (n < length script + length input)
+-- a script with the lines of an input, in a layer if one is named, would have so many bytes
+abbrev pub HasLength : List ℕ → Option Label → List ℕ → Length → Type 0
+HasLength script layer input (Exactly n) = (n ≡ length script + length (lines_in layer (ended input))) × (most_script_bytes < n)
+HasLength script layer input (MoreThan n) = (n ≡ length script + most_script_bytes) × (n < length script + length input)
 
 -- what the fault of an input becomes, which is to stand behind a script of so many bytes
 abbrev pub stop_of_intake : ℕ → IntakeFault → Stop
@@ -31,13 +33,13 @@ stop_of_intake bytes input.TooLong = TooLong (MoreThan (bytes + most_script_byte
 stop_of_intake bytes (input.Memory e) = Memory e
 
 -- why lines were not read that are to stand behind a script: a read failed, or there are too many bytes; nothing is claimed where memory ran out
-abbrev pub HasInputCause : ℕ → ℕ → List ℕ → Option (List ℕ) → Stop → Type 0
-HasInputCause before after script left Read = HasRisen before after
-HasInputCause before after script left (Memory e) = Unit {0}
-HasInputCause before after script left (TooLong n) = IfSome left (λ input. HasLength script input n)
-HasInputCause before after script left Put = ⊥
-HasInputCause before after script left Change = ⊥
-HasInputCause before after script left (Book f) = ⊥
+abbrev pub HasInputCause : ℕ → ℕ → List ℕ → Option Label → Option (List ℕ) → Stop → Type 0
+HasInputCause before after script layer left Read = HasRisen before after
+HasInputCause before after script layer left (Memory e) = Unit {0}
+HasInputCause before after script layer left (TooLong n) = IfSome left (λ input. HasLength script layer input n)
+HasInputCause before after script layer left Put = ⊥
+HasInputCause before after script layer left Change = ⊥
+HasInputCause before after script layer left (Book f) = ⊥
 
 -- why answers were not put: a put failed; nothing is claimed where memory ran out
 abbrev pub HasPutCause : ℕ → ℕ → Stop → Type 0
@@ -68,11 +70,11 @@ pub record Counts : Type 0 where
   pub puts : ℕ
   pub book : ℕ
 
--- why a call stopped, in which the counts rose so, the book's script was this, and the source had these bytes: what is named failed in the call; nothing is claimed where memory ran out
-abbrev pub HasStopCause : Counts → Counts → Option (List ℕ) → Option (List ℕ) → Stop → Type 0
-HasStopCause before after told left Read = HasRisen before.reads after.reads
-HasStopCause before after told left Put = HasRisen before.puts after.puts
-HasStopCause before after told left (Memory e) = Unit {0}
-HasStopCause before after told left (TooLong n) = IfSome told (λ script. IfSome left (λ input. HasLength script input n))
-HasStopCause before after told left Change = IfSome told (λ script. IfSome left (λ input. has_change (script_version (script ++ ended input)) (ended input) ≡ true))
-HasStopCause before after told left (Book f) = HasBookCause before.book after.book f
+-- why a call stopped, given the counts before and after the call, the layer that was named for the lines, the book's script and the bytes of the source: what is named failed in the call; nothing is claimed where memory ran out
+abbrev pub HasStopCause : Counts → Counts → Option Label → Option (List ℕ) → Option (List ℕ) → Stop → Type 0
+HasStopCause before after layer told left Read = HasRisen before.reads after.reads
+HasStopCause before after layer told left Put = HasRisen before.puts after.puts
+HasStopCause before after layer told left (Memory e) = Unit {0}
+HasStopCause before after layer told left (TooLong n) = IfSome told (λ script. IfSome left (λ input. HasLength script layer input n))
+HasStopCause before after layer told left Change = IfSome told (λ script. IfSome left (λ input. has_change (script_version (script ++ ended input)) (ended input) ≡ true))
+HasStopCause before after layer told left (Book f) = HasBookCause before.book after.book f

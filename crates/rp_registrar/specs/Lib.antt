@@ -2,4 +2,5 @@ pub mod Acts
 pub mod Added
 pub mod Answered
 pub mod Cause
+pub mod Children
 pub mod Layers

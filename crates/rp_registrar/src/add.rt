@@ -6,10 +6,10 @@ ghost use Rattle.rp_book.specs.Lines.{IsEnded};
 ghost use Rattle.rp_reports.specs.Output.{most_script_bytes};
 ghost use Rattle.rp_registrar.specs.Added.{HasRefusal, PutsBehind, ended, is_refused};
 ghost use Rattle.rp_registrar.specs.Cause.{HasStopCause};
-ghost use Rattle.rp_registrar.specs.Layers.{HasFirstLayers};
+ghost use Rattle.rp_registrar.specs.Layers.{HasAddition, IsAdded, lines_in};
 
 use crate::answers::put_behind;
-use crate::layers::first_chosen;
+use crate::layers::{Addition, describe};
 use crate::lines::read_lines;
 use crate::stop::Stop;
 use rp_book::{Book, BookFault, Entry};
@@ -25,21 +25,23 @@ pub enum Outcome {
     Refused,
     /// There were no lines, and nothing was added.
     Empty,
-    /// The lines were added. They choose these layers, which no line before them does, in this order.
-    Added(Vec<Name>),
+    /// The lines were added.
+    Added(Addition),
 }
 
-/// Adds `lines` to `book` under `entry`, unless there are none. Returns the layers that they choose for the first time.
+/// Adds `lines` to `book` under `entry`, unless there are none. `addition` is what the lines do with layers, and is returned if
+/// they are added.
 fn keep<B: Book>(
     alloc: Global,
     book: &mut B,
     lines: &[u8],
     entry: Entry<'_>,
+    addition: Addition,
 ) -> Result<Outcome, BookFault>
     requires end { IsEnded lines.now }
     requires short { IfSome (B.script book.old) (λ kept. length kept + length lines.now ≤ most_script_bytes) }
     ensures kept { IfOk result (λ done. is_refused done ≡ false) }
-    ensures layers { IfOk result (HasFirstLayers (B.script book.old) lines.now) }
+    ensures addition { IfOk result (IsAdded lines.now addition) }
     ensures counts { B.faults book.old ≤ B.faults book.new }
     ensures ok { OnOk result (Appends (B.script book.old) (B.script book.new) lines.now) }
     ensures err { OnErr result (Stays (B.script book.old) (B.script book.new)) }
@@ -49,44 +51,45 @@ fn keep<B: Book>(
     if lines.is_empty() {
         return Ok(Outcome::Empty);
     }
-    let layers = first_chosen(alloc, book.text(), lines)?;
     book.add(alloc, lines, entry)?;
-    Ok(Outcome::Added(layers))
+    Ok(Outcome::Added(addition))
 }
 
-/// Adds the lines of `source` to `book`, under `entry`, where none of them is refused, and puts their answers into `sink`.
-/// Nothing is added where a line is refused, and where the call stops. Of no lines nothing comes to the book. The layers that
-/// the lines choose for the first time are in the outcome.
+/// Adds the lines of `source` to `book`, under `entry`, if none of them is refused, and puts their answers into `sink`. If `layer`
+/// is named, a line that chooses it is added before them. Nothing is added if a line is refused, if there are no lines, and if
+/// the call stops.
 pub fn add<R: Threads + Sync, B: Book, S: Source, K: Sink>(
     rt: &R,
     alloc: Global,
     book: &mut B,
     entry: Entry<'_>,
+    layer: Option<Name>,
     source: &mut S,
     sink: &mut K,
 ) -> Result<Outcome, Stop>
     ensures counts { (S.faults source.old ≤ S.faults source.new) × (K.faults sink.old ≤ K.faults sink.new) × (B.faults book.old ≤ B.faults book.new) }
     ensures added { IfOk result (λ done. is_refused done ≡ false → IfSome (S.left source.old) (λ lines.
-        Appends (B.script book.old) (B.script book.new) (ended lines))) }
+        Appends (B.script book.old) (B.script book.new) (lines_in layer (ended lines)))) }
     ensures good { IfOk result (λ done. is_refused done ≡ false → IfSome (B.script book.new) (λ script. HasRefusal script false)) }
     ensures bad { IfOk result (λ done. is_refused done ≡ true → IfSome (S.left source.old) (λ lines. IfSome (B.script book.new) (λ script.
-        HasRefusal (script ++ ended lines) true))) }
+        HasRefusal (script ++ lines_in layer (ended lines)) true))) }
     ensures answers { IfOk result (λ done. IfSome (S.left source.old) (λ lines. IfSome (B.script book.new) (λ _. IfSome (B.script book.old) (λ script.
-        PutsBehind script (ended lines) (K.said sink.old) (K.said sink.new) (is_refused done))))) }
-    ensures layers { IfOk result (λ done. IfSome (S.left source.old) (λ lines. HasFirstLayers (B.script book.old) (ended lines) done)) }
+        PutsBehind script (lines_in layer (ended lines)) (K.said sink.old) (K.said sink.new) (is_refused done))))) }
+    ensures addition { IfOk result (λ done. IfSome (S.left source.old) (λ lines. HasAddition (B.script book.old) (lines_in layer (ended lines)) done)) }
     ensures refused { IfOk result (λ done. is_refused done ≡ true → Stays (B.script book.old) (B.script book.new)) }
     ensures stopped { OnErr result (Stays (B.script book.old) (B.script book.new)) }
     ensures cause { IfErr result (HasStopCause
         (record { reads = S.faults source.old; puts = K.faults sink.old; book = B.faults book.old })
-        (record { reads = S.faults source.new; puts = K.faults sink.new; book = B.faults book.new }) (B.script book.old) (S.left source.old)) }
+        (record { reads = S.faults source.new; puts = K.faults sink.new; book = B.faults book.new }) layer (B.script book.old) (S.left source.old)) }
     ensures crash { IfSome (S.left source.old) (λ lines.
-        FindsAllOrNone (B.finds book.old) (B.finds book.new) (B.script book.old) (ended lines)) }
+        FindsAllOrNone (B.finds book.old) (B.finds book.new) (B.script book.old) (lines_in layer (ended lines))) }
 {
     let script = book.text();
-    let lines = read_lines(alloc, script, source)?;
+    let lines = read_lines(alloc, script, layer, source)?;
     if put_behind(rt, alloc, script, &lines, sink)? {
         return Ok(Outcome::Refused);
     }
-    let done = keep(alloc, book, &lines, entry)?;
+    let addition = describe(alloc, script, &lines)?;
+    let done = keep(alloc, book, &lines, entry, addition)?;
     Ok(done)
 }

@@ -1,5 +1,5 @@
 //! Questions that are put to a book.
-ghost use Rattle.std.specs.Prelude.{◌≡◌, ◌+◌, ◌≤◌, ◌++◌, false, length, IfErr, IfOk, IfSome};
+ghost use Rattle.std.specs.Prelude.{◌≡◌, ◌+◌, ◌≤◌, ◌++◌, None, false, length, IfErr, IfOk, IfSome};
 ghost use Rattle.std.specs.List.{list_any};
 ghost use Rattle.rp_book.specs.Lines.{IsEnded};
 ghost use Rattle.rp_command.specs.Versions.{version_of};
@@ -142,9 +142,9 @@ pub fn ask<R: Threads + Sync, B: Book, S: Source, K: Sink>(
         PutsBehind script (ended lines) (K.said sink.old) (K.said sink.new) refused))) }
     ensures cause { IfErr result (HasStopCause
         (record { reads = S.faults source.old; puts = K.faults sink.old; book = 0 })
-        (record { reads = S.faults source.new; puts = K.faults sink.new; book = 0 }) (B.script book.now) (S.left source.old)) }
+        (record { reads = S.faults source.new; puts = K.faults sink.new; book = 0 }) None (B.script book.now) (S.left source.old)) }
 {
     let script = book.text();
-    let lines = read_lines(alloc, script, source)?;
+    let lines = read_lines(alloc, script, None, source)?;
     answer_questions(rt, alloc, script, &lines, sink)
 }

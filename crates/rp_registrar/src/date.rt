@@ -5,10 +5,12 @@ ghost use Rattle.rp_registrar.specs.Acts.{HasAsOfLength, PutsAsOf, as_of_line, i
 ghost use Rattle.rp_registrar.specs.Cause.{HasQuestionCause};
 
 use crate::ask::answer;
+use crate::layers::put_in_layer;
 use crate::stop::Stop;
 use itoa::Buffer;
 use rp_book::{Act, Book};
 use rp_io::Sink;
+use rp_lists::Name;
 use std::alloc::{AllocError, Global};
 use std::thread::Threads;
 
@@ -74,20 +76,24 @@ fn question(alloc: Global, line: u32, words: &[String]) -> Result<Vec<u8>, Alloc
 }
 
 /// Puts into `sink` the answer to `asof` for the point that `words` spell, as of the last line that was added on `date`, as
-/// 2026-11-30, or before: whose the place was then. Answers whether the question is refused.
+/// 2026-11-30, or before: whose the place was then. If `layer` is named, the place is looked for in that layer: the question
+/// comes after a line that chooses `layer`, whose answer is put too. Otherwise the place is looked for in the layer that the
+/// book ends in ([`crate::last_choice`]). Returns whether a line is refused.
 pub fn as_of<R: Threads + Sync, B: Book, K: Sink>(
     rt: &R,
     alloc: Global,
     book: &B,
     date: &str,
+    layer: Option<Name>,
     words: &[String],
     sink: &mut K,
 ) -> Result<bool, Stop>
     ensures counts { K.faults sink.old ≤ K.faults sink.new }
-    ensures answer { IfOk result (λ refused. IfSome (B.script book.now) (λ script. PutsAsOf script date.now (map string_bytes words.now) refused (K.said sink.old) (K.said sink.new))) }
-    ensures cause { IfErr result (HasQuestionCause (K.faults sink.old) (K.faults sink.new) (λ n. IfSome (B.script book.now) (HasAsOfLength date.now (map string_bytes words.now) n))) }
+    ensures answer { IfOk result (λ refused. IfSome (B.script book.now) (λ script. PutsAsOf script date.now layer (map string_bytes words.now) refused (K.said sink.old) (K.said sink.new))) }
+    ensures cause { IfErr result (HasQuestionCause (K.faults sink.old) (K.faults sink.new) (λ n. IfSome (B.script book.now) (HasAsOfLength date.now layer (map string_bytes words.now) n))) }
 {
     let line = last_line_by(book.acts(), date);
     let question = question(alloc, line, words)?;
-    answer(rt, alloc, book.text(), &question, sink)
+    let questions = put_in_layer(alloc, layer, question)?;
+    answer(rt, alloc, book.text(), &questions, sink)
 }

@@ -7,6 +7,7 @@ ghost use Rattle.rp_registrar.specs.Added.{PutsBehind};
 ghost use Rattle.rp_registrar.specs.Cause.{HasQuestionCause};
 
 use crate::ask::answer;
+use crate::children::children_text;
 use crate::stop::Stop;
 use rp_book::{Act, Book};
 use rp_io::{Failed, Sink};
@@ -74,7 +75,7 @@ fn has_line(act: &Act, line: u32) -> bool
 }
 
 /// Returns the act that has `line`, by a binary search. `acts` are in the order of their lines.
-fn act_of_line(acts: &[Act], line: u32) -> Option<&Act>
+pub fn act_of_line(acts: &[Act], line: u32) -> Option<&Act>
     ensures { IfSome result (λ act. HasLine line act.now) }
 {
     let place = acts.partition_point(|act| act.last < line);
@@ -103,7 +104,7 @@ fn write_event(
         return Ok(());
     };
     let added = act.added.as_str();
-    write!(text, "  {id} {event} {line}: added {added}")?;
+    write!(text, "  {id} {event} {line}: added {added} UTC")?;
     write_told(" by ", &act.who, text)?;
     write_told(" under ", &act.deed, text)?;
     text.push('\n')
@@ -165,9 +166,9 @@ fn answer_text<R: Threads + Sync>(
     Ok((sink.text, refused))
 }
 
-/// Puts into `sink` the answer to `history` for the lot `id`, as if it stood behind the lines of `book`, and behind it for each
-/// lot that it tells of the acts in which it was born and ended: when that was, by whom and under which deed. Answers whether
-/// the question is refused.
+/// Puts into `sink` the answer to `history` for the lot `id` after the lines of `book`. After the answer come, for each lot in it,
+/// the acts in which the lot was born and ended: when that was, by whom and under which deed. Then come the lots that each
+/// ended lot became. Returns whether the question is refused.
 pub fn history<R: Threads + Sync, B: Book, K: Sink>(
     rt: &R,
     alloc: Global,
@@ -179,9 +180,12 @@ pub fn history<R: Threads + Sync, B: Book, K: Sink>(
     ensures answer { IfOk result (λ refused. IfSome (B.script book.now) (λ script. PutsHistory script id.now refused (K.said sink.old) (K.said sink.new))) }
     ensures cause { IfErr result (HasQuestionCause (K.faults sink.old) (K.faults sink.new) (λ n. IfSome (B.script book.now) (λ script. n ≡ length script + length (history_line id.now)))) }
 {
-    let (told, refused) = answer_text(rt, alloc, book.text(), id)?;
+    let script = book.text();
+    let (told, refused) = answer_text(rt, alloc, script, id)?;
     put_lines(sink, &told)?;
     let events = events_of(alloc, &told, book.acts())?;
     put_lines(sink, events.as_bytes())?;
+    let children = children_text(alloc, script, &told)?;
+    put_lines(sink, &children)?;
     Ok(refused)
 }

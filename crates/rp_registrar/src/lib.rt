@@ -1,19 +1,26 @@
 #![tactic(auto)]
 //! What a registrar does with a book: adds lines, asks, and reads the script and its report.
 //!
-//! Lines are added only where none of them is refused behind those that the book keeps ([`add::add`]). A question is answered
-//! as if it stood behind them, and is not kept ([`ask::ask`]); so is one about a lot, with the acts in which it was born and
-//! ended ([`history::history`]), and one about a place on a date ([`date::as_of`]).
+//! Lines are added only if none of them is refused after those that the book keeps ([`add::add`]). Questions are answered as if
+//! they came after the book's lines, and are not kept:
+//!
+//! - lines of any kind that changes nothing ([`ask::ask`]);
+//! - a question about a lot, with the acts in which the lot was born and ended and the lots that it became
+//!   ([`history::history`]);
+//! - a question about a place on a date, in a layer ([`date::as_of`]).
 
 pub mod add;
 mod answers;
 pub mod ask;
+mod children;
 pub mod date;
 pub mod history;
 mod layers;
 mod lines;
+mod lot_line;
 mod read;
 mod stop;
 
+pub use layers::{Addition, Choice, Inherited, last_choice};
 pub use read::{put_report, put_script};
 pub use stop::{Length, Stop};

@@ -4,9 +4,12 @@ ghost use Rattle.rp_book.specs.Lines.{IsEnded};
 ghost use Rattle.rp_reports.specs.Output.{most_script_bytes};
 ghost use Rattle.rp_registrar.specs.Added.{ended};
 ghost use Rattle.rp_registrar.specs.Cause.{HasInputCause, stop_of_intake};
+ghost use Rattle.rp_registrar.specs.Layers.{lines_in};
 
+use crate::layers::put_in_layer;
 use crate::stop::{Length, Stop};
 use rp_io::{IntakeFault, Source, read_whole};
+use rp_lists::Name;
 use std::alloc::{AllocError, Global};
 
 /// The most bytes of a script.
@@ -36,21 +39,30 @@ fn intake_stop(fault: IntakeFault, script: usize) -> Stop
     }
 }
 
-/// Reads the lines of `source` to its end, which are to stand behind `script`. Answers [`Stop::TooLong`] where the two together
-/// are longer than a script may be.
-pub fn read_lines<S: Source>(alloc: Global, script: &[u8], source: &mut S) -> Result<Vec<u8>, Stop>
+/// Reads the lines of `source` to its end, which are to be added to `script`. If `layer` is named, a line that chooses it is put
+/// before them.
+///
+/// # Errors
+///
+/// `TooLong` if `script` and the lines together are longer than a script may be.
+pub fn read_lines<S: Source>(
+    alloc: Global,
+    script: &[u8],
+    layer: Option<Name>,
+    source: &mut S,
+) -> Result<Vec<u8>, Stop>
     requires { length script.now ≤ most_script_bytes }
     ensures counts { S.faults source.old ≤ S.faults source.new }
-    ensures lines { IfOk result (λ lines. IfSome (S.left source.old) (λ input. lines.items ≡ ended input)) }
+    ensures lines { IfOk result (λ lines. IfSome (S.left source.old) (λ input. lines.items ≡ lines_in layer (ended input))) }
     ensures end { IfOk result (λ lines. IsEnded lines.items) }
     ensures short { IfOk result (λ lines. length script.now + length lines.items ≤ most_script_bytes) }
-    ensures cause { IfErr result (HasInputCause (S.faults source.old) (S.faults source.new) script.now (S.left source.old)) }
+    ensures cause { IfErr result (HasInputCause (S.faults source.old) (S.faults source.new) script.now layer (S.left source.old)) }
 {
     let input = match read_whole(alloc, source, MOST_BYTES) {
         Ok(input) => input,
         Err(fault) => return Err(intake_stop(fault, script.len())),
     };
-    let lines = end_lines(input)?;
+    let lines = put_in_layer(alloc, layer, end_lines(input)?)?;
     if lines.len() > MOST_BYTES - script.len() {
         return Err(Stop::TooLong(Length::Exactly(script.len() + lines.len())));
     }
