@@ -4,7 +4,7 @@
 //! Lines are added only if none of them is refused after those that the book keeps ([`add::add`]). Questions are answered as if
 //! they came after the book's lines, and are not kept:
 //!
-//! - lines of any kind that changes nothing ([`ask::ask`]);
+//! - lines that change no lot ([`ask::ask`]);
 //! - a question about a lot, with the acts in which the lot was born and ended and the lots that it became
 //!   ([`history::history`]);
 //! - a question about a place on a date, in a layer ([`date::as_of`]).
