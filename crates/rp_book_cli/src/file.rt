@@ -1,22 +1,30 @@
 //! A file that is made a book, or opened as one.
 
+use crate::path::{PathFault, begins_as_database, making_fault};
+use rp_book::BookFault;
 use rp_disk_book::{DiskBook, OpenFault};
-use sqlite::{Alter, Connection, Error, ErrorCode, FileStore};
+use sqlite::{Alter, Connection, Error, ErrorCode, FileStore, Wary};
 use sqlite_disk::Disk;
-use std::alloc::Global;
-use std::fs;
+use sqlite_std_file::FileFrom;
+use std::alloc::{AllocError, Global};
 
 /// Why a file was not made a book, or not opened as one.
 #[derive(Clone, Copy)]
 pub enum FileFault {
     /// The file is no book.
     NoBook,
+    /// The file is a database that cannot be read.
+    Damaged,
     /// The file is a book of another layout.
     Layout,
     /// The database that is to be made a book has tables already.
     Taken,
-    /// The file is not there, or cannot be opened for reading and writing.
-    CannotOpen,
+    /// The file that is to be made a copy is there already, or its log is.
+    There,
+    /// What an earlier copy left that was cut off is there.
+    CutOff,
+    /// The file cannot be opened for reading and writing.
+    CannotOpen(PathFault),
     /// Another process has the file open.
     Busy,
     /// Memory ran out.
@@ -36,8 +44,8 @@ impl From<Error> for FileFault {
             ErrorCode::OutOfMemory => FileFault::Memory,
             ErrorCode::DatabaseBusy => FileFault::Busy,
             ErrorCode::DiskFull => FileFault::Full,
-            ErrorCode::CannotOpen => FileFault::CannotOpen,
-            ErrorCode::NotADatabase | ErrorCode::DatabaseCorrupt => FileFault::NoBook,
+            ErrorCode::CannotOpen => FileFault::CannotOpen(PathFault::Denied),
+            ErrorCode::NotADatabase | ErrorCode::DatabaseCorrupt => FileFault::Damaged,
             _ => FileFault::Disk,
         }
     }
@@ -54,18 +62,55 @@ impl From<OpenFault> for FileFault {
     }
 }
 
-/// Whether there is a file at `path`.
-pub fn is_there(rt: &HostRuntime, path: &str) -> bool {
-    fs::metadata(rt, path).is_ok()
+impl From<BookFault> for FileFault {
+    fn from(fault: BookFault) -> Self {
+        match fault {
+            BookFault::Memory(_) => FileFault::Memory,
+            BookFault::Full => FileFault::Full,
+            BookFault::Disk => FileFault::Disk,
+        }
+    }
+}
+
+impl From<AllocError> for FileFault {
+    fn from(_error: AllocError) -> Self {
+        FileFault::Memory
+    }
+}
+
+/// Returns why the database at `path` was not opened or made, from what SQLite says and from the file itself.
+fn fault_at(rt: &HostRuntime, path: &str, error: Error) -> FileFault {
+    match FileFault::from(error) {
+        FileFault::Damaged if !begins_as_database(rt, path) => FileFault::NoBook,
+        FileFault::CannotOpen(_) => FileFault::CannotOpen(making_fault(rt, path)),
+        fault => fault,
+    }
+}
+
+/// Opens the database in the file at `path` and the log next to it. Of a write that the power cut off nothing is supposed, and
+/// pages of a new file end in sums. No other process may open it until it is let go. This alone names what SQLite keeps in a
+/// file.
+pub fn connect(
+    rt: &HostRuntime,
+    path: &str,
+) -> Result<Connection<FileStore<FileFrom<Wary>>>, FileFault> {
+    match Connection::open_from(rt, path, true, Wary) {
+        Ok(conn) => Ok(conn),
+        Err((error, left)) => {
+            drop(left);
+            Err(fault_at(rt, path, error))
+        }
+    }
 }
 
 /// Closes a connection. What its log has comes into the file; where the disk does not let it, it stays in the log, and the
 /// next one who opens the file finds it there.
-pub fn close<D: Disk + Drop>(conn: Connection<FileStore<D>>) {
-    let _ = conn.close();
+pub fn close<D: Disk + Drop>(conn: Connection<FileStore<D>>) -> Result<(), FileFault> {
+    conn.close()?;
+    Ok(())
 }
 
-/// The time, in UTC, as 2026-11-30 12:00:00.
+/// Returns the time, in UTC, as 2026-11-30 12:00:00.
 fn time_of<S: Alter>(conn: &mut Connection<S>) -> Result<String, FileFault> {
     let time = conn.query_row("SELECT CURRENT_TIMESTAMP", &[])?.get(0)?;
     Ok(time)
@@ -77,7 +122,17 @@ pub fn make<S: Alter + Drop>(alloc: Global, conn: Connection<S>) -> Result<DiskB
     Ok(book)
 }
 
-/// Opens the book in a database. Beside it answers the time, in UTC, as 2026-11-30 12:00:00.
+/// Makes a database that has no tables yet an empty book. Also returns the time, in UTC, as 2026-11-30 12:00:00.
+pub fn make_now<S: Alter + Drop>(
+    alloc: Global,
+    mut conn: Connection<S>,
+) -> Result<(DiskBook<S>, String), FileFault> {
+    let time = time_of(&mut conn)?;
+    let book = make(alloc, conn)?;
+    Ok((book, time))
+}
+
+/// Opens the book in a database. Also returns the time, in UTC, as 2026-11-30 12:00:00.
 pub fn open<S: Alter + Drop>(
     alloc: Global,
     mut conn: Connection<S>,

@@ -5,59 +5,46 @@
 //! why.
 
 mod act;
+mod answers;
+mod copies;
+mod copy;
+mod date;
 mod fault;
 mod file;
+mod input;
+mod layers;
+mod limits;
+mod lines;
+mod path;
+mod queries;
+mod size;
+mod version;
 mod words;
 mod work;
 
 use fault::{Fault, status_of};
-use rp_registrar::add::Outcome;
 use std::process::ExitCode;
-use std::{io, str};
+use std::thread::Threads;
 use words::{have_control, words_of};
-use work::{Done, work};
+use work::work;
 
-/// Says on standard error what came of lines that were to be added, where their answers do not tell it.
-fn tell_added(rt: &impl Eprint, outcome: &Outcome) -> io::Result<()> {
-    match outcome {
-        Outcome::Refused => eprintln!(rt; "rpstore-book: a line is refused; nothing was added"),
-        Outcome::Empty => eprintln!(rt; "rpstore-book: there are no lines; nothing was added"),
-        Outcome::Added(layers) => {
-            for layer in layers {
-                let name = str::from_utf8(layer.bytes()).unwrap_or("");
-                eprintln!(rt;
-                    "rpstore-book: layer {name} is named here for the first time; a mistyped one would be new too"
-                )?;
-            }
-            Ok(())
-        }
+/// Does what the words of the command line ask for; lots are judged by `threads`. Returns whether a line is refused.
+fn outcome_of<T: Threads + Sync>(rt: &HostRuntime, threads: &T) -> Result<bool, Fault> {
+    let Ok(words) = words_of(rt) else {
+        return Err(Fault::Words);
+    };
+    if have_control(&words) {
+        return Err(Fault::Words);
     }
-}
-
-/// The status of an outcome.
-fn status(outcome: &Result<Done, Fault>) -> u8 {
-    match outcome {
-        Ok(Done::Written(true) | Done::Added(Outcome::Refused)) => 1,
-        Ok(_) => 0,
-        Err(fault) => status_of(*fault),
-    }
+    work(rt, threads, &words)
 }
 
 fn main(rt: HostRuntime) -> ExitCode {
-    let outcome = match words_of(&rt) {
-        Ok(words) => {
-            if have_control(&words) {
-                Err(Fault::Words)
-            } else {
-                work(&rt, &rt, &words)
-            }
+    match outcome_of(&rt, &rt) {
+        Ok(refused) => ExitCode::from(u8::from(refused)),
+        Err(fault) => {
+            let _ = eprintln!(rt; "rpstore-book: {fault}");
+            ExitCode::from(status_of(fault))
         }
-        Err(_) => Err(Fault::Words),
-    };
-    let _ = match &outcome {
-        Ok(Done::Written(_)) => Ok(()),
-        Ok(Done::Added(added)) => tell_added(&rt, added),
-        Err(fault) => eprintln!(rt; "rpstore-book: {fault}"),
-    };
-    ExitCode::from(status(&outcome))
+    }
 }

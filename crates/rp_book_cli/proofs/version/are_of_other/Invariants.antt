@@ -1,0 +1,5 @@
+use Rattle.std.proofs.Common.{length}
+use Rattle.rp_book_cli.proofs.version.are_of_other.Given as goal
+
+abbrev pub decreases-loop-line : goal.decreases-loop-line
+decreases-loop-line l = length l.rest

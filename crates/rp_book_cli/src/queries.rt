@@ -1,0 +1,79 @@
+//! What is read from a book.
+
+use crate::act::Query;
+use crate::date::beginning_after;
+use crate::layers::{name_of, tell_asked};
+use crate::size::write_size;
+use crate::version::unmarked;
+use rp_book::Book;
+use rp_io::{QuietSource, StdSink};
+use rp_registrar::ask::ask;
+use rp_registrar::date::{as_of, last_line_by};
+use rp_registrar::history::history;
+use rp_registrar::{Stop, put_report, put_script};
+use std::thread::Threads;
+
+/// Says on standard error on which day `book` begins, if that is after `date`.
+fn tell_beginning<B: Book>(rt: &HostRuntime, book: &B, date: &str) {
+    if let Some(day) = beginning_after(book.acts(), date) {
+        let _ = eprintln!(rt;
+            "rpstore-book: the book begins on {day} (UTC); nothing was added before"
+        );
+    }
+}
+
+/// Writes the answers to the questions of `input`. Returns whether one is refused.
+fn write_answers<T: Threads + Sync, B: Book>(
+    rt: &HostRuntime,
+    threads: &T,
+    book: &B,
+    input: &[u8],
+) -> Result<bool, Stop> {
+    let mut source = QuietSource::new(unmarked(book.text(), input));
+    let mut sink = StdSink::new(rt.stdout());
+    ask(threads, rt.alloc(), book, &mut source, &mut sink)
+}
+
+/// Writes whose a place was on a date. Returns whether the question is refused.
+fn write_as_of<T: Threads + Sync, B: Book>(
+    rt: &HostRuntime,
+    threads: &T,
+    book: &B,
+    date: &str,
+    layer: Option<&str>,
+    place: &[String],
+) -> Result<bool, Stop> {
+    tell_beginning(rt, book, date);
+    let name = name_of(layer);
+    let mut sink = StdSink::new(rt.stdout());
+    let refused = as_of(threads, rt.alloc(), book, date, name, place, &mut sink)?;
+    let _ = tell_asked(rt, book, layer);
+    Ok(refused)
+}
+
+/// Writes the number of the last line that was added on a date or before.
+fn write_line<B: Book>(rt: &HostRuntime, book: &B, date: &str) -> Result<(), Stop> {
+    tell_beginning(rt, book, date);
+    let line = last_line_by(book.acts(), date);
+    println!(rt; "{line}").map_err(|_| Stop::Put)
+}
+
+/// Writes what is read from `book`. Returns whether a line of it is a refusal.
+pub fn write_query<T: Threads + Sync, B: Book>(
+    rt: &HostRuntime,
+    threads: &T,
+    book: &B,
+    input: &[u8],
+    query: Query<'_>,
+) -> Result<bool, Stop> {
+    let mut sink = StdSink::new(rt.stdout());
+    match query {
+        Query::Ask => write_answers(rt, threads, book, input),
+        Query::History(id) => history(threads, rt.alloc(), book, id, &mut sink),
+        Query::AsOf { date, layer, place } => write_as_of(rt, threads, book, date, layer, place),
+        Query::Report => put_report(threads, rt.alloc(), book, &mut sink),
+        Query::Script => put_script(book, &mut sink).map(|_| false),
+        Query::Size => write_size(rt, threads, book).map(|_| false),
+        Query::Line(date) => write_line(rt, book, date).map(|_| false),
+    }
+}
