@@ -1,31 +1,41 @@
 -- Acts: lines that were added to a script at once.
-use Rattle.std.specs.Prelude.{◌≡◌, ℕ, ⊤, List, [], ◌∷◌, ◌++◌, Option, option_map, string_bytes}
-use Rattle.std.specs.List.{flat_map}
+use Rattle.std.specs.Prelude.{◌≡◌, ℕ, ⊤, List, [], ◌∷◌, ◌++◌, length, map, slice_index, Option, Some, IfSome, option_map, string_bytes}
+use Rattle.std.specs.List.{flat_map, slice_range}
 use Rattle.rp_book.specs.declared.act.Act.{Act}
 use Rattle.rp_book.specs.declared.act.Entry.{Entry}
 use Rattle.rp_book.specs.Lines.{first_number, last_number}
 
--- an act without its lines: the numbers of the first and the last of them, when they were added, by whom and under which deed
+-- an act without its lines: the numbers of the first and the last of them, how many bytes the script has up to and with them, when they were added, by whom and under which deed
 pub record Told : Type 0 where
   pub first : ℕ
   pub last : ℕ
+  pub end : ℕ
   pub added : List ℕ
   pub who : Option (List ℕ)
   pub deed : Option (List ℕ)
 
 abbrev pub act_of : Act → Told
-act_of a = record { first = a.first; last = a.last; added = string_bytes a.added; who = option_map string_bytes a.who; deed = option_map string_bytes a.deed }
+act_of a = record { first = a.first; last = a.last; end = a.end; added = string_bytes a.added; who = option_map string_bytes a.who; deed = option_map string_bytes a.deed }
 
--- the act of lines with the numbers that are added under an entry
-abbrev pub act_at : ℕ → ℕ → Entry → Told
-act_at first last e = record { first = first; last = last; added = e.added.now; who = option_map (λ t. t.now) e.who; deed = option_map (λ t. t.now) e.deed }
+-- the act of lines with these numbers and this end that are added under an entry
+abbrev pub act_at : ℕ → ℕ → ℕ → Entry → Told
+act_at first last end e = record { first = first; last = last; end = end; added = e.added.now; who = option_map (λ t. t.now) e.who; deed = option_map (λ t. t.now) e.deed }
 
--- an act has the numbers of its lines, behind the lines before
+-- the act of lines that are added to a script under an entry
+abbrev pub added_act : List ℕ → List ℕ → Entry → Told
+added_act script lines e = act_at (first_number script lines) (last_number (script ++ lines)) (length (script ++ lines)) e
+
+-- a book that tells its acts told these before, and one more came to their end
+abbrev pub GainsAct : Option (List Told) → Option (List Told) → Told → Type 0
+GainsAct old new act = IfSome new (λ after. (before : List Told) × (old ≡ Some before) × (after ≡ before ++ act ∷ []))
+
+-- an act has the numbers and the end of its lines, which come after the lines before
 pub record HasNumbers (before lines : List ℕ) (act : Told) : Type 0 where
   pub first : act.first ≡ first_number before lines
   pub last : act.last ≡ last_number (before ++ lines)
+  pub end : act.end ≡ length (before ++ lines)
 
--- acts that have the numbers of their lines, behind the lines before
+-- acts that have the numbers and the ends of their lines, which come after the lines before
 abbrev pub AreActs : List ℕ → List Told → List (List ℕ) → Type 0
 AreActs before [] [] = ⊤
 AreActs before [] (lines ∷ more) = ⊥
@@ -37,3 +47,12 @@ pub record HasActs (script : List ℕ) (acts : List Told) : Type 0 where
   pub lines : List (List ℕ)
   pub whole : script ≡ flat_map (λ ls. ls) lines
   pub numbers : AreActs [] acts lines
+
+-- the lines of each act, where those of the first act begin at a byte of the script
+abbrev pub lines_from : List ℕ → ℕ → List Told → List (List ℕ)
+lines_from script start [] = []
+lines_from script start (act ∷ acts) = slice_range script start act.end ∷ lines_from script act.end acts
+
+-- how many bytes of a script come before the lines of the act at a place
+abbrev pub start_at : List Told → ℕ → ℕ
+start_at acts place = slice_index (0 ∷ map (λ act. act.end) acts) place

@@ -1,11 +1,11 @@
--- What a call leaves of the script that a book keeps. `None` stands for a book that does not tell it, and nothing is claimed there.
+-- What a call leaves of what a book keeps. `None` stands for a book that does not tell it, and nothing is claimed there.
 use Rattle.std.specs.Prelude.{◌≡◌, ℕ, Bool, IsTrue, List, ◌++◌, Option, Some, IfSome}
 use Rattle.rp_io.specs.Faults.{HasRisen}
 use Rattle.rp_book.specs.declared.fault.BookFault.{BookFault}
 use Rattle.rp_book.specs.declared.fault.BookFault.TheVariants.{Memory, Full, Disk}
 
--- a book that tells its script told the same before
-abbrev pub Stays : Option (List ℕ) → Option (List ℕ) → Type 0
+-- a book that tells its script, or its acts, told the same before
+abbrev pub Stays : {A : Type 0} → Option A → Option A → Type 0
 Stays old new = IfSome new (λ after. old ≡ Some after)
 
 -- each script that the next one who opens a book may find, after a crash too, passes a test
@@ -15,6 +15,18 @@ Finds = (List ℕ → Bool) → Type 0
 -- a test that all scripts passed, and that the script with the lines behind it passes, they pass still: all the lines are found, or none
 abbrev pub FindsAllOrNone : Finds → Finds → Option (List ℕ) → List ℕ → Type 0
 FindsAllOrNone old new told lines = (test : List ℕ → Bool) → old test → IfSome told (λ before. IsTrue (test (before ++ lines))) → new test
+
+-- a test that all scripts passed they pass still: no script is found that was not found before
+abbrev pub FindsNoOther : Finds → Finds → Type 0
+FindsNoOther old new = (test : List ℕ → Bool) → old test → new test
+
+-- a test that the script passes, all pass: no other script is found
+abbrev pub FindsOnly : Finds → Option (List ℕ) → Type 0
+FindsOnly finds told = IfSome told (λ script. (test : List ℕ → Bool) → IsTrue (test script) → finds test)
+
+-- a test that all pass, the script passes: it may be found
+abbrev pub MayFind : Finds → Option (List ℕ) → Type 0
+MayFind finds told = IfSome told (λ script. (test : List ℕ → Bool) → finds test → IsTrue (test script))
 
 -- why lines were not added: the book failed in the call; nothing is claimed where memory ran out
 abbrev pub HasBookCause : ℕ → ℕ → BookFault → Type 0

@@ -33,7 +33,7 @@ fields_at number act lines = fields_of number act.first act.last act.added act.w
 
 -- so it is where the act is made of these
 pub fields_are : (number n first last : ℕ) (added : List ℕ) (who deed : Option (List ℕ)) (act : Told) (lines : List ℕ) → number ≡ n
-    → act ≡ record { first = first; last = last; added = added; who = who; deed = deed } → fields_of number first last added who deed lines ≡ fields_at n act lines
+    → act ≡ record { first = first; last = last; end = act.end; added = added; who = who; deed = deed } → fields_of number first last added who deed lines ≡ fields_at n act lines
 fields_are number n first last added who deed act lines e h = rw (e, h) refl
 
 -- a row that says it is that entry

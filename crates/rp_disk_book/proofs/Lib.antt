@@ -1,4 +1,5 @@
 pub mod DiskLemmas
 pub mod EntryLemmas
+pub mod FindLemmas
 pub mod KeptLemmas
 pub mod UniqueLemmas

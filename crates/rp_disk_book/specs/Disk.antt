@@ -79,9 +79,9 @@ pub record Opened (S : Type 0) : Type 0 where
 
 abbrev told_code : Coded Told
 told_code =
-    code_by (ℕ × (ℕ × (List ℕ × (Option (List ℕ) × Option (List ℕ)))))
-    (coded× coded_ℕ (coded× coded_ℕ (coded× (coded_list coded_ℕ) (coded× (coded_option (coded_list coded_ℕ)) (coded_option (coded_list coded_ℕ))))))
-    (λ t. (t.first, (t.last, (t.added, (t.who, t.deed))))) (λ p. record { first = p.0; last = p.1.0; added = p.1.1.0; who = p.1.1.1.0; deed = p.1.1.1.1 }) (λ _. refl)
+    code_by (ℕ × (ℕ × (ℕ × (List ℕ × (Option (List ℕ) × Option (List ℕ))))))
+    (coded× coded_ℕ (coded× coded_ℕ (coded× coded_ℕ (coded× (coded_list coded_ℕ) (coded× (coded_option (coded_list coded_ℕ)) (coded_option (coded_list coded_ℕ)))))))
+    (λ t. (t.first, (t.last, (t.end, (t.added, (t.who, t.deed)))))) (λ p. record { first = p.0; last = p.1.0; end = p.1.1.0; added = p.1.1.1.0; who = p.1.1.1.1.0; deed = p.1.1.1.1.1 }) (λ _. refl)
 
 abbrev pub opened_code : {S : Type 0} → Coded S → Coded (Opened S)
 opened_code {S} store =

@@ -1,5 +1,6 @@
 ghost use Rattle.std.specs.Prelude.{◌≡◌, ◌≤◌, Some};
 ghost use Rattle.sqlite.specs.Held.{state};
+ghost use Rattle.sqlite.specs.State.{HasCleanDisk};
 ghost use Rattle.rp_disk_book.specs.Disk.{FindsInDatabase};
 
 use crate::contents::Contents;
@@ -52,7 +53,11 @@ fn fault_of(error: Error) -> BookFault {
 impl<S: Alter> Book for DiskBook<S> {
     ghost script = { λ b. Some b.script };
 
+    ghost acts = { λ b. Some b.acts };
+
     ghost finds = { λ b. FindsInDatabase (state S.Store b.conn) };
+
+    ghost has_honest_disk = { λ b. HasCleanDisk (state S.Store b.conn) };
 
     ghost faults = { λ b. b.faults };
 

@@ -77,13 +77,14 @@ impl Contents {
         requires short { length self.old.script.items + length lines.now ≤ most_script_bytes }
         ensures same { contents_of self.new ≡ contents_of self.old }
         ensures room { OnOk result (HasRoom self.new lines.now) }
-        ensures act { IfOk result (λ act. act_of act ≡ act_at act.first act.last entry.entry) }
+        ensures act { IfOk result (λ act. act_of act ≡ act_at act.first act.last act.end entry.entry) }
         ensures numbers { IfOk result (λ act. HasNumbers self.old.script.items lines.now (act_of act)) }
         ensures fits { IfOk result (λ act. act.last ≤ length self.old.script.items + length lines.now) }
     {
         self.reserve(lines)?;
         let (first, last) = line_numbers(&self.script, self.lines, lines);
-        Act::new(alloc, first, last, entry)
+        let end = self.script.len() + lines.len();
+        Act::new(alloc, first, last, end, entry)
     }
 
     /// Takes `act` with its `lines`, for which there is room.

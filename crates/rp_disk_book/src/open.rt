@@ -1,10 +1,11 @@
 //! A database that is made a book, or opened as one.
-ghost use Rattle.std.specs.Prelude.{◌≡◌, [], Bool, IfOk, IfSome, IsTrue, List, OnOk, ℕ, pos};
+ghost use Rattle.std.specs.Prelude.{◌≡◌, [], Bool, IfOk, IfSome, IsTrue, List, OnOk, Some, ℕ, pos};
 ghost use Rattle.sqlite.specs.declared.types.Value.TheVariants.{Int, Text};
 ghost use Rattle.sqlite.specs.Order.{column};
 ghost use Rattle.sqlite.specs.State.{HasCleanDisk};
 ghost use Rattle.sqlite.specs.Held.{Held, state};
 ghost use Rattle.rp_book.specs.Act.{act_of};
+ghost use Rattle.rp_book.specs.Kept.{FindsOnly, MayFind};
 ghost use Rattle.rp_disk_book.specs.Kept.{IsKept, contents_of};
 ghost use Rattle.rp_disk_book.specs.Disk.{FindsInDatabase, HasRead, IsBookUntil, GainsRow, ShowsAct};
 
@@ -65,11 +66,12 @@ fn expect_number(row: &Row, place: usize, number: u32) -> Result<(), OpenFault>
     Ok(())
 }
 
-/// The act of an entry with the number, whose lines have these numbers.
-fn act_of(row: &Row, number: u32, first: u32, last: u32) -> Result<Act, OpenFault>
+/// The act of an entry with the number, whose lines have these numbers and this end.
+fn act_of(row: &Row, number: u32, first: u32, last: u32, end: usize) -> Result<Act, OpenFault>
     ensures shows { IfOk result (λ act. ShowsAct number row.now (act_of act)) }
     ensures first { IfOk result (λ act. act.first ≡ first) }
     ensures last { IfOk result (λ act. act.last ≡ last) }
+    ensures end { IfOk result (λ act. act.end ≡ end) }
 {
     expect_number(row, 0, number)?;
     expect_number(row, 1, first)?;
@@ -80,6 +82,7 @@ fn act_of(row: &Row, number: u32, first: u32, last: u32) -> Result<Act, OpenFaul
     Ok(Act {
         first,
         last,
+        end,
         added,
         who,
         deed,
@@ -99,9 +102,10 @@ fn push_entry(row: &Row, contents: &mut Contents) -> Result<(), OpenFault>
         return Err(OpenFault::NoBook);
     }
     let (first, last) = line_numbers(&contents.script, contents.lines, lines);
+    let end = contents.script.len() + lines.len();
     let number = contents.next_number();
     contents.reserve(lines)?;
-    let act = act_of(row, number, first, last)?;
+    let act = act_of(row, number, first, last, end)?;
     contents.push(act, lines);
     Ok(())
 }
@@ -119,9 +123,13 @@ fn read_entries(alloc: Global, rows: &[Row]) -> Result<Contents, OpenFault>
 }
 
 impl<S: Alter + Drop> DiskBook<S> {
-    /// Makes an empty database a book.
+    /// Makes an empty database a book. As long as the disk returned what was written, the next one who opens the database finds
+    /// a book without lines and no other.
     pub fn create(alloc: Global, mut conn: Connection<S>) -> Result<DiskBook<S>, OpenFault>
-        ensures { IfOk result (λ book. (book.script ≡ []) × (book.faults ≡ 0)) }
+        ensures empty { IfOk result (λ book. (book.script ≡ []) × (book.faults ≡ 0)) }
+        ensures acts { IfOk result (λ book. book.acts ≡ []) }
+        ensures only { IfOk result (λ book. FindsOnly (FindsInDatabase (state S.Store book.conn)) (Some book.script)) }
+        ensures leaves { IfOk result (λ book. HasCleanDisk (state S.Store book.conn) → MayFind (FindsInDatabase (state S.Store book.conn)) (Some book.script)) }
     {
         if !is_empty(conn.schema()) || !conn.is_autocommit() {
             return Err(OpenFault::Taken);
@@ -135,12 +143,15 @@ impl<S: Alter + Drop> DiskBook<S> {
     }
 
     /// Reads the script of a database that is a book. Where the database is one that a crash could leave of a book that was
-    /// open before, the script is one of those that this book said the next open may find.
+    /// open before, the script is one of those that this book said the next open may find. As long as the disk returned what
+    /// was written, the next one who opens the database finds this script and no other.
     pub fn open(alloc: Global, mut conn: Connection<S>) -> Result<DiskBook<S>, OpenFault>
         ensures sound { IfOk result (λ book. book.faults ≡ 0) }
         ensures found { IfOk result (λ book. HasCleanDisk (state S.Store book.conn) → (before : Held S) → HasCleanDisk (state S.Store before)
             → (state S.Store before).may_leave (state S.Store conn).committed.trees
             → (test : List ℕ → Bool) → FindsInDatabase (state S.Store before) test → IsTrue (test book.script)) }
+        ensures only { IfOk result (λ book. FindsOnly (FindsInDatabase (state S.Store book.conn)) (Some book.script)) }
+        ensures leaves { IfOk result (λ book. HasCleanDisk (state S.Store book.conn) → MayFind (FindsInDatabase (state S.Store book.conn)) (Some book.script)) }
     {
         if !is_book(conn.schema()) || !conn.is_autocommit() {
             return Err(other_fault(&conn));

@@ -1,4 +1,4 @@
-use Rattle.std.proofs.Common.{◌+◌, ◌≤◌, ◌++◌, length, ap, subst, sym, arith, ◌∙◌}
+use Rattle.std.proofs.Common.{◌+◌, ◌≤◌, ◌++◌, length, length-append, ap, subst, sym, arith, ◌∙◌}
 use Rattle.rp_reports.specs.Output.{most_script_bytes}
 use Rattle.rp_book.specs.Act.{HasNumbers, act_of}
 use Rattle.rp_book.specs.Lines.{first_number, last_number}
@@ -17,6 +17,7 @@ returns-clause-kept c =
     record {
       first = c.in_ok-act.ensures.first ∙ c.line_numbers-first.ensures.first ∙ ap (λ s. first_number s lines) same;
       last = c.in_ok-act.ensures.last ∙ c.line_numbers-first.ensures.last ∙ ap (λ s. last_number (s ++ lines)) same;
+      end = omega (arith, c.in_ok-act.ensures.end, ap length same, length-append script lines);
     } in
     let fits : act.last ≤ length script + length lines = omega (arith, c.in_ok-act.ensures.last, c.line_numbers-first.ensures.fits, ap length same) in
     subst IsKept (sym (c.push.ensures ∙ ap (λ (k : Kept). with_act k act lines) c.in_ok-reserve.ensures.same))

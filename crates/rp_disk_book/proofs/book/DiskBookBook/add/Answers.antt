@@ -7,6 +7,7 @@ use Rattle.rp_entries.specs.Entry.{AddsEntry, Fields, GainsEntry, book_schema, e
 use Rattle.rp_disk_book.specs.Kept.{Kept, IsKept, contents_of, with_act}
 use Rattle.rp_disk_book.specs.Disk.{FindsInDatabase, IsBook, Opened}
 use Rattle.rp_disk_book.proofs.DiskLemmas.{fields_are, finds_more, is_longer}
+use Rattle.rp_disk_book.proofs.FindLemmas.{finds_only, may_find}
 use Rattle.rp_disk_book.proofs.KeptLemmas.{IsKept-push}
 use Rattle.rp_disk_book.proofs.book.DiskBookBook.add.Goals as goal
 
@@ -60,3 +61,15 @@ invariant_of-self-2 g c =
           (is_longer old new acts (act_of a) book.contents.script.items lines c.requires.end c.in_ok-act.ensures.numbers (c.self.invariant.1 none) c.insert.ensures.clean
           (λ now schema. subst (λ (f : Fields). AddsEntry old new f) fields (c.in_default.ensures.adds now schema)) clean),
     )
+
+pub returns-clause-only : goal.returns-clause-only
+returns-clause-only g c =
+    let k = contents_of c.push.new.self in
+    let none : c.self.inside.faults ≡ 0 = omega (arith, c.if-self-gt0.false) in
+    finds_only (state g.S.Store c.insert.new.conn) k.acts k.script ((invariant_of-self-2 g c).1 none) (g.met.S.Store.settled c.insert.new.conn.store)
+
+pub returns-clause-found : goal.returns-clause-found
+returns-clause-found g c =
+    let k = contents_of c.push.new.self in
+    let none : c.self.inside.faults ≡ 0 = omega (arith, c.if-self-gt0.false) in
+    may_find (state g.S.Store c.insert.new.conn) k.acts k.script ((invariant_of-self-2 g c).1 none) (g.met.S.Store.stays c.insert.new.conn.store)
