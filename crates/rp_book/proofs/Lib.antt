@@ -1,3 +1,4 @@
 pub mod ActLemmas
+pub mod OrderLemmas
 pub mod ScriptLemmas
 pub mod SliceLemmas

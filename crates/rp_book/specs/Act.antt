@@ -1,9 +1,9 @@
 -- Acts: lines that were added to a script at once.
-use Rattle.std.specs.Prelude.{◌≡◌, ℕ, ⊤, List, [], ◌∷◌, ◌++◌, length, map, slice_index, Option, Some, IfSome, option_map, string_bytes}
+use Rattle.std.specs.Prelude.{◌≡◌, ℕ, ◌+◌, ◌≤◌, ⊤, List, [], ◌∷◌, ◌++◌, length, map, slice_index, Option, Some, IfSome, option_map, string_bytes}
 use Rattle.std.specs.List.{flat_map, slice_range}
 use Rattle.rp_book.specs.declared.act.Act.{Act}
 use Rattle.rp_book.specs.declared.act.Entry.{Entry}
-use Rattle.rp_book.specs.Lines.{first_number, last_number}
+use Rattle.rp_book.specs.Lines.{HasEnd, first_number, last_number}
 
 -- an act without its lines: the numbers of the first and the last of them, how many bytes the script has up to and with them, when they were added, by whom and under which deed
 pub record Told : Type 0 where
@@ -29,13 +29,14 @@ added_act script lines e = act_at (first_number script lines) (last_number (scri
 abbrev pub GainsAct : Option (List Told) → Option (List Told) → Told → Type 0
 GainsAct old new act = IfSome new (λ after. (before : List Told) × (old ≡ Some before) × (after ≡ before ++ act ∷ []))
 
--- an act has the numbers and the end of its lines, which come after the lines before
+-- lines, the last of which has a line end, come after the lines before; an act has their numbers and their end
 pub record HasNumbers (before lines : List ℕ) (act : Told) : Type 0 where
+  pub ended : HasEnd lines
   pub first : act.first ≡ first_number before lines
   pub last : act.last ≡ last_number (before ++ lines)
   pub end : act.end ≡ length (before ++ lines)
 
--- acts that have the numbers and the ends of their lines, which come after the lines before
+-- acts that have the numbers and the ends of their lines, of which those of the first act come after the lines before
 abbrev pub AreActs : List ℕ → List Told → List (List ℕ) → Type 0
 AreActs before [] [] = ⊤
 AreActs before [] (lines ∷ more) = ⊥
@@ -47,6 +48,11 @@ pub record HasActs (script : List ℕ) (acts : List Told) : Type 0 where
   pub lines : List (List ℕ)
   pub whole : script ≡ flat_map (λ ls. ls) lines
   pub numbers : AreActs [] acts lines
+
+-- the acts are in the order of their lines, the first of which has at least this number
+abbrev pub AreInOrder : ℕ → List Told → Type 0
+AreInOrder least [] = ⊤
+AreInOrder least (act ∷ acts) = (least ≤ act.first) × (act.first ≤ act.last) × AreInOrder (act.last + 1) acts
 
 -- the lines of each act, where those of the first act begin at a byte of the script
 abbrev pub lines_from : List ℕ → ℕ → List Told → List (List ℕ)

@@ -15,10 +15,11 @@ returns-clause-kept c =
     let short : length script + length lines ≤ most_script_bytes = omega (arith, ap length same) in
     let numbers : HasNumbers script lines act =
     record {
+      ended = c.has_end.ensures c.if-not-has_end.false;
       first = c.in_ok-act.ensures.first ∙ c.line_numbers-first.ensures.first ∙ ap (λ s. first_number s lines) same;
       last = c.in_ok-act.ensures.last ∙ c.line_numbers-first.ensures.last ∙ ap (λ s. last_number (s ++ lines)) same;
       end = omega (arith, c.in_ok-act.ensures.end, ap length same, length-append script lines);
     } in
     let fits : act.last ≤ length script + length lines = omega (arith, c.in_ok-act.ensures.last, c.line_numbers-first.ensures.fits, ap length same) in
     subst IsKept (sym (c.push.ensures ∙ ap (λ (k : Kept). with_act k act lines) c.in_ok-reserve.ensures.same))
-    (IsKept-push (contents_of c.args.contents.now) act lines c.requires (c.has_end.ensures c.if-not-has_end.false) short numbers fits)
+    (IsKept-push (contents_of c.args.contents.now) act lines c.requires numbers.ended short numbers fits)
