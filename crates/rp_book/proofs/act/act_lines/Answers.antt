@@ -10,7 +10,7 @@ returns-in_err-act c =
     let script = c.args.script.now in
     let acts = c.args.acts.now in
     let none : (h : HasActs script (map act_of acts)) → option_map (λ (lines : Bor (List ℕ)). lines.now) c.from_residual.result ≡ slice_get h.lines c.args.place = λ h.
-        ap (option_map (λ (lines : Bor (List ℕ)). lines.now)) c.from_residual.ensures ∙ sym (no-lines script acts c.args.place h c.in_err-act.ensures.lookup) in
+    ap (option_map (λ (lines : Bor (List ℕ)). lines.now)) c.from_residual.ensures ∙ sym (no-lines script acts c.args.place h c.in_err-act.ensures.lookup) in
     record { lines = none; slices = slice_by_ends script (map act_of acts) c.args.place _ none }
 
 pub returns : goal.returns
@@ -20,6 +20,6 @@ returns c =
     let act = c.in_ok-act.act.now in
     let lookup = c.in_ok-act.ensures.lookup in
     let found : (h : HasActs script (map act_of acts)) → option_map (λ (lines : Bor (List ℕ)). lines.now) c.get-2.result ≡ slice_get h.lines c.args.place = λ h.
-        found-lines script acts c.args.place act c.get-2.result h lookup.3.0 lookup.1
-        (subst (λ n. IsGetRangeResult script n act.end c.get-2.result) c.start_of.ensures c.get-2.ensures.lookup) in
+    found-lines script acts c.args.place act c.get-2.result h lookup.3.0 lookup.1
+    (subst (λ n. IsGetRangeResult script n act.end c.get-2.result) c.start_of.ensures c.get-2.ensures.lookup) in
     record { lines = found; slices = slice_by_ends script (map act_of acts) c.args.place _ found }
