@@ -17,9 +17,11 @@ use Rattle.rp_scripts.proofs.RunLemmas.{IsTrue-both}
 use Rattle.rp_scripts.proofs.SinkLemmas.{Appends-append, Appends-nothing}
 use Rattle.rp_book.specs.Lines.{HasEnd}
 use Rattle.rp_registrar.specs.Added.{PutsBehind}
-use Rattle.rp_book.specs.Act.{Told, HasActs}
+use Rattle.rp_book.specs.Act.{Told, AreInOrder, HasActs}
+use Rattle.rp_book.proofs.OrderLemmas.{HasActs-in_order}
 use Rattle.rp_registrar.specs.Acts.{PutsAsOf, PutsHistory, as_of_line, history_line, last_by}
 use Rattle.rp_registrar.specs.Children.{children_text}
+use Rattle.rp_registrar.specs.Events.{events_text}
 use Rattle.rp_registrar.specs.Layers.{lines_in}
 use Rattle.rp_registrar.specs.Answered.{Answers, AnswersBehind, lines_by}
 use Rattle.rp_registrar.proofs.ScriptLemmas.{IsReport-computed, IsReport-nothing, report-behind, report-refused}
@@ -127,12 +129,15 @@ PutsBehind-nothing lines old new mark h =
     }
 
 -- the answer as of a date behind a script that a book tells
-pub as_of_put : {E : Type 0} (r : Result Bool E) (told : Option (List ℕ)) (text line date : List ℕ) (layer : Option Label) (point : List (List ℕ)) (acts : List Told) (old new : Option (List ℕ)) → IfSome told (λ kept. text ≡ kept) → IfSome told (λ kept. HasActs kept acts)
-    → line ≡ lines_in layer (as_of_line (last_by date acts) point) → IfOk r (λ mark. PutsBehind text line old new mark) → IfOk r (λ mark. IfSome told (λ script. PutsAsOf script date layer point mark old new))
-as_of_put (Err e) told text line date layer point acts old new same have is h = tt
-as_of_put (Ok mark) None text line date layer point acts old new same have is h = tt
-as_of_put (Ok mark) (Some kept) text line date layer point acts old new same have is h =
-    record { acts = acts; kept = have; answer = subst (λ l. PutsBehind kept l old new mark) is (subst (λ s. PutsBehind s line old new mark) same h) }
+pub as_of_put : {E : Type 0} (r : Result Bool E) (told : Option (List ℕ)) (listed : Option (List Told)) (text line date : List ℕ) (layer : Option Label) (point : List (List ℕ)) (found : List Told) (old new : Option (List ℕ))
+    → IfSome told (λ kept. text ≡ kept) → IfSome listed (λ acts. found ≡ acts) → line ≡ lines_in layer (as_of_line (last_by date found) point) → IfOk r (λ mark. PutsBehind text line old new mark)
+    → IfOk r (λ mark. IfSome told (λ script. IfSome listed (λ acts. PutsAsOf script acts date layer point mark old new)))
+as_of_put (Err e) told listed text line date layer point found old new same are is h = tt
+as_of_put (Ok mark) None listed text line date layer point found old new same are is h = tt
+as_of_put (Ok mark) (Some kept) None text line date layer point found old new same are is h = tt
+as_of_put (Ok mark) (Some kept) (Some acts) text line date layer point found old new same are is h =
+    let asked : line ≡ lines_in layer (as_of_line (last_by date acts) point) = is ∙ ap (λ a. lines_in layer (as_of_line (last_by date a) point)) are in
+    subst (λ l. PutsBehind kept l old new mark) asked (subst (λ s. PutsBehind s line old new mark) same h)
 
 -- what was kept of answers is their text
 kept_text : (script lines said : List ℕ) (mark : Bool) (h : PutsBehind script lines (Some []) (Some said) mark) → said ≡ text_of_lines h.told
@@ -140,17 +145,19 @@ kept_text script lines said mark h =
     let none : h.text.0 ≡ [] = let e = h.text.1 in cc in
     h.text.2 ∙ ap (λ before. before ++ text_of_lines h.told) none
 
--- an answer that was kept, the acts after it, and what its lots became
-pub history_put : (told : Option (List ℕ)) (text id said events became : List ℕ) (old between later new : Option (List ℕ)) (mark : Bool) → IfSome told (λ kept. text ≡ kept) → PutsBehind text (history_line id) (Some []) (Some said) mark
-    → Appends old between said → Appends between later events → Appends later new became → became ≡ children_text (script_version text) (script_body text) said → IfSome told (λ script. PutsHistory script id mark old new)
-history_put None text id said events became old between later new mark same h first second third is = tt
-history_put (Some kept) text id said events became old between later new mark same h first second third is =
+-- an answer that was kept, the acts of its lots, and what its lots became
+pub history_put : (told : Option (List ℕ)) (listed : Option (List Told)) (text id said events became : List ℕ) (found : List Told) (old between later new : Option (List ℕ)) (mark : Bool) → IfSome told (λ kept. text ≡ kept)
+    → IfSome told (λ kept. HasActs kept found) → IfSome listed (λ acts. found ≡ acts) → PutsBehind text (history_line id) (Some []) (Some said) mark → Appends old between said → Appends between later events → Appends later new became
+    → (AreInOrder 0 found → events ≡ events_text found said) → became ≡ children_text (script_version text) (script_body text) said → IfSome told (λ script. IfSome listed (λ acts. PutsHistory script acts id mark old new))
+history_put None listed text id said events became found old between later new mark same have are h first second third written is = tt
+history_put (Some kept) None text id said events became found old between later new mark same have are h first second third written is = tt
+history_put (Some kept) (Some acts) text id said events became found old between later new mark same have are h first second third written is =
     let whole = kept_text text (history_line id) said mark h in
     let all : became ≡ children_text (script_version kept) (script_body kept) (text_of_lines h.told) =
     is ∙ ap (λ s. children_text (script_version s) (script_body s) said) same ∙ ap (children_text (script_version kept) (script_body kept)) whole in
+    let each : events ≡ events_text acts (text_of_lines h.told) = written (HasActs-in_order kept found have) ∙ ap (λ a. events_text a said) are ∙ ap (events_text acts) whole in
     record {
       between = between;
-      events = events;
       answer =
           record {
             before = h.before;
@@ -160,5 +167,6 @@ history_put (Some kept) text id said events became old between later new mark sa
             text = subst (Appends old between) whole first;
             marks = h.marks;
           };
-      others = subst (λ text. Appends between new (events ++ text)) all (Appends-append between later new events became second third);
+      others = subst (λ text. Appends between new (text ++ children_text (script_version kept) (script_body kept) (text_of_lines h.told))) each
+          (subst (λ text. Appends between new (events ++ text)) all (Appends-append between later new events became second third));
     }

@@ -1,4 +1,6 @@
 pub mod AnswerLemmas
 pub mod CauseLemmas
+pub mod EventLemmas
 pub mod LayerLemmas
+pub mod OutcomeLemmas
 pub mod ScriptLemmas

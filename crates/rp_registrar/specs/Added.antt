@@ -6,7 +6,7 @@ use Rattle.rp_language.specs.Expression.{Command, register, cut, subdivide, cons
 use Rattle.rp_language.specs.Grammar.{Version, Reading, command, reading}
 use Rattle.rp_reports.specs.Text.{line_end, text_of_lines}
 use Rattle.rp_registrar.specs.declared.add.Outcome.{Outcome}
-use Rattle.rp_registrar.specs.declared.add.Outcome.TheVariants.{Refused}
+use Rattle.rp_registrar.specs.declared.add.Outcome.TheVariants.{Added, Empty, Refused}
 use Rattle.rp_reports.specs.Report.{IsReport, script_lines}
 use Rattle.rp_reports.specs.Output.{is_refused_line}
 
@@ -34,6 +34,12 @@ pub record PutsBehind (script lines : List ℕ) (old new : Option (List ℕ)) (m
 abbrev pub is_refused : Outcome → Bool
 is_refused Refused = true
 is_refused _ = false
+
+-- the first fact if the lines were added, else the second
+abbrev pub MatchOutcome : Outcome → Type 0 → Type 0 → Type 0
+MatchOutcome (Added addition) P Q = P
+MatchOutcome Refused P Q = Q
+MatchOutcome Empty P Q = Q
 
 -- the command changes which lots there are
 abbrev pub is_change : Command → Bool

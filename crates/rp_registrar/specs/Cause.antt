@@ -78,3 +78,12 @@ HasStopCause before after layer told left (Memory e) = Unit {0}
 HasStopCause before after layer told left (TooLong n) = IfSome told (λ script. IfSome left (λ input. HasLength script layer input n))
 HasStopCause before after layer told left Change = IfSome told (λ script. IfSome left (λ input. has_change (script_version (script ++ ended input)) (ended input) ≡ true))
 HasStopCause before after layer told left (Book f) = HasBookCause before.book after.book f
+
+-- a fact if a call stopped before it came to the book, or if the book failed and its count of faults stayed
+abbrev pub IfSpared : ℕ → ℕ → Stop → Type 0 → Type 0
+IfSpared before after (Book f) P = after ≡ before → P
+IfSpared before after Read P = P
+IfSpared before after Put P = P
+IfSpared before after (Memory e) P = P
+IfSpared before after (TooLong n) P = P
+IfSpared before after Change P = P

@@ -3,4 +3,5 @@ pub mod Added
 pub mod Answered
 pub mod Cause
 pub mod Children
+pub mod Events
 pub mod Layers

@@ -1,11 +1,12 @@
 //! Lines that are added to a book.
 ghost use Rattle.std.specs.Prelude.{◌≡◌, ◌+◌, ◌≤◌, ◌++◌, false, length, true, IfErr, IfOk, IfSome, OnErr, OnOk};
 ghost use Rattle.rp_io.specs.Bytes.{Appends};
-ghost use Rattle.rp_book.specs.Kept.{FindsAllOrNone, HasBookCause, Stays};
+ghost use Rattle.rp_book.specs.Act.{GainsAct, added_act};
+ghost use Rattle.rp_book.specs.Kept.{FindsAllOrNone, FindsNoOther, FindsOnly, HasBookCause, MayFind, Stays};
 ghost use Rattle.rp_book.specs.Lines.{IsEnded};
 ghost use Rattle.rp_reports.specs.Output.{most_script_bytes};
-ghost use Rattle.rp_registrar.specs.Added.{HasRefusal, PutsBehind, ended, is_refused};
-ghost use Rattle.rp_registrar.specs.Cause.{HasStopCause};
+ghost use Rattle.rp_registrar.specs.Added.{HasRefusal, MatchOutcome, PutsBehind, ended, is_refused};
+ghost use Rattle.rp_registrar.specs.Cause.{HasStopCause, IfSpared};
 ghost use Rattle.rp_registrar.specs.Layers.{HasAddition, IsAdded, lines_in};
 
 use crate::answers::put_behind;
@@ -47,6 +48,13 @@ fn keep<B: Book>(
     ensures err { OnErr result (Stays (B.script book.old) (B.script book.new)) }
     ensures cause { IfErr result (HasBookCause (B.faults book.old) (B.faults book.new)) }
     ensures crash { FindsAllOrNone (B.finds book.old) (B.finds book.new) (B.script book.old) lines.now }
+    ensures acts { IfOk result (λ done. MatchOutcome done
+        (IfSome (B.script book.old) (λ script. GainsAct (B.acts book.old) (B.acts book.new) (added_act script lines.now entry.entry)))
+        (Stays (B.acts book.old) (B.acts book.new))) }
+    ensures finds { IfOk result (λ done. MatchOutcome done (FindsOnly (B.finds book.new) (B.script book.new)) (FindsNoOther (B.finds book.old) (B.finds book.new))) }
+    ensures found { IfOk result (λ done. MatchOutcome done (B.has_honest_disk book.new → MayFind (B.finds book.new) (B.script book.new)) (Unit {0})) }
+    ensures unchanged { OnErr result (Stays (B.acts book.old) (B.acts book.new)) }
+    ensures spared { B.faults book.new ≡ B.faults book.old → OnErr result (FindsNoOther (B.finds book.old) (B.finds book.new)) }
 {
     if lines.is_empty() {
         return Ok(Outcome::Empty);
@@ -58,6 +66,10 @@ fn keep<B: Book>(
 /// Adds the lines of `source` to `book`, under `entry`, if none of them is refused, and puts their answers into `sink`. If `layer`
 /// is named, a line that chooses it is added before them. Nothing is added if a line is refused, if there are no lines, and if
 /// the call stops.
+///
+/// Once lines were added, the next one who opens the book finds the new script and no other. If a line is refused, if there are
+/// no lines, or if the call stops before it comes to the book, no script is found that was not found before. If the book fails,
+/// all the lines are found, or none.
 pub fn add<R: Threads + Sync, B: Book, S: Source, K: Sink>(
     rt: &R,
     alloc: Global,
@@ -83,6 +95,14 @@ pub fn add<R: Threads + Sync, B: Book, S: Source, K: Sink>(
         (record { reads = S.faults source.new; puts = K.faults sink.new; book = B.faults book.new }) layer (B.script book.old) (S.left source.old)) }
     ensures crash { IfSome (S.left source.old) (λ lines.
         FindsAllOrNone (B.finds book.old) (B.finds book.new) (B.script book.old) (lines_in layer (ended lines))) }
+    ensures acts { IfOk result (λ done. MatchOutcome done
+        (IfSome (S.left source.old) (λ lines. IfSome (B.script book.old) (λ script.
+        GainsAct (B.acts book.old) (B.acts book.new) (added_act script (lines_in layer (ended lines)) entry.entry))))
+        (Stays (B.acts book.old) (B.acts book.new))) }
+    ensures finds { IfOk result (λ done. MatchOutcome done (FindsOnly (B.finds book.new) (B.script book.new)) (FindsNoOther (B.finds book.old) (B.finds book.new))) }
+    ensures found { IfOk result (λ done. MatchOutcome done (B.has_honest_disk book.new → MayFind (B.finds book.new) (B.script book.new)) (Unit {0})) }
+    ensures unchanged { OnErr result (Stays (B.acts book.old) (B.acts book.new)) }
+    ensures spared { IfErr result (λ stop. IfSpared (B.faults book.old) (B.faults book.new) stop (FindsNoOther (B.finds book.old) (B.finds book.new))) }
 {
     let script = book.text();
     let lines = read_lines(alloc, script, layer, source)?;

@@ -89,8 +89,10 @@ pub fn as_of<R: Threads + Sync, B: Book, K: Sink>(
     sink: &mut K,
 ) -> Result<bool, Stop>
     ensures counts { K.faults sink.old ≤ K.faults sink.new }
-    ensures answer { IfOk result (λ refused. IfSome (B.script book.now) (λ script. PutsAsOf script date.now layer (map string_bytes words.now) refused (K.said sink.old) (K.said sink.new))) }
-    ensures cause { IfErr result (HasQuestionCause (K.faults sink.old) (K.faults sink.new) (λ n. IfSome (B.script book.now) (HasAsOfLength date.now layer (map string_bytes words.now) n))) }
+    ensures answer { IfOk result (λ refused. IfSome (B.script book.now) (λ script. IfSome (B.acts book.now) (λ acts.
+        PutsAsOf script acts date.now layer (map string_bytes words.now) refused (K.said sink.old) (K.said sink.new)))) }
+    ensures cause { IfErr result (HasQuestionCause (K.faults sink.old) (K.faults sink.new) (λ n. IfSome (B.script book.now) (λ script. IfSome (B.acts book.now) (λ acts.
+        HasAsOfLength acts date.now layer (map string_bytes words.now) n script)))) }
 {
     let line = last_line_by(book.acts(), date);
     let question = question(alloc, line, words)?;

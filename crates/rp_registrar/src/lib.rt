@@ -14,6 +14,7 @@ mod answers;
 pub mod ask;
 mod children;
 pub mod date;
+mod events;
 pub mod history;
 mod layers;
 mod lines;

@@ -1,9 +1,10 @@
-//! The line of a report that says that a lot ended.
+//! The line of a report that says when a lot was born and ended.
 ghost use Rattle.std.specs.Prelude.{◌≡◌, List, option_map, ℕ};
 ghost use Rattle.std.specs.List.{after_first, before_first, position};
 ghost use denote.Ref.{Bor};
 ghost use Rattle.rp_reports.specs.ProofText.{line_number};
 ghost use Rattle.rp_registrar.specs.Children.{after_front, ended_lot, is_space, number_after_born, number_after_ended};
+ghost use Rattle.rp_registrar.specs.Events.{born_lot, number_born};
 
 use rp_command::spelled;
 
@@ -70,4 +71,21 @@ pub(crate) fn ended_lot(line: &[u8]) -> Option<(&[u8], u32)>
 {
     let (id, text) = split_word(after_front(b"= lot ", line)?);
     Some((id, number_after_born(text)?))
+}
+
+/// Returns N if `text` begins with `born N`.
+fn number_born(text: &[u8]) -> Option<u32>
+    ensures { result ≡ number_born text.now }
+{
+    let (word, _) = split_word(after_front(b"born ", text)?);
+    line_number(word)
+}
+
+/// Returns the lot of `line`, a line of a report, and the number of the script's line in which it was born. `None` unless `line`
+/// begins as `= lot ID born N`.
+pub(crate) fn born_lot(line: &[u8]) -> Option<(&[u8], u32)>
+    ensures { option_map (λ (lot : Bor (List ℕ) × ℕ). (lot.0.now, lot.1)) result ≡ born_lot line.now }
+{
+    let (id, text) = split_word(after_front(b"= lot ", line)?);
+    Some((id, number_born(text)?))
 }
