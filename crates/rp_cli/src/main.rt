@@ -9,6 +9,7 @@ use rp_tool::status::{OUT_OF_MEMORY, PUT_FAILED, READ_FAILED, TOO_LONG, UNLISTED
 use rp_tool::tool;
 use std::process::ExitCode;
 use std::rt::Env;
+use std::thread::Threads;
 use std::{env, io};
 
 /// The words could not be read for another cause than want of memory, as where one is not UTF-8. The tool never
@@ -46,14 +47,14 @@ fn message(status: u8) -> Option<&'static str> {
     }
 }
 
-/// Does what `words` ask for, over standard input and standard output. Output is written in pieces of up to 65,536 bytes.
-/// Returns the status: `PUT_FAILED` also if the last piece is not written.
-fn status_of(rt: &HostRuntime, words: &[String]) -> u8 {
+/// Does what `words` ask for, over standard input and standard output; lots are judged by `threads`. Output is written in pieces
+/// of up to 65,536 bytes. Returns the status: `PUT_FAILED` also if the last piece is not written.
+fn status_of<T: Threads + Sync>(rt: &HostRuntime, threads: &T, words: &[String]) -> u8 {
     let Ok(mut sink) = BufferedSink::new(rt.alloc(), StdSink::new(rt.stdout())) else {
         return OUT_OF_MEMORY;
     };
     let mut source = StdSource::new(rt.stdin());
-    let status = tool(rt, rt.alloc(), words, &mut source, &mut sink);
+    let status = tool(threads, rt.alloc(), words, &mut source, &mut sink);
     match sink.finish() {
         Ok(()) => status,
         Err(_) => PUT_FAILED,
@@ -62,7 +63,7 @@ fn status_of(rt: &HostRuntime, words: &[String]) -> u8 {
 
 fn main(rt: HostRuntime) -> ExitCode {
     let status = match words_of(&rt) {
-        Ok(words) => status_of(&rt, &words),
+        Ok(words) => status_of(&rt, &rt, &words),
         Err(error) => status_of_error(&error),
     };
     if let Some(text) = message(status) {
