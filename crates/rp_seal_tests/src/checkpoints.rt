@@ -1,5 +1,5 @@
-use rp_checkpoint::{Checkpoint, checkpoint_text, read_checkpoint};
 use rp_seal::NodeHash;
+use rp_seal_text::{Checkpoint, checkpoint_text, read_checkpoint};
 use std::alloc::Global;
 use std::process::Abort;
 

@@ -1,5 +1,5 @@
 #![tactic(auto)]
-//! Tests of `rp_seal` and `rp_checkpoint` against vectors from outside.
+//! Tests of `rp_seal` and `rp_seal_text` against vectors from outside.
 
 #[cfg(test)]
 mod acts;

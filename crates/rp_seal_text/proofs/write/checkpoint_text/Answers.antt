@@ -1,5 +1,5 @@
 use Rattle.std.proofs.Common.{subst, IsUtf8}
-use Rattle.rp_checkpoint.proofs.write.checkpoint_text.Goals as goal
+use Rattle.rp_seal_text.proofs.write.checkpoint_text.Goals as goal
 
 pub returns-clause-valid : goal.returns-clause-valid
 returns-clause-valid c = record {

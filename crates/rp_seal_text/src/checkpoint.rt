@@ -2,7 +2,7 @@
 ghost use Rattle.std.specs.Prelude.{◌≡◌, ◌<◌, ◌^◌, IsTrue, nat_le, string_bytes};
 ghost use Rattle.std.specs.List.{list_all};
 ghost use Rattle.base64.specs.GeneralPurpose.{IsBytes};
-ghost use Rattle.rp_checkpoint.specs.Origin.{is_origin};
+ghost use Rattle.rp_seal_text.specs.Origin.{is_origin};
 
 use rp_seal::NodeHash;
 
@@ -37,7 +37,7 @@ fn is_origin(text: &str) -> bool
 
 impl Checkpoint {
     ghost use Rattle.std.specs.Prelude.{◌↔◌, IsSome, IfSome};
-    ghost use Rattle.rp_checkpoint.specs.Checkpoint.{fields_of};
+    ghost use Rattle.rp_seal_text.specs.Checkpoint.{fields_of};
 
     /// Creates a checkpoint of `size` entries with the root hash `root`; `None` if `origin` is empty or has an ASCII control
     /// character.

@@ -1,6 +1,6 @@
 //! Checkpoints, written.
 ghost use Rattle.std.specs.Prelude.{◌≡◌, IfOk, string_bytes};
-ghost use Rattle.rp_checkpoint.specs.Checkpoint.{IsCheckpoint, fields_of, lines_of};
+ghost use Rattle.rp_seal_text.specs.Checkpoint.{IsCheckpoint, fields_of, lines_of};
 
 use crate::checkpoint::Checkpoint;
 use base64::engine::general_purpose::STANDARD;

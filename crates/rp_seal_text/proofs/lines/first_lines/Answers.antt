@@ -1,6 +1,6 @@
 use Rattle.std.proofs.Common.{ℕ, List, ◌∷◌, ◌++◌, ap, sym, ◌∙◌}
-use Rattle.rp_checkpoint.proofs.LineLemmas.{three_lines-are}
-use Rattle.rp_checkpoint.proofs.lines.first_lines.Goals as goal
+use Rattle.rp_seal_text.proofs.LineLemmas.{three_lines-are}
+use Rattle.rp_seal_text.proofs.lines.first_lines.Goals as goal
 
 pub returns-in_err-root-clause-each : goal.returns-in_err-root-clause-each
 returns-in_err-root-clause-each c = λ origin size root rest is_origin is_size is_root is.

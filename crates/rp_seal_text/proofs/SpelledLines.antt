@@ -8,9 +8,9 @@ use Rattle.std.specs.Str.Parse.{AllDigits}
 use Rattle.base64.specs.Engines.{standard}
 use Rattle.base64.specs.GeneralPurpose.{encode_of}
 use Rattle.base64.specs.Rfc4648.{encode_symbols, padding_len}
-use Rattle.rp_checkpoint.specs.Lines.{IsLine, is_line_end}
-use Rattle.rp_checkpoint.specs.Origin.{is_origin}
-use Rattle.rp_checkpoint.proofs.LineLemmas.{line-append, line-cons}
+use Rattle.rp_seal_text.specs.Lines.{IsLine, is_line_end}
+use Rattle.rp_seal_text.specs.Origin.{is_origin}
+use Rattle.rp_seal_text.proofs.LineLemmas.{line-append, line-cons}
 
 -- a text without ASCII control characters is a line
 printable_line : (text : List ℕ) → list_all (nat_le 32) text ≡ true → IsLine text

@@ -2,7 +2,7 @@
 ghost use Rattle.std.specs.Prelude.{◌≡◌, ◌<◌, ◌^◌, ℕ, List, Some, length, IfOk, IfSome, IsSomeAnd, MatchOption, IsTrue, IsUtf8, decimal};
 ghost use Rattle.base64.specs.Engines.{standard};
 ghost use Rattle.base64.specs.GeneralPurpose.{IsBytes, encode_of};
-ghost use Rattle.rp_checkpoint.specs.Checkpoint.{BeginsWith, Fields, fields_of};
+ghost use Rattle.rp_seal_text.specs.Checkpoint.{BeginsWith, Fields, fields_of};
 
 use crate::checkpoint::Checkpoint;
 use crate::lines::{Lines, first_lines};

@@ -2,9 +2,9 @@
 use Rattle.std.specs.Prelude.{◌≡◌, ℕ, ◌<◌, ◌^◌, List, ◌++◌, length, IsTrue, IsUtf8, decimal, string_bytes}
 use Rattle.base64.specs.Engines.{standard}
 use Rattle.base64.specs.GeneralPurpose.{IsBytes, encode_of}
-use Rattle.rp_checkpoint.specs.Lines.{three_lines}
-use Rattle.rp_checkpoint.specs.Origin.{is_origin}
-use Rattle.rp_checkpoint.specs.declared.checkpoint.Checkpoint.{Checkpoint}
+use Rattle.rp_seal_text.specs.Lines.{three_lines}
+use Rattle.rp_seal_text.specs.Origin.{is_origin}
+use Rattle.rp_seal_text.specs.declared.checkpoint.Checkpoint.{Checkpoint}
 
 -- what a checkpoint says: the origin of the log, how many entries the log has, and the root hash of its tree
 pub record Fields : Type 0 where

@@ -1,11 +1,11 @@
 use Rattle.std.proofs.Common.{◌≡◌, ℕ, List, Option, Some, None, IsSome, IfSome, IsSomeAnd, IsTrue, IsUtf8, decimal, subst, sym, ◌∙◌, string_bytes}
 use Rattle.base64.specs.Engines.{standard}
 use Rattle.base64.specs.GeneralPurpose.{encode_of}
-use Rattle.rp_checkpoint.specs.declared.checkpoint.Checkpoint.{Checkpoint}
-use Rattle.rp_checkpoint.specs.Checkpoint.{Fields, fields_of}
-use Rattle.rp_checkpoint.specs.Origin.{is_origin}
-use Rattle.rp_checkpoint.proofs.SpelledLines.{origin_line, size_line, root_line}
-use Rattle.rp_checkpoint.proofs.read.read_checkpoint.Goals as goal
+use Rattle.rp_seal_text.specs.declared.checkpoint.Checkpoint.{Checkpoint}
+use Rattle.rp_seal_text.specs.Checkpoint.{Fields, fields_of}
+use Rattle.rp_seal_text.specs.Origin.{is_origin}
+use Rattle.rp_seal_text.proofs.SpelledLines.{origin_line, size_line, root_line}
+use Rattle.rp_seal_text.proofs.read.read_checkpoint.Goals as goal
 
 -- a checkpoint whose fields are g has the fields f, if f is g
 some_fields : (r : Option Checkpoint) (g f : Fields) → IsSome r → IfSome r (λ c. fields_of c ≡ g) → g ≡ f → IsSomeAnd r (λ c. fields_of c ≡ f)

@@ -3,7 +3,7 @@ use Rattle.std.proofs.Common.{◌≡◌, ℕ, ◌+◌, ◌<◌, ◌&&◌, cond, 
 use Rattle.std.proofs.lemmas.Bool.{and_parts, lt-ltb, le-ltb, ne_eqb, eqb-true, cases_lt}
 use Rattle.std.proofs.lemmas.List.Sums.{split_at_first, passes_at_first}
 use Rattle.std.specs.List.{list_all, position_or_len}
-use Rattle.rp_checkpoint.specs.Lines.{IsLine, is_line_end, three_lines}
+use Rattle.rp_seal_text.specs.Lines.{IsLine, is_line_end, three_lines}
 
 -- a byte that is no line end, before a line, is the beginning of a line
 pub line-cons : (b : ℕ) (line : List ℕ) → (b ≡ 10 → ⊥) → IsLine line → IsLine (b ∷ line)

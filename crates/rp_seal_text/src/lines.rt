@@ -1,6 +1,6 @@
 //! The first lines of a text.
 ghost use Rattle.std.specs.Prelude.{◌≡◌, ◌++◌, ◌∷◌, List, ℕ, IfSome, IsSomeAnd, position};
-ghost use Rattle.rp_checkpoint.specs.Lines.{IsLine, is_line_end, three_lines};
+ghost use Rattle.rp_seal_text.specs.Lines.{IsLine, is_line_end, three_lines};
 
 /// The lines of a checkpoint, without their line ends.
 pub(crate) struct Lines<'a> {

@@ -1,7 +1,7 @@
 use Rattle.std.proofs.Common.{◌≡◌, ◌+◌, ◌∷◌, ◌++◌, length, take, drop, Some, None, refl, ap, sym, ◌∙◌, arith, length-drop, take_all, take_at}
 use Rattle.std.proofs.Math.Seq.{drop-append-add}
-use Rattle.rp_checkpoint.proofs.LineLemmas.{position-line, position-found}
-use Rattle.rp_checkpoint.proofs.lines.next_line.Goals as goal
+use Rattle.rp_seal_text.proofs.LineLemmas.{position-line, position-found}
+use Rattle.rp_seal_text.proofs.lines.next_line.Goals as goal
 
 pub returns-in_err-end-clause-each : goal.returns-in_err-end-clause-each
 returns-in_err-end-clause-each c = λ line rest free is.
