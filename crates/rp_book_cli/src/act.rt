@@ -3,6 +3,7 @@
 use crate::date::date_of;
 use crate::fault::Fault;
 use crate::layers::layer_of;
+use crate::seal_fault::SealFault;
 use rp_command::Version;
 
 /// How lines are added: in which layer if one is named, by whom and under which deed, and how their answers are written.
@@ -36,6 +37,14 @@ pub enum Query<'a> {
     Size,
     /// The number of the last line that was added on the date or before.
     Line(&'a str),
+    /// The seal of the acts, under an origin.
+    Seal(&'a str),
+    /// Whether the book begins with the acts of the seal in a file.
+    Verify(&'a str),
+    /// An act, with the proof that the book has it.
+    Prove(u32),
+    /// The proof that the book continues the acts of the seal in a file.
+    Link(&'a str),
 }
 
 /// What is done with a book.
@@ -125,6 +134,21 @@ fn act_of_one(word: &str) -> Result<Act<'_>, Fault> {
     }
 }
 
+/// Reads a word about seals with another after it.
+fn seal_query<'a>(word: &str, next: &'a str) -> Result<Query<'a>, Fault> {
+    match word {
+        "seal" if next.is_empty() => Err(Fault::Seal(SealFault::NoOrigin)),
+        "seal" => Ok(Query::Seal(next)),
+        "verify" => Ok(Query::Verify(next)),
+        "prove" => match next.parse() {
+            Ok(number) => Ok(Query::Prove(number)),
+            Err(_) => Err(Fault::Seal(SealFault::NoNumber)),
+        },
+        "link" => Ok(Query::Link(next)),
+        _ => Err(Fault::Unlisted),
+    }
+}
+
 /// Reads a word with another after it.
 fn act_of_two<'a>(word: &str, next: &'a str) -> Result<Act<'a>, Fault> {
     match (word, next) {
@@ -132,7 +156,7 @@ fn act_of_two<'a>(word: &str, next: &'a str) -> Result<Act<'a>, Fault> {
         ("copy", _) => Ok(Act::Copy(next)),
         ("history", _) => Ok(Act::Read(Query::History(next))),
         ("line", _) => Ok(Act::Read(Query::Line(date_of(next)?))),
-        _ => Err(Fault::Unlisted),
+        _ => Ok(Act::Read(seal_query(word, next)?)),
     }
 }
 
@@ -150,7 +174,8 @@ fn act_after<'a>(word: &'a str, rest: &'a [String]) -> Result<Act<'a>, Fault> {
 /// Returns the file that words name, and what they ask for.
 ///
 /// # Errors
-/// `Unlisted` if the words are none of the listed ones; `NoDate` or `NoDay` if a word is no date; `NoLayer` if a word is no layer.
+/// `Unlisted` if the words are none of the listed ones; `NoDate` or `NoDay` if a word is no date; `NoLayer` if a word is no layer;
+/// `Seal` if a word is no origin or no number of an act.
 pub fn act_of(words: &[String]) -> Result<(&str, Act<'_>), Fault> {
     let [path, word, rest @ ..] = words else {
         return Err(Fault::Unlisted);

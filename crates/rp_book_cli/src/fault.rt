@@ -3,6 +3,7 @@
 use crate::file::FileFault;
 use crate::limits::MOST_SCRIPT_BYTES;
 use crate::path::PathFault;
+use crate::seal_fault::{SealFault, seal_message, seal_status};
 use rp_book::BookFault;
 use rp_registrar::{Length, Stop};
 use std::fmt;
@@ -28,6 +29,8 @@ pub enum Fault {
     Copy(FileFault),
     /// The work on the book stopped.
     Stopped(Stop),
+    /// A seal, or a text that goes with one, does not show what is asked.
+    Seal(SealFault),
 }
 
 impl From<FileFault> for Fault {
@@ -39,6 +42,12 @@ impl From<FileFault> for Fault {
 impl From<Stop> for Fault {
     fn from(stop: Stop) -> Self {
         Fault::Stopped(stop)
+    }
+}
+
+impl From<SealFault> for Fault {
+    fn from(fault: SealFault) -> Self {
+        Fault::Seal(fault)
     }
 }
 
@@ -109,7 +118,7 @@ fn stop_message(stop: Stop) -> &'static str {
 fn message(fault: Fault) -> &'static str {
     match fault {
         Fault::Unlisted => {
-            "these words are not known; nothing was read or written. After the name of the file come: new [1], add [--brief] [--layer LAYER] [WHO [DEED]], ask, history ID, asof DATE [LAYER] X Y Z W, script, report, size, line DATE, copy TO"
+            "these words are not known; nothing was read or written. After the name of the file come: new [1], add [--brief] [--layer LAYER] [WHO [DEED]], ask, history ID, asof DATE [LAYER] X Y Z W, script, report, size, line DATE, copy TO, seal ORIGIN, verify SEAL, prove ACT, link SEAL. Without a book: check-act PROOF SEAL, check-link OLD NEW LINK"
         }
         Fault::Words => {
             "the words of the command line cannot be read, or a line feed or the like stands in one"
@@ -123,6 +132,7 @@ fn message(fault: Fault) -> &'static str {
         }
         Fault::File(fault) | Fault::Unmarked(fault) | Fault::Copy(fault) => file_message(fault),
         Fault::Stopped(stop) => stop_message(stop),
+        Fault::Seal(fault) => seal_message(fault),
     }
 }
 
@@ -189,5 +199,6 @@ pub fn status_of(fault: Fault) -> u8 {
         Fault::Words => 7,
         Fault::File(fault) | Fault::Unmarked(fault) | Fault::Copy(fault) => file_status(fault),
         Fault::Stopped(stop) => stop_status(stop),
+        Fault::Seal(fault) => seal_status(fault),
     }
 }

@@ -1,11 +1,13 @@
 #![tactic(auto)]
-//! The program that keeps a book in an SQLite file: the words behind its name are the file and what is to be done.
+//! The program that keeps a book in an SQLite file: the words after its name are the file and what is to be done. Two words need
+//! no book: they check proofs by seals.
 //!
 //! Lines come from standard input, answers go to standard output. Where nothing was done one line on standard error says
 //! why.
 
 mod act;
 mod answers;
+mod check;
 mod copies;
 mod copy;
 mod date;
@@ -17,11 +19,15 @@ mod limits;
 mod lines;
 mod path;
 mod queries;
+mod seal_fault;
+mod seal_text;
+mod seals;
 mod size;
 mod version;
 mod words;
 mod work;
 
+use check::{check_of, write_checked};
 use fault::{Fault, status_of};
 use std::process::ExitCode;
 use std::thread::Threads;
@@ -35,6 +41,10 @@ fn outcome_of<T: Threads + Sync>(rt: &HostRuntime, threads: &T) -> Result<bool, 
     };
     if have_control(&words) {
         return Err(Fault::Words);
+    }
+    if let Some(check) = check_of(&words) {
+        write_checked(rt, check)?;
+        return Ok(false);
     }
     work(rt, threads, &words)
 }

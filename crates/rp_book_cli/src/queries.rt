@@ -2,7 +2,9 @@
 
 use crate::act::Query;
 use crate::date::beginning_after;
+use crate::fault::Fault;
 use crate::layers::{name_of, tell_asked};
+use crate::seals::{write_link, write_proof, write_seal, write_verified};
 use crate::size::write_size;
 use crate::version::unmarked;
 use rp_book::Book;
@@ -58,6 +60,22 @@ fn write_line<B: Book>(rt: &HostRuntime, book: &B, date: &str) -> Result<(), Sto
     println!(rt; "{line}").map_err(|_| Stop::Put)
 }
 
+/// Writes what is asked about the seals of `book`; nothing for another query. `input` has the seal that `query` names.
+fn write_seals<B: Book>(
+    rt: &HostRuntime,
+    book: &B,
+    input: &[u8],
+    query: Query<'_>,
+) -> Result<(), Fault> {
+    match query {
+        Query::Seal(origin) => write_seal(rt, book, origin),
+        Query::Verify(_) => write_verified(rt, book, input),
+        Query::Prove(number) => write_proof(rt, book, number),
+        Query::Link(_) => write_link(rt, book, input),
+        _ => Ok(()),
+    }
+}
+
 /// Writes what is read from `book`. Returns whether a line of it is a refusal.
 pub fn write_query<T: Threads + Sync, B: Book>(
     rt: &HostRuntime,
@@ -65,15 +83,20 @@ pub fn write_query<T: Threads + Sync, B: Book>(
     book: &B,
     input: &[u8],
     query: Query<'_>,
-) -> Result<bool, Stop> {
+) -> Result<bool, Fault> {
     let mut sink = StdSink::new(rt.stdout());
-    match query {
-        Query::Ask => write_answers(rt, threads, book, input),
-        Query::History(id) => history(threads, rt.alloc(), book, id, &mut sink),
-        Query::AsOf { date, layer, place } => write_as_of(rt, threads, book, date, layer, place),
-        Query::Report => put_report(threads, rt.alloc(), book, &mut sink),
-        Query::Script => put_script(book, &mut sink).map(|_| false),
-        Query::Size => write_size(rt, threads, book).map(|_| false),
-        Query::Line(date) => write_line(rt, book, date).map(|_| false),
-    }
+    let refused = match query {
+        Query::Ask => write_answers(rt, threads, book, input)?,
+        Query::History(id) => history(threads, rt.alloc(), book, id, &mut sink)?,
+        Query::AsOf { date, layer, place } => write_as_of(rt, threads, book, date, layer, place)?,
+        Query::Report => put_report(threads, rt.alloc(), book, &mut sink)?,
+        Query::Script => put_script(book, &mut sink).map(|_| false)?,
+        Query::Size => write_size(rt, threads, book).map(|_| false)?,
+        Query::Line(date) => write_line(rt, book, date).map(|_| false)?,
+        Query::Seal(_) | Query::Verify(_) | Query::Prove(_) | Query::Link(_) => {
+            write_seals(rt, book, input, query)?;
+            false
+        }
+    };
+    Ok(refused)
 }

@@ -1,0 +1,32 @@
+-- The log of a book: the acts of which its seals speak.
+use Rattle.std.specs.Prelude.{ℕ, ◌+◌, List, [], ◌∷◌, length, map}
+use Rattle.std.specs.List.{slice_range}
+use Rattle.rp_book.specs.Act.{Told}
+use Rattle.rp_seal.specs.Act.{ActEntry, act_bytes}
+use Rattle.rp_seal.specs.Merkle.{leaf_hash, tree_hash}
+use Rattle.rp_seal_text.specs.Checkpoint.{Fields}
+
+-- the entry of an act with a number and lines
+abbrev pub entry_at : ℕ → List ℕ → Told → ActEntry
+entry_at number lines act = record { number = number; first = act.first; last = act.last; added = act.added; who = act.who; deed = act.deed; lines = lines }
+
+-- the entries of acts of a script. The first act has a number, and its lines begin at a byte of the script
+abbrev pub entries_from : List ℕ → ℕ → ℕ → List Told → List ActEntry
+entries_from script number start [] = []
+entries_from script number start (act ∷ acts) = entry_at number (slice_range script start act.end) act ∷ entries_from script (number + 1) act.end acts
+
+-- the log of a book: its acts in order, numbered from 1, with their lines
+abbrev pub log_of : List ℕ → List Told → List ActEntry
+log_of script acts = entries_from script 1 0 acts
+
+-- the leaf hash of each entry
+abbrev pub leaves_of : List ActEntry → List (List ℕ)
+leaves_of log = map leaf_hash (map act_bytes log)
+
+-- the root hash of a log
+abbrev pub log_root : List ActEntry → List ℕ
+log_root log = tree_hash (map act_bytes log)
+
+-- the checkpoint of a log under an origin
+abbrev pub checkpoint_of : List ℕ → List ActEntry → Fields
+checkpoint_of origin log = record { origin = origin; size = length log; root = log_root log }

@@ -1,0 +1,51 @@
+//! The checkpoint of a book.
+ghost use Rattle.std.specs.Prelude.{◌≡◌, ◌≤◌, IfOk, IfSome, IsTrue};
+ghost use Rattle.rp_io.specs.Bytes.{Appends};
+ghost use Rattle.rp_seal_text.specs.Checkpoint.{lines_of};
+ghost use Rattle.rp_seal_text.specs.Origin.{is_origin};
+ghost use Rattle.rp_sealed_book.specs.Log.{checkpoint_of, log_of};
+
+use crate::log::leaf_hashes;
+use rp_book::Book;
+use rp_io::Sink;
+use rp_scripts::{OutputFault, put_lines};
+use rp_seal::root_of;
+use rp_seal_text::{Checkpoint, checkpoint_text};
+use std::alloc::{AllocError, Global};
+
+/// Returns the text of the checkpoint of `book` under `origin`; `None` if `origin` is empty or has an ASCII control character.
+fn text_of<B: Book>(alloc: Global, book: &B, origin: &str) -> Result<Option<String>, AllocError>
+{
+    let leaves = leaf_hashes(alloc, book.text(), book.acts())?;
+    let origin = String::from_str(alloc, origin)?;
+    let Some(checkpoint) = Checkpoint::new(origin, leaves.len() as u64, root_of(&leaves)) else {
+        return Ok(None);
+    };
+    let text = checkpoint_text(alloc, &checkpoint)?;
+    Ok(Some(text))
+}
+
+/// Puts into `sink` the checkpoint of `book` under `origin`: the origin, how many acts the book has, and the root hash of its acts.
+/// Returns whether `origin` may be one: it is not empty and has no ASCII control character. Otherwise nothing is put.
+///
+/// # Errors
+///
+/// - `Put` if a put fails.
+/// - `Memory` if there is not enough memory.
+pub fn seal<B: Book, K: Sink>(
+    alloc: Global,
+    book: &B,
+    origin: &str,
+    sink: &mut K,
+) -> Result<bool, OutputFault>
+    ensures counts { K.faults sink.old ≤ K.faults sink.new }
+    ensures origin { IfOk result (λ written. written ≡ is_origin origin.now) }
+    ensures text { IfOk result (λ written. IsTrue written → IfSome (B.script book.now) (λ script. IfSome (B.acts book.now) (λ acts.
+        Appends (K.said sink.old) (K.said sink.new) (lines_of (checkpoint_of origin.now (log_of script acts)))))) }
+{
+    let Some(text) = text_of(alloc, book, origin)? else {
+        return Ok(false);
+    };
+    put_lines(sink, text.as_bytes())?;
+    Ok(true)
+}
