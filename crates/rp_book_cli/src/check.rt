@@ -67,7 +67,7 @@ fn write_link_checked(rt: &HostRuntime, old: &str, new: &str, link: &str) -> Res
     }
     let from = old.size;
     let to = new.size;
-    let done = println!(rt; "accepted acts 1 to {from} of {to}");
+    let done = println!(rt; "accepted {from} of {to} acts");
     done.map_err(|_| Fault::Stopped(Stop::Put))
 }
 

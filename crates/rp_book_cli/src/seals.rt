@@ -42,7 +42,7 @@ pub fn write_verified<B: Book>(rt: &HostRuntime, book: &B, text: &[u8]) -> Resul
 /// Writes that the acts of `seal` are accepted.
 fn write_accepted(rt: &HostRuntime, seal: &Checkpoint) -> Result<(), Fault> {
     let size = seal.size;
-    let done = println!(rt; "accepted acts 1 to {size}");
+    let done = println!(rt; "accepted {size} acts");
     done.map_err(|_| Fault::Stopped(Stop::Put))
 }
 

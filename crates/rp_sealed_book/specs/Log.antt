@@ -1,5 +1,5 @@
 -- The log of a book: the acts of which its seals speak.
-use Rattle.std.specs.Prelude.{ℕ, ◌+◌, List, [], ◌∷◌, length, map}
+use Rattle.std.specs.Prelude.{ℕ, zero, suc, ◌+◌, List, [], ◌∷◌, length, map, Option, None, slice_get}
 use Rattle.std.specs.List.{slice_range}
 use Rattle.rp_book.specs.Act.{Told}
 use Rattle.rp_seal.specs.Act.{ActEntry, act_bytes}
@@ -30,3 +30,8 @@ log_root log = tree_hash (map act_bytes log)
 -- the checkpoint of a log under an origin
 abbrev pub checkpoint_of : List ℕ → List ActEntry → Fields
 checkpoint_of origin log = record { origin = origin; size = length log; root = log_root log }
+
+-- the entry with a number, counted from 1
+abbrev pub entry_numbered : List ActEntry → ℕ → Option ActEntry
+entry_numbered log zero = None
+entry_numbered log (suc place) = slice_get log place
