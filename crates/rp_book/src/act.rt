@@ -60,8 +60,8 @@ impl Act {
     }
 }
 
-/// Returns how many bytes of the script come before the lines of the act at `place`.
-fn start_of(acts: &[Act], place: usize) -> usize
+/// Returns how many bytes of a script come before the lines of the act at `place` of `acts`, the acts of the script.
+pub fn start_of(acts: &[Act], place: usize) -> usize
     requires { place ≤ length acts.now }
     ensures { result ≡ start_at (map act_of acts.now) place }
 {

@@ -10,7 +10,7 @@ mod book;
 mod fault;
 mod numbers;
 
-pub use act::{Act, Entry, act_lines};
+pub use act::{Act, Entry, act_lines, start_of};
 pub use book::Book;
 pub use fault::BookFault;
 pub use numbers::{has_end, line_numbers};

@@ -14,16 +14,16 @@
 //! - [`check_link`] says whether one sealed book continues another.
 
 mod check;
-mod link;
+mod checkpoint;
+mod comparison;
+mod continuation;
+mod inclusion;
 mod log;
-mod prove;
-mod seal;
 mod verdict;
-mod verify;
 
 pub use check::{check_act, check_link};
-pub use link::link;
-pub use prove::prove;
-pub use seal::seal;
+pub use checkpoint::seal;
+pub use comparison::verify;
+pub use continuation::link;
+pub use inclusion::prove;
 pub use verdict::SealVerdict;
-pub use verify::verify;

@@ -1,5 +1,5 @@
 //! The checkpoint of a book.
-ghost use Rattle.std.specs.Prelude.{◌≡◌, ◌≤◌, IfOk, IfSome, IsTrue};
+ghost use Rattle.std.specs.Prelude.{◌≡◌, ◌≤◌, true, false, IfOk, IfSome, IsTrue, MatchOption, string_bytes};
 ghost use Rattle.rp_io.specs.Bytes.{Appends};
 ghost use Rattle.rp_seal_text.specs.Checkpoint.{lines_of};
 ghost use Rattle.rp_seal_text.specs.Origin.{is_origin};
@@ -15,6 +15,8 @@ use std::alloc::{AllocError, Global};
 
 /// Returns the text of the checkpoint of `book` under `origin`; `None` if `origin` is empty or has an ASCII control character.
 fn text_of<B: Book>(alloc: Global, book: &B, origin: &str) -> Result<Option<String>, AllocError>
+    ensures { IfOk result (λ found. MatchOption found (false ≡ is_origin origin.now) (λ text. (true ≡ is_origin origin.now)
+        × IfSome (B.script book.now) (λ script. IfSome (B.acts book.now) (λ acts. string_bytes text ≡ lines_of (checkpoint_of origin.now (log_of script acts)))))) }
 {
     let leaves = leaf_hashes(alloc, book.text(), book.acts())?;
     let origin = String::from_str(alloc, origin)?;

@@ -1,7 +1,7 @@
 //! A book, compared with a seal.
-ghost use Rattle.std.specs.Prelude.{◌≡◌, List, IfOk, IfSome};
+ghost use Rattle.std.specs.Prelude.{◌≡◌, ◌↔◌, List, IfOk, IfSome, IsTrue};
 ghost use Rattle.rp_seal.specs.Act.{ActEntry};
-ghost use Rattle.rp_seal.specs.Hash.{hashes_of};
+ghost use Rattle.rp_seal.specs.Hash.{bytes_of, hashes_of};
 ghost use Rattle.rp_seal_text.specs.Checkpoint.{fields_of};
 ghost use Rattle.rp_sealed_book.specs.Log.{leaves_of, log_of};
 ghost use Rattle.rp_sealed_book.specs.Verdict.{Binds, IsVerdict};
@@ -14,6 +14,13 @@ use rp_seal::{NodeHash, root_of};
 use rp_seal_text::Checkpoint;
 use std::alloc::{AllocError, Global};
 
+/// Returns whether two hashes are equal.
+fn is_equal(one: &NodeHash, other: &NodeHash) -> bool
+    ensures { IsTrue result ↔ (bytes_of one.now ≡ bytes_of other.now) }
+{
+    *one == *other
+}
+
 /// Compares the leaf hashes of a log with `seal`.
 pub(crate) fn compare(leaves: &[NodeHash], seal: &Checkpoint) -> SealVerdict
     ensures { (log : List ActEntry) → hashes_of leaves.now ≡ leaves_of log → IsVerdict (fields_of seal.now) log result }
@@ -21,7 +28,8 @@ pub(crate) fn compare(leaves: &[NodeHash], seal: &Checkpoint) -> SealVerdict
     if seal.size > leaves.len() as u64 {
         return SealVerdict::Shorter;
     }
-    if root_of(&leaves[..seal.size as usize]) == seal.root {
+    let root = root_of(&leaves[..seal.size as usize]);
+    if is_equal(&root, &seal.root) {
         SealVerdict::Begins
     } else {
         SealVerdict::Differs
