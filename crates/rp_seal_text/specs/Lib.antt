@@ -1,3 +1,5 @@
 pub mod Lines
 pub mod Origin
 pub mod Checkpoint
+pub mod Fields
+pub mod ActText

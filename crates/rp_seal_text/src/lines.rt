@@ -17,7 +17,7 @@ fn line_end(text: &[u8]) -> Option<usize>
 }
 
 /// Returns the first line of `text`, without its line end, and what follows the line end.
-fn next_line(text: &[u8]) -> Option<(&[u8], &[u8])>
+pub(crate) fn next_line(text: &[u8]) -> Option<(&[u8], &[u8])>
     ensures found { IfSome result (λ p. text.now ≡ p.0.now ++ 10 ∷ p.1.now) }
     ensures each { (line rest : List ℕ) → IsLine line → text.now ≡ line ++ 10 ∷ rest
         → IsSomeAnd result (λ p. (p.0.now ≡ line) × (p.1.now ≡ rest)) }

@@ -14,7 +14,7 @@ use std::alloc::{AllocError, Global};
 use std::str;
 
 /// Returns `line` as text, if it is UTF-8.
-fn read_text(line: &[u8]) -> Option<&str>
+pub(crate) fn read_text(line: &[u8]) -> Option<&str>
     ensures { MatchOption result (¬ IsUtf8 line.now) (λ text. (text.now ≡ line.now) × IsUtf8 line.now) }
 {
     str::from_utf8(line).ok()
@@ -38,7 +38,7 @@ fn read_number(digits: &str) -> Option<u64>
 }
 
 /// Returns the number that `line` spells in decimal, without leading zeros.
-fn read_size(line: &[u8]) -> Option<u64>
+pub(crate) fn read_size(line: &[u8]) -> Option<u64>
     ensures found { IfSome result (λ size. line.now ≡ decimal size) }
     ensures each { (size : ℕ) → size < 2 ^ 64 → line.now ≡ decimal size → result ≡ Some size }
 {
@@ -46,7 +46,7 @@ fn read_size(line: &[u8]) -> Option<u64>
 }
 
 /// Returns the hash that `line` spells in base64.
-fn read_root(alloc: Global, line: &[u8]) -> Result<Option<NodeHash>, AllocError>
+pub(crate) fn read_root(alloc: Global, line: &[u8]) -> Result<Option<NodeHash>, AllocError>
     ensures found { IfOk result (λ found. IfSome found (λ root. line.now ≡ encode_of standard root.bytes)) }
     ensures each { (root : List ℕ) → length root ≡ 32 → IsBytes root → line.now ≡ encode_of standard root
         → IfOk result (λ found. IsSomeAnd found (λ h. h.bytes ≡ root)) }

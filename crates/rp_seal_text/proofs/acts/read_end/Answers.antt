@@ -1,0 +1,11 @@
+use Rattle.std.proofs.Common.{◌≡◌, ℕ, List, [], ◌∷◌, ◌++◌, append-nil, sym, ◌∙◌}
+use Rattle.rp_seal_text.specs.ActText.{end_line}
+use Rattle.rp_seal_text.proofs.acts.read_end.Goals as goal
+
+pub returns-in_err-count-clause-each : goal.returns-in_err-count-clause-each
+returns-in_err-count-clause-each c = λ n fits is.
+    absurd (c.in_err-count.ensures.each n [] fits (is ∙ sym (append-nil (end_line n))))
+
+pub returns-else-is_empty-clause-each : goal.returns-else-is_empty-clause-each
+returns-else-is_empty-clause-each c = λ n fits is.
+    let end = c.in_ok-count.ensures.each n [] fits (is ∙ sym (append-nil (end_line n))) in ?
