@@ -1,3 +1,4 @@
 pub mod LineLemmas
 pub mod SpelledLines
 pub mod FieldLemmas
+pub mod ActLemmas

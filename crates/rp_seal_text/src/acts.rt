@@ -28,7 +28,8 @@ pub fn write_act(text: &mut Vec<u8>, act: &SealedAct<'_>) -> Result<(), AllocErr
     write_text(text, b"added", act.added.as_bytes())?;
     write_option(text, b"who", act.who)?;
     write_option(text, b"deed", act.deed)?;
-    write_text(text, b"lines", act.lines)
+    write_text(text, b"lines", act.lines)?;
+    Ok(())
 }
 
 /// Returns the act with whose text `text` begins, and what follows it.

@@ -131,9 +131,14 @@ pub(crate) fn write_text(text: &mut Vec<u8>, name: &[u8], field: &[u8]) -> Resul
 /// # Errors
 ///
 /// `AllocError` if there is no memory for the text.
-pub(crate) fn write_option(text: &mut Vec<u8>, name: &[u8], field: Option<&str>) -> Result<(), AllocError>
+pub(crate) fn write_option(
+    text: &mut Vec<u8>,
+    name: &[u8],
+    field: Option<&str>,
+) -> Result<(), AllocError>
     ensures text { OnOk result (text.new.items ≡ text.old.items ++ option_field name.now (option_map (λ t. t.now) field.entry)) }
-    ensures valid { IfSome (option_map (λ t. t.now) field.entry) IsUtf8 }
+    ensures room { IfSome (option_map (λ t. t.now) field.entry) (λ t. length t < 2 ^ 64) }
+    ensures utf8 { IfSome (option_map (λ t. t.now) field.entry) IsUtf8 }
 {
     match field {
         None => {

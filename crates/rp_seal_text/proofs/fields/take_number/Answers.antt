@@ -4,17 +4,17 @@ use Rattle.rp_seal_text.proofs.fields.take_number.Goals as goal
 
 pub returns-in_err-line-clause-each : goal.returns-in_err-line-clause-each
 returns-in_err-line-clause-each c = λ n rest fits is.
-    c.in_err-line.ensures.each (c.args.name.now ++ 32 ∷ decimal n) rest (named_number_line c.args.name.now n c.requires fits) (is ∙ number_line-then c.args.name.now n rest)
+    absurd (c.in_err-line.ensures.each (c.args.name.now ++ 32 ∷ decimal n) rest (named_number_line c.args.name.now n c.requires fits) (is ∙ number_line-then c.args.name.now n rest))
 
 pub returns-in_err-spaced-clause-each : goal.returns-in_err-spaced-clause-each
 returns-in_err-spaced-clause-each c = λ n rest fits is.
     let line = c.in_ok-line.ensures.each (c.args.name.now ++ 32 ∷ decimal n) rest (named_number_line c.args.name.now n c.requires fits) (is ∙ number_line-then c.args.name.now n rest) in
-    c.in_err-spaced.ensures.each (32 ∷ decimal n) line.0
+    absurd (c.in_err-spaced.ensures.each (32 ∷ decimal n) line.0)
 
 pub returns-in_err-digits-clause-each : goal.returns-in_err-digits-clause-each
 returns-in_err-digits-clause-each c = λ n rest fits is.
     let line = c.in_ok-line.ensures.each (c.args.name.now ++ 32 ∷ decimal n) rest (named_number_line c.args.name.now n c.requires fits) (is ∙ number_line-then c.args.name.now n rest) in
-    c.in_err-digits.ensures.each (decimal n) (c.in_ok-spaced.ensures.each (32 ∷ decimal n) line.0)
+    absurd (c.in_err-digits.ensures.each (decimal n) (c.in_ok-spaced.ensures.each (32 ∷ decimal n) line.0))
 
 pub returns-in_err-number-clause-each : goal.returns-in_err-number-clause-each
 returns-in_err-number-clause-each c = λ n rest fits is.

@@ -19,8 +19,8 @@ each_after s p (Some x) is rest begins = append_cancel_left p x.now rest (sym is
 
 pub returns-clause-found : goal.returns-clause-found
 returns-clause-found c =
-    found_after c.args.text.now c.args.prefix.now _ (strip_prefix_is Decides-eqb c.args.text.now c.args.prefix.now _ c.strip_prefix.ensures)
+    found_after c.args.text.now c.args.prefix.now _ (strip_prefix_is Decides-eqb c.args.text.now c.args.prefix.now _ c.strip_prefix.ensures.cases)
 
 pub returns-clause-each : goal.returns-clause-each
 returns-clause-each c =
-    each_after c.args.text.now c.args.prefix.now _ (strip_prefix_is Decides-eqb c.args.text.now c.args.prefix.now _ c.strip_prefix.ensures)
+    each_after c.args.text.now c.args.prefix.now _ (strip_prefix_is Decides-eqb c.args.text.now c.args.prefix.now _ c.strip_prefix.ensures.cases)
