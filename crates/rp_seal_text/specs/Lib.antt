@@ -3,3 +3,5 @@ pub mod Origin
 pub mod Checkpoint
 pub mod Fields
 pub mod ActText
+pub mod Hashes
+pub mod ProofFiles

@@ -1,14 +1,22 @@
 #![tactic(auto)]
-//! Checkpoints of a log as text (C2SP tlog-checkpoint), written and read. Other tools sign them. docs/seal.md has the format.
+//! The texts of a log, written and read: checkpoints (C2SP tlog-checkpoint), acts, act proofs and links. Other tools sign them.
+//! docs/seal.md has the formats.
 
+mod act_proof;
 mod acts;
 mod checkpoint;
 mod fields;
+mod hashes;
 mod lines;
+mod link;
+mod proof_files;
 mod read;
 mod write;
 
+pub use act_proof::ActProof;
 pub use acts::{ACTS_MARK, read_act, read_end, write_act, write_end};
 pub use checkpoint::Checkpoint;
+pub use link::Link;
+pub use proof_files::{act_proof_text, link_text, read_act_proof, read_link};
 pub use read::read_checkpoint;
 pub use write::checkpoint_text;
