@@ -2,3 +2,4 @@ pub mod LineLemmas
 pub mod SpelledLines
 pub mod FieldLemmas
 pub mod ActLemmas
+pub mod HashLemmas

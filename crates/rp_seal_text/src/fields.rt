@@ -102,7 +102,8 @@ pub(crate) fn take_option<'a>(name: &[u8], text: &'a [u8]) -> Option<(Option<&'a
 ///
 /// `AllocError` if there is no memory for the line.
 pub(crate) fn write_number(text: &mut Vec<u8>, name: &[u8], number: u64) -> Result<(), AllocError>
-    ensures { OnOk result (text.new.items ≡ text.old.items ++ number_line name.now number) }
+    ensures text { OnOk result (text.new.items ≡ text.old.items ++ number_line name.now number) }
+    ensures fits { number < 2 ^ 64 }
 {
     let mut buffer = Buffer::new();
     text.extend_from_slice(name)?;

@@ -87,9 +87,9 @@ pub(crate) fn read_proof(alloc: Global, text: &[u8]) -> Result<Option<Vec<NodeHa
 /// # Errors
 ///
 /// `AllocError` if there is no memory for the line.
-fn write_hash(text: &mut Vec<u8>, hash: &NodeHash) -> Result<(), AllocError>
-    ensures text { OnOk result (text.new.items ≡ text.old.items ++ hash_line (bytes_of hash.now)) }
-    ensures hash { OnOk result (IsHash (bytes_of hash.now)) }
+fn write_hash(text: &mut Vec<u8>, hash: NodeHash) -> Result<(), AllocError>
+    ensures text { OnOk result (text.new.items ≡ text.old.items ++ hash_line (bytes_of hash)) }
+    ensures hash { OnOk result (IsHash (bytes_of hash)) }
 {
     let mut line = [0; 44];
     STANDARD
@@ -111,7 +111,7 @@ pub(crate) fn write_proof(text: &mut Vec<u8>, hashes: &[NodeHash]) -> Result<(),
 {
     write_number(text, b"proof", hashes.len() as u64)?;
     for hash in hashes {
-        write_hash(text, hash)?;
+        write_hash(text, *hash)?;
     }
     Ok(())
 }
