@@ -1,8 +1,8 @@
 -- The leaf hashes and the root hash of a log.
-use Rattle.std.proofs.Common.{◌≡◌, ◌≢◌, ◌⊎◌, inl, inr, ℕ, zero, suc, ◌+◌, ◌≤◌, List, [], ◌∷◌, ◌++◌, length, take, map, refl, ap, ap₂, subst, sym, ◌∙◌, append_assoc, arith, length-take}
+use Rattle.std.proofs.Common.{◌≡◌, inl, inr, ℕ, zero, suc, ◌+◌, ◌≤◌, List, [], ◌∷◌, ◌++◌, length, take, map, refl, ap, ap₂, subst, sym, ◌∙◌, append_assoc, arith, length-take}
 use Rattle.std.proofs.lemmas.List.{length-map, map-append, take-map}
 use Rattle.std.specs.List.{AllByRecursion, slice_range}
-use Rattle.std.specs.Prelude.{Option, Some, None, IfSome, option_map, slice_get, slice_index, slice_index_or}
+use Rattle.std.specs.Prelude.{Option, Some, None, IfSome}
 use Rattle.rp_book.specs.Act.{Told, act_of}
 use Rattle.rp_book.specs.declared.act.Act.{Act}
 use Rattle.rp_seal.specs.Act.{ActEntry, IsEncodable, act_bytes}

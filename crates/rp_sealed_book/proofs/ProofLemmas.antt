@@ -1,15 +1,14 @@
 -- The entry of an act, and what a proof that leads from it to a root hash shows.
-use Rattle.std.proofs.Common.{◌≡◌, ◌⊎◌, inl, inr, ℕ, zero, suc, ◌+◌, ◌-◌, ◌<◌, ◌≤◌, List, [], ◌∷◌, length, take, map, refl, ap, subst, sym, ◌∙◌, arith}
-use Rattle.std.specs.Prelude.{Option, Some, None, option_map, slice_get, slice_index, slice_index_or}
+use Rattle.std.proofs.Common.{◌≡◌, ◌⊎◌, ◌↔◌, inl, inr, Bool, IsTrue, ℕ, zero, suc, ◌+◌, ◌-◌, ◌<◌, List, [], ◌∷◌, length, take, map, refl, ap, subst, ◌∙◌, arith}
+use Rattle.std.specs.Prelude.{Some, option_map, slice_get, slice_index, slice_index_or}
 use Rattle.std.specs.List.{AllByRecursion, slice_range}
 use Rattle.std.proofs.lemmas.List.{length-map, take-map}
-use Rattle.std.proofs.lemmas.Option.{slice_get-map}
 use Rattle.rp_book.specs.Act.{act_of}
 use Rattle.rp_book.specs.declared.act.Act.{Act}
 use Rattle.rp_seal.specs.Act.{ActEntry, IsEncodable, act_bytes}
 use Rattle.rp_seal.specs.Collision.{HasCollision}
 use Rattle.rp_seal.specs.Consistency.{IsConsistencyProof, consistency_inputs}
-use Rattle.rp_seal.specs.Hash.{bytes_of, hashes_of}
+use Rattle.rp_seal.specs.Hash.{hashes_of}
 use Rattle.rp_seal.specs.Inclusion.{IsInclusionProof, inclusion_inputs}
 use Rattle.rp_seal.specs.Merkle.{leaf_hash, root_of, tree_hash}
 use Rattle.rp_seal.specs.declared.hash.NodeHash.{NodeHash}
@@ -17,7 +16,7 @@ use Rattle.rp_seal.proofs.ActBytes.{same_act}
 use Rattle.rp_seal_text.specs.Checkpoint.{Fields}
 use Rattle.rp_seal_text.specs.ProofFiles.{ActProofFields, LinkFields}
 use Rattle.rp_sealed_book.specs.Log.{entries_from, entry_at, entry_numbered, leaves_of, log_of, log_root}
-use Rattle.rp_sealed_book.specs.Proof.{Continues, HasAct, IsLinkOf}
+use Rattle.rp_sealed_book.specs.Proof.{Continues, HasAct, LeadsToSeal}
 use Rattle.rp_sealed_book.proofs.LogLemmas.{encodable-take, length-leaves, root-take, root-whole, same_logs}
 
 -- the entry of the act at a place, where the first act has a number and begins at a byte
@@ -79,24 +78,41 @@ act-at [] place a rooms room found = absurd (cc)
 act-at (b ∷ log) zero a rooms room found = let same : act_bytes b ≡ act_bytes a = (cc) in ap (λ (e : ActEntry). Some e) (same_act b a rooms.0 room same)
 act-at (b ∷ log) (suc place) a rooms room found = act-at log place a rooms.1 room found
 
+-- what an accepted inclusion proof says of lists of bytes
+abbrev pub Shows : Fields → ℕ → List ℕ → List (List ℕ) → Type 0
+Shows seal place bytes hashes = (entries : List (List ℕ)) → length entries ≡ seal.size → tree_hash entries ≡ seal.root
+    → (slice_get entries place ≡ Some bytes) ⊎ HasCollision (inclusion_inputs entries seal.size place bytes hashes)
+
+-- a proof leads from its act to a seal, if it leads from the bytes of the act at the place of its number
+pub leads-to : (p : ActProofFields) (seal : Fields) (place : ℕ) (bytes : List ℕ) (hashes : List (List ℕ)) (test : Bool) → place ≡ p.act.number - 1 → 0 < p.act.number → p.size ≡ seal.size
+    → bytes ≡ act_bytes p.act → hashes ≡ p.proof → (IsTrue test ↔ IsInclusionProof seal.root seal.size place (leaf_hash bytes) hashes) → IsTrue test ↔ LeadsToSeal p seal
+leads-to p seal place bytes hashes test is_place some size is_bytes is_hashes exact =
+    let same : (IsTrue test ↔ IsInclusionProof seal.root seal.size (p.act.number - 1) (leaf_hash (act_bytes p.act)) p.proof) =
+    subst (λ k. IsTrue test ↔ IsInclusionProof seal.root seal.size k (leaf_hash (act_bytes p.act)) p.proof) is_place
+    (subst (λ b. IsTrue test ↔ IsInclusionProof seal.root seal.size place (leaf_hash b) p.proof) is_bytes
+    (subst (λ hs. IsTrue test ↔ IsInclusionProof seal.root seal.size place (leaf_hash bytes) hs) is_hashes exact)) in
+    (λ t. record { numbered = some; size = size; leads = same.0 t }, λ l. same.1 l.leads)
+
 -- what an accepted inclusion proof says of lists of bytes, it says of logs
-pub has-act : (p : ActProofFields) (seal : Fields) → IsEncodable p.act → 0 < p.act.number
-    → ((entries : List (List ℕ)) → length entries ≡ seal.size → tree_hash entries ≡ seal.root
-        → (slice_get entries (p.act.number - 1) ≡ Some (act_bytes p.act)) ⊎ HasCollision (inclusion_inputs entries seal.size (p.act.number - 1) (act_bytes p.act) p.proof))
-    → HasAct p seal
-has-act p seal room some sound = λ log rooms size root.
-    elim (sound (map act_bytes log) (length-map log act_bytes ∙ size) root) [
+pub has-act : (p : ActProofFields) (seal : Fields) (place : ℕ) (bytes : List ℕ) (hashes : List (List ℕ)) → IsEncodable p.act → place ≡ p.act.number - 1 → 0 < p.act.number
+    → bytes ≡ act_bytes p.act → hashes ≡ p.proof → Shows seal place bytes hashes → HasAct p seal
+has-act p seal place bytes hashes room is_place some is_bytes is_hashes shows = λ log rooms size root.
+    let same : Shows seal (p.act.number - 1) (act_bytes p.act) p.proof =
+    subst (λ k. Shows seal k (act_bytes p.act) p.proof) is_place (subst (λ b. Shows seal place b p.proof) is_bytes (subst (λ hs. Shows seal place bytes hs) is_hashes shows)) in
+    elim (same (map act_bytes log) (length-map log act_bytes ∙ size) root) [
       | inl found ↦ inl (numbered-at log p.act.number p.act some (act-at log (p.act.number - 1) p.act rooms room found))
       | inr collision ↦ inr collision
     ]
 
+-- what an accepted consistency proof says of lists of bytes
+abbrev pub ShowsBeginning : Fields → Fields → List (List ℕ) → Type 0
+ShowsBeginning old new hashes = (before after : List (List ℕ)) → length before ≡ old.size → length after ≡ new.size → tree_hash before ≡ old.root → tree_hash after ≡ new.root
+    → (before ≡ take old.size after) ⊎ HasCollision (consistency_inputs before after old.size new.size old.root hashes)
+
 -- what an accepted consistency proof says of lists of bytes, it says of logs
-pub continues : (old new : Fields) (l : LinkFields)
-    → ((before after : List (List ℕ)) → length before ≡ old.size → length after ≡ new.size → tree_hash before ≡ old.root → tree_hash after ≡ new.root
-        → (before ≡ take old.size after) ⊎ HasCollision (consistency_inputs before after old.size new.size old.root l.proof))
-    → Continues old new l
-continues old new l sound = λ before after rooms others size new_size root new_root.
-    elim (sound (map act_bytes before) (map act_bytes after) (length-map before act_bytes ∙ size) (length-map after act_bytes ∙ new_size) root new_root) [
+pub continues : (old new : Fields) (l : LinkFields) (hashes : List (List ℕ)) → hashes ≡ l.proof → ShowsBeginning old new hashes → Continues old new l
+continues old new l hashes is shows = λ before after rooms others size new_size root new_root.
+    elim (subst (ShowsBeginning old new) is shows (map act_bytes before) (map act_bytes after) (length-map before act_bytes ∙ size) (length-map after act_bytes ∙ new_size) root new_root) [
       | inl same ↦ inl (same_logs before (take old.size after) rooms (encodable-take old.size after others) (same ∙ take-map act_bytes old.size after))
       | inr collision ↦ inr collision
     ]

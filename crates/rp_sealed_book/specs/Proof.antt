@@ -1,5 +1,5 @@
 -- What is put of a book for whoever has no book, and what it shows.
-use Rattle.std.specs.Prelude.{◌≡◌, ◌≢◌, ◌-◌, ◌≤◌, ◌<◌, ◌⊎◌, ℕ, Bool, true, false, List, Option, None, Some, length, map, take}
+use Rattle.std.specs.Prelude.{◌≡◌, ◌-◌, ◌<◌, ◌⊎◌, ℕ, Bool, true, false, List, Option, None, Some, length, map, take}
 use Rattle.std.specs.List.{AllByRecursion}
 use Rattle.rp_io.specs.Bytes.{Appends}
 use Rattle.rp_seal.specs.Act.{ActEntry, IsEncodable, act_bytes}
@@ -7,11 +7,16 @@ use Rattle.rp_seal.specs.Collision.{HasCollision}
 use Rattle.rp_seal.specs.Consistency.{IsConsistencyProof, consistency_inputs}
 use Rattle.rp_seal.specs.Inclusion.{IsInclusionProof, inclusion_inputs}
 use Rattle.rp_seal.specs.Merkle.{leaf_hash}
-use Rattle.rp_seal_text.specs.Checkpoint.{Fields}
+use Rattle.rp_seal_text.specs.Checkpoint.{Fields, lines_of}
 use Rattle.rp_seal_text.specs.ProofFiles.{ActProofFields, LinkFields, act_proof_text, link_text}
-use Rattle.rp_sealed_book.specs.Log.{entry_numbered, log_root}
+use Rattle.rp_sealed_book.specs.Log.{checkpoint_of, entry_numbered, log_root}
 use Rattle.rp_sealed_book.specs.declared.verdict.SealVerdict.{SealVerdict}
 use Rattle.rp_sealed_book.specs.declared.verdict.SealVerdict.TheVariants.{Begins}
+
+-- if a seal was written, the lines of the checkpoint of a log came to the end of what a sink said; if not, nothing did
+abbrev pub PutsSeal : List ℕ → List ActEntry → Bool → Option (List ℕ) → Option (List ℕ) → Type 0
+PutsSeal origin log false old new = old ≡ new
+PutsSeal origin log true old new = Appends old new (lines_of (checkpoint_of origin log))
 
 -- a log has an act with a number, and a proof leads from the act to the root hash of the log
 pub record IsProofOf (log : List ActEntry) (number : ℕ) (p : ActProofFields) : Type 0 where

@@ -1,5 +1,5 @@
 -- What a comparison of a log with a seal says.
-use Rattle.std.specs.Prelude.{◌≡◌, ◌≢◌, ◌<◌, ◌≤◌, ◌⊎◌, ℕ, List, ◌++◌, length, map, take}
+use Rattle.std.specs.Prelude.{◌≡◌, ◌≢◌, ◌<◌, ◌≤◌, ◌⊎◌, List, ◌++◌, length, map, take}
 use Rattle.std.specs.List.{AllByRecursion}
 use Rattle.rp_seal.specs.Act.{ActEntry, IsEncodable, act_bytes}
 use Rattle.rp_seal.specs.Collision.{HasCollision}

@@ -26,8 +26,16 @@ pub fn check_act(alloc: Global, proof: &ActProof<'_>, seal: &Checkpoint) -> Resu
     let Some(place) = proof.act.number.checked_sub(1) else {
         return Ok(false);
     };
-    let is_of_size = proof.size == seal.size;
-    Ok(is_of_size && check_inclusion(&seal.root, seal.size, place as u64, &bytes, &proof.proof))
+    if proof.size != seal.size {
+        return Ok(false);
+    }
+    Ok(check_inclusion(
+        &seal.root,
+        seal.size,
+        u64::from(place),
+        &bytes,
+        &proof.proof,
+    ))
 }
 
 /// Returns whether `link` shows that the book of `new` begins with the acts of `old`.
@@ -40,7 +48,8 @@ pub fn check_link(old: &Checkpoint, new: &Checkpoint, link: &Link) -> bool
     // are hashed to compute the root hashes of both and to follow the link.
     ensures sound { IsTrue result → Continues (fields_of old.now) (fields_of new.now) (link_fields link.now) }
 {
-    link.from == old.size
-        && link.to == new.size
-        && check_consistency(old.size, &old.root, new.size, &new.root, &link.proof)
+    if link.from != old.size || link.to != new.size {
+        return false;
+    }
+    check_consistency(old.size, &old.root, new.size, &new.root, &link.proof)
 }

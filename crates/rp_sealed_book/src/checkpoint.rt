@@ -1,9 +1,9 @@
 //! The checkpoint of a book.
-ghost use Rattle.std.specs.Prelude.{◌≡◌, ◌≤◌, true, false, IfOk, IfSome, IsTrue, MatchOption, string_bytes};
-ghost use Rattle.rp_io.specs.Bytes.{Appends};
+ghost use Rattle.std.specs.Prelude.{◌≡◌, ◌≤◌, true, false, IfOk, IfSome, MatchOption, string_bytes};
 ghost use Rattle.rp_seal_text.specs.Checkpoint.{lines_of};
 ghost use Rattle.rp_seal_text.specs.Origin.{is_origin};
 ghost use Rattle.rp_sealed_book.specs.Log.{checkpoint_of, log_of};
+ghost use Rattle.rp_sealed_book.specs.Proof.{PutsSeal};
 
 use crate::log::leaf_hashes;
 use rp_book::Book;
@@ -42,8 +42,8 @@ pub fn seal<B: Book, K: Sink>(
 ) -> Result<bool, OutputFault>
     ensures counts { K.faults sink.old ≤ K.faults sink.new }
     ensures origin { IfOk result (λ written. written ≡ is_origin origin.now) }
-    ensures text { IfOk result (λ written. IsTrue written → IfSome (B.script book.now) (λ script. IfSome (B.acts book.now) (λ acts.
-        Appends (K.said sink.old) (K.said sink.new) (lines_of (checkpoint_of origin.now (log_of script acts)))))) }
+    ensures text { IfOk result (λ written. IfSome (B.script book.now) (λ script. IfSome (B.acts book.now) (λ acts.
+        PutsSeal origin.now (log_of script acts) written (K.said sink.old) (K.said sink.new)))) }
 {
     let Some(text) = text_of(alloc, book, origin)? else {
         return Ok(false);

@@ -31,7 +31,12 @@ fn borrowed(text: &Option<String>) -> Option<&str>
 }
 
 /// Returns the entry of `act`, the act `number`, whose lines begin at the byte `start` of `script`.
-fn entry_at<'a>(number: u32, script: &'a [u8], start: usize, act: &'a Act) -> SealedAct<'a>
+pub(crate) fn entry_at<'a>(
+    number: u32,
+    script: &'a [u8],
+    start: usize,
+    act: &'a Act,
+) -> SealedAct<'a>
     ensures { entry_of result ≡ entry_at number (slice_range script.now start act.now.end) (act_of act.now) }
 {
     SealedAct {

@@ -1,4 +1,4 @@
-use Rattle.std.proofs.Common.{◌≡◌, ◌≤◌, length, arith, sym, ◌∙◌}
+use Rattle.std.proofs.Common.{arith, sym, ◌∙◌}
 use Rattle.rp_sealed_book.proofs.LogLemmas.{length-leaves, root-take}
 use Rattle.rp_sealed_book.proofs.comparison.compare.Goals as goal
 

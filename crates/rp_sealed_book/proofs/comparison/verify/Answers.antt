@@ -1,4 +1,4 @@
-use Rattle.std.proofs.Common.{◌≡◌, ◌≤◌, length, map, take, ap, sym, ◌∙◌}
+use Rattle.std.proofs.Common.{◌≡◌, ◌≤◌, length, map, take, ap, ◌∙◌}
 use Rattle.rp_book.specs.Act.{act_of}
 use Rattle.rp_seal.specs.Hash.{hashes_of}
 use Rattle.rp_seal_text.specs.Checkpoint.{fields_of}

@@ -1,5 +1,4 @@
-use Rattle.std.proofs.Common.{rules, ◌≡◌, ◌+◌, ◌∷◌, ap, subst, sym, ◌∙◌, map}
-use Rattle.rp_book.specs.Act.{act_of}
+use Rattle.std.proofs.Common.{rules, ◌≡◌, ◌+◌, ◌∷◌, ap, subst, ◌∙◌}
 use Rattle.rp_seal.specs.Act.{IsEncodable, act_bytes}
 use Rattle.rp_seal.specs.Merkle.{leaf_hash}
 use Rattle.rp_sealed_book.proofs.LogLemmas.{collect, encodable-next}
