@@ -1,5 +1,5 @@
 -- The fields of a text: lines with a name and a number, and texts of any bytes under a name.
-use Rattle.std.specs.Prelude.{ℕ, List, [], ◌∷◌, ◌++◌, length, Option, Some, None, Bool, nat_eq, not, slice_index, IsTrue, codes, decimal}
+use Rattle.std.specs.Prelude.{ℕ, List, [], ◌∷◌, ◌++◌, length, Option, Some, None, nat_eq, not, slice_index, IsTrue, codes, decimal}
 
 -- a line with a name and a number in decimal
 abbrev pub number_line : List ℕ → ℕ → List ℕ

@@ -37,6 +37,7 @@ pub fn read_act(text: &[u8]) -> Option<(SealedAct<'_>, &[u8])>
     ensures found { IfSome result (λ p. text.now ≡ act_text (entry_of p.0) ++ p.1.now) }
     ensures each { (a : ActEntry) (rest : List ℕ) → IsActText a → text.now ≡ act_text a ++ rest
         → IsSomeAnd result (λ p. (entry_of p.0 ≡ a) × (p.1.now ≡ rest)) }
+    ensures valid { IfSome result (λ p. IsActText (entry_of p.0)) }
 {
     let (number, after_number) = take_u32(b"act", text)?;
     let (first, after_first) = take_u32(b"first", after_number)?;
@@ -72,6 +73,7 @@ pub fn write_end(text: &mut Vec<u8>, count: u64) -> Result<(), AllocError>
 pub fn read_end(text: &[u8]) -> Option<u64>
     ensures found { IfSome result (λ count. text.now ≡ end_line count) }
     ensures each { (count : ℕ) → count < 2 ^ 64 → text.now ≡ end_line count → result ≡ Some count }
+    ensures fits { IfSome result (λ count. count < 2 ^ 64) }
 {
     let (count, rest) = take_number(b"end", text)?;
     if rest.is_empty() { Some(count) } else { None }

@@ -22,6 +22,7 @@ pub(crate) fn take_number<'a>(name: &[u8], text: &'a [u8]) -> Option<(u64, &'a [
     ensures found { IfSome result (λ p. text.now ≡ number_line name.now p.0 ++ p.1.now) }
     ensures each { (number : ℕ) (rest : List ℕ) → number < 2 ^ 64 → text.now ≡ number_line name.now number ++ rest
         → IsSomeAnd result (λ p. (p.0 ≡ number) × (p.1.now ≡ rest)) }
+    ensures fits { IfSome result (λ p. p.0 < 2 ^ 64) }
 {
     let (line, rest) = next_line(text)?;
     let spaced = take_prefix(name, line)?;
@@ -36,6 +37,7 @@ pub(crate) fn take_u32<'a>(name: &[u8], text: &'a [u8]) -> Option<(u32, &'a [u8]
     ensures found { IfSome result (λ p. text.now ≡ number_line name.now p.0 ++ p.1.now) }
     ensures each { (number : ℕ) (rest : List ℕ) → number < 2 ^ 32 → text.now ≡ number_line name.now number ++ rest
         → IsSomeAnd result (λ p. (p.0 ≡ number) × (p.1.now ≡ rest)) }
+    ensures fits { IfSome result (λ p. p.0 < 2 ^ 32) }
 {
     let (number, rest) = take_number(name, text)?;
     if number > u32::MAX as u64 {
@@ -50,6 +52,7 @@ pub(crate) fn take_text<'a>(name: &[u8], text: &'a [u8]) -> Option<(&'a [u8], &'
     ensures found { IfSome result (λ p. text.now ≡ text_field name.now p.0.now ++ p.1.now) }
     ensures each { (field rest : List ℕ) → length field < 2 ^ 64 → text.now ≡ text_field name.now field ++ rest
         → IsSomeAnd result (λ p. (p.0.now ≡ field) × (p.1.now ≡ rest)) }
+    ensures room { IfSome result (λ p. length p.0.now < 2 ^ 64) }
 {
     let (size, rest) = take_number(name, text)?;
     let (field, ended) = rest.split_at_checked(size as usize)?;
@@ -63,6 +66,8 @@ pub(crate) fn take_str<'a>(name: &[u8], text: &'a [u8]) -> Option<(&'a str, &'a 
     ensures found { IfSome result (λ p. text.now ≡ text_field name.now p.0.now ++ p.1.now) }
     ensures each { (field rest : List ℕ) → length field < 2 ^ 64 → IsUtf8 field → text.now ≡ text_field name.now field ++ rest
         → IsSomeAnd result (λ p. (p.0.now ≡ field) × (p.1.now ≡ rest)) }
+    ensures room { IfSome result (λ p. length p.0.now < 2 ^ 64) }
+    ensures utf8 { IfSome result (λ p. IsUtf8 p.0.now) }
 {
     let (bytes, rest) = take_text(name, text)?;
     let field = read_text(bytes)?;
@@ -88,6 +93,8 @@ pub(crate) fn take_option<'a>(name: &[u8], text: &'a [u8]) -> Option<(Option<&'a
     ensures each { (field : Option (List ℕ)) (rest : List ℕ) → IfSome field (λ t. length t < 2 ^ 64) → IfSome field IsUtf8
         → text.now ≡ option_field name.now field ++ rest
         → IsSomeAnd result (λ p. (option_map (λ t. t.now) p.0 ≡ field) × (p.1.now ≡ rest)) }
+    ensures room { IfSome result (λ p. IfSome (option_map (λ t. t.now) p.0) (λ t. length t < 2 ^ 64)) }
+    ensures utf8 { IfSome result (λ p. IfSome (option_map (λ t. t.now) p.0) IsUtf8) }
 {
     if let Some(rest) = take_absence(name, text) {
         return Some((None, rest));

@@ -22,6 +22,7 @@ fn take_hash(alloc: Global, text: &[u8]) -> Result<Option<(NodeHash, &[u8])>, Al
     ensures found { IfOk result (λ found. IfSome found (λ p. text.now ≡ hash_line (bytes_of p.0) ++ p.1.now)) }
     ensures each { (hash rest : List ℕ) → IsHash hash → text.now ≡ hash_line hash ++ rest
         → IfOk result (λ found. IsSomeAnd found (λ p. (bytes_of p.0 ≡ hash) × (p.1.now ≡ rest))) }
+    ensures hash { IfOk result (λ found. IfSome found (λ p. IsHash (bytes_of p.0))) }
 {
     let Some((line, rest)) = next_line(text) else {
         return Ok(None);
@@ -45,6 +46,7 @@ fn read_hashes(
     ensures found { IfOk result (λ found. IfSome found (λ v. (length v.items ≡ count) × (text.now ≡ hash_lines (hashes_of v.items)))) }
     ensures each { (hashes : List (List ℕ)) → length hashes ≡ count → AreHashes hashes → text.now ≡ hash_lines hashes
         → IfOk result (λ found. IsSomeAnd found (λ v. hashes_of v.items ≡ hashes)) }
+    ensures hashes { IfOk result (λ found. IfSome found (λ v. AreHashes (hashes_of v.items))) }
 {
     let mut hashes = Vec::with_capacity(alloc, count)?;
     let mut rest = text;
@@ -72,6 +74,7 @@ pub(crate) fn read_proof(alloc: Global, text: &[u8]) -> Result<Option<Vec<NodeHa
     ensures few { IfOk result (λ found. IfSome found (λ v. length v.items ≤ 64)) }
     ensures each { (hashes : List (List ℕ)) → length hashes ≤ 64 → AreHashes hashes → text.now ≡ hashes_text hashes
         → IfOk result (λ found. IsSomeAnd found (λ v. hashes_of v.items ≡ hashes)) }
+    ensures hashes { IfOk result (λ found. IfSome found (λ v. AreHashes (hashes_of v.items))) }
 {
     let Some((count, rest)) = take_number(b"proof", text) else {
         return Ok(None);

@@ -40,6 +40,7 @@ fn take_act_head(text: &[u8]) -> Option<(SealedAct<'_>, u64, &[u8])>
     ensures found { IfSome result (λ p. text.now ≡ act_head (entry_of p.0) p.1 ++ p.2.now) }
     ensures each { (act : ActEntry) (size : ℕ) (rest : List ℕ) → IsActText act → size < 2 ^ 64 → text.now ≡ act_head act size ++ rest
         → IsSomeAnd result (λ p. (entry_of p.0 ≡ act) × (p.1 ≡ size) × (p.2.now ≡ rest)) }
+    ensures valid { IfSome result (λ p. IsActText (entry_of p.0) × (p.1 < 2 ^ 64)) }
 {
     let after_mark = take_prefix(ACT_PROOF_MARK, text)?;
     let (act, after_act) = read_act(after_mark)?;
@@ -56,6 +57,7 @@ pub fn read_act_proof(alloc: Global, text: &[u8]) -> Result<Option<ActProof<'_>>
     ensures found { IfOk result (λ found. IfSome found (λ p. text.now ≡ act_proof_text (act_proof_fields p))) }
     ensures each { (f : ActProofFields) → IsActProof f → text.now ≡ act_proof_text f
         → IfOk result (λ found. IsSomeAnd found (λ p. act_proof_fields p ≡ f)) }
+    ensures valid { IfOk result (λ found. IfSome found (λ p. IsActProof (act_proof_fields p))) }
 {
     let Some((act, size, rest)) = take_act_head(text) else {
         return Ok(None);
@@ -88,6 +90,7 @@ fn take_link_head(text: &[u8]) -> Option<(u64, u64, &[u8])>
     ensures found { IfSome result (λ p. text.now ≡ link_head p.0 p.1 ++ p.2.now) }
     ensures each { (from to : ℕ) (rest : List ℕ) → from < 2 ^ 64 → to < 2 ^ 64 → text.now ≡ link_head from to ++ rest
         → IsSomeAnd result (λ p. (p.0 ≡ from) × (p.1 ≡ to) × (p.2.now ≡ rest)) }
+    ensures valid { IfSome result (λ p. (p.0 < 2 ^ 64) × (p.1 < 2 ^ 64)) }
 {
     let after_mark = take_prefix(LINK_MARK, text)?;
     let (from, after_from) = take_number(b"from", after_mark)?;
@@ -104,6 +107,7 @@ pub fn read_link(alloc: Global, text: &[u8]) -> Result<Option<Link>, AllocError>
     ensures found { IfOk result (λ found. IfSome found (λ l. text.now ≡ link_text (link_fields l))) }
     ensures each { (f : LinkFields) → IsLink f → text.now ≡ link_text f
         → IfOk result (λ found. IsSomeAnd found (λ l. link_fields l ≡ f)) }
+    ensures valid { IfOk result (λ found. IfSome found (λ l. IsLink (link_fields l))) }
 {
     let Some((from, to, rest)) = take_link_head(text) else {
         return Ok(None);

@@ -1,4 +1,4 @@
-use Rattle.std.proofs.Common.{◌≡◌, ℕ, List, ◌++◌, option_map, codes, ap, sym, ◌∙◌}
+use Rattle.std.proofs.Common.{ℕ, List, ◌++◌, option_map, codes, ap, sym, ◌∙◌}
 use Rattle.rp_seal.specs.Act.{ActEntry}
 use Rattle.rp_seal_text.specs.Fields.{number_line, text_field, option_field}
 use Rattle.rp_seal_text.proofs.ActLemmas.{after_number, after_first, after_last, after_added, after_who, after_deed, act_text-then}

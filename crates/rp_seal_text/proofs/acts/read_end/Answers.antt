@@ -1,4 +1,4 @@
-use Rattle.std.proofs.Common.{◌≡◌, ℕ, List, [], ◌∷◌, ◌++◌, ◌==◌, true, length, append-nil, ap, sym, ◌∙◌}
+use Rattle.std.proofs.Common.{◌≡◌, ℕ, List, [], ◌==◌, true, length, append-nil, ap, sym, ◌∙◌}
 use Rattle.rp_seal_text.specs.ActText.{end_line}
 use Rattle.rp_seal_text.proofs.acts.read_end.Goals as goal
 

@@ -1,4 +1,4 @@
-use Rattle.std.proofs.Common.{◌≡◌, ℕ, List, [], ◌∷◌, ◌++◌, Some, None, decimal, ◌∙◌}
+use Rattle.std.proofs.Common.{◌≡◌, ◌∷◌, ◌++◌, Some, None, decimal, ◌∙◌}
 use Rattle.rp_seal_text.proofs.FieldLemmas.{named_number_line, number_line-then}
 use Rattle.rp_seal_text.proofs.fields.take_number.Goals as goal
 

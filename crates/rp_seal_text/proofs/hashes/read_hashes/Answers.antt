@@ -1,10 +1,10 @@
-use Rattle.std.proofs.Common.{◌≡◌, ◌<◌, ◌+◌, ◌==◌, ℕ, List, [], ◌∷◌, ◌++◌, true, length, refl, ap, sym, ◌∙◌, arith, append-nil, append_assoc, length-append}
+use Rattle.std.proofs.Common.{◌≡◌, ◌<◌, ◌+◌, ◌==◌, ℕ, List, [], ◌∷◌, ◌++◌, true, length, ap, sym, ◌∙◌, arith, append-nil, append_assoc, length-append, subst}
 use Rattle.std.proofs.lemmas.Bool.{eqb-true}
 use Rattle.std.proofs.lemmas.List.{map-append, length-map, nil_from_length}
-use Rattle.rp_seal.specs.declared.hash.NodeHash.{NodeHash}
+use Rattle.std.proofs.lemmas.List.Elements.{All-nil, All-push}
 use Rattle.rp_seal.specs.Hash.{bytes_of, hashes_of}
-use Rattle.rp_seal_text.specs.Hashes.{AreHashes, IsHash, hash_line, hash_lines, hashes_text}
-use Rattle.rp_seal_text.proofs.HashLemmas.{IsLeft, IsNext, hash_lines-push, left_after, next_left, none_left}
+use Rattle.rp_seal_text.specs.Hashes.{AreHashes, IsHash, hash_line, hash_lines}
+use Rattle.rp_seal_text.proofs.HashLemmas.{hash_lines-push, left_after, next_left, none_left}
 use Rattle.rp_seal_text.proofs.hashes.read_hashes.Goals as goal
 
 pub lines-init : goal.lines-init
@@ -13,6 +13,7 @@ lines-init c =
     record {
       count = ap length c.in_ok-hashes.ensures.items;
       found = ap (λ v. hash_lines v ++ c.args.text.now) (sym none);
+      hashes = subst AreHashes (sym none) (All-nil IsHash);
       each = λ hashes count are is. record { left = hashes; all = ap (λ v. v ++ hashes) (sym none); are = are; lines = is };
     }
 
@@ -35,6 +36,7 @@ lines-preserved c =
       found = c.lines.invariant.found ∙ ap (λ v. hash_lines read ++ v) step
           ∙ sym (append_assoc (hash_lines read) (hash_line (bytes_of c.in-Some.hash)) c.in-Some.more.now)
           ∙ ap (λ v. v ++ c.in-Some.more.now) (sym (hash_lines-push read (bytes_of c.in-Some.hash)) ∙ ap hash_lines (sym items));
+      hashes = subst AreHashes (sym items) (All-push IsHash read (bytes_of c.in-Some.hash) c.lines.invariant.hashes (rw c.in-Some.is at c.in_ok-hash.ensures.hash));
       each = λ hashes count are is.
           let below : length read < length hashes = omega (arith, length-map c.lines.hashes.items bytes_of, c.lines.invariant.count) in
           let next = next_left hashes read c.lines.rest.now (c.lines.invariant.each hashes count are is) below in

@@ -8,6 +8,7 @@ abbrev pub invariant-lines : goal.invariant-lines
 invariant-lines l = record {
   count : length l.hashes.items ≡ l.counter;
   found : l.text ≡ hash_lines (hashes_of l.hashes.items) ++ l.rest;
+  hashes : AreHashes (hashes_of l.hashes.items);
   each : (hashes : List (List ℕ)) → length hashes ≡ l.count → AreHashes hashes → l.text ≡ hash_lines hashes
       → IsLeft hashes (hashes_of l.hashes.items) l.rest;
 }

@@ -1,4 +1,4 @@
-use Rattle.std.proofs.Common.{◌≡◌, ℕ, List, [], ◌∷◌, ◌++◌, append_assoc, ◌∙◌}
+use Rattle.std.proofs.Common.{[], ◌∷◌, append_assoc, ◌∙◌}
 use Rattle.base64.specs.Engines.{standard}
 use Rattle.base64.specs.GeneralPurpose.{encode_of}
 use Rattle.rp_seal_text.proofs.SpelledLines.{root_line}

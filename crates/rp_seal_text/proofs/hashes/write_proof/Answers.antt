@@ -1,10 +1,10 @@
-use Rattle.std.proofs.Common.{◌≡◌, ◌<◌, ◌+◌, ℕ, List, [], ◌∷◌, ◌++◌, length, take, codes, subst, ap, sym, ◌∙◌, arith, append-nil, append_assoc, take_all}
+use Rattle.std.proofs.Common.{◌≡◌, ℕ, List, ◌++◌, length, take, codes, subst, ap, sym, ◌∙◌, append-nil, append_assoc, take_all}
 use Rattle.std.proofs.lemmas.List.{length-map}
 use Rattle.std.proofs.lemmas.List.Elements.{All-nil, All-push}
 use Rattle.rp_seal.specs.declared.hash.NodeHash.{NodeHash}
 use Rattle.rp_seal.specs.Hash.{bytes_of, hashes_of}
 use Rattle.rp_seal_text.specs.Fields.{number_line}
-use Rattle.rp_seal_text.specs.Hashes.{AreHashes, IsHash, hash_line, hash_lines, hashes_text}
+use Rattle.rp_seal_text.specs.Hashes.{AreHashes, IsHash, hash_line, hash_lines}
 use Rattle.rp_seal_text.proofs.HashLemmas.{hash_lines-push, hashes_of-more}
 use Rattle.rp_seal_text.proofs.hashes.write_proof.Goals as goal
 

@@ -1,4 +1,4 @@
-use Rattle.std.proofs.Common.{List, ◌≤◌, length, ap, subst, arith}
+use Rattle.std.proofs.Common.{List, subst, arith}
 use Rattle.std.proofs.lemmas.List.{length-map}
 use Rattle.rp_seal.specs.declared.hash.NodeHash.{NodeHash}
 use Rattle.rp_seal.specs.Hash.{bytes_of, hashes_of}

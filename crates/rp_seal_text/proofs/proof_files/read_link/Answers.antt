@@ -1,4 +1,3 @@
-use Rattle.std.proofs.Common.{◌≡◌, ◌∙◌}
 use Rattle.rp_seal_text.specs.Hashes.{hashes_text}
 use Rattle.rp_seal_text.proofs.proof_files.read_link.Goals as goal
 

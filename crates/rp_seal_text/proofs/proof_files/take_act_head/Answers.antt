@@ -1,4 +1,4 @@
-use Rattle.std.proofs.Common.{◌≡◌, ℕ, List, ◌++◌, codes, ◌∙◌}
+use Rattle.std.proofs.Common.{ℕ, List, ◌++◌, codes, ◌∙◌}
 use Rattle.rp_seal_text.specs.ActText.{act_text}
 use Rattle.rp_seal_text.specs.Fields.{number_line}
 use Rattle.rp_seal_text.proofs.FieldLemmas.{three_texts}
