@@ -6,6 +6,10 @@ mod acts;
 #[cfg(test)]
 mod checkpoints;
 #[cfg(test)]
+mod proof_files;
+#[cfg(test)]
+mod streams;
+#[cfg(test)]
 mod trees;
 #[cfg(test)]
 mod vectors;
