@@ -36,7 +36,7 @@ fn read_lines(rt: &HostRuntime) -> Result<Vec<u8>, Stop> {
 /// `Stopped` if standard input is not read to its end; `Seal` if the file of the seal is not.
 pub fn read_input(rt: &HostRuntime, act: Act<'_>) -> Result<Vec<u8>, Fault> {
     match act {
-        Act::Add(_) | Act::Read(Query::Ask) => Ok(read_lines(rt)?),
+        Act::Add(_) => Ok(read_lines(rt)?),
         Act::Read(Query::Verify(path) | Query::Link(path)) => read_text(rt, path, Text::Seal),
         _ => Ok(Vec::new(rt.alloc())),
     }

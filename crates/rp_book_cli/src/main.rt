@@ -19,6 +19,7 @@ mod limits;
 mod lines;
 mod path;
 mod queries;
+mod questions;
 mod seal_fault;
 mod seal_text;
 mod seals;

@@ -6,10 +6,8 @@ use crate::fault::Fault;
 use crate::layers::{name_of, tell_asked};
 use crate::seals::{write_link, write_proof, write_seal, write_verified};
 use crate::size::write_size;
-use crate::version::unmarked;
 use rp_book::Book;
-use rp_io::{QuietSource, StdSink};
-use rp_registrar::ask::ask;
+use rp_io::StdSink;
 use rp_registrar::date::{as_of, last_line_by};
 use rp_registrar::history::history;
 use rp_registrar::{Stop, put_report, put_script};
@@ -22,18 +20,6 @@ fn tell_beginning<B: Book>(rt: &HostRuntime, book: &B, date: &str) {
             "rpstore-book: the book begins on {day} (UTC); nothing was added before"
         );
     }
-}
-
-/// Writes the answers to the questions of `input`. Returns whether one is refused.
-fn write_answers<T: Threads + Sync, B: Book>(
-    rt: &HostRuntime,
-    threads: &T,
-    book: &B,
-    input: &[u8],
-) -> Result<bool, Stop> {
-    let mut source = QuietSource::new(unmarked(book.text(), input));
-    let mut sink = StdSink::new(rt.stdout());
-    ask(threads, rt.alloc(), book, &mut source, &mut sink)
 }
 
 /// Writes whose a place was on a date. Returns whether the question is refused.
@@ -60,7 +46,7 @@ fn write_line<B: Book>(rt: &HostRuntime, book: &B, date: &str) -> Result<(), Sto
     println!(rt; "{line}").map_err(|_| Stop::Put)
 }
 
-/// Writes what is asked about the seals of `book`; nothing for another query. `input` has the seal that `query` names.
+/// Writes what is asked about the seals of `book`; nothing for another query. `input` has the seal that the query names.
 fn write_seals<B: Book>(
     rt: &HostRuntime,
     book: &B,
@@ -76,7 +62,8 @@ fn write_seals<B: Book>(
     }
 }
 
-/// Writes what is read from `book`. Returns whether a line of it is a refusal.
+/// Writes what is read from `book`; nothing for `ask`, for which the book is let go first. Returns whether a line of it is a
+/// refusal.
 pub fn write_query<T: Threads + Sync, B: Book>(
     rt: &HostRuntime,
     threads: &T,
@@ -86,7 +73,6 @@ pub fn write_query<T: Threads + Sync, B: Book>(
 ) -> Result<bool, Fault> {
     let mut sink = StdSink::new(rt.stdout());
     let refused = match query {
-        Query::Ask => write_answers(rt, threads, book, input)?,
         Query::History(id) => history(threads, rt.alloc(), book, id, &mut sink)?,
         Query::AsOf { date, layer, place } => write_as_of(rt, threads, book, date, layer, place)?,
         Query::Report => put_report(threads, rt.alloc(), book, &mut sink)?,
@@ -97,6 +83,7 @@ pub fn write_query<T: Threads + Sync, B: Book>(
             write_seals(rt, book, input, query)?;
             false
         }
+        Query::Ask => false,
     };
     Ok(refused)
 }

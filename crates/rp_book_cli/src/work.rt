@@ -1,6 +1,6 @@
 //! What is done with a book in a file.
 
-use crate::act::{Act, act_of};
+use crate::act::{Act, Query, act_of};
 use crate::copies::copy_book;
 use crate::copy::append_mark;
 use crate::fault::Fault;
@@ -9,6 +9,7 @@ use crate::input::read_input;
 use crate::lines::add_lines;
 use crate::path::{is_there, path_fault};
 use crate::queries::write_query;
+use crate::questions::write_answers;
 use rp_book::Book;
 use rp_command::Version;
 use sqlite::{Alter, Connection, FileStore};
@@ -66,6 +67,10 @@ fn work_on<T: Threads + Sync, S: Alter + Drop>(
         Act::Copy(path) => {
             copy_to(rt, conn, path)?;
             Ok((false, None))
+        }
+        Act::Read(Query::Ask) => {
+            let refused = write_answers(rt, threads, conn)?;
+            Ok((refused, None))
         }
         Act::Read(query) => {
             let (book, _) = open(rt.alloc(), conn)?;

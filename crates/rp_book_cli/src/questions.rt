@@ -1,0 +1,126 @@
+//! Questions, which are answered as they come, by a copy of the script.
+
+use crate::fault::Fault;
+use crate::file::{FileFault, open};
+use rp_book::Book;
+use rp_command::Version;
+use rp_io::{Failed, Source, StdSink, StdSource};
+use rp_registrar::Stop;
+use rp_registrar::ask::ask;
+use rp_scripts::split_mark;
+use sqlite::{Alter, Connection};
+use std::marker::Model;
+use std::thread::Threads;
+
+ghost use Rattle.std.specs.Prelude.{None};
+
+/// How many bytes the mark of version 2 has at most, with its line end: `rp 2`, a carriage return and a line feed.
+const MOST_MARK_BYTES: usize = 6;
+
+/// Passes on the bytes of a source, without the mark of version 2 if they begin with it.
+#[derive(Drop)]
+struct Unmarked<S: Source> {
+    source: S,
+    /// Whether nothing was read yet.
+    begins: bool,
+    faults: u64,
+}
+
+impl<S: Source> Unmarked<S> {
+    /// Returns what passes on the bytes of `source`, without a mark if `is_marked`.
+    fn new(source: S, is_marked: bool) -> Unmarked<S> {
+        Unmarked {
+            source,
+            begins: is_marked,
+            faults: 0,
+        }
+    }
+
+    /// Reads bytes to the front of `buf` until a mark would be whole. Returns how many they are.
+    fn read_front(&mut self, buf: &mut [u8]) -> Result<usize, Failed> {
+        let mut count = self.source.read(buf)?;
+        for _ in 0..MOST_MARK_BYTES {
+            if count == 0 || count >= MOST_MARK_BYTES || buf[..count].contains(&b'\n') {
+                break;
+            }
+            let more = self.source.read(&mut buf[count..])?;
+            if more == 0 {
+                break;
+            }
+            count += more;
+        }
+        Ok(count)
+    }
+
+    /// Reads the first bytes without the mark.
+    fn read_first(&mut self, buf: &mut [u8]) -> Result<usize, Failed> {
+        let count = self.read_front(buf)?;
+        let (Version::Two, body) = split_mark(&buf[..count]) else {
+            return Ok(count);
+        };
+        let length = body.len();
+        if length == 0 {
+            return self.source.read(buf);
+        }
+        buf.copy_within(count - length..count, 0);
+        Ok(length)
+    }
+
+    /// Reads the next bytes.
+    fn read_next(&mut self, buf: &mut [u8]) -> Result<usize, Failed> {
+        if self.begins {
+            self.begins = false;
+            return self.read_first(buf);
+        }
+        self.source.read(buf)
+    }
+}
+
+impl<S: Source> Source for Unmarked<S> {
+    ghost left = { λ _. None };
+
+    ghost faults = { λ s. s.faults };
+
+    /// Fails if a read of the other source does.
+    fn read(&mut self, buf: &mut [u8]) -> Result<usize, Failed> {
+        let faults = self.faults;
+        match self.read_next(buf) {
+            Ok(count) => {
+                self.faults = faults;
+                Ok(count)
+            }
+            Err(failed) => {
+                self.faults = faults.saturating_add(1);
+                Err(failed)
+            }
+        }
+    }
+}
+
+/// Copies the script of the book in a database, and lets the book go. Says on standard error after which act the answers are.
+fn script_of<S: Alter + Drop>(
+    rt: &HostRuntime,
+    conn: Connection<S>,
+) -> Result<Vec<u8>, FileFault> {
+    let (book, _) = open(rt.alloc(), conn)?;
+    let count = book.acts().len();
+    let last = book.acts().last().map_or(0, |act| act.last);
+    let _ = eprintln!(rt; "rpstore-book: asked after act {count}, line {last}");
+    let script = Vec::from_slice(rt.alloc(), book.text())?;
+    Ok(script)
+}
+
+/// Writes the answers to the questions of standard input after the lines of the book in a database. Others may open the book
+/// before the first question is read. Returns whether a line is refused.
+pub fn write_answers<T: Threads + Sync, S: Alter + Drop>(
+    rt: &HostRuntime,
+    threads: &T,
+    conn: Connection<S>,
+) -> Result<bool, Fault> {
+    let script = script_of(rt, conn)?;
+    let (version, _) = split_mark(&script);
+    let mut source = Unmarked::new(StdSource::new(rt.stdin()), matches!(version, Version::Two));
+    let mut sink = StdSink::new(rt.stdout());
+    let refused = ask(threads, rt.alloc(), &script, &mut source, &mut sink)?;
+    Ok(refused)
+}
