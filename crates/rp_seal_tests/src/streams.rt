@@ -39,13 +39,12 @@ static ACTS: [SealedAct<'static>; 2] = [
 
 /// Returns whether two acts have the same fields.
 fn is_same(a: &SealedAct<'_>, b: &SealedAct<'_>) -> bool {
-    a.number == b.number
-        && a.first == b.first
-        && a.last == b.last
-        && a.added == b.added
-        && a.who == b.who
-        && a.deed == b.deed
-        && a.lines == b.lines
+    let same_numbers = a.number == b.number && a.first == b.first && a.last == b.last;
+    let same_added = a.added == b.added;
+    let same_who = a.who == b.who;
+    let same_deed = a.deed == b.deed;
+    let same_lines = a.lines == b.lines;
+    same_numbers && same_added && same_who && same_deed && same_lines
 }
 
 #[test]

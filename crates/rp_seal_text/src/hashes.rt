@@ -10,7 +10,7 @@ use base64::engine::general_purpose::STANDARD;
 use rp_seal::NodeHash;
 use std::alloc::{AllocError, Global};
 
-/// The greatest number of hashes of a proof: a tree of fewer than 2^64 entries has at most 64 levels.
+/// The greatest number of hashes that are read. No proof in a list of at most 2^63 entries has more.
 const MAX_HASHES: u64 = 64;
 
 /// Returns the hash of the line with which `text` begins, and what follows the line.
