@@ -32,7 +32,7 @@ pub fn write_act(text: &mut Vec<u8>, act: &SealedAct<'_>) -> Result<(), AllocErr
     Ok(())
 }
 
-/// Returns the act with whose text `text` begins, and what follows it.
+/// Returns the act with whose text `text` begins, and what follows it; `None` if `text` begins with no act.
 pub fn read_act(text: &[u8]) -> Option<(SealedAct<'_>, &[u8])>
     ensures found { IfSome result (λ p. text.now ≡ act_text (entry_of p.0) ++ p.1.now) }
     ensures each { (a : ActEntry) (rest : List ℕ) → IsActText a → text.now ≡ act_text a ++ rest
@@ -69,7 +69,7 @@ pub fn write_end(text: &mut Vec<u8>, count: u64) -> Result<(), AllocError>
     write_number(text, b"end", count)
 }
 
-/// Returns the number of acts if `text` is the last line of a stream of acts, and nothing else.
+/// Returns the number of acts if `text` is the last line of a stream of acts and nothing else; `None` otherwise.
 pub fn read_end(text: &[u8]) -> Option<u64>
     ensures found { IfSome result (λ count. text.now ≡ end_line count) }
     ensures each { (count : ℕ) → count < 2 ^ 64 → text.now ≡ end_line count → result ≡ Some count }

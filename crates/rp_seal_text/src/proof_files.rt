@@ -18,7 +18,7 @@ const ACT_PROOF_MARK: &[u8] = b"rpstore act 1\n";
 /// The first line of a link, with its line end.
 const LINK_MARK: &[u8] = b"rpstore link 1\n";
 
-/// Returns the text of an act proof.
+/// Returns the text of `proof`. [`read_act_proof`] reads it again if `proof` has at most 64 hashes.
 ///
 /// # Errors
 ///
@@ -48,7 +48,7 @@ fn take_act_head(text: &[u8]) -> Option<(SealedAct<'_>, u64, &[u8])>
     Some((act, size, rest))
 }
 
-/// Returns the act proof whose text is `text`. `None` unless `text` is the text of one with at most 64 hashes, and nothing else.
+/// Returns the act proof whose text is `text`; `None` unless `text` is the text of an act proof with at most 64 hashes.
 ///
 /// # Errors
 ///
@@ -68,7 +68,7 @@ pub fn read_act_proof(alloc: Global, text: &[u8]) -> Result<Option<ActProof<'_>>
     Ok(Some(ActProof { act, size, proof }))
 }
 
-/// Returns the text of a link.
+/// Returns the text of `link`. [`read_link`] reads it again if `link` has at most 64 hashes.
 ///
 /// # Errors
 ///
@@ -98,7 +98,7 @@ fn take_link_head(text: &[u8]) -> Option<(u64, u64, &[u8])>
     Some((from, to, rest))
 }
 
-/// Returns the link whose text is `text`. `None` unless `text` is the text of one with at most 64 hashes, and nothing else.
+/// Returns the link whose text is `text`; `None` unless `text` is the text of a link with at most 64 hashes.
 ///
 /// # Errors
 ///
