@@ -8,14 +8,14 @@ ghost use Rattle.rp_book.specs.Lines.{HasEnd, IsEnded, first_number, last_number
 use rp_command::Version;
 use rp_scripts::{next_line, split_mark};
 
-/// Whether a text has a line end at its end.
+/// Returns whether `text` ends in a line end.
 pub fn has_end(text: &[u8]) -> bool
     ensures { IsTrue result → HasEnd text.now }
 {
     matches!(text, [.., b'\n'])
 }
 
-/// How many lines a text has.
+/// Returns how many lines `text` has.
 fn count_lines(text: &[u8]) -> u32
     requires { length text.now ≤ most_script_bytes }
     ensures count { result ≡ length (script_lines text.now) }
@@ -30,7 +30,7 @@ fn count_lines(text: &[u8]) -> u32
     count
 }
 
-/// The number of the first line of a script of the version.
+/// Returns the number of the first line of a script of `version`.
 fn first_of(version: Version) -> u32
     ensures { result ≡ number_of_first (version_of version) }
 {
@@ -40,8 +40,8 @@ fn first_of(version: Version) -> u32
     }
 }
 
-/// The numbers of the first and the last of `lines` behind `script`, whose last line has the number `before`, as the report of
-/// the two together echoes them. The line that marks version 2 has the number 0.
+/// Returns the numbers of the first and the last of `lines` after `script`, as the report of the two together echoes them. The
+/// last line of `script` has the number `before`. The line that marks version 2 has the number 0.
 pub fn line_numbers(script: &[u8], before: u32, lines: &[u8]) -> (u32, u32)
     requires end { IsEnded script.now }
     requires short { length script.now + length lines.now ≤ most_script_bytes }

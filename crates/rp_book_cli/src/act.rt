@@ -12,7 +12,7 @@ pub struct Options<'a> {
     pub layer: Option<&'a str>,
     pub who: Option<&'a str>,
     pub deed: Option<&'a str>,
-    /// Whether the answers are written without their proof lines.
+    /// The answers are written without their proof lines.
     pub brief: bool,
 }
 
@@ -39,7 +39,7 @@ pub enum Query<'a> {
     Line(&'a str),
     /// The seal of the acts, under an origin.
     Seal(&'a str),
-    /// Whether the book begins with the acts of the seal in a file.
+    /// A comparison of the book with the seal in a file.
     Verify(&'a str),
     /// An act, with the proof that the book has it.
     Prove(u32),

@@ -9,9 +9,9 @@ use std::marker::Model;
 pub struct AnswerSink<K: Sink> {
     sink: K,
     brief: bool,
-    /// Whether the next byte begins a line.
+    /// The next byte begins a line.
     begins: bool,
-    /// Whether the bytes of the present line are left out.
+    /// The bytes of the present line are left out.
     skips: bool,
     faults: u64,
 }

@@ -10,9 +10,9 @@ use rp_sealed_book::{check_act, check_link};
 /// What is checked: the paths of the files.
 #[derive(Clone, Copy)]
 pub enum Check<'a> {
-    /// Whether a sealed register has an act.
+    /// An act, by its proof and the seal of a book.
     Act { proof: &'a str, seal: &'a str },
-    /// Whether the register of a seal continues that of an older one.
+    /// A link between the seals of two books.
     Link {
         old: &'a str,
         new: &'a str,

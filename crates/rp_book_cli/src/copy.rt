@@ -2,8 +2,7 @@
 ghost use Rattle.std.specs.Prelude.{◌≡◌, IfSome, OnOk};
 
 use crate::limits::MOST_SCRIPT_BYTES;
-use rp_book::{Act, Book, BookFault, Entry, has_end};
-use rp_scripts::next_line;
+use rp_book::{Act, Book, BookFault, Entry, act_lines, has_end};
 use rp_text::SCRIPT_MARK;
 use std::alloc::Global;
 
@@ -33,22 +32,6 @@ pub fn append_mark<B: Book>(alloc: Global, book: &mut B, time: &str) -> Result<(
     append(alloc, book, SCRIPT_MARK, entry)
 }
 
-/// Splits `text` after its first `count` lines.
-fn split_lines(text: &[u8], count: u32) -> (&[u8], &[u8]) {
-    let mut rest = text;
-    for _ in 0..count {
-        if let Some((_, behind)) = next_line(rest) {
-            rest = behind;
-        }
-    }
-    text.split_at(text.len().saturating_sub(rest.len()))
-}
-
-/// Returns how many lines an act has, its mark among them.
-fn line_count(act: &Act) -> u32 {
-    act.last.saturating_add(1).saturating_sub(act.first)
-}
-
 /// Returns the text that `text` owns.
 fn borrowed(text: &Option<String>) -> Option<&str> {
     match text {
@@ -67,12 +50,16 @@ fn entry_of(act: &Act) -> Entry<'_> {
 }
 
 /// Appends the acts of `book` to `copy`, each with its lines, time, who and deed.
+///
+/// # Errors
+/// `Disk` also if an act has no lines of the script, which no act of a sound book does.
 fn append_acts<B: Book, C: Book>(alloc: Global, book: &B, copy: &mut C) -> Result<(), BookFault> {
-    let mut rest = book.text();
-    for act in book.acts() {
-        let (lines, behind) = split_lines(rest, line_count(act));
+    let acts = book.acts();
+    for (place, act) in acts.iter().enumerate() {
+        let Some(lines) = act_lines(book.text(), acts, place) else {
+            return Err(BookFault::Disk);
+        };
         append(alloc, copy, lines, entry_of(act))?;
-        rest = behind;
     }
     Ok(())
 }

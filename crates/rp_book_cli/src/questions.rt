@@ -21,7 +21,7 @@ const MOST_MARK_BYTES: usize = 6;
 #[derive(Drop)]
 struct Unmarked<S: Source> {
     source: S,
-    /// Whether nothing was read yet.
+    /// Nothing was read yet, and a mark is left out.
     begins: bool,
     faults: u64,
 }

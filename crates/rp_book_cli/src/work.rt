@@ -16,7 +16,7 @@ use sqlite::{Alter, Connection, FileStore};
 use sqlite_disk::Disk;
 use std::thread::Threads;
 
-/// Whether a line is refused, and the connection, if something was written through it.
+/// What came of an act: true if a line is refused, and the connection if something was written through it.
 type Done<S> = (bool, Option<Connection<S>>);
 
 /// Makes a database a book of `version`: one of version 2 has the mark as its first act.
