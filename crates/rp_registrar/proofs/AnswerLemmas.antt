@@ -32,10 +32,11 @@ pub record HasAnswered (brief : Bool) (machine now : Running) (number next : ℕ
   pub goes_on : (b : Bool) (more : List (List ℕ)) → told b ++ lines_by now b next (rest ++ more) ≡ lines_by machine b number (lines ++ more)
   pub put : Appends old said (text_of_lines (told brief))
   pub marks : mark ≡ list_any is_refused_line (told false)
+  pub version : now.version ≡ machine.version
 
 -- at the start nothing was told
 pub HasAnswered-start : (brief : Bool) (machine : Running) (number : ℕ) (lines : List (List ℕ)) (said : Option (List ℕ)) → HasAnswered brief machine machine number number lines lines said said false
-HasAnswered-start brief machine number lines said = record { told = λ b. []; goes_on = λ b more. refl; put = Appends-nothing said; marks = refl }
+HasAnswered-start brief machine number lines said = record { told = λ b. []; goes_on = λ b more. refl; put = Appends-nothing said; marks = refl; version = refl }
 
 -- the report lines of one line and then of others
 lines_by-cons : (b : Bool) (now after : Running) (next : ℕ) (line : List ℕ) (lines : List (List ℕ)) → after ≡ after_line now next line
@@ -63,6 +64,7 @@ HasAnswered-more brief machine now after number next lines rest line behind old 
           subst (Appends old new) (sym (flat_map-append (λ l. l ++ line_end ∷ []) (h.told brief) (told brief)))
           (Appends-append old said new (text_of_lines (h.told brief)) (text_of_lines (told brief)) h.put put);
       marks = ap (λ b. b || also) h.marks ∙ ap (λ b. list_any is_refused_line (h.told false) || b) marks ∙ sym (list_any-append is_refused_line (h.told false) (told false));
+      version = ap (λ (m : Running). m.version) e ∙ h.version;
     }
 
 -- at the end all was told
@@ -77,6 +79,7 @@ Answers-end brief machine now number next text rest old said mark h e =
     record {
       put = subst (λ (ls : List (List ℕ)). Appends old said (text_of_lines ls)) (all brief) h.put;
       marks = h.marks ∙ ap (list_any is_refused_line) (all false);
+      version = h.version;
       goes_on = λ more. ap (λ (ls : List (List ℕ)). ls ++ lines_by now false next more) (sym (all false)) ∙ goes_on false more;
     }
 

@@ -4,3 +4,4 @@ pub mod EventLemmas
 pub mod LayerLemmas
 pub mod OutcomeLemmas
 pub mod ScriptLemmas
+pub mod SessionLemmas

@@ -4,6 +4,7 @@ use Rattle.rp_io.specs.Faults.{HasRisen}
 use Rattle.rp_io.specs.declared.intake.IntakeFault.{IntakeFault}
 use Rattle.rp_io.specs.declared.intake.IntakeFault.TheVariants as input
 use Rattle.rp_book.specs.Kept.{HasBookCause}
+use Rattle.rp_language.specs.Grammar.{Version}
 use Rattle.rp_language.specs.Name.{Label}
 use Rattle.rp_reports.specs.Output.{most_script_bytes}
 use Rattle.rp_reports.specs.Report.{script_version}
@@ -47,12 +48,26 @@ HasPutCause before after Put = HasRisen before after
 HasPutCause before after (Memory e) = Unit {0}
 HasPutCause before after _ = ⊥
 
--- why questions that stand behind a script were not answered: a put failed, or a line changes the register
-abbrev pub HasAnswerCause : ℕ → ℕ → List ℕ → List ℕ → Stop → Type 0
-HasAnswerCause before after script lines Put = HasRisen before after
-HasAnswerCause before after script lines (Memory e) = Unit {0}
-HasAnswerCause before after script lines Change = has_change (script_version (script ++ lines)) lines ≡ true
-HasAnswerCause before after script lines _ = ⊥
+-- why the questions of a text were not all answered: a put failed, or a line changes which lots there are; nothing is claimed where memory ran out
+abbrev pub HasAnswerCause : ℕ → ℕ → Version → List ℕ → Stop → Type 0
+HasAnswerCause before after v lines Put = HasRisen before after
+HasAnswerCause before after v lines (Memory e) = Unit {0}
+HasAnswerCause before after v lines Change = has_change v lines ≡ true
+HasAnswerCause before after v lines _ = ⊥
+
+-- a script with the lines of an input has so many bytes, more than a script may have; an input that is too long need not be read to its end
+abbrev pub IsTooLong : List ℕ → List ℕ → Length → Type 0
+IsTooLong script input (Exactly n) = (n ≡ length script + length (ended input)) × (most_script_bytes < n)
+IsTooLong script input (MoreThan n) = (n ≡ most_script_bytes) × (n < length script + length (ended input))
+
+-- why the questions of an input after a script were not all answered, given the counts of faults of the source before and after the call, those of the sink, the script and the bytes of the source: what is named failed in the call; nothing is claimed where memory ran out
+abbrev pub HasAskCause : ℕ → ℕ → ℕ → ℕ → List ℕ → Option (List ℕ) → Stop → Type 0
+HasAskCause reads reads_after puts puts_after script left Read = HasRisen reads reads_after
+HasAskCause reads reads_after puts puts_after script left Put = HasRisen puts puts_after
+HasAskCause reads reads_after puts puts_after script left (Memory e) = Unit {0}
+HasAskCause reads reads_after puts puts_after script left (TooLong n) = IfSome left (λ input. IsTooLong script input n)
+HasAskCause reads reads_after puts puts_after script left Change = IfSome left (λ input. has_change (script_version (script ++ ended input)) (ended input) ≡ true)
+HasAskCause reads reads_after puts puts_after script left (Book f) = ⊥
 
 -- why one question that stands behind a script was not answered, of which it is known how long the script is with its line: a put failed, or it would be too long; nothing is claimed where memory ran out
 abbrev pub HasQuestionCause : ℕ → ℕ → (ℕ → Type 0) → Stop → Type 0

@@ -5,3 +5,4 @@ pub mod Cause
 pub mod Children
 pub mod Events
 pub mod Layers
+pub mod Session

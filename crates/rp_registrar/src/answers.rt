@@ -22,7 +22,7 @@ use std::thread::Threads;
 
 /// Has the machine answer a line, and puts the report lines of the answer, full or brief, by way of a buffer for their text.
 /// Answers whether one is a refusal.
-fn answer_line<R: Threads + Sync, K: Sink>(
+pub fn answer_line<R: Threads + Sync, K: Sink>(
     rt: &R,
     alloc: Global,
     machine: &mut Machine,
@@ -47,7 +47,7 @@ fn answer_line<R: Threads + Sync, K: Sink>(
 
 /// Has the machine answer the lines of a text, and puts their report lines, full or brief. Answers the number of the line
 /// behind them, and whether a report line is a refusal.
-fn answer_lines<R: Threads + Sync, K: Sink>(
+pub fn answer_lines<R: Threads + Sync, K: Sink>(
     rt: &R,
     alloc: Global,
     machine: &mut Machine,

@@ -4,7 +4,7 @@
 //! Lines are added only if none of them is refused after those that the book keeps ([`add::add`]). Questions are answered as if
 //! they came after the book's lines, and are not kept:
 //!
-//! - lines that change no lot ([`ask::ask`]);
+//! - lines that change no lot, each as soon as it has come ([`ask::ask`]);
 //! - a question about a lot, with the acts in which the lot was born and ended and the lots that it became
 //!   ([`history::history`]);
 //! - a question about a place on a date, in a layer ([`date::as_of`]).
@@ -12,6 +12,7 @@
 pub mod add;
 mod answers;
 pub mod ask;
+mod change;
 mod children;
 pub mod date;
 mod events;
@@ -20,6 +21,7 @@ mod layers;
 mod lines;
 mod lot_line;
 mod read;
+mod session;
 mod stop;
 
 pub use layers::{Addition, Choice, Inherited, last_choice};

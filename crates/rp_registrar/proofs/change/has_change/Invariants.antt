@@ -1,7 +1,7 @@
 use Rattle.std.proofs.Common.{◌≡◌, length}
 use Rattle.rp_command.specs.Versions.{version_of}
 use Rattle.rp_registrar.specs.Added.{has_change}
-use Rattle.rp_registrar.proofs.ask.has_change.Given as goal
+use Rattle.rp_registrar.proofs.change.has_change.Given as goal
 
 abbrev pub invariant-loop-line : goal.invariant-loop-line
 invariant-loop-line l = has_change (version_of l.version) l.lines ≡ has_change (version_of l.version) l.rest

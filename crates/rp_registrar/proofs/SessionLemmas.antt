@@ -1,0 +1,389 @@
+-- Pieces of an input that come to a session one after the other.
+use Rattle.std.proofs.Common.{◌≡◌, ℕ, suc, ◌-◌, ◌+◌, ◌<◌, ◌≤◌, ◌==◌, Bool, true, false, ◌||◌, List, [], ◌∷◌, ◌++◌, length, take, drop, Option, None, Some, IfSome, refl, sym, ap, ◌∙◌, subst, arith, append_assoc, length-append, eq-eqb}
+use Rattle.std.specs.Prelude.{slice_index}
+use Rattle.std.specs.List.{list_any}
+use Rattle.std.proofs.Math.Bool.{or_assoc}
+use Rattle.std.proofs.lemmas.List.{append-nil, take-append-drop, length-take-le}
+use Rattle.std.proofs.lemmas.List.Concat.{flat_map-append}
+use Rattle.std.proofs.lemmas.List.Folds.{list_any-append}
+use Rattle.rp_book.specs.Lines.{HasEnd, IsEnded}
+use Rattle.rp_book.proofs.ScriptLemmas.{HasEnd-behind, script_lines-append, script_version-append}
+use Rattle.rp_io.specs.Bytes.{Appends, IsAtEnd, Takes}
+use Rattle.rp_io.proofs.IntakeLemmas.{ReadsOn, ReadsOn-start}
+use Rattle.rp_language.specs.Grammar.{Version, reading}
+use Rattle.rp_model.specs.states.State.{PlainState, opening}
+use Rattle.rp_reports.specs.Machine.{Running, lines_from, report}
+use Rattle.rp_reports.specs.Output.{is_refused_line, most_script_bytes}
+use Rattle.rp_reports.specs.Report.{script_body, script_lines, script_version}
+use Rattle.rp_reports.specs.Text.{line_end, text_of_lines}
+use Rattle.rp_scripts.specs.Lines.{is_line_end}
+use Rattle.rp_scripts.proofs.LineLemmas.{script_lines-nil}
+use Rattle.rp_scripts.proofs.RunLemmas.{IsTrue-both}
+use Rattle.rp_scripts.proofs.SinkLemmas.{Appends-append, Appends-nothing}
+use Rattle.rp_registrar.specs.Added.{PutsBehind, changes, ended, has_change}
+use Rattle.rp_registrar.specs.Answered.{Answers, lines_by}
+use Rattle.rp_registrar.specs.Cause.{IsTooLong}
+use Rattle.rp_registrar.specs.Session.{AnswersLines, HasChangeIn, HasNoEnd, IsBehind, IsCut, Replies, missing_end}
+use Rattle.rp_registrar.specs.declared.session.Session.{Session}
+use Rattle.rp_registrar.specs.declared.stop.Length.TheVariants.{MoreThan}
+use Rattle.rp_registrar.proofs.ScriptLemmas.{IsReport-computed, report-behind, report-refused}
+
+-- ---- tests
+
+or_false : (b : Bool) → b ≡ (b || false)
+or_false true = refl
+or_false false = refl
+
+or_true : (b : Bool) → (b || true) ≡ true
+or_true true = refl
+or_true false = refl
+
+-- neither of two tests passes
+neither : (a b : Bool) → (a || b) ≡ false → (a ≡ false) × (b ≡ false)
+neither true b h = absurd (let e : true ≡ false = h in cc)
+neither false b h = (refl, h)
+
+-- ---- texts that end their lines
+
+-- a text without a byte ends its lines
+pub IsEnded-nil : IsEnded []
+IsEnded-nil some = absurd (omega (arith, some))
+
+-- two texts that end their lines do so together
+pub IsEnded-append : (a b : List ℕ) → IsEnded a → IsEnded b → IsEnded (a ++ b)
+IsEnded-append a [] h k = subst IsEnded (sym (append-nil a)) h
+IsEnded-append a (x ∷ xs) h k = λ some. (HasEnd-behind a (x ∷ xs) (omega arith, k (omega arith))).1
+
+-- the lines of a text that ends its lines, and of a text after it
+pub script_lines-both : (a b : List ℕ) → IsEnded a → script_lines (a ++ b) ≡ script_lines a ++ script_lines b
+script_lines-both [] b h = ap (λ (ls : List (List ℕ)). ls ++ script_lines b) (sym script_lines-nil)
+script_lines-both (x ∷ xs) b h = (script_lines-append (x ∷ xs) b (omega arith, h (omega arith))).0
+
+-- one of the lines of both texts changes which lots there are if one of either does
+pub has_change-append : (v : Version) (a b : List ℕ) → IsEnded a → has_change v (a ++ b) ≡ (has_change v a || has_change v b)
+has_change-append v a b h =
+    ap (list_any (λ line. changes (reading v line))) (script_lines-both a b h) ∙ list_any-append (λ line. changes (reading v line)) (script_lines a) (script_lines b)
+
+-- no line of an empty text changes which lots there are
+pub has_change-nil : (v : Version) → has_change v [] ≡ false
+has_change-nil v = ap (list_any (λ line. changes (reading v line))) script_lines-nil
+
+-- a line that changes no lot is passed
+pub has_change-passed : (v : Version) (rest behind : List ℕ) (line : List ℕ) → script_lines rest ≡ line ∷ script_lines behind → changes (reading v line) ≡ false → has_change v rest ≡ has_change v behind
+has_change-passed v rest behind line split none = ap (list_any (λ l. changes (reading v l))) split ∙ ap (λ b. b || has_change v behind) none
+
+-- a line that changes a lot is found
+pub has_change-found : (v : Version) (rest behind : List ℕ) (line : List ℕ) → script_lines rest ≡ line ∷ script_lines behind → changes (reading v line) ≡ true → has_change v rest ≡ true
+has_change-found v rest behind line split some = ap (list_any (λ l. changes (reading v l))) split ∙ ap (λ b. b || has_change v behind) some
+
+-- a change in the second of three texts
+pub has_change-within : (v : Version) (a b c : List ℕ) → IsEnded a → IsEnded b → has_change v b ≡ true → has_change v (a ++ (b ++ c)) ≡ true
+has_change-within v a b c h k some =
+    has_change-append v a (b ++ c) h ∙ ap (λ x. has_change v a || x) (has_change-append v b c k ∙ ap (λ x. x || has_change v c) some) ∙ or_true (has_change v a)
+
+-- ---- the line end that may be missing
+
+abbrev with_end : Bool → List ℕ → List ℕ
+with_end b text = elim b [ true ↦ text | false ↦ text ++ line_end ∷ [] ]
+
+with_end-cons : (b : Bool) (x : ℕ) (text : List ℕ) → with_end b (x ∷ text) ≡ x ∷ with_end b text
+with_end-cons true x text = refl
+with_end-cons false x text = refl
+
+-- the end of a text does not depend on a byte before it
+ended-cons : (y : ℕ) (xs : List ℕ) → 0 < length xs → ended (y ∷ xs) ≡ y ∷ ended xs
+ended-cons y [] h = absurd (omega (arith, h))
+ended-cons y (x ∷ xs) h =
+    let step : length (y ∷ x ∷ xs) - 1 ≡ suc (length (x ∷ xs) - 1) = omega arith in
+    ap (λ n. with_end (slice_index (y ∷ x ∷ xs) n == line_end) (y ∷ x ∷ xs)) step
+    ∙ with_end-cons (slice_index (x ∷ xs) (length (x ∷ xs) - 1) == line_end) y (x ∷ xs)
+
+-- a text that ends its lines stays
+ended-same : (text : List ℕ) → IsEnded text → ended text ≡ text
+ended-same [] h = refl
+ended-same (x ∷ xs) h = ap (λ b. with_end b (x ∷ xs)) (eq-eqb (slice_index (x ∷ xs) (length (x ∷ xs) - 1)) line_end (h (omega arith)))
+
+ended-longer : (a : List ℕ) (x : ℕ) (xs : List ℕ) → ended (a ++ x ∷ xs) ≡ a ++ ended (x ∷ xs)
+ended-longer [] x xs = refl
+ended-longer (y ∷ ys) x xs = ended-cons y (ys ++ x ∷ xs) (omega (arith, length-append ys (x ∷ xs))) ∙ ap (λ ls. y ∷ ls) (ended-longer ys x xs)
+
+-- after a text that ends its lines, only the text after it may lack a line end
+pub ended-append : (a b : List ℕ) → IsEnded a → ended (a ++ b) ≡ a ++ ended b
+ended-append a [] h = ap ended (append-nil a) ∙ ended-same a h ∙ sym (append-nil a)
+ended-append a (x ∷ xs) h = ended-longer a x xs
+
+-- an unfinished line lacks its line end
+pub ended-unfinished : (text : List ℕ) → HasNoEnd text → ended text ≡ text ++ missing_end text
+ended-unfinished [] h = refl
+ended-unfinished (b ∷ []) h = ap (λ t. with_end t (b ∷ [])) (neither (is_line_end b) false h).0
+ended-unfinished (b ∷ d ∷ bs) h = ended-cons b (d ∷ bs) (omega arith) ∙ ap (λ ls. b ∷ ls) (ended-unfinished (d ∷ bs) (neither (is_line_end b) (list_any is_line_end (d ∷ bs)) h).1)
+
+-- it ends its lines with it
+pub IsEnded-line : (text : List ℕ) → IsEnded (text ++ line_end ∷ [])
+IsEnded-line text = λ some. (HasEnd-behind text (line_end ∷ []) (omega arith, refl)).1
+
+pub length-ended : (text : List ℕ) → length text ≤ length (ended text)
+length-ended [] = omega arith
+length-ended (b ∷ bs) = go (slice_index (b ∷ bs) (length (b ∷ bs) - 1) == line_end)
+  where
+    go : (t : Bool) → length (b ∷ bs) ≤ length (with_end t (b ∷ bs))
+    go true = omega arith
+    go false = omega (arith, length-append (b ∷ bs) (line_end ∷ []))
+
+-- ---- cuts
+
+-- an unfinished line stands before the complete lines of a piece
+pub IsCut-behind : (held piece lines rest : List ℕ) → 0 < length lines → IsCut piece lines rest → IsCut (held ++ piece) (held ++ lines) rest
+IsCut-behind held piece lines rest some h =
+    record {
+      whole = ap (λ xs. held ++ xs) h.whole ∙ sym (append_assoc held lines rest);
+      ended = λ more. (HasEnd-behind held lines (some, h.ended some)).1;
+      unended = h.unended;
+    }
+
+-- a piece without a complete line makes the unfinished line longer
+pub IsCut-none : (held piece lines rest : List ℕ) → HasNoEnd held → lines ≡ [] → IsCut piece lines rest → IsCut (held ++ piece) [] (held ++ piece)
+IsCut-none held piece lines rest unended none h =
+    let same : piece ≡ rest = h.whole ∙ ap (λ xs. xs ++ rest) none in
+    let piece_unended : HasNoEnd piece = subst HasNoEnd (sym same) h.unended in
+    record {
+      whole = refl;
+      ended = IsEnded-nil;
+      unended = list_any-append is_line_end held piece ∙ ap (λ b. b || list_any is_line_end piece) unended ∙ piece_unended;
+    }
+
+-- an unfinished line is complete with the line end that it lacks
+pub IsCut-line : (text : List ℕ) → 0 < length text → IsCut (text ++ missing_end text) (text ++ line_end ∷ []) []
+IsCut-line [] some = absurd (omega (arith, some))
+IsCut-line (b ∷ bs) some = record { whole = sym (append-nil ((b ∷ bs) ++ line_end ∷ [])); ended = IsEnded-line (b ∷ bs); unended = refl }
+
+-- ---- answers one after the other
+
+-- no line was answered
+pub Answers-nothing : (m : Running) (n : ℕ) (said : Option (List ℕ)) → Answers false m n [] m n said said false
+Answers-nothing m n said =
+    record {
+      put = subst (λ (ls : List (List ℕ)). Appends said said (text_of_lines (lines_by m false n ls))) (sym script_lines-nil) (Appends-nothing said);
+      marks = ap (λ (ls : List (List ℕ)). list_any is_refused_line (lines_by m false n ls)) (sym script_lines-nil);
+      version = refl;
+      goes_on = λ more.
+          ap (λ (ls : List (List ℕ)). lines_by m false n ls ++ lines_by m false n more) script_lines-nil
+          ∙ ap (λ (ls : List (List ℕ)). lines_by m false n (ls ++ more)) (sym script_lines-nil);
+    }
+
+-- a text was answered, and then another
+pub Answers-append : (m0 m1 m2 : Running) (n0 n1 n2 : ℕ) (a b : List ℕ) (old middle new : Option (List ℕ)) (k l : Bool) → IsEnded a
+    → Answers false m0 n0 a m1 n1 old middle k → Answers false m1 n1 b m2 n2 middle new l → Answers false m0 n0 (a ++ b) m2 n2 old new (k || l)
+Answers-append m0 m1 m2 n0 n1 n2 a b old middle new k l ends f s =
+    let split = script_lines-both a b ends in
+    let first = lines_by m0 false n0 (script_lines a) in
+    let second = lines_by m1 false n1 (script_lines b) in
+    let whole : first ++ second ≡ lines_by m0 false n0 (script_lines (a ++ b)) = f.goes_on (script_lines b) ∙ ap (lines_by m0 false n0) (sym split) in
+    record {
+      put =
+          subst (λ (ls : List (List ℕ)). Appends old new (text_of_lines ls)) whole
+          (subst (Appends old new) (sym (flat_map-append (λ l. l ++ line_end ∷ []) first second))
+          (Appends-append old middle new (text_of_lines first) (text_of_lines second) f.put s.put));
+      marks =
+          ap (λ b. b || l) f.marks ∙ ap (λ b. list_any is_refused_line first || b) s.marks
+          ∙ sym (list_any-append is_refused_line first second) ∙ ap (list_any is_refused_line) whole;
+      version = s.version ∙ f.version;
+      goes_on = λ more.
+          ap (λ (ls : List (List ℕ)). ls ++ lines_by m2 false n2 more) (sym whole)
+          ∙ append_assoc first second (lines_by m2 false n2 more)
+          ∙ ap (λ (ls : List (List ℕ)). first ++ ls) (s.goes_on more)
+          ∙ f.goes_on (script_lines b ++ more)
+          ∙ ap (lines_by m0 false n0) (sym (append_assoc (script_lines a) (script_lines b) more) ∙ ap (λ (ls : List (List ℕ)). ls ++ more) (sym split));
+    }
+
+-- a session answered lines, and then others
+pub AnswersLines-append : (a b : List ℕ) (s0 s1 s2 : Session) (old middle new : Option (List ℕ)) → IsEnded a
+    → AnswersLines a s0 s1 old middle → AnswersLines b s1 s2 middle new → AnswersLines (a ++ b) s0 s2 old new
+AnswersLines-append a b s0 s1 s2 old middle new ends h k =
+    record {
+      mark = h.mark || k.mark;
+      questions =
+          has_change-append s0.machine.version a b ends ∙ ap (λ x. x || has_change s0.machine.version b) h.questions
+          ∙ ap (λ (v : Version). has_change v b) (sym h.answers.version) ∙ k.questions;
+      answers =
+          Answers-append s0.machine s1.machine s2.machine s0.next s1.next s2.next a b old middle new h.mark k.mark ends h.answers k.answers;
+      marks = k.marks ∙ ap (λ x. x || k.mark) h.marks ∙ or_assoc s0.refused h.mark k.mark;
+    }
+
+-- before the first piece nothing is answered
+pub AnswersLines-nothing : (s after : Session) (said : Option (List ℕ)) → after.machine ≡ s.machine → after.next ≡ s.next → after.refused ≡ s.refused → AnswersLines [] s after said said
+AnswersLines-nothing s after said machine next refused =
+    record {
+      mark = false;
+      questions = has_change-nil s.machine.version;
+      answers =
+          subst (λ (m : Running). Answers false s.machine s.next [] m after.next said said false) (sym machine)
+          (subst (λ (n : ℕ). Answers false s.machine s.next [] s.machine n said said false) (sym next) (Answers-nothing s.machine s.next said));
+      marks = refused ∙ or_false s.refused;
+    }
+
+pub Replies-start : (s : Session) (said : Option (List ℕ)) → HasNoEnd s.unfinished.items → Replies [] s s said said
+Replies-start s said unended =
+    record {
+      lines = [];
+      cut = record { whole = append-nil s.unfinished.items; ended = IsEnded-nil; unended = unended };
+      answers = AnswersLines-nothing s s said refl refl refl;
+    }
+
+-- a piece came, and then another
+pub Replies-append : (p q : List ℕ) (s0 s1 s2 : Session) (old middle new : Option (List ℕ)) → Replies p s0 s1 old middle → Replies q s1 s2 middle new → Replies (p ++ q) s0 s2 old new
+Replies-append p q s0 s1 s2 old middle new h k =
+    record {
+      lines = h.lines ++ k.lines;
+      cut =
+          record {
+            whole =
+                sym (append_assoc s0.unfinished.items p q) ∙ ap (λ xs. xs ++ q) h.cut.whole ∙ append_assoc h.lines s1.unfinished.items q
+                ∙ ap (λ xs. h.lines ++ xs) k.cut.whole ∙ sym (append_assoc h.lines k.lines s2.unfinished.items);
+            ended = IsEnded-append h.lines k.lines h.cut.ended k.cut.ended;
+            unended = k.cut.unended;
+          };
+      answers = AnswersLines-append h.lines k.lines s0 s1 s2 old middle new h.cut.ended h.answers k.answers;
+    }
+
+-- ---- a session after a script
+
+-- a session that has run a script
+pub IsBehind-run : (script body : List ℕ) (v : Version) (s : Session) (before hidden : Option (List ℕ)) → v ≡ script_version script → script_lines body ≡ script_body script
+    → s.unfinished.items ≡ [] → s.next ≤ length script + 1
+    → Answers true (record { version = v; state = opening }) 1 body s.machine s.next before hidden s.refused → IsBehind script s
+IsBehind-run script body v s before hidden version lines unfinished few h =
+    record {
+      version = h.version ∙ version;
+      unfinished = unfinished;
+      few = few;
+      marks =
+          h.marks ∙ ap (λ (ls : List (List ℕ)). list_any is_refused_line (lines_from v false opening 1 ls)) lines
+          ∙ ap (λ (u : Version). list_any is_refused_line (lines_from u false opening 1 (script_body script))) version;
+      goes_on = λ more.
+          subst (λ (u : Version). lines_from u false opening 1 (script_body script) ++ lines_by s.machine false s.next more ≡ lines_from u false opening 1 (script_body script ++ more)) version
+          (subst (λ (ls : List (List ℕ)). lines_from v false opening 1 ls ++ lines_by s.machine false s.next more ≡ lines_from v false opening 1 (ls ++ more)) lines (h.goes_on more));
+    }
+
+-- a session that has run a script, and then answered lines, has put what the report of all has after the report of the script
+pub PutsBehind-session : (script lines : List ℕ) (s0 s : Session) (old new : Option (List ℕ)) → HasEnd script → IsBehind script s0 → AnswersLines lines s0 s old new → PutsBehind script lines old new s.refused
+PutsBehind-session script lines s0 s old new ends b h =
+    let v = script_version script in
+    let body = lines_from v false opening 1 (script_body script) in
+    let told = lines_by s0.machine false s0.next (script_lines lines) in
+    let marks : s.refused ≡ list_any is_refused_line (body ++ told) =
+    h.marks ∙ ap (λ x. x || h.mark) b.marks ∙ ap (λ x. list_any is_refused_line body || x) h.answers.marks ∙ sym (list_any-append is_refused_line body told) in
+    record {
+      before = report false script;
+      told = told;
+      report_before = IsReport-computed script (report false script) refl;
+      report = IsReport-computed (script ++ lines) (report false script ++ told) (report-behind script lines told ends (b.goes_on (script_lines lines)));
+      text = h.answers.put;
+      marks = IsTrue-both s.refused (list_any is_refused_line (report false script ++ told)) (marks ∙ sym (report-refused script told));
+    }
+
+-- none of these lines changes which lots there are
+pub questions-session : (script lines : List ℕ) (s0 s : Session) (old new : Option (List ℕ)) → HasEnd script → IsBehind script s0 → AnswersLines lines s0 s old new → has_change (script_version (script ++ lines)) lines ≡ false
+questions-session script lines s0 s old new ends b h =
+    ap (λ (v : Version). has_change v lines) (script_version-append script lines ends ∙ sym b.version) ∙ h.questions
+
+-- ---- pieces of a source
+
+-- the session has answered what it read of a source so far, which leaves so much room
+pub record HasRead (before now : Option (List ℕ)) (room left : ℕ) (s0 s : Session) (old said : Option (List ℕ)) : Type 0 where
+  pub came : List ℕ
+  pub reads : ReadsOn before now came
+  pub fits : length came + left ≡ room
+  pub replies : Replies came s0 s old said
+
+pub HasRead-start : (before : Option (List ℕ)) (room : ℕ) (s : Session) (said : Option (List ℕ)) → HasNoEnd s.unfinished.items → HasRead before before room room s s said said
+HasRead-start before room s said unended = record { came = []; reads = ReadsOn-start before; fits = omega arith; replies = Replies-start s said unended }
+
+taken_at : (now after : Option (List ℕ)) (n : ℕ) (buffer rest : List ℕ) → now ≡ Some rest → Takes now after n buffer → (n ≤ length rest) × (take n buffer ≡ take n rest) × (after ≡ Some (drop n rest))
+taken_at now after n buffer rest e t = subst (λ (o : Option (List ℕ)). Takes o after n buffer) e t
+
+-- a read adds what it took
+ReadsOn-more : (before now after : Option (List ℕ)) (read buffer : List ℕ) (n : ℕ) → ReadsOn before now read → Takes now after n buffer → ReadsOn before after (read ++ take n buffer)
+ReadsOn-more None now after read buffer n h t = _
+ReadsOn-more (Some left) now after read buffer n h t =
+    let taken = taken_at now after n buffer h.0 h.1 t in
+    let parts : left ≡ (read ++ take n buffer) ++ drop n h.0 =
+    h.2 ∙ ap (λ xs. read ++ xs) (sym (take-append-drop n h.0)) ∙ sym (append_assoc read (take n h.0) (drop n h.0)) ∙ ap (λ xs. (read ++ xs) ++ drop n h.0) (sym taken.1) in
+    (drop n h.0, taken.2, parts)
+
+-- one more piece was read and answered
+pub HasRead-more : (before now after : Option (List ℕ)) (room left n : ℕ) (buffer : List ℕ) (s0 s1 s2 : Session) (old middle new : Option (List ℕ)) → HasRead before now room left s0 s1 old middle
+    → Takes now after n buffer → n ≤ length buffer → n ≤ left → Replies (take n buffer) s1 s2 middle new → HasRead before after room (left - n) s0 s2 old new
+HasRead-more before now after room left n buffer s0 s1 s2 old middle new h t within fits k =
+    record {
+      came = h.came ++ take n buffer;
+      reads = ReadsOn-more before now after h.came buffer n h.reads t;
+      fits = omega (arith, length-append h.came (take n buffer), length-take-le n buffer within, h.fits, fits);
+      replies = Replies-append h.came (take n buffer) s0 s1 s2 old middle new h.replies k;
+    }
+
+-- a piece that does not fit shows that the input is too long
+pub HasRead-past : (script : List ℕ) (before now after : Option (List ℕ)) (room left n : ℕ) (buffer : List ℕ) (s0 s : Session) (old said : Option (List ℕ)) → HasRead before now room left s0 s old said
+    → Takes now after n buffer → left < n → room + length script ≡ most_script_bytes → IfSome before (λ input. IsTooLong script input (MoreThan most_script_bytes))
+HasRead-past script None now after room left n buffer s0 s old said h t past is = _
+HasRead-past script (Some input) now after room left n buffer s0 s old said h t past is =
+    let reads : (rest : List ℕ) × (now ≡ Some rest) × (input ≡ h.came ++ rest) = h.reads in
+    let taken = taken_at now after n buffer reads.0 reads.1 t in
+    (refl, omega (arith, ap length reads.2, length-append h.came reads.0, taken.0, h.fits, past, is, length-ended input))
+
+-- the bytes that came are those of the complete lines, and of the unfinished line
+came_cut : (came : List ℕ) (s0 s : Session) (old said : Option (List ℕ)) (h : Replies came s0 s old said) → s0.unfinished.items ≡ [] → came ≡ h.lines ++ s.unfinished.items
+came_cut came s0 s old said h fresh = ap (λ xs. xs ++ came) (sym fresh) ∙ h.cut.whole
+
+-- with the line end that the last line lacks, the bytes that came are ended lines
+pub came_ended : (came : List ℕ) (s0 s : Session) (old said : Option (List ℕ)) (h : Replies came s0 s old said) → s0.unfinished.items ≡ [] → ended came ≡ h.lines ++ (s.unfinished.items ++ missing_end s.unfinished.items)
+came_ended came s0 s old said h fresh =
+    ap ended (came_cut came s0 s old said h fresh) ∙ ended-append h.lines s.unfinished.items h.cut.ended
+    ∙ ap (λ xs. h.lines ++ xs) (ended-unfinished s.unfinished.items h.cut.unended)
+
+-- all was answered once the last line is finished
+pub AnswersLines-all : (came : List ℕ) (s0 s1 s2 : Session) (old middle new : Option (List ℕ)) → s0.unfinished.items ≡ [] → Replies came s0 s1 old middle
+    → Replies (missing_end s1.unfinished.items) s1 s2 middle new → s2.unfinished.items ≡ [] → AnswersLines (ended came) s0 s2 old new
+AnswersLines-all came s0 s1 s2 old middle new fresh h k none =
+    let last = k.cut.whole ∙ ap (λ xs. k.lines ++ xs) none ∙ append-nil k.lines in
+    let whole : h.lines ++ k.lines ≡ ended came = ap (λ xs. h.lines ++ xs) (sym last) ∙ sym (came_ended came s0 s1 old middle h fresh) in
+    subst (λ (ls : List ℕ). AnswersLines ls s0 s2 old new) whole (AnswersLines-append h.lines k.lines s0 s1 s2 old middle new h.cut.ended h.answers k.answers)
+
+-- the source was read to its end, so that all of it came
+pub read_whole : (P : List ℕ → Type 0) (before now : Option (List ℕ)) (came : List ℕ) → ReadsOn before now came → IsAtEnd now → P came → IfSome before P
+read_whole P None now came reads end h = _
+read_whole P (Some input) now came reads end h =
+    let none : reads.0 ≡ [] = subst IsAtEnd reads.1 end in
+    subst P (sym (reads.2 ∙ ap (λ xs. came ++ xs) none ∙ append-nil came)) h
+
+-- a change in a complete line of a piece is one in the input
+pub change_in_piece : (script : List ℕ) (before now after : Option (List ℕ)) (room left n : ℕ) (buffer : List ℕ) (s0 s : Session) (old said : Option (List ℕ)) → HasEnd script → IsBehind script s0
+    → HasRead before now room left s0 s old said → Takes now after n buffer → HasChangeIn s.machine.version (s.unfinished.items ++ take n buffer)
+    → IfSome before (λ input. has_change (script_version (script ++ ended input)) (ended input) ≡ true)
+change_in_piece script None now after room left n buffer s0 s old said ends b h t k = _
+change_in_piece script (Some input) now after room left n buffer s0 s old said ends b h t k =
+    let piece = take n buffer in
+    let reads : (rest : List ℕ) × (after ≡ Some rest) × (input ≡ (h.came ++ piece) ++ rest) = ReadsOn-more (Some input) now after h.came buffer n h.reads t in
+    let first = h.replies.lines in
+    let tail = k.rest ++ reads.0 in
+    let parts : input ≡ (first ++ k.lines) ++ tail =
+    reads.2 ∙ ap (λ xs. (xs ++ piece) ++ reads.0) (came_cut h.came s0 s old said h.replies b.unfinished)
+    ∙ ap (λ xs. xs ++ reads.0) (append_assoc first s.unfinished.items piece ∙ ap (λ xs. first ++ xs) k.cut.whole ∙ sym (append_assoc first k.lines k.rest))
+    ∙ append_assoc (first ++ k.lines) k.rest reads.0 in
+    let both = IsEnded-append first k.lines h.replies.cut.ended k.cut.ended in
+    let whole : ended input ≡ first ++ (k.lines ++ ended tail) = ap ended parts ∙ ended-append (first ++ k.lines) tail both ∙ append_assoc first k.lines (ended tail) in
+    let version : script_version (script ++ ended input) ≡ s.machine.version = script_version-append script (ended input) ends ∙ sym b.version ∙ sym h.replies.answers.answers.version in
+    ap (λ (v : Version). has_change v (ended input)) version ∙ ap (has_change s.machine.version) whole
+    ∙ has_change-within s.machine.version first k.lines (ended tail) h.replies.cut.ended k.cut.ended k.change
+
+-- a change in the unfinished line
+pub change_at_end : (script : List ℕ) (before now : Option (List ℕ)) (room left : ℕ) (s0 s : Session) (old said : Option (List ℕ)) → HasEnd script → IsBehind script s0
+    → HasRead before now room left s0 s old said → IsAtEnd now → HasChangeIn s.machine.version (s.unfinished.items ++ missing_end s.unfinished.items)
+    → IfSome before (λ input. has_change (script_version (script ++ ended input)) (ended input) ≡ true)
+change_at_end script before now room left s0 s old said ends b h end k =
+    let first = h.replies.lines in
+    let whole : ended h.came ≡ first ++ (k.lines ++ k.rest) = came_ended h.came s0 s old said h.replies b.unfinished ∙ ap (λ xs. first ++ xs) k.cut.whole in
+    let version : script_version (script ++ ended h.came) ≡ s.machine.version = script_version-append script (ended h.came) ends ∙ sym b.version ∙ sym h.replies.answers.answers.version in
+    read_whole (λ input. has_change (script_version (script ++ ended input)) (ended input) ≡ true) before now h.came h.reads end
+    (ap (λ (v : Version). has_change v (ended h.came)) version ∙ ap (has_change s.machine.version) whole
+    ∙ has_change-within s.machine.version first k.lines k.rest h.replies.cut.ended k.cut.ended k.change)

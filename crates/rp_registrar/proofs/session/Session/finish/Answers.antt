@@ -1,0 +1,31 @@
+use Rattle.std.proofs.Common.{◌≡◌, ◌<◌, length, [], ◌∷◌, ◌++◌, refl, sym, ap, subst, ◌∙◌, arith}
+use Rattle.std.proofs.lemmas.Bool.Decides.{nat_tests}
+use Rattle.std.proofs.lemmas.List.{nil_from_length}
+use Rattle.std.proofs.lemmas.Result.{IfErr-weaker}
+use Rattle.rp_registrar.specs.Cause.{HasAnswerCause}
+use Rattle.rp_registrar.specs.Session.{HasPieceCause, IsCut, Replies, missing_end}
+use Rattle.rp_registrar.proofs.CauseLemmas.{piece_cause}
+use Rattle.rp_registrar.proofs.SessionLemmas.{IsCut-line, Replies-start}
+use Rattle.rp_registrar.proofs.session.Session.finish.Goals as goal
+
+pub returns-then-is_empty-clause-replies : goal.returns-then-is_empty-clause-replies
+returns-then-is_empty-clause-replies g c =
+    let s = c.args.self.now in
+    let said = g.K.Sink.said c.args.sink.now in
+    let test = sym c.is_empty.ensures ∙ c.if-is_empty.true in
+    let zero : length s.unfinished.items ≡ 0 = grind (arith, nat_tests, test, s.unfinished.ok.0) in
+    let none : s.unfinished.items ≡ [] = nil_from_length s.unfinished.items zero in
+    subst (λ piece. Replies piece s s said said) (ap missing_end (sym none)) (Replies-start s said c.requires.ready.unended)
+
+pub returns-clause-cause : goal.returns-clause-cause
+returns-clause-cause g c =
+    let held = c.args.self.now.unfinished.items in
+    let v = c.args.self.now.machine.version in
+    let k = g.K.Sink.faults c.args.sink.now in
+    let n = g.K.Sink.faults c.answer_unfinished.new.sink in
+    let test = sym c.is_empty.ensures ∙ c.if-is_empty.false in
+    let some : 0 < length held = grind (arith, nat_tests, test, c.args.self.now.unfinished.ok.0) in
+    let lines = c.extend_from_slice.new.self.items in
+    let cut : IsCut (held ++ missing_end held) lines [] = subst (λ ls. IsCut (held ++ missing_end held) ls []) (sym c.in_ok-extend_from_slice.ensures.items) (IsCut-line held some) in
+    IfErr-weaker c.answer_unfinished.result (HasAnswerCause k n v lines) (HasPieceCause k n v (held ++ missing_end held))
+    (λ stop h. piece_cause k n v (held ++ missing_end held) lines [] stop cut h) c.answer_unfinished.ensures.cause

@@ -1,0 +1,77 @@
+-- Questions that come in pieces after a script, and the answers to those that have come.
+use Rattle.std.specs.Prelude.{◌≡◌, ℕ, ◌+◌, ◌≤◌, Bool, true, false, ◌||◌, List, [], ◌∷◌, ◌++◌, length, Option}
+use Rattle.std.specs.List.{list_any}
+use Rattle.rp_book.specs.Lines.{IsEnded}
+use Rattle.rp_command.specs.Versions.{version_of}
+use Rattle.rp_io.specs.Faults.{HasRisen}
+use Rattle.rp_language.specs.Grammar.{Version}
+use Rattle.rp_model.specs.states.Sound.{IsLaterThan}
+use Rattle.rp_model.specs.states.State.{opening, state_of_parts}
+use Rattle.rp_reports.specs.Machine.{lines_from}
+use Rattle.rp_reports.specs.Output.{is_refused_line}
+use Rattle.rp_reports.specs.Report.{script_body, script_version}
+use Rattle.rp_reports.specs.Text.{line_end}
+use Rattle.rp_scripts.specs.Lines.{is_line_end}
+use Rattle.rp_registrar.specs.Added.{has_change}
+use Rattle.rp_registrar.specs.Answered.{Answers, lines_by}
+use Rattle.rp_registrar.specs.declared.session.Session.{Session}
+use Rattle.rp_registrar.specs.declared.stop.Stop.{Stop}
+use Rattle.rp_registrar.specs.declared.stop.Stop.TheVariants.{Read, Put, Memory, TooLong, Change, Book}
+
+-- no byte of a text ends a line
+abbrev pub HasNoEnd : List ℕ → Type 0
+HasNoEnd text = list_any is_line_end text ≡ false
+
+-- a text is its complete lines, up to its last line end, and the bytes after them
+pub record IsCut (text lines rest : List ℕ) : Type 0 where
+  pub whole : text ≡ lines ++ rest
+  pub ended : IsEnded lines
+  pub unended : HasNoEnd rest
+
+-- the line end that an unfinished line lacks; none if no line is unfinished
+abbrev pub missing_end : List ℕ → List ℕ
+missing_end [] = []
+missing_end (b ∷ bs) = line_end ∷ []
+
+-- a session reads lines by the version of its machine, the number of its next line is above every birth and every end of a lot, and its unfinished line has no line end
+pub record IsReady (s : Session) : Type 0 where
+  pub version : version_of s.version ≡ s.machine.version
+  pub later : IsLaterThan s.next (state_of_parts s.machine.state)
+  pub unended : HasNoEnd s.unfinished.items
+
+-- a session has answered a script and no line after it: the report lines of the script, and then those of any lines that the session answers next, are the report lines of all; the session's mark says whether a line of the report of the script is a refusal
+pub record IsBehind (script : List ℕ) (s : Session) : Type 0 where
+  pub version : s.machine.version ≡ script_version script
+  pub unfinished : s.unfinished.items ≡ []
+  pub few : s.next ≤ length script + 1
+  pub marks : s.refused ≡ list_any is_refused_line (lines_from (script_version script) false opening 1 (script_body script))
+  pub goes_on : (more : List (List ℕ)) → lines_from (script_version script) false opening 1 (script_body script) ++ lines_by s.machine false s.next more ≡ lines_from (script_version script) false opening 1 (script_body script ++ more)
+
+-- a session has answered lines, none of which changes which lots there are: their report lines were put, and the session's mark is set if one of them is a refusal
+pub record AnswersLines (lines : List ℕ) (before after : Session) (old new : Option (List ℕ)) : Type 0 where
+  pub mark : Bool
+  pub questions : has_change before.machine.version lines ≡ false
+  pub answers : Answers false before.machine before.next lines after.machine after.next old new mark
+  pub marks : after.refused ≡ (before.refused || mark)
+
+-- a piece of an input came to a session: all lines that are complete with it have been answered, and the bytes after them are the unfinished line
+pub record Replies (piece : List ℕ) (before after : Session) (old new : Option (List ℕ)) : Type 0 where
+  pub lines : List ℕ
+  pub cut : IsCut (before.unfinished.items ++ piece) lines after.unfinished.items
+  pub answers : AnswersLines lines before after old new
+
+-- a complete line of a text changes which lots there are
+pub record HasChangeIn (v : Version) (text : List ℕ) : Type 0 where
+  pub lines : List ℕ
+  pub rest : List ℕ
+  pub cut : IsCut text lines rest
+  pub change : has_change v lines ≡ true
+
+-- why the complete lines of a text were not all answered: a put failed, or one of them changes which lots there are; nothing is claimed where memory ran out
+abbrev pub HasPieceCause : ℕ → ℕ → Version → List ℕ → Stop → Type 0
+HasPieceCause before after v text Put = HasRisen before after
+HasPieceCause before after v text (Memory e) = Unit {0}
+HasPieceCause before after v text Change = HasChangeIn v text
+HasPieceCause before after v text Read = ⊥
+HasPieceCause before after v text (TooLong n) = ⊥
+HasPieceCause before after v text (Book f) = ⊥
