@@ -26,20 +26,21 @@ use Rattle.rp_registrar.specs.Layers.{lines_in}
 use Rattle.rp_registrar.specs.Answered.{Answers, AnswersBehind, lines_by}
 use Rattle.rp_registrar.proofs.ScriptLemmas.{IsReport-computed, IsReport-nothing, report-behind, report-refused}
 
--- what a machine told of the lines before the rest, whose first line has the number and meets the machine as it is now
+-- a machine answered the lines before the rest, whose first line has the number and meets the machine as it is now
 pub record HasAnswered (brief : Bool) (machine now : Running) (number next : ℕ) (lines rest : List (List ℕ)) (old said : Option (List ℕ)) (mark : Bool) : Type 0 where
-  pub told : Bool → List (List ℕ)
-  pub goes_on : (b : Bool) (more : List (List ℕ)) → told b ++ lines_by now b next (rest ++ more) ≡ lines_by machine b number (lines ++ more)
-  pub put : Appends old said (text_of_lines (told brief))
-  pub marks : mark ≡ list_any is_refused_line (told false)
+  pub front : List (List ℕ)
+  pub split : lines ≡ front ++ rest
+  pub goes_on : (b : Bool) (more : List (List ℕ)) → lines_by machine b number front ++ lines_by now b next more ≡ lines_by machine b number (front ++ more)
+  pub put : Appends old said (text_of_lines (lines_by machine brief number front))
+  pub marks : mark ≡ list_any is_refused_line (lines_by machine false number front)
   pub version : now.version ≡ machine.version
 
--- at the start nothing was told
-pub HasAnswered-start : (brief : Bool) (machine : Running) (number : ℕ) (lines : List (List ℕ)) (said : Option (List ℕ)) → HasAnswered brief machine machine number number lines lines said said false
-HasAnswered-start brief machine number lines said = record { told = λ b. []; goes_on = λ b more. refl; put = Appends-nothing said; marks = refl; version = refl }
+-- at the start nothing was answered
+unfoldable pub HasAnswered-start : (brief : Bool) (machine : Running) (number : ℕ) (lines : List (List ℕ)) (said : Option (List ℕ)) → HasAnswered brief machine machine number number lines lines said said false
+HasAnswered-start brief machine number lines said = record { front = []; split = refl; goes_on = λ b more. refl; put = Appends-nothing said; marks = refl; version = refl }
 
 -- the report lines of one line and then of others
-lines_by-cons : (b : Bool) (now after : Running) (next : ℕ) (line : List ℕ) (lines : List (List ℕ)) → after ≡ after_line now next line
+pub lines_by-cons : (b : Bool) (now after : Running) (next : ℕ) (line : List ℕ) (lines : List (List ℕ)) → after ≡ after_line now next line
     → answer_lines b (step_answer now.version now.state next line) ++ lines_by after b (next + 1) lines ≡ lines_by now b next (line ∷ lines)
 lines_by-cons b now after next line lines e =
     let told = answer_lines b (step_answer now.version now.state next line) in
@@ -47,40 +48,44 @@ lines_by-cons b now after next line lines e =
     ∙ ap (λ (n : ℕ). told ++ lines_from now.version b (step_state now.version now.state next line) n lines) (add-one next)
 
 -- one more line
-pub HasAnswered-more : (brief : Bool) (machine now after : Running) (number next : ℕ) (lines rest : List (List ℕ)) (line : List ℕ) (behind : List (List ℕ)) (old said new : Option (List ℕ)) (mark also : Bool)
+unfoldable pub HasAnswered-more : (brief : Bool) (machine now after : Running) (number next : ℕ) (lines rest : List (List ℕ)) (line : List ℕ) (behind : List (List ℕ)) (old said new : Option (List ℕ)) (mark also : Bool)
     → HasAnswered brief machine now number next lines rest old said mark → rest ≡ line ∷ behind
     → Appends said new (text_of_lines (answer_lines brief (step_answer now.version now.state next line)))
     → also ≡ list_any is_refused_line (answer_lines false (step_answer now.version now.state next line)) → after ≡ after_line now next line
     → HasAnswered brief machine after number (next + 1) lines behind old new (mark || also)
 HasAnswered-more brief machine now after number next lines rest line behind old said new mark also h split put marks e =
     let told = λ (b : Bool). answer_lines b (step_answer now.version now.state next line) in
+    let before = λ (b : Bool). lines_by machine b number h.front in
+    let both : (b : Bool) → before b ++ told b ≡ lines_by machine b number (h.front ++ line ∷ []) =
+    λ b. ap (λ (ls : List (List ℕ)). before b ++ ls) (sym (append-nil (told b))) ∙ h.goes_on b (line ∷ []) in
     record {
-      told = λ b. h.told b ++ told b;
+      front = h.front ++ line ∷ [];
+      split = h.split ∙ ap (λ (ls : List (List ℕ)). h.front ++ ls) split ∙ sym (append_assoc h.front (line ∷ []) behind);
       goes_on = λ b more.
-          append_assoc (h.told b) (told b) (lines_by after b (next + 1) (behind ++ more))
-          ∙ ap (λ (tail : List (List ℕ)). h.told b ++ tail) (lines_by-cons b now after next line (behind ++ more) e)
-          ∙ ap (λ (ls : List (List ℕ)). h.told b ++ lines_by now b next (ls ++ more)) (sym split) ∙ h.goes_on b more;
+          ap (λ (ls : List (List ℕ)). ls ++ lines_by after b (next + 1) more) (sym (both b))
+          ∙ append_assoc (before b) (told b) (lines_by after b (next + 1) more)
+          ∙ ap (λ (tail : List (List ℕ)). before b ++ tail) (lines_by-cons b now after next line more e) ∙ h.goes_on b (line ∷ more)
+          ∙ ap (lines_by machine b number) (sym (append_assoc h.front (line ∷ []) more));
       put =
-          subst (Appends old new) (sym (flat_map-append (λ l. l ++ line_end ∷ []) (h.told brief) (told brief)))
-          (Appends-append old said new (text_of_lines (h.told brief)) (text_of_lines (told brief)) h.put put);
-      marks = ap (λ b. b || also) h.marks ∙ ap (λ b. list_any is_refused_line (h.told false) || b) marks ∙ sym (list_any-append is_refused_line (h.told false) (told false));
+          subst (λ (ls : List (List ℕ)). Appends old new (text_of_lines ls)) (both brief)
+          (subst (Appends old new) (sym (flat_map-append (λ l. l ++ line_end ∷ []) (before brief) (told brief)))
+          (Appends-append old said new (text_of_lines (before brief)) (text_of_lines (told brief)) h.put put));
+      marks =
+          ap (λ b. b || also) h.marks ∙ ap (λ b. list_any is_refused_line (before false) || b) marks ∙ sym (list_any-append is_refused_line (before false) (told false))
+          ∙ ap (list_any is_refused_line) (both false);
       version = ap (λ (m : Running). m.version) e ∙ h.version;
     }
 
--- at the end all was told
+-- at the end all was answered
 pub Answers-end : (brief : Bool) (machine now : Running) (number next : ℕ) (text rest : List ℕ) (old said : Option (List ℕ)) (mark : Bool)
     → HasAnswered brief machine now number next (script_lines text) (script_lines rest) old said mark → script_lines rest ≡ [] → Answers brief machine number text now next old said mark
 Answers-end brief machine now number next text rest old said mark h e =
-    let lines = script_lines text in
-    let goes_on : (b : Bool) (more : List (List ℕ)) → h.told b ++ lines_by now b next more ≡ lines_by machine b number (lines ++ more) =
-    λ b more. ap (λ (ls : List (List ℕ)). h.told b ++ lines_by now b next (ls ++ more)) (sym e) ∙ h.goes_on b more in
-    let all : (b : Bool) → h.told b ≡ lines_by machine b number lines =
-    λ b. sym (append-nil (h.told b)) ∙ goes_on b [] ∙ ap (lines_by machine b number) (append-nil lines) in
+    let all : h.front ≡ script_lines text = sym (h.split ∙ ap (λ (ls : List (List ℕ)). h.front ++ ls) e ∙ append-nil h.front) in
     record {
-      put = subst (λ (ls : List (List ℕ)). Appends old said (text_of_lines ls)) (all brief) h.put;
-      marks = h.marks ∙ ap (list_any is_refused_line) (all false);
+      put = subst (λ (ls : List (List ℕ)). Appends old said (text_of_lines (lines_by machine brief number ls))) all h.put;
+      marks = h.marks ∙ ap (λ (ls : List (List ℕ)). list_any is_refused_line (lines_by machine false number ls)) all;
       version = h.version;
-      goes_on = λ more. ap (λ (ls : List (List ℕ)). ls ++ lines_by now false next more) (sym (all false)) ∙ goes_on false more;
+      goes_on = λ more. subst (λ (ls : List (List ℕ)). lines_by machine false number ls ++ lines_by now false next more ≡ lines_by machine false number (ls ++ more)) all (h.goes_on false more);
     }
 
 -- a body is answered, and then lines behind it

@@ -12,10 +12,10 @@ use Rattle.rp_io.specs.Bytes.{Appends, IsAtEnd, Takes}
 use Rattle.rp_io.proofs.IntakeLemmas.{ReadsOn, ReadsOn-start}
 use Rattle.rp_language.specs.Grammar.{Version, reading}
 use Rattle.rp_model.specs.states.State.{PlainState, opening}
-use Rattle.rp_reports.specs.Machine.{Running, lines_from, report}
+use Rattle.rp_reports.specs.Machine.{Running, after_line, lines_from, report, step_answer}
 use Rattle.rp_reports.specs.Output.{is_refused_line, most_script_bytes}
 use Rattle.rp_reports.specs.Report.{script_body, script_lines, script_version}
-use Rattle.rp_reports.specs.Text.{line_end, text_of_lines}
+use Rattle.rp_reports.specs.Text.{answer_lines, line_end, text_of_lines}
 use Rattle.rp_scripts.specs.Lines.{is_line_end}
 use Rattle.rp_scripts.proofs.LineLemmas.{script_lines-nil}
 use Rattle.rp_scripts.proofs.RunLemmas.{IsTrue-both}
@@ -23,9 +23,10 @@ use Rattle.rp_scripts.proofs.SinkLemmas.{Appends-append, Appends-nothing}
 use Rattle.rp_registrar.specs.Added.{PutsBehind, changes, ended, has_change}
 use Rattle.rp_registrar.specs.Answered.{Answers, lines_by}
 use Rattle.rp_registrar.specs.Cause.{IsTooLong}
-use Rattle.rp_registrar.specs.Session.{AnswersLines, HasChangeIn, HasNoEnd, IsBehind, IsCut, Replies, missing_end}
+use Rattle.rp_registrar.specs.Session.{AnswersLines, HasChangeIn, HasNoEnd, IsBehind, IsCut, PutsBeforeChange, Replies, StopsAtChange, missing_end}
 use Rattle.rp_registrar.specs.declared.session.Session.{Session}
 use Rattle.rp_registrar.specs.declared.stop.Length.TheVariants.{MoreThan}
+use Rattle.rp_registrar.proofs.AnswerLemmas.{HasAnswered, HasAnswered-more, HasAnswered-start}
 use Rattle.rp_registrar.proofs.ScriptLemmas.{IsReport-computed, report-behind, report-refused}
 
 -- ---- tests
@@ -68,13 +69,11 @@ has_change-append v a b h =
 pub has_change-nil : (v : Version) → has_change v [] ≡ false
 has_change-nil v = ap (list_any (λ line. changes (reading v line))) script_lines-nil
 
--- a line that changes no lot is passed
-pub has_change-passed : (v : Version) (rest behind : List ℕ) (line : List ℕ) → script_lines rest ≡ line ∷ script_lines behind → changes (reading v line) ≡ false → has_change v rest ≡ has_change v behind
-has_change-passed v rest behind line split none = ap (list_any (λ l. changes (reading v l))) split ∙ ap (λ b. b || has_change v behind) none
-
--- a line that changes a lot is found
-pub has_change-found : (v : Version) (rest behind : List ℕ) (line : List ℕ) → script_lines rest ≡ line ∷ script_lines behind → changes (reading v line) ≡ true → has_change v rest ≡ true
-has_change-found v rest behind line split some = ap (list_any (λ l. changes (reading v l))) split ∙ ap (λ b. b || has_change v behind) some
+-- a text with a line that changes which lots there are
+pub has_change-found : (v : Version) (text : List ℕ) (front behind : List (List ℕ)) (line : List ℕ) → script_lines text ≡ front ++ line ∷ behind → changes (reading v line) ≡ true → has_change v text ≡ true
+has_change-found v text front behind line split some =
+    let test = λ (l : List ℕ). changes (reading v l) in
+    ap (list_any test) split ∙ list_any-append test front (line ∷ behind) ∙ ap (λ b. list_any test front || (b || list_any test behind)) some ∙ or_true (list_any test front)
 
 -- a change in the second of three texts
 pub has_change-within : (v : Version) (a b c : List ℕ) → IsEnded a → IsEnded b → has_change v b ≡ true → has_change v (a ++ (b ++ c)) ≡ true
@@ -246,6 +245,53 @@ Replies-append p q s0 s1 s2 old middle new h k =
       answers = AnswersLines-append h.lines k.lines s0 s1 s2 old middle new h.cut.ended h.answers k.answers;
     }
 
+-- ---- questions, line by line
+
+-- a machine answered the lines before the rest, none of which changes which lots there are
+pub record HasAsked (machine now : Running) (number next : ℕ) (lines rest : List (List ℕ)) (old said : Option (List ℕ)) (mark : Bool) : Type 0 where
+  pub told : HasAnswered false machine now number next lines rest old said mark
+  pub questions : list_any (λ line. changes (reading machine.version line)) told.front ≡ false
+
+-- at the start nothing was asked
+pub HasAsked-start : (machine : Running) (number : ℕ) (lines : List (List ℕ)) (said : Option (List ℕ)) → HasAsked machine machine number number lines lines said said false
+unfolding HasAnswered-start
+HasAsked-start machine number lines said = record { told = HasAnswered-start false machine number lines said; questions = refl }
+
+-- one more question
+pub HasAsked-more : (machine now after : Running) (number next : ℕ) (lines rest : List (List ℕ)) (line : List ℕ) (behind : List (List ℕ)) (old said new : Option (List ℕ)) (mark also : Bool)
+    → HasAsked machine now number next lines rest old said mark → rest ≡ line ∷ behind → changes (reading machine.version line) ≡ false
+    → Appends said new (text_of_lines (answer_lines false (step_answer now.version now.state next line)))
+    → also ≡ list_any is_refused_line (answer_lines false (step_answer now.version now.state next line)) → after ≡ after_line now next line
+    → HasAsked machine after number (next + 1) lines behind old new (mark || also)
+unfolding HasAnswered-more
+HasAsked-more machine now after number next lines rest line behind old said new mark also h split none put marks e =
+    let test = λ (l : List ℕ). changes (reading machine.version l) in
+    record {
+      told = HasAnswered-more false machine now after number next lines rest line behind old said new mark also h.told split put marks e;
+      questions = list_any-append test h.told.front (line ∷ []) ∙ ap (λ b. b || (test line || false)) h.questions ∙ sym (or_false (test line)) ∙ none;
+    }
+
+-- a line that changes which lots there are stops the answers
+pub StopsAtChange-found : (machine now : Running) (number next : ℕ) (lines rest : List (List ℕ)) (line : List ℕ) (behind : List (List ℕ)) (old said : Option (List ℕ)) (mark : Bool)
+    → HasAsked machine now number next lines rest old said mark → rest ≡ line ∷ behind → changes (reading machine.version line) ≡ true → StopsAtChange machine number lines old said
+StopsAtChange-found machine now number next lines rest line behind old said mark h split some =
+    record {
+      front = h.told.front;
+      line = line;
+      behind = behind;
+      whole = h.told.split ∙ ap (λ (ls : List (List ℕ)). h.told.front ++ ls) split;
+      change = some;
+      questions = h.questions;
+      put = h.told.put;
+    }
+
+-- all questions of a text were asked
+pub questions-end : (machine now : Running) (number next : ℕ) (text rest : List ℕ) (old said : Option (List ℕ)) (mark : Bool)
+    → HasAsked machine now number next (script_lines text) (script_lines rest) old said mark → script_lines rest ≡ [] → has_change machine.version text ≡ false
+questions-end machine now number next text rest old said mark h e =
+    let test = λ (l : List ℕ). changes (reading machine.version l) in
+    ap (list_any test) (h.told.split ∙ ap (λ (ls : List (List ℕ)). h.told.front ++ ls) e ∙ append-nil h.told.front) ∙ h.questions
+
 -- ---- a session after a script
 
 -- a session that has run a script
@@ -356,34 +402,110 @@ read_whole P (Some input) now came reads end h =
     let none : reads.0 ≡ [] = subst IsAtEnd reads.1 end in
     subst P (sym (reads.2 ∙ ap (λ xs. came ++ xs) none ∙ append-nil came)) h
 
--- a change in a complete line of a piece is one in the input
-pub change_in_piece : (script : List ℕ) (before now after : Option (List ℕ)) (room left n : ℕ) (buffer : List ℕ) (s0 s : Session) (old said : Option (List ℕ)) → HasEnd script → IsBehind script s0
-    → HasRead before now room left s0 s old said → Takes now after n buffer → HasChangeIn s.machine.version (s.unfinished.items ++ take n buffer)
-    → IfSome before (λ input. has_change (script_version (script ++ ended input)) (ended input) ≡ true)
-change_in_piece script None now after room left n buffer s0 s old said ends b h t k = _
-change_in_piece script (Some input) now after room left n buffer s0 s old said ends b h t k =
-    let piece = take n buffer in
-    let reads : (rest : List ℕ) × (after ≡ Some rest) × (input ≡ (h.came ++ piece) ++ rest) = ReadsOn-more (Some input) now after h.came buffer n h.reads t in
-    let first = h.replies.lines in
-    let tail = k.rest ++ reads.0 in
-    let parts : input ≡ (first ++ k.lines) ++ tail =
-    reads.2 ∙ ap (λ xs. (xs ++ piece) ++ reads.0) (came_cut h.came s0 s old said h.replies b.unfinished)
-    ∙ ap (λ xs. xs ++ reads.0) (append_assoc first s.unfinished.items piece ∙ ap (λ xs. first ++ xs) k.cut.whole ∙ sym (append_assoc first k.lines k.rest))
-    ∙ append_assoc (first ++ k.lines) k.rest reads.0 in
-    let both = IsEnded-append first k.lines h.replies.cut.ended k.cut.ended in
-    let whole : ended input ≡ first ++ (k.lines ++ ended tail) = ap ended parts ∙ ended-append (first ++ k.lines) tail both ∙ append_assoc first k.lines (ended tail) in
-    let version : script_version (script ++ ended input) ≡ s.machine.version = script_version-append script (ended input) ends ∙ sym b.version ∙ sym h.replies.answers.answers.version in
-    ap (λ (v : Version). has_change v (ended input)) version ∙ ap (has_change s.machine.version) whole
-    ∙ has_change-within s.machine.version first k.lines (ended tail) h.replies.cut.ended k.cut.ended k.change
+-- ---- a line that changes which lots there are
 
--- a change in the unfinished line
-pub change_at_end : (script : List ℕ) (before now : Option (List ℕ)) (room left : ℕ) (s0 s : Session) (old said : Option (List ℕ)) → HasEnd script → IsBehind script s0
-    → HasRead before now room left s0 s old said → IsAtEnd now → HasChangeIn s.machine.version (s.unfinished.items ++ missing_end s.unfinished.items)
-    → IfSome before (λ input. has_change (script_version (script ++ ended input)) (ended input) ≡ true)
-change_at_end script before now room left s0 s old said ends b h end k =
-    let first = h.replies.lines in
-    let whole : ended h.came ≡ first ++ (k.lines ++ k.rest) = came_ended h.came s0 s old said h.replies b.unfinished ∙ ap (λ xs. first ++ xs) k.cut.whole in
-    let version : script_version (script ++ ended h.came) ≡ s.machine.version = script_version-append script (ended h.came) ends ∙ sym b.version ∙ sym h.replies.answers.answers.version in
-    read_whole (λ input. has_change (script_version (script ++ ended input)) (ended input) ≡ true) before now h.came h.reads end
-    (ap (λ (v : Version). has_change v (ended h.came)) version ∙ ap (has_change s.machine.version) whole
-    ∙ has_change-within s.machine.version first k.lines k.rest h.replies.cut.ended k.cut.ended k.change)
+-- where a change stands in an input: after the lines that were answered before, in lines of which the first are answered too
+pub record HasChangeAt (input : List ℕ) (s0 s : Session) (old middle new : Option (List ℕ)) : Type 0 where
+  pub first : List ℕ
+  pub lines : List ℕ
+  pub tail : List ℕ
+  pub whole : ended input ≡ first ++ (lines ++ tail)
+  pub first_ended : IsEnded first
+  pub lines_ended : IsEnded lines
+  pub answers : AnswersLines first s0 s old middle
+  pub stop : StopsAtChange s.machine s.next (script_lines lines) middle new
+
+-- the input has a line that changes which lots there are
+change_of : (script input : List ℕ) (s0 s : Session) (old middle new : Option (List ℕ)) → HasEnd script → IsBehind script s0 → HasChangeAt input s0 s old middle new
+    → has_change (script_version (script ++ ended input)) (ended input) ≡ true
+change_of script input s0 s old middle new ends b h =
+    let v = s.machine.version in
+    let version : script_version (script ++ ended input) ≡ v = script_version-append script (ended input) ends ∙ sym b.version ∙ sym h.answers.answers.version in
+    ap (λ (u : Version). has_change u (ended input)) version ∙ ap (has_change v) h.whole
+    ∙ has_change-within v h.first h.lines h.tail h.first_ended h.lines_ended (has_change-found v h.lines h.stop.front h.stop.behind h.stop.line h.stop.whole h.stop.change)
+
+-- the lines before the change were answered
+puts_before : (script input : List ℕ) (s0 s : Session) (old middle new : Option (List ℕ)) → IsBehind script s0 → HasChangeAt input s0 s old middle new → PutsBeforeChange script (ended input) old new
+puts_before script input s0 s old middle new b h =
+    let test = λ (v : Version) (l : List ℕ). changes (reading v l) in
+    let v0 = s0.machine.version in
+    let firsts = script_lines h.first in
+    let front = h.stop.front in
+    let one = lines_by s0.machine false s0.next firsts in
+    let other = lines_by s.machine false s.next front in
+    let told : one ++ other ≡ lines_by s0.machine false s0.next (firsts ++ front) = h.answers.answers.goes_on front in
+    let same : s.machine.version ≡ script_version script = h.answers.answers.version ∙ b.version in
+    let none : list_any (test v0) (firsts ++ front) ≡ false =
+    list_any-append (test v0) firsts front ∙ ap (λ x. x || list_any (test v0) front) h.answers.questions
+    ∙ ap (λ (v : Version). list_any (test v) front) (sym h.answers.answers.version) ∙ h.stop.questions in
+    record {
+      front = firsts ++ front;
+      line = h.stop.line;
+      behind = h.stop.behind ++ script_lines h.tail;
+      whole =
+          ap script_lines h.whole ∙ script_lines-both h.first (h.lines ++ h.tail) h.first_ended
+          ∙ ap (λ (ls : List (List ℕ)). firsts ++ ls) (script_lines-both h.lines h.tail h.lines_ended ∙ ap (λ (ls : List (List ℕ)). ls ++ script_lines h.tail) h.stop.whole
+          ∙ append_assoc front (h.stop.line ∷ h.stop.behind) (script_lines h.tail))
+          ∙ sym (append_assoc firsts front (h.stop.line ∷ h.stop.behind ++ script_lines h.tail));
+      change = ap (λ (v : Version). test v h.stop.line) (sym same) ∙ h.stop.change;
+      questions = ap (λ (v : Version). list_any (test v) (firsts ++ front)) (sym b.version) ∙ none;
+      told = one ++ other;
+      put = subst (Appends old new) (sym (flat_map-append (λ l. l ++ line_end ∷ []) one other)) (Appends-append old middle new (text_of_lines one) (text_of_lines other) h.answers.answers.put h.stop.put);
+      answers =
+          ap (λ (ls : List (List ℕ)). lines_from (script_version script) false opening 1 (script_body script) ++ ls) told ∙ b.goes_on (firsts ++ front);
+    }
+
+-- what is known of an input in which a line changes which lots there are
+abbrev pub TellsChange : List ℕ → Option (List ℕ) → Option (List ℕ) → Option (List ℕ) → Type 0
+TellsChange script left old new =
+    IfSome left (λ input. has_change (script_version (script ++ ended input)) (ended input) ≡ true)
+    × IfSome left (λ input. PutsBeforeChange script (ended input) old new)
+
+tells_change : (script : List ℕ) (left : Option (List ℕ)) (s0 s : Session) (old middle new : Option (List ℕ)) → HasEnd script → IsBehind script s0
+    → IfSome left (λ input. HasChangeAt input s0 s old middle new) → TellsChange script left old new
+tells_change script None s0 s old middle new ends b h = (_, _)
+tells_change script (Some input) s0 s old middle new ends b h = (change_of script input s0 s old middle new ends b h, puts_before script input s0 s old middle new b h)
+
+-- a change in a complete line of a piece is one in the input
+pub change_in_piece : (script : List ℕ) (before now after : Option (List ℕ)) (room left n : ℕ) (buffer : List ℕ) (s0 s : Session) (old middle new : Option (List ℕ)) → HasEnd script → IsBehind script s0
+    → HasRead before now room left s0 s old middle → Takes now after n buffer → HasChangeIn s (s.unfinished.items ++ take n buffer) middle new → TellsChange script before old new
+change_in_piece script before now after room left n buffer s0 s old middle new ends b h t k = tells_change script before s0 s old middle new ends b (at before h t)
+  where
+    at : (before : Option (List ℕ)) → HasRead before now room left s0 s old middle → Takes now after n buffer → IfSome before (λ input. HasChangeAt input s0 s old middle new)
+    at None h t = _
+    at (Some input) h t =
+        let piece = take n buffer in
+        let reads : (rest : List ℕ) × (after ≡ Some rest) × (input ≡ (h.came ++ piece) ++ rest) = ReadsOn-more (Some input) now after h.came buffer n h.reads t in
+        let first = h.replies.lines in
+        let tail = k.rest ++ reads.0 in
+        let parts : input ≡ (first ++ k.lines) ++ tail =
+        reads.2 ∙ ap (λ xs. (xs ++ piece) ++ reads.0) (came_cut h.came s0 s old middle h.replies b.unfinished)
+        ∙ ap (λ xs. xs ++ reads.0) (append_assoc first s.unfinished.items piece ∙ ap (λ xs. first ++ xs) k.cut.whole ∙ sym (append_assoc first k.lines k.rest))
+        ∙ append_assoc (first ++ k.lines) k.rest reads.0 in
+        record {
+          first = first;
+          lines = k.lines;
+          tail = ended tail;
+          whole = ap ended parts ∙ ended-append (first ++ k.lines) tail (IsEnded-append first k.lines h.replies.cut.ended k.cut.ended) ∙ append_assoc first k.lines (ended tail);
+          first_ended = h.replies.cut.ended;
+          lines_ended = k.cut.ended;
+          answers = h.replies.answers;
+          stop = k.stop;
+        }
+
+-- a change in the unfinished line is one in the input
+pub change_at_end : (script : List ℕ) (before now : Option (List ℕ)) (room left : ℕ) (s0 s : Session) (old middle new : Option (List ℕ)) → HasEnd script → IsBehind script s0
+    → HasRead before now room left s0 s old middle → IsAtEnd now → HasChangeIn s (s.unfinished.items ++ missing_end s.unfinished.items) middle new → TellsChange script before old new
+change_at_end script before now room left s0 s old middle new ends b h end k =
+    tells_change script before s0 s old middle new ends b
+    (read_whole (λ input. HasChangeAt input s0 s old middle new) before now h.came h.reads end
+    (record {
+      first = h.replies.lines;
+      lines = k.lines;
+      tail = k.rest;
+      whole = came_ended h.came s0 s old middle h.replies b.unfinished ∙ ap (λ xs. h.replies.lines ++ xs) k.cut.whole;
+      first_ended = h.replies.cut.ended;
+      lines_ended = k.cut.ended;
+      answers = h.replies.answers;
+      stop = k.stop;
+    }))

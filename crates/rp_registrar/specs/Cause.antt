@@ -4,7 +4,6 @@ use Rattle.rp_io.specs.Faults.{HasRisen}
 use Rattle.rp_io.specs.declared.intake.IntakeFault.{IntakeFault}
 use Rattle.rp_io.specs.declared.intake.IntakeFault.TheVariants as input
 use Rattle.rp_book.specs.Kept.{HasBookCause}
-use Rattle.rp_language.specs.Grammar.{Version}
 use Rattle.rp_language.specs.Name.{Label}
 use Rattle.rp_reports.specs.Output.{most_script_bytes}
 use Rattle.rp_reports.specs.Report.{script_version}
@@ -47,13 +46,6 @@ abbrev pub HasPutCause : ℕ → ℕ → Stop → Type 0
 HasPutCause before after Put = HasRisen before after
 HasPutCause before after (Memory e) = Unit {0}
 HasPutCause before after _ = ⊥
-
--- why the questions of a text were not all answered: a put failed, or a line changes which lots there are; nothing is claimed where memory ran out
-abbrev pub HasAnswerCause : ℕ → ℕ → Version → List ℕ → Stop → Type 0
-HasAnswerCause before after v lines Put = HasRisen before after
-HasAnswerCause before after v lines (Memory e) = Unit {0}
-HasAnswerCause before after v lines Change = has_change v lines ≡ true
-HasAnswerCause before after v lines _ = ⊥
 
 -- a script with the lines of an input has so many bytes, more than a script may have; an input that is too long need not be read to its end
 abbrev pub IsTooLong : List ℕ → List ℕ → Length → Type 0

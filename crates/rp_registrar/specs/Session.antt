@@ -3,16 +3,17 @@ use Rattle.std.specs.Prelude.{◌≡◌, ℕ, ◌+◌, ◌≤◌, Bool, true, fa
 use Rattle.std.specs.List.{list_any}
 use Rattle.rp_book.specs.Lines.{IsEnded}
 use Rattle.rp_command.specs.Versions.{version_of}
+use Rattle.rp_io.specs.Bytes.{Appends}
 use Rattle.rp_io.specs.Faults.{HasRisen}
-use Rattle.rp_language.specs.Grammar.{Version}
+use Rattle.rp_language.specs.Grammar.{reading}
 use Rattle.rp_model.specs.states.Sound.{IsLaterThan}
 use Rattle.rp_model.specs.states.State.{opening, state_of_parts}
-use Rattle.rp_reports.specs.Machine.{lines_from}
+use Rattle.rp_reports.specs.Machine.{Running, lines_from}
 use Rattle.rp_reports.specs.Output.{is_refused_line}
-use Rattle.rp_reports.specs.Report.{script_body, script_version}
-use Rattle.rp_reports.specs.Text.{line_end}
+use Rattle.rp_reports.specs.Report.{script_body, script_lines, script_version}
+use Rattle.rp_reports.specs.Text.{line_end, text_of_lines}
 use Rattle.rp_scripts.specs.Lines.{is_line_end}
-use Rattle.rp_registrar.specs.Added.{has_change}
+use Rattle.rp_registrar.specs.Added.{changes, has_change}
 use Rattle.rp_registrar.specs.Answered.{Answers, lines_by}
 use Rattle.rp_registrar.specs.declared.session.Session.{Session}
 use Rattle.rp_registrar.specs.declared.stop.Stop.{Stop}
@@ -60,18 +61,58 @@ pub record Replies (piece : List ℕ) (before after : Session) (old new : Option
   pub cut : IsCut (before.unfinished.items ++ piece) lines after.unfinished.items
   pub answers : AnswersLines lines before after old new
 
--- a complete line of a text changes which lots there are
-pub record HasChangeIn (v : Version) (text : List ℕ) : Type 0 where
+-- a machine has answered lines up to one that changes which lots there are: the report lines of the lines before it were put, and none of these lines changes which lots there are
+pub record StopsAtChange (machine : Running) (number : ℕ) (lines : List (List ℕ)) (old new : Option (List ℕ)) : Type 0 where
+  pub front : List (List ℕ)
+  pub line : List ℕ
+  pub behind : List (List ℕ)
+  pub whole : lines ≡ front ++ line ∷ behind
+  pub change : changes (reading machine.version line) ≡ true
+  pub questions : list_any (λ l. changes (reading machine.version l)) front ≡ false
+  pub put : Appends old new (text_of_lines (lines_by machine false number front))
+
+-- a session has answered the complete lines of a text up to one that changes which lots there are
+pub record HasChangeIn (s : Session) (text : List ℕ) (old new : Option (List ℕ)) : Type 0 where
   pub lines : List ℕ
   pub rest : List ℕ
   pub cut : IsCut text lines rest
-  pub change : has_change v lines ≡ true
+  pub stop : StopsAtChange s.machine s.next (script_lines lines) old new
 
--- why the complete lines of a text were not all answered: a put failed, or one of them changes which lots there are; nothing is claimed where memory ran out
-abbrev pub HasPieceCause : ℕ → ℕ → Version → List ℕ → Stop → Type 0
-HasPieceCause before after v text Put = HasRisen before after
-HasPieceCause before after v text (Memory e) = Unit {0}
-HasPieceCause before after v text Change = HasChangeIn v text
-HasPieceCause before after v text Read = ⊥
-HasPieceCause before after v text (TooLong n) = ⊥
-HasPieceCause before after v text (Book f) = ⊥
+-- what was put is the answers to the lines after a script up to one that changes which lots there are: the report lines of the script, and then what was put, are the report lines of the script with the lines before that line
+pub record PutsBeforeChange (script lines : List ℕ) (old new : Option (List ℕ)) : Type 0 where
+  pub front : List (List ℕ)
+  pub line : List ℕ
+  pub behind : List (List ℕ)
+  pub whole : script_lines lines ≡ front ++ line ∷ behind
+  pub change : changes (reading (script_version script) line) ≡ true
+  pub questions : list_any (λ l. changes (reading (script_version script) l)) front ≡ false
+  pub told : List (List ℕ)
+  pub put : Appends old new (text_of_lines told)
+  pub answers : lines_from (script_version script) false opening 1 (script_body script) ++ told ≡ lines_from (script_version script) false opening 1 (script_body script ++ front)
+
+-- a fact if a call stopped at a line that changes which lots there are
+abbrev pub IfChange : Stop → Type 0 → Type 0
+IfChange Change P = P
+IfChange Read P = Unit {0}
+IfChange Put P = Unit {0}
+IfChange (Memory e) P = Unit {0}
+IfChange (TooLong n) P = Unit {0}
+IfChange (Book f) P = Unit {0}
+
+-- why the lines of a text were not all answered by a machine, the first of which has the number: a put failed, or one of them changes which lots there are; nothing is claimed where memory ran out
+abbrev pub HasAnswerCause : ℕ → ℕ → Running → ℕ → List ℕ → Option (List ℕ) → Option (List ℕ) → Stop → Type 0
+HasAnswerCause before after machine number lines old new Put = HasRisen before after
+HasAnswerCause before after machine number lines old new (Memory e) = Unit {0}
+HasAnswerCause before after machine number lines old new Change = StopsAtChange machine number (script_lines lines) old new
+HasAnswerCause before after machine number lines old new Read = ⊥
+HasAnswerCause before after machine number lines old new (TooLong n) = ⊥
+HasAnswerCause before after machine number lines old new (Book f) = ⊥
+
+-- why the complete lines of a text were not all answered by a session: a put failed, or one of them changes which lots there are; nothing is claimed where memory ran out
+abbrev pub HasPieceCause : ℕ → ℕ → Session → List ℕ → Option (List ℕ) → Option (List ℕ) → Stop → Type 0
+HasPieceCause before after s text old new Put = HasRisen before after
+HasPieceCause before after s text old new (Memory e) = Unit {0}
+HasPieceCause before after s text old new Change = HasChangeIn s text old new
+HasPieceCause before after s text old new Read = ⊥
+HasPieceCause before after s text old new (TooLong n) = ⊥
+HasPieceCause before after s text old new (Book f) = ⊥

@@ -5,7 +5,7 @@ ghost use Rattle.rp_reports.specs.Output.{most_script_bytes};
 ghost use Rattle.rp_reports.specs.Report.{script_version};
 ghost use Rattle.rp_registrar.specs.Added.{PutsBehind, ended, has_change};
 ghost use Rattle.rp_registrar.specs.Cause.{HasAskCause, HasQuestionCause};
-ghost use Rattle.rp_registrar.specs.Session.{IsBehind, IsReady};
+ghost use Rattle.rp_registrar.specs.Session.{IfChange, IsBehind, IsReady, PutsBeforeChange};
 
 use crate::answers::put_behind;
 use crate::change::has_change;
@@ -83,6 +83,7 @@ fn answer_pieces<R: Threads + Sync, S: Source, K: Sink>(
     ensures questions { IfOk result (λ _. IfSome (S.left source.old) (λ lines. has_change (script_version (script.now ++ ended lines)) (ended lines) ≡ false)) }
     ensures answers { IfOk result (λ refused. IfSome (S.left source.old) (λ lines. PutsBehind script.now (ended lines) (K.said sink.old) (K.said sink.new) refused)) }
     ensures cause { IfErr result (HasAskCause (S.faults source.old) (S.faults source.new) (K.faults sink.old) (K.faults sink.new) script.now (S.left source.old)) }
+    ensures before { IfErr result (λ stop. IfChange stop (IfSome (S.left source.old) (λ lines. PutsBeforeChange script.now (ended lines) (K.said sink.old) (K.said sink.new)))) }
 {
     let mut room = MOST_BYTES - script.len();
     loop {
@@ -132,6 +133,7 @@ pub fn ask<R: Threads + Sync, S: Source, K: Sink>(
     ensures questions { IfOk result (λ _. IfSome (S.left source.old) (λ lines. has_change (script_version (script.now ++ ended lines)) (ended lines) ≡ false)) }
     ensures answers { IfOk result (λ refused. IfSome (S.left source.old) (λ lines. PutsBehind script.now (ended lines) (K.said sink.old) (K.said sink.new) refused)) }
     ensures cause { IfErr result (HasAskCause (S.faults source.old) (S.faults source.new) (K.faults sink.old) (K.faults sink.new) script.now (S.left source.old)) }
+    ensures before { 0 < length script.now → IfErr result (λ stop. IfChange stop (IfSome (S.left source.old) (λ lines. PutsBeforeChange script.now (ended lines) (K.said sink.old) (K.said sink.new)))) }
 {
     if script.is_empty() {
         return answer_whole(rt, alloc, source, sink);

@@ -8,8 +8,7 @@ ghost use Rattle.rp_reports.specs.Output.{most_script_bytes};
 ghost use Rattle.rp_scripts.specs.Output.{HasOutputCause};
 ghost use Rattle.rp_registrar.specs.Added.{has_change};
 ghost use Rattle.rp_registrar.specs.Answered.{Answers};
-ghost use Rattle.rp_registrar.specs.Cause.{HasAnswerCause};
-ghost use Rattle.rp_registrar.specs.Session.{AnswersLines, HasPieceCause, IsBehind, IsCut, IsReady, Replies, missing_end};
+ghost use Rattle.rp_registrar.specs.Session.{AnswersLines, HasAnswerCause, HasPieceCause, IsBehind, IsCut, IsReady, Replies, missing_end};
 
 use crate::answers::{answer_line, answer_lines};
 use crate::change::line_changes;
@@ -58,7 +57,7 @@ fn answer_questions<R: Threads + Sync, K: Sink>(
     ensures questions { IfOk result (λ _. has_change machine.old.version lines.now ≡ false) }
     ensures answers { IfOk result (λ done.
         Answers false machine.old number lines.now machine.new done.0 (K.said sink.old) (K.said sink.new) done.1) }
-    ensures cause { IfErr result (HasAnswerCause (K.faults sink.old) (K.faults sink.new) machine.old.version lines.now) }
+    ensures cause { IfErr result (HasAnswerCause (K.faults sink.old) (K.faults sink.new) machine.old number lines.now (K.said sink.old) (K.said sink.new)) }
 {
     let mut text = Vec::new(alloc);
     let mut rest = lines;
@@ -137,7 +136,7 @@ impl Session {
         ensures ready { OnOk result (IsReady self.new) }
         ensures none { OnOk result (self.new.unfinished.items ≡ []) }
         ensures answers { OnOk result (AnswersLines self.old.unfinished.items self.old self.new (K.said sink.old) (K.said sink.new)) }
-        ensures cause { IfErr result (HasAnswerCause (K.faults sink.old) (K.faults sink.new) self.old.machine.version self.old.unfinished.items) }
+        ensures cause { IfErr result (HasAnswerCause (K.faults sink.old) (K.faults sink.new) self.old.machine self.old.next self.old.unfinished.items (K.said sink.old) (K.said sink.new)) }
     {
         let (next, refused) = answer_questions(
             rt,
@@ -175,7 +174,7 @@ impl Session {
         ensures few { OnOk result (self.new.next + length self.new.unfinished.items ≤ self.old.next + length self.old.unfinished.items + length piece.now) }
         ensures ready { OnOk result (IsReady self.new) }
         ensures replies { OnOk result (Replies piece.now self.old self.new (K.said sink.old) (K.said sink.new)) }
-        ensures cause { IfErr result (HasPieceCause (K.faults sink.old) (K.faults sink.new) self.old.machine.version (self.old.unfinished.items ++ piece.now)) }
+        ensures cause { IfErr result (HasPieceCause (K.faults sink.old) (K.faults sink.new) self.old (self.old.unfinished.items ++ piece.now) (K.said sink.old) (K.said sink.new)) }
     {
         let (lines, rest) = cut_lines(piece);
         if lines.is_empty() {
@@ -204,7 +203,7 @@ impl Session {
         ensures counts { K.faults sink.old ≤ K.faults sink.new }
         ensures none { OnOk result (self.new.unfinished.items ≡ []) }
         ensures replies { OnOk result (Replies (missing_end self.old.unfinished.items) self.old self.new (K.said sink.old) (K.said sink.new)) }
-        ensures cause { IfErr result (HasPieceCause (K.faults sink.old) (K.faults sink.new) self.old.machine.version (self.old.unfinished.items ++ missing_end self.old.unfinished.items)) }
+        ensures cause { IfErr result (HasPieceCause (K.faults sink.old) (K.faults sink.new) self.old (self.old.unfinished.items ++ missing_end self.old.unfinished.items) (K.said sink.old) (K.said sink.new)) }
     {
         if self.unfinished.is_empty() {
             return Ok(());

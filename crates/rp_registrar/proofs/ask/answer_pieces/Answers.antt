@@ -6,7 +6,7 @@ use Rattle.rp_reports.specs.Output.{most_script_bytes}
 use Rattle.rp_reports.specs.Report.{script_version}
 use Rattle.rp_registrar.specs.Added.{PutsBehind, ended, has_change}
 use Rattle.rp_registrar.specs.Session.{AnswersLines, missing_end}
-use Rattle.rp_registrar.proofs.CauseLemmas.{ask_cause}
+use Rattle.rp_registrar.proofs.CauseLemmas.{ask_before, ask_cause}
 use Rattle.rp_registrar.proofs.SessionLemmas.{AnswersLines-all, HasRead-more, HasRead-past, HasRead-start, PutsBehind-session, change_at_end, change_in_piece, questions-session, read_whole}
 use Rattle.rp_registrar.proofs.ask.answer_pieces.Goals as goal
 
@@ -24,12 +24,27 @@ pub returns-in_err-finish-clause-cause : goal.returns-in_err-finish-clause-cause
 returns-in_err-finish-clause-cause g c =
     let p = err_from_is_err_and c.from_residual.result c.from_residual.ensures.1 in
     let s = c.loop-count.session in
+    let middle = g.K.Sink.said c.loop-count.sink in
+    let new = g.K.Sink.said c.finish.new.sink in
     let end : IsAtEnd (g.S.Source.left c.loop-count.source) = c.in-Ok.ensures.end c.if-count-eq0.true (omega (arith, c.loop-count.auto.buffer, c.read.auto.buf, c.requires.room)) in
+    let change = change_at_end c.args.script.now (g.S.Source.left c.args.source.now) (g.S.Source.left c.loop-count.source) _ c.loop-count.room c.args.session s
+    (g.K.Sink.said c.args.sink.now) middle new c.requires.end c.requires.behind c.loop-count.invariant.read end in
     rw (p.1, p.2)
     (ask_cause _ _ (g.K.Sink.faults c.args.sink.now) (g.K.Sink.faults c.loop-count.sink) (g.K.Sink.faults c.finish.new.sink) c.args.script.now (g.S.Source.left c.args.source.now)
-    s.machine.version _ c.in_err-finish.field-0.0 c.loop-count.invariant.puts
-    (change_at_end c.args.script.now _ _ _ _ c.args.session s _ _ c.requires.end c.requires.behind c.loop-count.invariant.read end)
-    c.in_err-finish.ensures.cause)
+    s (s.unfinished.items ++ missing_end s.unfinished.items) (g.K.Sink.said c.args.sink.now) middle new c.in_err-finish.field-0.0 c.loop-count.invariant.puts change c.in_err-finish.ensures.cause)
+
+pub returns-in_err-finish-clause-before : goal.returns-in_err-finish-clause-before
+returns-in_err-finish-clause-before g c =
+    let p = err_from_is_err_and c.from_residual.result c.from_residual.ensures.1 in
+    let s = c.loop-count.session in
+    let middle = g.K.Sink.said c.loop-count.sink in
+    let new = g.K.Sink.said c.finish.new.sink in
+    let end : IsAtEnd (g.S.Source.left c.loop-count.source) = c.in-Ok.ensures.end c.if-count-eq0.true (omega (arith, c.loop-count.auto.buffer, c.read.auto.buf, c.requires.room)) in
+    let change = change_at_end c.args.script.now (g.S.Source.left c.args.source.now) (g.S.Source.left c.loop-count.source) _ c.loop-count.room c.args.session s
+    (g.K.Sink.said c.args.sink.now) middle new c.requires.end c.requires.behind c.loop-count.invariant.read end in
+    rw (p.1, p.2)
+    (ask_before (g.K.Sink.faults c.loop-count.sink) (g.K.Sink.faults c.finish.new.sink) c.args.script.now (g.S.Source.left c.args.source.now)
+    s (s.unfinished.items ++ missing_end s.unfinished.items) (g.K.Sink.said c.args.sink.now) middle new c.in_err-finish.field-0.0 change c.in_err-finish.ensures.cause)
 
 pub returns-then-count-eq0-clause-questions : goal.returns-then-count-eq0-clause-questions
 returns-then-count-eq0-clause-questions g c =
@@ -67,12 +82,27 @@ pub returns-in_err-answer_piece-clause-cause : goal.returns-in_err-answer_piece-
 returns-in_err-answer_piece-clause-cause g c =
     let p = err_from_is_err_and c.from_residual-in_err-answer_piece.result c.from_residual-in_err-answer_piece.ensures.1 in
     let s = c.loop-count.session in
+    let middle = g.K.Sink.said c.loop-count.sink in
+    let new = g.K.Sink.said c.answer_piece.new.sink in
+    let change = change_in_piece c.args.script.now (g.S.Source.left c.args.source.now) (g.S.Source.left c.loop-count.source) (g.S.Source.left c.read.new.self)
+    _ c.loop-count.room c.in-Ok.count c.read.new.buf c.args.session s (g.K.Sink.said c.args.sink.now) middle new
+    c.requires.end c.requires.behind c.loop-count.invariant.read c.in-Ok.ensures.taken in
     rw (p.1, p.2)
     (ask_cause _ _ (g.K.Sink.faults c.args.sink.now) (g.K.Sink.faults c.loop-count.sink) (g.K.Sink.faults c.answer_piece.new.sink) c.args.script.now (g.S.Source.left c.args.source.now)
-    s.machine.version (s.unfinished.items ++ take c.in-Ok.count c.read.new.buf) c.in_err-answer_piece.field-0.0 c.loop-count.invariant.puts
-    (change_in_piece c.args.script.now (g.S.Source.left c.args.source.now) (g.S.Source.left c.loop-count.source) (g.S.Source.left c.read.new.self)
-    _ c.loop-count.room c.in-Ok.count c.read.new.buf c.args.session s _ _ c.requires.end c.requires.behind c.loop-count.invariant.read c.in-Ok.ensures.taken)
-    c.in_err-answer_piece.ensures.cause)
+    s (s.unfinished.items ++ take c.in-Ok.count c.read.new.buf) (g.K.Sink.said c.args.sink.now) middle new c.in_err-answer_piece.field-0.0 c.loop-count.invariant.puts change c.in_err-answer_piece.ensures.cause)
+
+pub returns-in_err-answer_piece-clause-before : goal.returns-in_err-answer_piece-clause-before
+returns-in_err-answer_piece-clause-before g c =
+    let p = err_from_is_err_and c.from_residual-in_err-answer_piece.result c.from_residual-in_err-answer_piece.ensures.1 in
+    let s = c.loop-count.session in
+    let middle = g.K.Sink.said c.loop-count.sink in
+    let new = g.K.Sink.said c.answer_piece.new.sink in
+    let change = change_in_piece c.args.script.now (g.S.Source.left c.args.source.now) (g.S.Source.left c.loop-count.source) (g.S.Source.left c.read.new.self)
+    _ c.loop-count.room c.in-Ok.count c.read.new.buf c.args.session s (g.K.Sink.said c.args.sink.now) middle new
+    c.requires.end c.requires.behind c.loop-count.invariant.read c.in-Ok.ensures.taken in
+    rw (p.1, p.2)
+    (ask_before (g.K.Sink.faults c.loop-count.sink) (g.K.Sink.faults c.answer_piece.new.sink) c.args.script.now (g.S.Source.left c.args.source.now)
+    s (s.unfinished.items ++ take c.in-Ok.count c.read.new.buf) (g.K.Sink.said c.args.sink.now) middle new c.in_err-answer_piece.field-0.0 change c.in_err-answer_piece.ensures.cause)
 
 pub loop-count-preserved : goal.loop-count-preserved
 loop-count-preserved g c =

@@ -1,10 +1,8 @@
-use Rattle.std.proofs.Common.{◌≡◌, ◌≤◌, ◌+◌, false, length}
-use Rattle.rp_command.specs.Versions.{version_of}
+use Rattle.std.proofs.Common.{◌≤◌, ◌+◌, length}
 use Rattle.rp_model.specs.states.State.{state_of_parts}
 use Rattle.rp_model.specs.states.Sound.{IsLaterThan}
 use Rattle.rp_reports.specs.Report.{script_lines}
-use Rattle.rp_registrar.specs.Added.{has_change}
-use Rattle.rp_registrar.proofs.AnswerLemmas.{HasAnswered}
+use Rattle.rp_registrar.proofs.SessionLemmas.{HasAsked}
 use Rattle.rp_registrar.proofs.session.answer_questions.Given as goal
 
 abbrev pub invariant-loop-line : goal.invariant-loop-line
@@ -13,8 +11,7 @@ invariant-loop-line g l =
       counts : g.K.Sink.faults l.fn.sink ≤ g.K.Sink.faults l.sink;
       number : l.next + length l.rest ≤ l.number + length l.lines;
       later : IsLaterThan l.next (state_of_parts l.machine.state);
-      questions : has_change (version_of l.version) l.lines ≡ has_change (version_of l.version) l.rest;
-      told : HasAnswered false l.fn.machine l.machine l.number l.next (script_lines l.lines) (script_lines l.rest) (g.K.Sink.said l.fn.sink) (g.K.Sink.said l.sink) l.refused;
+      asked : HasAsked l.fn.machine l.machine l.number l.next (script_lines l.lines) (script_lines l.rest) (g.K.Sink.said l.fn.sink) (g.K.Sink.said l.sink) l.refused;
     }
 
 abbrev pub decreases-loop-line : goal.decreases-loop-line

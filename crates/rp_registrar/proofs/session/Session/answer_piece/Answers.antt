@@ -30,5 +30,5 @@ returns-in_err-answer_unfinished-clause-cause g c =
     let some = nonempty_from_test lines (sym c.is_empty.ensures ∙ c.if-is_empty.false) in
     let cut = subst (λ ls. IsCut (held ++ piece) ls rest) (sym c.in_ok-extend_from_slice-2.ensures.items) (IsCut-behind held piece lines rest some c.cut_lines.ensures) in
     rw (p.1, p.2)
-    (piece_cause (g.K.Sink.faults c.args.sink.now) (g.K.Sink.faults c.answer_unfinished.new.sink) c.args.self.now.machine.version (held ++ piece)
-    c.extend_from_slice-2.new.self.items rest c.in_err-answer_unfinished.field-0.0 cut c.in_err-answer_unfinished.ensures.cause)
+    (piece_cause (g.K.Sink.faults c.args.sink.now) (g.K.Sink.faults c.answer_unfinished.new.sink) c.args.self.now (held ++ piece)
+    c.extend_from_slice-2.new.self.items rest (g.K.Sink.said c.args.sink.now) (g.K.Sink.said c.answer_unfinished.new.sink) c.in_err-answer_unfinished.field-0.0 cut c.in_err-answer_unfinished.ensures.cause)

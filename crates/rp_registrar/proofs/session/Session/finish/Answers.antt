@@ -2,8 +2,7 @@ use Rattle.std.proofs.Common.{◌≡◌, ◌<◌, length, [], ◌∷◌, ◌++�
 use Rattle.std.proofs.lemmas.Bool.Decides.{nat_tests}
 use Rattle.std.proofs.lemmas.List.{nil_from_length}
 use Rattle.std.proofs.lemmas.Result.{IfErr-weaker}
-use Rattle.rp_registrar.specs.Cause.{HasAnswerCause}
-use Rattle.rp_registrar.specs.Session.{HasPieceCause, IsCut, Replies, missing_end}
+use Rattle.rp_registrar.specs.Session.{HasAnswerCause, HasPieceCause, IsCut, Replies, missing_end}
 use Rattle.rp_registrar.proofs.CauseLemmas.{piece_cause}
 use Rattle.rp_registrar.proofs.SessionLemmas.{IsCut-line, Replies-start}
 use Rattle.rp_registrar.proofs.session.Session.finish.Goals as goal
@@ -19,13 +18,15 @@ returns-then-is_empty-clause-replies g c =
 
 pub returns-clause-cause : goal.returns-clause-cause
 returns-clause-cause g c =
-    let held = c.args.self.now.unfinished.items in
-    let v = c.args.self.now.machine.version in
+    let s = c.args.self.now in
+    let held = s.unfinished.items in
     let k = g.K.Sink.faults c.args.sink.now in
     let n = g.K.Sink.faults c.answer_unfinished.new.sink in
+    let old = g.K.Sink.said c.args.sink.now in
+    let new = g.K.Sink.said c.answer_unfinished.new.sink in
     let test = sym c.is_empty.ensures ∙ c.if-is_empty.false in
-    let some : 0 < length held = grind (arith, nat_tests, test, c.args.self.now.unfinished.ok.0) in
+    let some : 0 < length held = grind (arith, nat_tests, test, s.unfinished.ok.0) in
     let lines = c.extend_from_slice.new.self.items in
     let cut : IsCut (held ++ missing_end held) lines [] = subst (λ ls. IsCut (held ++ missing_end held) ls []) (sym c.in_ok-extend_from_slice.ensures.items) (IsCut-line held some) in
-    IfErr-weaker c.answer_unfinished.result (HasAnswerCause k n v lines) (HasPieceCause k n v (held ++ missing_end held))
-    (λ stop h. piece_cause k n v (held ++ missing_end held) lines [] stop cut h) c.answer_unfinished.ensures.cause
+    IfErr-weaker c.answer_unfinished.result (HasAnswerCause k n s.machine s.next lines old new) (HasPieceCause k n s (held ++ missing_end held) old new)
+    (λ stop h. piece_cause k n s (held ++ missing_end held) lines [] old new stop cut h) c.answer_unfinished.ensures.cause
