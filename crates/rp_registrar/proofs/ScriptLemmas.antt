@@ -24,6 +24,10 @@ refused-marked two lines more = refl
 pub IsReport-computed : (script : List ℕ) (told : List (List ℕ)) → told ≡ report false script → IsReport script told
 IsReport-computed script told e = (report_is_computed_spec meets_rule first_rows script told).0.1 e
 
+-- the report of a script is no other than the one that is computed
+pub IsReport-is : (script : List ℕ) (told : List (List ℕ)) → IsReport script told → told ≡ report false script
+IsReport-is script told h = (report_is_computed_spec meets_rule first_rows script told).0.0 h
+
 -- an empty script has an empty report
 pub IsReport-nothing : IsReport [] []
 unfolding report script_version script_body script_lines

@@ -1,5 +1,5 @@
 -- Pieces of an input that come to a session one after the other.
-use Rattle.std.proofs.Common.{◌≡◌, ℕ, suc, ◌-◌, ◌+◌, ◌<◌, ◌≤◌, ◌==◌, Bool, true, false, ◌||◌, List, [], ◌∷◌, ◌++◌, length, take, drop, Option, None, Some, IfSome, refl, sym, ap, ◌∙◌, subst, arith, append_assoc, length-append, eq-eqb}
+use Rattle.std.proofs.Common.{◌≡◌, ◌↔◌, IsTrue, ℕ, suc, ◌-◌, ◌+◌, ◌<◌, ◌≤◌, ◌==◌, Bool, true, false, ◌||◌, List, [], ◌∷◌, ◌++◌, length, take, drop, Option, None, Some, IfSome, refl, sym, ap, ◌∙◌, subst, arith, append_assoc, length-append, eq-eqb}
 use Rattle.std.specs.Prelude.{slice_index}
 use Rattle.std.specs.List.{list_any}
 use Rattle.std.proofs.Math.Bool.{or_assoc}
@@ -14,7 +14,7 @@ use Rattle.rp_language.specs.Grammar.{Version, reading}
 use Rattle.rp_model.specs.states.State.{PlainState, opening}
 use Rattle.rp_reports.specs.Machine.{Running, after_line, lines_from, report, step_answer}
 use Rattle.rp_reports.specs.Output.{is_refused_line, most_script_bytes}
-use Rattle.rp_reports.specs.Report.{script_body, script_lines, script_version}
+use Rattle.rp_reports.specs.Report.{IsReport, script_body, script_lines, script_version}
 use Rattle.rp_reports.specs.Text.{answer_lines, line_end, text_of_lines}
 use Rattle.rp_scripts.specs.Lines.{is_line_end}
 use Rattle.rp_scripts.proofs.LineLemmas.{script_lines-nil}
@@ -23,11 +23,12 @@ use Rattle.rp_scripts.proofs.SinkLemmas.{Appends-append, Appends-nothing}
 use Rattle.rp_registrar.specs.Added.{PutsBehind, changes, ended, has_change}
 use Rattle.rp_registrar.specs.Answered.{Answers, lines_by}
 use Rattle.rp_registrar.specs.Cause.{IsTooLong}
-use Rattle.rp_registrar.specs.Session.{AnswersLines, HasChangeIn, HasNoEnd, IsBehind, IsCut, PutsBeforeChange, Replies, StopsAtChange, missing_end}
+use Rattle.rp_registrar.specs.Session.{AnswersLines, HasChangeIn, HasNoEnd, IsBehind, IsCut, PutsBeforeChange, Replies, StopsAtChange, missing_end, with_front}
 use Rattle.rp_registrar.specs.declared.session.Session.{Session}
-use Rattle.rp_registrar.specs.declared.stop.Length.TheVariants.{MoreThan}
+use Rattle.rp_registrar.specs.declared.stop.Length.{Length}
+use Rattle.rp_registrar.specs.declared.stop.Length.TheVariants.{Exactly, MoreThan}
 use Rattle.rp_registrar.proofs.AnswerLemmas.{HasAnswered, HasAnswered-more, HasAnswered-start}
-use Rattle.rp_registrar.proofs.ScriptLemmas.{IsReport-computed, report-behind, report-refused}
+use Rattle.rp_registrar.proofs.ScriptLemmas.{IsReport-computed, IsReport-is, report-behind, report-refused}
 
 -- ---- tests
 
@@ -296,12 +297,11 @@ questions-end machine now number next text rest old said mark h e =
 
 -- a session that has run a script
 pub IsBehind-run : (script body : List ℕ) (v : Version) (s : Session) (before hidden : Option (List ℕ)) → v ≡ script_version script → script_lines body ≡ script_body script
-    → s.unfinished.items ≡ [] → s.next ≤ length script + 1
+    → s.next ≤ length script + 1
     → Answers true (record { version = v; state = opening }) 1 body s.machine s.next before hidden s.refused → IsBehind script s
-IsBehind-run script body v s before hidden version lines unfinished few h =
+IsBehind-run script body v s before hidden version lines few h =
     record {
       version = h.version ∙ version;
-      unfinished = unfinished;
       few = few;
       marks =
           h.marks ∙ ap (λ (ls : List (List ℕ)). list_any is_refused_line (lines_from v false opening 1 ls)) lines
@@ -335,21 +335,32 @@ questions-session script lines s0 s old new ends b h =
 
 -- ---- pieces of a source
 
--- the session has answered what it read of a source so far, which leaves so much room
+-- the session has answered what it read of a source so far, after the line that was unfinished at the start; there is so much room left
 pub record HasRead (before now : Option (List ℕ)) (room left : ℕ) (s0 s : Session) (old said : Option (List ℕ)) : Type 0 where
   pub came : List ℕ
-  pub reads : ReadsOn before now came
+  pub reads : ReadsOn before now (s0.unfinished.items ++ came)
   pub fits : length came + left ≡ room
   pub replies : Replies came s0 s old said
 
-pub HasRead-start : (before : Option (List ℕ)) (room : ℕ) (s : Session) (said : Option (List ℕ)) → HasNoEnd s.unfinished.items → HasRead before before room room s s said said
-HasRead-start before room s said unended = record { came = []; reads = ReadsOn-start before; fits = omega arith; replies = Replies-start s said unended }
+-- bytes that were read before
+ReadsOn-front : (bytes : List ℕ) (left : Option (List ℕ)) → ReadsOn (with_front bytes left) left bytes
+ReadsOn-front bytes None = _
+ReadsOn-front bytes (Some more) = (more, refl, refl)
+
+pub HasRead-start : (left : Option (List ℕ)) (room : ℕ) (s : Session) (said : Option (List ℕ)) → HasNoEnd s.unfinished.items → HasRead (with_front s.unfinished.items left) left room room s s said said
+HasRead-start left room s said unended =
+    record {
+      came = [];
+      reads = subst (ReadsOn (with_front s.unfinished.items left) left) (sym (append-nil s.unfinished.items)) (ReadsOn-front s.unfinished.items left);
+      fits = omega arith;
+      replies = Replies-start s said unended;
+    }
 
 taken_at : (now after : Option (List ℕ)) (n : ℕ) (buffer rest : List ℕ) → now ≡ Some rest → Takes now after n buffer → (n ≤ length rest) × (take n buffer ≡ take n rest) × (after ≡ Some (drop n rest))
 taken_at now after n buffer rest e t = subst (λ (o : Option (List ℕ)). Takes o after n buffer) e t
 
 -- a read adds what it took
-ReadsOn-more : (before now after : Option (List ℕ)) (read buffer : List ℕ) (n : ℕ) → ReadsOn before now read → Takes now after n buffer → ReadsOn before after (read ++ take n buffer)
+pub ReadsOn-more : (before now after : Option (List ℕ)) (read buffer : List ℕ) (n : ℕ) → ReadsOn before now read → Takes now after n buffer → ReadsOn before after (read ++ take n buffer)
 ReadsOn-more None now after read buffer n h t = _
 ReadsOn-more (Some left) now after read buffer n h t =
     let taken = taken_at now after n buffer h.0 h.1 t in
@@ -363,36 +374,31 @@ pub HasRead-more : (before now after : Option (List ℕ)) (room left n : ℕ) (b
 HasRead-more before now after room left n buffer s0 s1 s2 old middle new h t within fits k =
     record {
       came = h.came ++ take n buffer;
-      reads = ReadsOn-more before now after h.came buffer n h.reads t;
+      reads = subst (ReadsOn before after) (append_assoc s0.unfinished.items h.came (take n buffer)) (ReadsOn-more before now after (s0.unfinished.items ++ h.came) buffer n h.reads t);
       fits = omega (arith, length-append h.came (take n buffer), length-take-le n buffer within, h.fits, fits);
       replies = Replies-append h.came (take n buffer) s0 s1 s2 old middle new h.replies k;
     }
 
 -- a piece that does not fit shows that the input is too long
 pub HasRead-past : (script : List ℕ) (before now after : Option (List ℕ)) (room left n : ℕ) (buffer : List ℕ) (s0 s : Session) (old said : Option (List ℕ)) → HasRead before now room left s0 s old said
-    → Takes now after n buffer → left < n → room + length script ≡ most_script_bytes → IfSome before (λ input. IsTooLong script input (MoreThan most_script_bytes))
+    → Takes now after n buffer → left < n → room + length script + length s0.unfinished.items ≡ most_script_bytes → IfSome before (λ input. IsTooLong script input (MoreThan most_script_bytes))
 HasRead-past script None now after room left n buffer s0 s old said h t past is = _
 HasRead-past script (Some input) now after room left n buffer s0 s old said h t past is =
-    let reads : (rest : List ℕ) × (now ≡ Some rest) × (input ≡ h.came ++ rest) = h.reads in
+    let reads : (rest : List ℕ) × (now ≡ Some rest) × (input ≡ (s0.unfinished.items ++ h.came) ++ rest) = h.reads in
     let taken = taken_at now after n buffer reads.0 reads.1 t in
-    (refl, omega (arith, ap length reads.2, length-append h.came reads.0, taken.0, h.fits, past, is, length-ended input))
-
--- the bytes that came are those of the complete lines, and of the unfinished line
-came_cut : (came : List ℕ) (s0 s : Session) (old said : Option (List ℕ)) (h : Replies came s0 s old said) → s0.unfinished.items ≡ [] → came ≡ h.lines ++ s.unfinished.items
-came_cut came s0 s old said h fresh = ap (λ xs. xs ++ came) (sym fresh) ∙ h.cut.whole
+    (refl, omega (arith, ap length reads.2, length-append (s0.unfinished.items ++ h.came) reads.0, length-append s0.unfinished.items h.came, taken.0, h.fits, past, is, length-ended input))
 
 -- with the line end that the last line lacks, the bytes that came are ended lines
-pub came_ended : (came : List ℕ) (s0 s : Session) (old said : Option (List ℕ)) (h : Replies came s0 s old said) → s0.unfinished.items ≡ [] → ended came ≡ h.lines ++ (s.unfinished.items ++ missing_end s.unfinished.items)
-came_ended came s0 s old said h fresh =
-    ap ended (came_cut came s0 s old said h fresh) ∙ ended-append h.lines s.unfinished.items h.cut.ended
-    ∙ ap (λ xs. h.lines ++ xs) (ended-unfinished s.unfinished.items h.cut.unended)
+pub came_ended : (came : List ℕ) (s0 s : Session) (old said : Option (List ℕ)) (h : Replies came s0 s old said) → ended (s0.unfinished.items ++ came) ≡ h.lines ++ (s.unfinished.items ++ missing_end s.unfinished.items)
+came_ended came s0 s old said h =
+    ap ended h.cut.whole ∙ ended-append h.lines s.unfinished.items h.cut.ended ∙ ap (λ xs. h.lines ++ xs) (ended-unfinished s.unfinished.items h.cut.unended)
 
 -- all was answered once the last line is finished
-pub AnswersLines-all : (came : List ℕ) (s0 s1 s2 : Session) (old middle new : Option (List ℕ)) → s0.unfinished.items ≡ [] → Replies came s0 s1 old middle
-    → Replies (missing_end s1.unfinished.items) s1 s2 middle new → s2.unfinished.items ≡ [] → AnswersLines (ended came) s0 s2 old new
-AnswersLines-all came s0 s1 s2 old middle new fresh h k none =
+pub AnswersLines-all : (came : List ℕ) (s0 s1 s2 : Session) (old middle new : Option (List ℕ)) → Replies came s0 s1 old middle
+    → Replies (missing_end s1.unfinished.items) s1 s2 middle new → s2.unfinished.items ≡ [] → AnswersLines (ended (s0.unfinished.items ++ came)) s0 s2 old new
+AnswersLines-all came s0 s1 s2 old middle new h k none =
     let last = k.cut.whole ∙ ap (λ xs. k.lines ++ xs) none ∙ append-nil k.lines in
-    let whole : h.lines ++ k.lines ≡ ended came = ap (λ xs. h.lines ++ xs) (sym last) ∙ sym (came_ended came s0 s1 old middle h fresh) in
+    let whole : h.lines ++ k.lines ≡ ended (s0.unfinished.items ++ came) = ap (λ xs. h.lines ++ xs) (sym last) ∙ sym (came_ended came s0 s1 old middle h) in
     subst (λ (ls : List ℕ). AnswersLines ls s0 s2 old new) whole (AnswersLines-append h.lines k.lines s0 s1 s2 old middle new h.cut.ended h.answers k.answers)
 
 -- the source was read to its end, so that all of it came
@@ -475,11 +481,12 @@ change_in_piece script before now after room left n buffer s0 s old middle new e
     at None h t = _
     at (Some input) h t =
         let piece = take n buffer in
-        let reads : (rest : List ℕ) × (after ≡ Some rest) × (input ≡ (h.came ++ piece) ++ rest) = ReadsOn-more (Some input) now after h.came buffer n h.reads t in
+        let reads : (rest : List ℕ) × (after ≡ Some rest) × (input ≡ ((s0.unfinished.items ++ h.came) ++ piece) ++ rest) =
+        ReadsOn-more (Some input) now after (s0.unfinished.items ++ h.came) buffer n h.reads t in
         let first = h.replies.lines in
         let tail = k.rest ++ reads.0 in
         let parts : input ≡ (first ++ k.lines) ++ tail =
-        reads.2 ∙ ap (λ xs. (xs ++ piece) ++ reads.0) (came_cut h.came s0 s old middle h.replies b.unfinished)
+        reads.2 ∙ ap (λ xs. (xs ++ piece) ++ reads.0) h.replies.cut.whole
         ∙ ap (λ xs. xs ++ reads.0) (append_assoc first s.unfinished.items piece ∙ ap (λ xs. first ++ xs) k.cut.whole ∙ sym (append_assoc first k.lines k.rest))
         ∙ append_assoc (first ++ k.lines) k.rest reads.0 in
         record {
@@ -498,14 +505,141 @@ pub change_at_end : (script : List ℕ) (before now : Option (List ℕ)) (room l
     → HasRead before now room left s0 s old middle → IsAtEnd now → HasChangeIn s (s.unfinished.items ++ missing_end s.unfinished.items) middle new → TellsChange script before old new
 change_at_end script before now room left s0 s old middle new ends b h end k =
     tells_change script before s0 s old middle new ends b
-    (read_whole (λ input. HasChangeAt input s0 s old middle new) before now h.came h.reads end
+    (read_whole (λ input. HasChangeAt input s0 s old middle new) before now (s0.unfinished.items ++ h.came) h.reads end
     (record {
       first = h.replies.lines;
       lines = k.lines;
       tail = k.rest;
-      whole = came_ended h.came s0 s old middle h.replies b.unfinished ∙ ap (λ xs. h.replies.lines ++ xs) k.cut.whole;
+      whole = came_ended h.came s0 s old middle h.replies ∙ ap (λ xs. h.replies.lines ++ xs) k.cut.whole;
       first_ended = h.replies.cut.ended;
       lines_ended = k.cut.ended;
       answers = h.replies.answers;
       stop = k.stop;
     }))
+
+-- ---- lines after an empty script
+
+-- two reports of one script are the same
+IsReport-unique : (script : List ℕ) (told other : List (List ℕ)) → IsReport script told → IsReport script other → told ≡ other
+IsReport-unique script told other h k = IsReport-is script told h ∙ sym (IsReport-is script other k)
+
+-- answers to lines, and then to lines after them
+PutsBehind-both : (lines more : List ℕ) (old middle new : Option (List ℕ)) (k l : Bool) → PutsBehind [] lines old middle k → PutsBehind lines more middle new l → PutsBehind [] (lines ++ more) old new l
+PutsBehind-both lines more old middle new k l h g =
+    let same : g.before ≡ h.before ++ h.told = IsReport-unique lines g.before (h.before ++ h.told) g.report_before h.report in
+    let all : g.before ++ g.told ≡ h.before ++ (h.told ++ g.told) = ap (λ (ls : List (List ℕ)). ls ++ g.told) same ∙ append_assoc h.before h.told g.told in
+    record {
+      before = h.before;
+      told = h.told ++ g.told;
+      report_before = h.report_before;
+      report = subst (IsReport (lines ++ more)) all g.report;
+      text =
+          subst (Appends old new) (sym (flat_map-append (λ l. l ++ line_end ∷ []) h.told g.told))
+          (Appends-append old middle new (text_of_lines h.told) (text_of_lines g.told) h.text g.text);
+      marks = subst (λ (ls : List (List ℕ)). IsTrue l ↔ IsTrue (list_any is_refused_line ls)) all g.marks;
+    }
+
+-- what holds of bytes before those of a source, and of the bytes with others before them
+front-of_front : (P Q : List ℕ → Type 0) (lines rest : List ℕ) (left : Option (List ℕ)) → ((more : List ℕ) → P (rest ++ more) → Q (lines ++ (rest ++ more))) → IfSome (with_front rest left) P
+    → IfSome (with_front (lines ++ rest) left) Q
+front-of_front P Q lines rest None f h = _
+front-of_front P Q lines rest (Some more) f h = subst Q (sym (append_assoc lines rest more)) (f more h)
+
+-- all questions after an empty script
+pub first_questions : (lines rest : List ℕ) (left : Option (List ℕ)) → HasEnd lines → has_change (script_version lines) lines ≡ false
+    → IfSome (with_front rest left) (λ all. has_change (script_version (lines ++ ended all)) (ended all) ≡ false)
+    → IfSome (with_front (lines ++ rest) left) (λ all. has_change (script_version (ended all)) (ended all) ≡ false)
+first_questions lines rest left ends none h =
+    front-of_front (λ all. has_change (script_version (lines ++ ended all)) (ended all) ≡ false) (λ all. has_change (script_version (ended all)) (ended all) ≡ false) lines rest left
+    (λ more k.
+    let whole : ended (lines ++ (rest ++ more)) ≡ lines ++ ended (rest ++ more) = ended-append lines (rest ++ more) (λ some. ends.1) in
+    let version = script_version-append lines (ended (rest ++ more)) ends in
+    ap (λ xs. has_change (script_version xs) xs) whole
+    ∙ has_change-append (script_version (lines ++ ended (rest ++ more))) lines (ended (rest ++ more)) (λ some. ends.1)
+    ∙ ap (λ x. has_change (script_version (lines ++ ended (rest ++ more))) lines || x) k
+    ∙ sym (or_false (has_change (script_version (lines ++ ended (rest ++ more))) lines))
+    ∙ ap (λ (v : Version). has_change v lines) version ∙ none) h
+
+-- all answers after an empty script
+pub first_answers : (lines rest : List ℕ) (left : Option (List ℕ)) (old middle new : Option (List ℕ)) (k l : Bool) → HasEnd lines → PutsBehind [] lines old middle k
+    → IfSome (with_front rest left) (λ all. PutsBehind lines (ended all) middle new l) → IfSome (with_front (lines ++ rest) left) (λ all. PutsBehind [] (ended all) old new l)
+first_answers lines rest left old middle new k l ends first h =
+    front-of_front (λ all. PutsBehind lines (ended all) middle new l) (λ all. PutsBehind [] (ended all) old new l) lines rest left
+    (λ more g.
+    subst (λ all. PutsBehind [] all old new l) (sym (ended-append lines (rest ++ more) (λ some. ends.1)))
+    (PutsBehind-both lines (ended (rest ++ more)) old middle new k l first g)) h
+
+-- a change in the first lines is one in all
+change_first : (lines all : List ℕ) → HasEnd lines → has_change (script_version lines) lines ≡ true → has_change (script_version (lines ++ all)) (lines ++ all) ≡ true
+change_first lines all ends h =
+    ap (λ (v : Version). has_change v (lines ++ all)) (script_version-append lines all ends) ∙ has_change-append (script_version lines) lines all (λ some. ends.1)
+    ∙ ap (λ x. x || has_change (script_version lines) all) h
+
+-- a change in the lines after them is one in all
+change_after : (lines all : List ℕ) → HasEnd lines → has_change (script_version (lines ++ all)) all ≡ true → has_change (script_version (lines ++ all)) (lines ++ all) ≡ true
+change_after lines all ends h =
+    has_change-append (script_version (lines ++ all)) lines all (λ some. ends.1) ∙ ap (λ x. has_change (script_version (lines ++ all)) lines || x) h
+    ∙ or_true (has_change (script_version (lines ++ all)) lines)
+
+-- a change in the first lines of an input
+pub input_change_first : (lines rest : List ℕ) (left : Option (List ℕ)) → HasEnd lines → has_change (script_version lines) lines ≡ true
+    → IfSome (with_front (lines ++ rest) left) (λ all. has_change (script_version (ended all)) (ended all) ≡ true)
+input_change_first lines rest left ends h =
+    front-of_front (λ all. Unit {0}) (λ all. has_change (script_version (ended all)) (ended all) ≡ true) lines rest left
+    (λ more g. ap (λ xs. has_change (script_version xs) xs) (ended-append lines (rest ++ more) (λ some. ends.1)) ∙ change_first lines (ended (rest ++ more)) ends h) (anything rest left)
+  where
+    anything : (bytes : List ℕ) (o : Option (List ℕ)) → IfSome (with_front bytes o) (λ all. Unit {0})
+    anything bytes None = _
+    anything bytes (Some more) = tt
+
+-- a change in the lines after the first
+pub input_change_after : (lines rest : List ℕ) (left : Option (List ℕ)) → HasEnd lines → IfSome (with_front rest left) (λ all. has_change (script_version (lines ++ ended all)) (ended all) ≡ true)
+    → IfSome (with_front (lines ++ rest) left) (λ all. has_change (script_version (ended all)) (ended all) ≡ true)
+input_change_after lines rest left ends h =
+    front-of_front (λ all. has_change (script_version (lines ++ ended all)) (ended all) ≡ true) (λ all. has_change (script_version (ended all)) (ended all) ≡ true) lines rest left
+    (λ more g. ap (λ xs. has_change (script_version xs) xs) (ended-append lines (rest ++ more) (λ some. ends.1)) ∙ change_after lines (ended (rest ++ more)) ends g) h
+
+-- lines and an input that are too long together are too long as one input
+pub too_long_after : (lines rest : List ℕ) (left : Option (List ℕ)) (n : Length) → HasEnd lines → IfSome (with_front rest left) (λ all. IsTooLong lines all n)
+    → IfSome (with_front (lines ++ rest) left) (λ all. IsTooLong [] all n)
+too_long_after lines rest left n ends h = front-of_front (λ all. IsTooLong lines all n) (λ all. IsTooLong [] all n) lines rest left (λ more g. joined n (rest ++ more) g) h
+  where
+    both : (all : List ℕ) → length (ended (lines ++ all)) ≡ length lines + length (ended all)
+    both all = ap length (ended-append lines all (λ some. ends.1)) ∙ length-append lines (ended all)
+    joined : (n : Length) (all : List ℕ) → IsTooLong lines all n → IsTooLong [] (lines ++ all) n
+    joined (Exactly n) all g = (omega (arith, g.0, both all), g.1)
+    joined (MoreThan n) all g = (g.0, omega (arith, g.1, both all))
+
+-- ---- the first bytes of a source
+
+-- more bytes came before a line end than a script may have
+pub ReadsOn-past : (before now after : Option (List ℕ)) (read buffer : List ℕ) (n : ℕ) → ReadsOn before now read → Takes now after n buffer → most_script_bytes < length read + n
+    → IfSome before (λ input. IsTooLong [] input (MoreThan most_script_bytes))
+ReadsOn-past None now after read buffer n h t past = _
+ReadsOn-past (Some input) now after read buffer n h t past =
+    let taken = taken_at now after n buffer h.0 h.1 t in
+    (refl, omega (arith, ap length h.2, length-append read h.0, taken.0, past, length-ended input))
+
+-- the first lines of a source, with the bytes that came after them
+pub ReadsOn-cut : (before now after : Option (List ℕ)) (read buffer lines rest : List ℕ) (n : ℕ) → ReadsOn before now read → Takes now after n buffer → IsCut (take n buffer) lines rest
+    → ReadsOn before after ((read ++ lines) ++ rest)
+ReadsOn-cut before now after read buffer lines rest n h t cut =
+    subst (ReadsOn before after) (ap (λ xs. read ++ xs) cut.whole ∙ sym (append_assoc read lines rest)) (ReadsOn-more before now after read buffer n h t)
+
+-- what holds of the first bytes and of all after them holds of the source
+pub from_first : (P : List ℕ → Type 0) (bytes : List ℕ) (before after : Option (List ℕ)) → IfSome before (λ input. (more : List ℕ) × (after ≡ Some more) × (input ≡ bytes ++ more))
+    → IfSome (with_front bytes after) P → IfSome before P
+from_first P bytes None after reads h = _
+from_first P bytes (Some input) after reads h =
+    let all : P (bytes ++ reads.0) = subst (λ (o : Option (List ℕ)). IfSome (with_front bytes o) P) reads.1 h in
+    subst P (sym reads.2) all
+
+-- what holds of all bytes holds of the source
+pub from_all : (P : List ℕ → Type 0) (bytes : List ℕ) (before : Option (List ℕ)) → IfSome before (λ input. input ≡ bytes) → P bytes → IfSome before P
+from_all P bytes None is h = _
+from_all P bytes (Some input) is h = subst P (sym is) h
+
+-- no byte before those of a source
+pub with_front-nothing : (left : Option (List ℕ)) → with_front [] left ≡ left
+with_front-nothing None = refl
+with_front-nothing (Some more) = refl

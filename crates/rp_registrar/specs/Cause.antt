@@ -61,6 +61,16 @@ HasAskCause reads reads_after puts puts_after script left (TooLong n) = IfSome l
 HasAskCause reads reads_after puts puts_after script left Change = IfSome left (λ input. has_change (script_version (script ++ ended input)) (ended input) ≡ true)
 HasAskCause reads reads_after puts puts_after script left (Book f) = ⊥
 
+-- why lines that are the first of all were not answered: they are too long, a put failed, or a line changes which lots there are; nothing is claimed where memory ran out
+abbrev pub HasFirstCause : ℕ → ℕ → List ℕ → Stop → Type 0
+HasFirstCause before after lines Put = HasRisen before after
+HasFirstCause before after lines (Memory e) = Unit {0}
+HasFirstCause before after lines (TooLong (Exactly n)) = (n ≡ length lines) × (most_script_bytes < n)
+HasFirstCause before after lines (TooLong (MoreThan n)) = ⊥
+HasFirstCause before after lines Change = has_change (script_version lines) lines ≡ true
+HasFirstCause before after lines Read = ⊥
+HasFirstCause before after lines (Book f) = ⊥
+
 -- why one question that stands behind a script was not answered, of which it is known how long the script is with its line: a put failed, or it would be too long; nothing is claimed where memory ran out
 abbrev pub HasQuestionCause : ℕ → ℕ → (ℕ → Type 0) → Stop → Type 0
 HasQuestionCause before after IsLong Put = HasRisen before after

@@ -1,7 +1,7 @@
 -- Questions that come in pieces after a script, and the answers to those that have come.
-use Rattle.std.specs.Prelude.{◌≡◌, ℕ, ◌+◌, ◌≤◌, Bool, true, false, ◌||◌, List, [], ◌∷◌, ◌++◌, length, Option}
+use Rattle.std.specs.Prelude.{◌≡◌, ℕ, ◌+◌, ◌≤◌, Bool, true, false, ◌||◌, List, [], ◌∷◌, ◌++◌, length, Option, Some, IfSome, option_map}
 use Rattle.std.specs.List.{list_any}
-use Rattle.rp_book.specs.Lines.{IsEnded}
+use Rattle.rp_book.specs.Lines.{HasEnd, IsEnded}
 use Rattle.rp_command.specs.Versions.{version_of}
 use Rattle.rp_io.specs.Bytes.{Appends}
 use Rattle.rp_io.specs.Faults.{HasRisen}
@@ -9,12 +9,14 @@ use Rattle.rp_language.specs.Grammar.{reading}
 use Rattle.rp_model.specs.states.Sound.{IsLaterThan}
 use Rattle.rp_model.specs.states.State.{opening, state_of_parts}
 use Rattle.rp_reports.specs.Machine.{Running, lines_from}
-use Rattle.rp_reports.specs.Output.{is_refused_line}
+use Rattle.rp_reports.specs.Output.{is_refused_line, most_script_bytes}
 use Rattle.rp_reports.specs.Report.{script_body, script_lines, script_version}
 use Rattle.rp_reports.specs.Text.{line_end, text_of_lines}
 use Rattle.rp_scripts.specs.Lines.{is_line_end}
 use Rattle.rp_registrar.specs.Added.{changes, has_change}
 use Rattle.rp_registrar.specs.Answered.{Answers, lines_by}
+use Rattle.rp_registrar.specs.declared.first.First.{First}
+use Rattle.rp_registrar.specs.declared.first.First.TheVariants.{All, Lines}
 use Rattle.rp_registrar.specs.declared.session.Session.{Session}
 use Rattle.rp_registrar.specs.declared.stop.Stop.{Stop}
 use Rattle.rp_registrar.specs.declared.stop.Stop.TheVariants.{Read, Put, Memory, TooLong, Change, Book}
@@ -34,16 +36,29 @@ abbrev pub missing_end : List ℕ → List ℕ
 missing_end [] = []
 missing_end (b ∷ bs) = line_end ∷ []
 
+-- the bytes of a source, with bytes before them
+abbrev pub with_front : List ℕ → Option (List ℕ) → Option (List ℕ)
+with_front bytes left = option_map (λ more. bytes ++ more) left
+
+-- the first bytes of a source were read: all of them, or complete lines and the bytes that came after them
+abbrev pub IsFirst : Option (List ℕ) → Option (List ℕ) → First → Type 0
+IsFirst before after (All bytes) = IfSome before (λ input. input ≡ bytes.items)
+IsFirst before after (Lines lines rest) = HasEnd lines.items × HasNoEnd rest.items × IfSome before (λ input. (more : List ℕ) × (after ≡ Some more) × (input ≡ (lines.items ++ rest.items) ++ more))
+
+-- the bytes that were read first are not more than a script may have
+abbrev pub IsShort : First → Type 0
+IsShort (All bytes) = length bytes.items ≤ most_script_bytes
+IsShort (Lines lines rest) = length lines.items + length rest.items ≤ most_script_bytes
+
 -- a session reads lines by the version of its machine, the number of its next line is above every birth and every end of a lot, and its unfinished line has no line end
 pub record IsReady (s : Session) : Type 0 where
   pub version : version_of s.version ≡ s.machine.version
   pub later : IsLaterThan s.next (state_of_parts s.machine.state)
   pub unended : HasNoEnd s.unfinished.items
 
--- a session has answered a script and no line after it: the report lines of the script, and then those of any lines that the session answers next, are the report lines of all; the session's mark says whether a line of the report of the script is a refusal
+-- a session has answered a script and no line after the script: the report lines of the script, and then those of any lines that the session answers next, are the report lines of all; the session's mark says whether a line of the report of the script is a refusal
 pub record IsBehind (script : List ℕ) (s : Session) : Type 0 where
   pub version : s.machine.version ≡ script_version script
-  pub unfinished : s.unfinished.items ≡ []
   pub few : s.next ≤ length script + 1
   pub marks : s.refused ≡ list_any is_refused_line (lines_from (script_version script) false opening 1 (script_body script))
   pub goes_on : (more : List (List ℕ)) → lines_from (script_version script) false opening 1 (script_body script) ++ lines_by s.machine false s.next more ≡ lines_from (script_version script) false opening 1 (script_body script ++ more)

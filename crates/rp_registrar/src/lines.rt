@@ -15,8 +15,8 @@ use std::alloc::{AllocError, Global};
 /// The most bytes of a script.
 pub const MOST_BYTES: usize = 16_777_216;
 
-/// Lines, the last of which gets a line end where it has none.
-fn end_lines(mut lines: Vec<u8>) -> Result<Vec<u8>, AllocError>
+/// Returns `lines` with a line feed at the end of the last line, if it lacks one.
+pub fn end_lines(mut lines: Vec<u8>) -> Result<Vec<u8>, AllocError>
     ensures lines { IfOk result (λ all. all.items ≡ ended lines.items) }
     ensures end { IfOk result (λ all. IsEnded all.items) }
 {

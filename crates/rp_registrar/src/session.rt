@@ -1,6 +1,5 @@
 //! Questions that come in pieces after a script. Each is answered with the piece that ends its line.
 ghost use Rattle.std.specs.Prelude.{◌≡◌, ◌+◌, ◌<◌, ◌≤◌, ◌^◌, ◌++◌, [], false, length, IfErr, IfOk, OnOk};
-ghost use Rattle.rp_book.specs.Lines.{HasEnd, IsEnded};
 ghost use Rattle.rp_command.specs.Versions.{version_of};
 ghost use Rattle.rp_model.specs.states.State.{state_of_parts};
 ghost use Rattle.rp_model.specs.states.Sound.{IsLaterThan};
@@ -8,7 +7,7 @@ ghost use Rattle.rp_reports.specs.Output.{most_script_bytes};
 ghost use Rattle.rp_scripts.specs.Output.{HasOutputCause};
 ghost use Rattle.rp_registrar.specs.Added.{has_change};
 ghost use Rattle.rp_registrar.specs.Answered.{Answers};
-ghost use Rattle.rp_registrar.specs.Session.{AnswersLines, HasAnswerCause, HasPieceCause, IsBehind, IsCut, IsReady, Replies, missing_end};
+ghost use Rattle.rp_registrar.specs.Session.{AnswersLines, HasAnswerCause, HasNoEnd, HasPieceCause, IsBehind, IsCut, IsReady, Replies, missing_end};
 
 use crate::answers::{answer_line, answer_lines};
 use crate::change::line_changes;
@@ -21,7 +20,7 @@ use std::alloc::Global;
 use std::thread::Threads;
 
 /// Returns the complete lines at the beginning of `text`, up to its last line feed, and the bytes after them.
-fn cut_lines(text: &[u8]) -> (&[u8], &[u8])
+pub fn cut_lines(text: &[u8]) -> (&[u8], &[u8])
     ensures { IsCut text.now result.0.now result.1.now }
 {
     let mut end = text.len();
@@ -85,15 +84,22 @@ pub struct Session {
 }
 
 impl Session {
-    /// Runs `script` and returns the session for the lines after it. Nothing is put.
+    /// Runs `script` and returns the session for the lines after it, the first of which begins with the bytes of `unfinished`.
+    /// Puts nothing.
     ///
     /// # Errors
     ///
     /// `Memory` if memory ran out.
-    pub fn open<R: Threads + Sync>(rt: &R, alloc: Global, script: &[u8]) -> Result<Session, OutputFault>
-        requires end { HasEnd script.now }
+    pub fn open<R: Threads + Sync>(
+        rt: &R,
+        alloc: Global,
+        script: &[u8],
+        unfinished: Vec<u8>,
+    ) -> Result<Session, OutputFault>
         requires short { length script.now ≤ most_script_bytes }
+        requires unended { HasNoEnd unfinished.items }
         ensures ready { IfOk result (λ session. IsReady session) }
+        ensures unfinished { IfOk result (λ session. session.unfinished.items ≡ unfinished.items) }
         ensures behind { IfOk result (λ session. IsBehind script.now session) }
         ensures cause { IfErr result (HasOutputCause 0 0) }
     {
@@ -105,9 +111,16 @@ impl Session {
             version,
             machine,
             next,
-            unfinished: Vec::new(alloc),
+            unfinished,
             refused,
         })
+    }
+
+    /// Returns how many bytes the unfinished line has.
+    pub fn unfinished_bytes(&self) -> usize
+        ensures { result ≡ length self.now.unfinished.items }
+    {
+        self.unfinished.len()
     }
 
     /// Returns whether a line of the script or one of the lines that were answered is refused.

@@ -1,7 +1,7 @@
 use Rattle.std.proofs.Common.{◌≤◌, ◌<◌, ◌+◌, ◌^◌, length}
-use Rattle.rp_registrar.specs.Session.{IsReady}
+use Rattle.rp_registrar.specs.Session.{IsReady, with_front}
 use Rattle.rp_registrar.proofs.SessionLemmas.{HasRead}
-use Rattle.rp_registrar.proofs.ask.answer_pieces.Given as goal
+use Rattle.rp_registrar.proofs.pieces.answer_pieces.Given as goal
 
 abbrev pub invariant-loop-count : goal.invariant-loop-count
 invariant-loop-count g l =
@@ -10,7 +10,7 @@ invariant-loop-count g l =
       puts : g.K.Sink.faults l.fn.sink ≤ g.K.Sink.faults l.sink;
       ready : IsReady l.session;
       few : l.session.next + length l.session.unfinished.items + l.room + 1 < 2 ^ 32;
-      read : HasRead (g.S.Source.left l.fn.source) (g.S.Source.left l.source) l.initial.room l.room l.fn.session l.session (g.K.Sink.said l.fn.sink) (g.K.Sink.said l.sink);
+      read : HasRead (with_front l.fn.session.unfinished.items (g.S.Source.left l.fn.source)) (g.S.Source.left l.source) l.initial.room l.room l.fn.session l.session (g.K.Sink.said l.fn.sink) (g.K.Sink.said l.sink);
     }
 
 abbrev pub decreases-loop-count : goal.decreases-loop-count

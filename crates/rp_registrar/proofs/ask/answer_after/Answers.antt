@@ -1,0 +1,55 @@
+use Rattle.std.proofs.Common.{◌≡◌, ℕ, List, Option, ◌++◌, [], false, IfOk, IfSome, subst, arith}
+use Rattle.std.proofs.lemmas.Result.{IfErr-weaker, IfOk-weaker, err_from_is_err_and}
+use Rattle.rp_reports.specs.Report.{script_version}
+use Rattle.rp_registrar.specs.Added.{PutsBehind, ended, has_change}
+use Rattle.rp_registrar.specs.Cause.{HasAskCause}
+use Rattle.rp_registrar.specs.Session.{with_front}
+use Rattle.rp_registrar.proofs.CauseLemmas.{after_cause, first_cause}
+use Rattle.rp_registrar.proofs.SessionLemmas.{first_answers, first_questions}
+use Rattle.rp_registrar.proofs.ask.answer_after.Goals as goal
+
+pub returns-in_err-answer_first-clause-cause : goal.returns-in_err-answer_first-clause-cause
+returns-in_err-answer_first-clause-cause g c =
+    let p = err_from_is_err_and c.from_residual.result c.from_residual.ensures.1 in
+    rw (p.1, p.2)
+    (first_cause (g.S.Source.faults c.args.source.now) (g.K.Sink.faults c.args.sink.now) (g.K.Sink.faults c.answer_first.new.sink) c.args.lines.now c.args.rest.items
+    (g.S.Source.left c.args.source.now) c.in_err-answer_first.field-0.0 c.requires.end (omega (arith, c.requires.short)) c.in_err-answer_first.ensures.cause)
+
+pub returns-clause-questions : goal.returns-clause-questions
+returns-clause-questions g c =
+    let lines = c.args.lines.now in
+    let rest = c.args.rest.items in
+    let left = g.S.Source.left c.args.source.now in
+    let P : Option (List ℕ) → Type 0 = λ o. IfSome o (λ all. has_change (script_version (lines ++ ended all)) (ended all) ≡ false) in
+    let Q : Type 0 = IfSome (with_front (lines ++ rest) left) (λ all. has_change (script_version (ended all)) (ended all) ≡ false) in
+    IfOk-weaker c.answer_pieces.result (λ _. P (with_front rest left)) (λ _. Q) (λ _ h. first_questions lines rest left c.requires.end c.in_ok-answer_first.ensures.questions h)
+    (subst (λ u. IfOk c.answer_pieces.result (λ _. P (with_front u left))) c.in_ok-session.ensures.unfinished c.answer_pieces.ensures.questions)
+
+pub returns-clause-answers : goal.returns-clause-answers
+returns-clause-answers g c =
+    let lines = c.args.lines.now in
+    let rest = c.args.rest.items in
+    let left = g.S.Source.left c.args.source.now in
+    let old = g.K.Sink.said c.args.sink.now in
+    let middle = g.K.Sink.said c.answer_first.new.sink in
+    let new = g.K.Sink.said c.answer_pieces.new.sink in
+    IfOk-weaker c.answer_pieces.result (λ l. IfSome (with_front rest left) (λ all. PutsBehind lines (ended all) middle new l))
+    (λ l. IfSome (with_front (lines ++ rest) left) (λ all. PutsBehind [] (ended all) old new l))
+    (λ l h. first_answers lines rest left old middle new c.in_ok-answer_first.field-0 l c.requires.end c.in_ok-answer_first.ensures.answers h)
+    (subst (λ u. IfOk c.answer_pieces.result (λ l. IfSome (with_front u left) (λ all. PutsBehind lines (ended all) middle new l))) c.in_ok-session.ensures.unfinished c.answer_pieces.ensures.answers)
+
+pub returns-clause-cause : goal.returns-clause-cause
+returns-clause-cause g c =
+    let lines = c.args.lines.now in
+    let rest = c.args.rest.items in
+    let left = g.S.Source.left c.args.source.now in
+    let reads = g.S.Source.faults c.args.source.now in
+    let later = g.S.Source.faults c.answer_pieces.new.source in
+    let k = g.K.Sink.faults c.args.sink.now in
+    let m = g.K.Sink.faults c.answer_first.new.sink in
+    let n = g.K.Sink.faults c.answer_pieces.new.sink in
+    IfErr-weaker c.answer_pieces.result (HasAskCause reads later m n lines (with_front c.in_ok-session.session.unfinished.items left)) (HasAskCause reads later k n [] (with_front (lines ++ rest) left))
+    (λ stop h.
+    after_cause reads later k m n lines rest left stop c.requires.end c.in_ok-answer_first.ensures.counts
+    (subst (λ u. HasAskCause reads later m n lines (with_front u left) stop) c.in_ok-session.ensures.unfinished h))
+    c.answer_pieces.ensures.cause
