@@ -606,6 +606,7 @@ too_long_after lines rest left n ends h = front-of_front (λ all. IsTooLong line
   where
     both : (all : List ℕ) → length (ended (lines ++ all)) ≡ length lines + length (ended all)
     both all = ap length (ended-append lines all (λ some. ends.1)) ∙ length-append lines (ended all)
+
     joined : (n : Length) (all : List ℕ) → IsTooLong lines all n → IsTooLong [] (lines ++ all) n
     joined (Exactly n) all g = (omega (arith, g.0, both all), g.1)
     joined (MoreThan n) all g = (g.0, omega (arith, g.1, both all))

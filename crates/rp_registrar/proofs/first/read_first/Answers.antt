@@ -31,11 +31,10 @@ returns-then-not-is_empty-clause-first g c =
     let rest = c.cut_lines.result.1.now in
     let before = g.S.Source.left c.args.source.now in
     let after = g.S.Source.left c.read.new.self in
-    let some = nonempty_from_test lines (sym c.is_empty.ensures ∙ c.if-not-is_empty.true) in
-    (
+    let some = nonempty_from_test lines (sym c.is_empty.ensures ∙ c.if-not-is_empty.true) in (
       subst HasEnd (sym c.in_ok-extend_from_slice.ensures.items) (HasEnd-behind held lines (some, c.cut_lines.ensures.ended some)),
       subst HasNoEnd (sym c.in_ok-from_slice.ensures.items) c.cut_lines.ensures.unended,
       subst (λ xs. ReadsOn before after (xs ++ c.in_ok-from_slice.field-0.items)) (sym c.in_ok-extend_from_slice.ensures.items)
-      (subst (λ xs. ReadsOn before after ((held ++ lines) ++ xs)) (sym c.in_ok-from_slice.ensures.items)
-      (ReadsOn-cut before (g.S.Source.left c.loop-count.source) after held c.read.new.buf lines rest c.in-Ok.count c.loop-count.invariant.reads c.in-Ok.ensures.taken c.cut_lines.ensures)),
+          (subst (λ xs. ReadsOn before after ((held ++ lines) ++ xs)) (sym c.in_ok-from_slice.ensures.items)
+          (ReadsOn-cut before (g.S.Source.left c.loop-count.source) after held c.read.new.buf lines rest c.in-Ok.count c.loop-count.invariant.reads c.in-Ok.ensures.taken c.cut_lines.ensures)),
     )
