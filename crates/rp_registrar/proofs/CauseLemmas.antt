@@ -1,5 +1,5 @@
 -- Why calls stopped.
-use Rattle.std.proofs.Common.{◌≡◌, ℕ, ◌≤◌, ◌<◌, true, List, ◌++◌, [], length, Option, None, Some, IfSome, arith}
+use Rattle.std.proofs.Common.{◌≡◌, ℕ, ◌≤◌, true, List, ◌++◌, [], length, Option, Some, IfSome, arith}
 use Rattle.rp_io.specs.Faults.{HasRisen}
 use Rattle.rp_reports.specs.Machine.{Running}
 use Rattle.rp_reports.specs.Report.{script_version}

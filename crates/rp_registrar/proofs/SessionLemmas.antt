@@ -9,9 +9,9 @@ use Rattle.std.proofs.lemmas.List.Folds.{list_any-append}
 use Rattle.rp_book.specs.Lines.{HasEnd, IsEnded}
 use Rattle.rp_book.proofs.ScriptLemmas.{HasEnd-behind, script_lines-append, script_version-append}
 use Rattle.rp_io.specs.Bytes.{Appends, IsAtEnd, Takes}
-use Rattle.rp_io.proofs.IntakeLemmas.{ReadsOn, ReadsOn-start}
+use Rattle.rp_io.proofs.IntakeLemmas.{ReadsOn}
 use Rattle.rp_language.specs.Grammar.{Version, reading}
-use Rattle.rp_model.specs.states.State.{PlainState, opening}
+use Rattle.rp_model.specs.states.State.{opening}
 use Rattle.rp_reports.specs.Machine.{Running, after_line, lines_from, report, step_answer}
 use Rattle.rp_reports.specs.Output.{is_refused_line, most_script_bytes}
 use Rattle.rp_reports.specs.Report.{IsReport, script_body, script_lines, script_version}

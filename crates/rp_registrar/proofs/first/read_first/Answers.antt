@@ -1,11 +1,10 @@
-use Rattle.std.proofs.Common.{◌≡◌, ◌≤◌, ◌<◌, ◌+◌, ◌++◌, length, take, ap, sym, subst, ◌∙◌, arith, length-append}
+use Rattle.std.proofs.Common.{◌++◌, length, ap, sym, subst, ◌∙◌, arith, length-append}
 use Rattle.std.proofs.lemmas.List.{length-take-le}
 use Rattle.rp_algebra.proofs.Lists.{nonempty_from_test}
 use Rattle.rp_book.specs.Lines.{HasEnd}
 use Rattle.rp_book.proofs.ScriptLemmas.{HasEnd-behind}
 use Rattle.rp_registrar.specs.Session.{HasNoEnd}
 use Rattle.rp_io.proofs.IntakeLemmas.{ReadsOn}
-use Rattle.rp_reports.specs.Output.{most_script_bytes}
 use Rattle.rp_registrar.proofs.SessionLemmas.{ReadsOn-cut, ReadsOn-past}
 use Rattle.rp_registrar.proofs.first.read_first.Goals as goal
 

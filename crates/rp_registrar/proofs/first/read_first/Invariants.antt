@@ -1,4 +1,4 @@
-use Rattle.std.proofs.Common.{◌≤◌, ◌<◌, ◌-◌, length, vec_len}
+use Rattle.std.proofs.Common.{◌≤◌, ◌-◌, vec_len}
 use Rattle.rp_io.proofs.IntakeLemmas.{ReadsOn}
 use Rattle.rp_reports.specs.Output.{most_script_bytes}
 use Rattle.rp_registrar.proofs.first.read_first.Given as goal

@@ -1,8 +1,7 @@
-use Rattle.std.proofs.Common.{◌≡◌, ◌+◌, ◌≤◌, ◌<◌, ◌++◌, false, length, take, IfSome, refl, sym, ap, subst, ◌∙◌, arith}
+use Rattle.std.proofs.Common.{◌≡◌, ◌++◌, false, take, sym, subst, arith}
 use Rattle.std.proofs.lemmas.List.{length-take-le}
 use Rattle.std.proofs.lemmas.Result.{err_from_is_err_and}
 use Rattle.rp_io.specs.Bytes.{IsAtEnd}
-use Rattle.rp_reports.specs.Output.{most_script_bytes}
 use Rattle.rp_reports.specs.Report.{script_version}
 use Rattle.rp_registrar.specs.Added.{PutsBehind, ended, has_change}
 use Rattle.rp_registrar.specs.Session.{AnswersLines, missing_end, with_front}

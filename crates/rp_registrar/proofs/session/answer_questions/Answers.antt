@@ -1,11 +1,9 @@
 use Rattle.std.proofs.Common.{false, ap, sym, ◌∙◌, arith}
-use Rattle.std.proofs.lemmas.Result.{err_from_is_err_and}
 use Rattle.rp_language.specs.Grammar.{Version, reading}
 use Rattle.rp_reports.specs.Report.{script_lines}
 use Rattle.rp_registrar.specs.Added.{changes}
 use Rattle.rp_registrar.proofs.AnswerLemmas.{Answers-end}
-use Rattle.rp_registrar.proofs.CauseLemmas.{answer_cause}
-use Rattle.rp_registrar.proofs.SessionLemmas.{HasAsked-more, HasAsked-start, StopsAtChange-found, questions-end}
+use Rattle.rp_registrar.proofs.SessionLemmas.{HasAsked-more, HasAsked-start, questions-end}
 use Rattle.rp_registrar.proofs.session.answer_questions.Goals as goal
 
 pub loop-line-init : goal.loop-line-init
