@@ -2,14 +2,16 @@
 use Rattle.std.proofs.Common.{◌≡◌, ◌↔◌, IsTrue, ℕ, suc, ◌-◌, ◌+◌, ◌<◌, ◌≤◌, ◌==◌, Bool, true, false, ◌||◌, List, [], ◌∷◌, ◌++◌, length, take, drop, Option, None, Some, IfSome, refl, sym, ap, ◌∙◌, subst, arith, append_assoc, length-append, eq-eqb}
 use Rattle.std.specs.Prelude.{slice_index}
 use Rattle.std.specs.List.{list_any}
-use Rattle.std.proofs.Math.Bool.{or_assoc}
-use Rattle.std.proofs.lemmas.List.{append-nil, take-append-drop, length-take-le}
+use Rattle.std.proofs.Math.Bool.{or-false, or-true, or_assoc}
+use Rattle.std.proofs.lemmas.Bool.{or_parts}
+use Rattle.std.proofs.lemmas.List.{append-nil, length-take-le, take-append-le, take_all}
 use Rattle.std.proofs.lemmas.List.Concat.{flat_map-append}
 use Rattle.std.proofs.lemmas.List.Folds.{list_any-append}
 use Rattle.rp_book.specs.Lines.{HasEnd, IsEnded}
 use Rattle.rp_book.proofs.ScriptLemmas.{HasEnd-behind, script_lines-append, script_version-append}
 use Rattle.rp_io.specs.Bytes.{Appends, IsAtEnd, Takes}
-use Rattle.rp_io.proofs.IntakeLemmas.{ReadsOn}
+use Rattle.rp_io.specs.Intake.{IsPastLimit}
+use Rattle.rp_io.proofs.IntakeLemmas.{IsPastLimit-from_read, ReadsOn, ReadsOn-appended}
 use Rattle.rp_language.specs.Grammar.{Version, reading}
 use Rattle.rp_model.specs.states.State.{opening}
 use Rattle.rp_reports.specs.Machine.{Running, after_line, lines_from, report, step_answer}
@@ -29,21 +31,6 @@ use Rattle.rp_registrar.specs.declared.stop.Length.{Length}
 use Rattle.rp_registrar.specs.declared.stop.Length.TheVariants.{Exactly, MoreThan}
 use Rattle.rp_registrar.proofs.AnswerLemmas.{HasAnswered, HasAnswered-more, HasAnswered-start}
 use Rattle.rp_registrar.proofs.ScriptLemmas.{IsReport-computed, IsReport-is, report-behind, report-refused}
-
--- ---- tests
-
-or_false : (b : Bool) → b ≡ (b || false)
-or_false true = refl
-or_false false = refl
-
-or_true : (b : Bool) → (b || true) ≡ true
-or_true true = refl
-or_true false = refl
-
--- neither of two tests passes
-neither : (a b : Bool) → (a || b) ≡ false → (a ≡ false) × (b ≡ false)
-neither true b h = absurd (let e : true ≡ false = h in cc)
-neither false b h = (refl, h)
 
 -- ---- texts that end their lines
 
@@ -74,12 +61,12 @@ has_change-nil v = ap (list_any (λ line. changes (reading v line))) script_line
 pub has_change-found : (v : Version) (text : List ℕ) (front behind : List (List ℕ)) (line : List ℕ) → script_lines text ≡ front ++ line ∷ behind → changes (reading v line) ≡ true → has_change v text ≡ true
 has_change-found v text front behind line split some =
     let test = λ (l : List ℕ). changes (reading v l) in
-    ap (list_any test) split ∙ list_any-append test front (line ∷ behind) ∙ ap (λ b. list_any test front || (b || list_any test behind)) some ∙ or_true (list_any test front)
+    ap (list_any test) split ∙ list_any-append test front (line ∷ behind) ∙ ap (λ b. list_any test front || (b || list_any test behind)) some ∙ or-true (list_any test front)
 
 -- a change in the second of three texts
 pub has_change-within : (v : Version) (a b c : List ℕ) → IsEnded a → IsEnded b → has_change v b ≡ true → has_change v (a ++ (b ++ c)) ≡ true
 has_change-within v a b c h k some =
-    has_change-append v a (b ++ c) h ∙ ap (λ x. has_change v a || x) (has_change-append v b c k ∙ ap (λ x. x || has_change v c) some) ∙ or_true (has_change v a)
+    has_change-append v a (b ++ c) h ∙ ap (λ x. has_change v a || x) (has_change-append v b c k ∙ ap (λ x. x || has_change v c) some) ∙ or-true (has_change v a)
 
 -- ---- the line end that may be missing
 
@@ -115,8 +102,8 @@ ended-append a (x ∷ xs) h = ended-longer a x xs
 -- an unfinished line lacks its line end
 pub ended-unfinished : (text : List ℕ) → HasNoEnd text → ended text ≡ text ++ missing_end text
 ended-unfinished [] h = refl
-ended-unfinished (b ∷ []) h = ap (λ t. with_end t (b ∷ [])) (neither (is_line_end b) false h).0
-ended-unfinished (b ∷ d ∷ bs) h = ended-cons b (d ∷ bs) (omega arith) ∙ ap (λ ls. b ∷ ls) (ended-unfinished (d ∷ bs) (neither (is_line_end b) (list_any is_line_end (d ∷ bs)) h).1)
+ended-unfinished (b ∷ []) h = ap (λ t. with_end t (b ∷ [])) (or_parts (is_line_end b) false h).0
+ended-unfinished (b ∷ d ∷ bs) h = ended-cons b (d ∷ bs) (omega arith) ∙ ap (λ ls. b ∷ ls) (ended-unfinished (d ∷ bs) (or_parts (is_line_end b) (list_any is_line_end (d ∷ bs)) h).1)
 
 -- it ends its lines with it
 pub IsEnded-line : (text : List ℕ) → IsEnded (text ++ line_end ∷ [])
@@ -219,7 +206,7 @@ AnswersLines-nothing s after said machine next refused =
       answers =
           subst (λ (m : Running). Answers false s.machine s.next [] m after.next said said false) (sym machine)
           (subst (λ (n : ℕ). Answers false s.machine s.next [] s.machine n said said false) (sym next) (Answers-nothing s.machine s.next said));
-      marks = refused ∙ or_false s.refused;
+      marks = refused ∙ sym (or-false s.refused);
     }
 
 pub Replies-start : (s : Session) (said : Option (List ℕ)) → HasNoEnd s.unfinished.items → Replies [] s s said said
@@ -269,7 +256,7 @@ HasAsked-more machine now after number next lines rest line behind old said new 
     let test = λ (l : List ℕ). changes (reading machine.version l) in
     record {
       told = HasAnswered-more false machine now after number next lines rest line behind old said new mark also h.told split put marks e;
-      questions = list_any-append test h.told.front (line ∷ []) ∙ ap (λ b. b || (test line || false)) h.questions ∙ sym (or_false (test line)) ∙ none;
+      questions = list_any-append test h.told.front (line ∷ []) ∙ ap (λ b. b || (test line || false)) h.questions ∙ (or-false (test line)) ∙ none;
     }
 
 -- a line that changes which lots there are stops the answers
@@ -356,17 +343,13 @@ HasRead-start left room s said unended =
       replies = Replies-start s said unended;
     }
 
-taken_at : (now after : Option (List ℕ)) (n : ℕ) (buffer rest : List ℕ) → now ≡ Some rest → Takes now after n buffer → (n ≤ length rest) × (take n buffer ≡ take n rest) × (after ≡ Some (drop n rest))
-taken_at now after n buffer rest e t = subst (λ (o : Option (List ℕ)). Takes o after n buffer) e t
-
--- a read adds what it took
-pub ReadsOn-more : (before now after : Option (List ℕ)) (read buffer : List ℕ) (n : ℕ) → ReadsOn before now read → Takes now after n buffer → ReadsOn before after (read ++ take n buffer)
-ReadsOn-more None now after read buffer n h t = _
-ReadsOn-more (Some left) now after read buffer n h t =
-    let taken = taken_at now after n buffer h.0 h.1 t in
-    let parts : left ≡ (read ++ take n buffer) ++ drop n h.0 =
-    h.2 ∙ ap (λ xs. read ++ xs) (sym (take-append-drop n h.0)) ∙ sym (append_assoc read (take n h.0) (drop n h.0)) ∙ ap (λ xs. (read ++ xs) ++ drop n h.0) (sym taken.1) in
-    (drop n h.0, taken.2, parts)
+-- a read adds the front of the buffer
+pub ReadsOn-read : (before now after : Option (List ℕ)) (read buffer : List ℕ) (n : ℕ) → n ≤ length buffer → ReadsOn before now read → Takes now after n buffer → ReadsOn before after (read ++ take n buffer)
+ReadsOn-read before now after read buffer n within h t =
+    let all = buffer ++ drop (length buffer) [] in
+    let whole : buffer ≡ take (length buffer) all =
+    sym (take-append-le (length buffer) buffer (drop (length buffer) []) (omega arith) ∙ take_all (length buffer) buffer (omega arith)) in
+    ReadsOn-appended before now after read buffer [] buffer (read ++ take n buffer) n (length buffer) h t (record { filled = refl; within = within; piece_is = whole; new_is = refl })
 
 -- one more piece was read and answered
 pub HasRead-more : (before now after : Option (List ℕ)) (room left n : ℕ) (buffer : List ℕ) (s0 s1 s2 : Session) (old middle new : Option (List ℕ)) → HasRead before now room left s0 s1 old middle
@@ -374,19 +357,23 @@ pub HasRead-more : (before now after : Option (List ℕ)) (room left n : ℕ) (b
 HasRead-more before now after room left n buffer s0 s1 s2 old middle new h t within fits k =
     record {
       came = h.came ++ take n buffer;
-      reads = subst (ReadsOn before after) (append_assoc s0.unfinished.items h.came (take n buffer)) (ReadsOn-more before now after (s0.unfinished.items ++ h.came) buffer n h.reads t);
+      reads = subst (ReadsOn before after) (append_assoc s0.unfinished.items h.came (take n buffer)) (ReadsOn-read before now after (s0.unfinished.items ++ h.came) buffer n within h.reads t);
       fits = omega (arith, length-append h.came (take n buffer), length-take-le n buffer within, h.fits, fits);
       replies = Replies-append h.came (take n buffer) s0 s1 s2 old middle new h.replies k;
     }
 
+-- an input with too many bytes after a script
+too_long : (script : List ℕ) (left : Option (List ℕ)) (limit : ℕ) → most_script_bytes ≤ length script + limit → IsPastLimit left limit → IfSome left (λ input. IsTooLong script input (MoreThan most_script_bytes))
+too_long script None limit most past = _
+too_long script (Some input) limit most past = (refl, omega (arith, most, past, length-ended input))
+
 -- a piece that does not fit shows that the input is too long
 pub HasRead-past : (script : List ℕ) (before now after : Option (List ℕ)) (room left n : ℕ) (buffer : List ℕ) (s0 s : Session) (old said : Option (List ℕ)) → HasRead before now room left s0 s old said
     → Takes now after n buffer → left < n → room + length script + length s0.unfinished.items ≡ most_script_bytes → IfSome before (λ input. IsTooLong script input (MoreThan most_script_bytes))
-HasRead-past script None now after room left n buffer s0 s old said h t past is = _
-HasRead-past script (Some input) now after room left n buffer s0 s old said h t past is =
-    let reads : (rest : List ℕ) × (now ≡ Some rest) × (input ≡ (s0.unfinished.items ++ h.came) ++ rest) = h.reads in
-    let taken = taken_at now after n buffer reads.0 reads.1 t in
-    (refl, omega (arith, ap length reads.2, length-append (s0.unfinished.items ++ h.came) reads.0, length-append s0.unfinished.items h.came, taken.0, h.fits, past, is, length-ended input))
+HasRead-past script before now after room left n buffer s0 s old said h t past is =
+    let limit = room + length s0.unfinished.items in
+    too_long script before limit (omega (arith, is))
+    (IsPastLimit-from_read before now after (s0.unfinished.items ++ h.came) buffer n limit h.reads t (omega (arith, length-append s0.unfinished.items h.came, h.fits, past)))
 
 -- with the line end that the last line lacks, the bytes that came are ended lines
 pub came_ended : (came : List ℕ) (s0 s : Session) (old said : Option (List ℕ)) (h : Replies came s0 s old said) → ended (s0.unfinished.items ++ came) ≡ h.lines ++ (s.unfinished.items ++ missing_end s.unfinished.items)
@@ -474,15 +461,15 @@ tells_change script (Some input) s0 s old middle new ends b h = (change_of scrip
 
 -- a change in a complete line of a piece is one in the input
 pub change_in_piece : (script : List ℕ) (before now after : Option (List ℕ)) (room left n : ℕ) (buffer : List ℕ) (s0 s : Session) (old middle new : Option (List ℕ)) → HasEnd script → IsBehind script s0
-    → HasRead before now room left s0 s old middle → Takes now after n buffer → HasChangeIn s (s.unfinished.items ++ take n buffer) middle new → TellsChange script before old new
-change_in_piece script before now after room left n buffer s0 s old middle new ends b h t k = tells_change script before s0 s old middle new ends b (at before h t)
+    → HasRead before now room left s0 s old middle → n ≤ length buffer → Takes now after n buffer → HasChangeIn s (s.unfinished.items ++ take n buffer) middle new → TellsChange script before old new
+change_in_piece script before now after room left n buffer s0 s old middle new ends b h within t k = tells_change script before s0 s old middle new ends b (at before h t)
   where
     at : (before : Option (List ℕ)) → HasRead before now room left s0 s old middle → Takes now after n buffer → IfSome before (λ input. HasChangeAt input s0 s old middle new)
     at None h t = _
     at (Some input) h t =
         let piece = take n buffer in
         let reads : (rest : List ℕ) × (after ≡ Some rest) × (input ≡ ((s0.unfinished.items ++ h.came) ++ piece) ++ rest) =
-        ReadsOn-more (Some input) now after (s0.unfinished.items ++ h.came) buffer n h.reads t in
+        ReadsOn-read (Some input) now after (s0.unfinished.items ++ h.came) buffer n within h.reads t in
         let first = h.replies.lines in
         let tail = k.rest ++ reads.0 in
         let parts : input ≡ (first ++ k.lines) ++ tail =
@@ -557,7 +544,7 @@ first_questions lines rest left ends none h =
     ap (λ xs. has_change (script_version xs) xs) whole
     ∙ has_change-append (script_version (lines ++ ended (rest ++ more))) lines (ended (rest ++ more)) (λ some. ends.1)
     ∙ ap (λ x. has_change (script_version (lines ++ ended (rest ++ more))) lines || x) k
-    ∙ sym (or_false (has_change (script_version (lines ++ ended (rest ++ more))) lines))
+    ∙ (or-false (has_change (script_version (lines ++ ended (rest ++ more))) lines))
     ∙ ap (λ (v : Version). has_change v lines) version ∙ none) h
 
 -- all answers after an empty script
@@ -579,7 +566,7 @@ change_first lines all ends h =
 change_after : (lines all : List ℕ) → HasEnd lines → has_change (script_version (lines ++ all)) all ≡ true → has_change (script_version (lines ++ all)) (lines ++ all) ≡ true
 change_after lines all ends h =
     has_change-append (script_version (lines ++ all)) lines all (λ some. ends.1) ∙ ap (λ x. has_change (script_version (lines ++ all)) lines || x) h
-    ∙ or_true (has_change (script_version (lines ++ all)) lines)
+    ∙ or-true (has_change (script_version (lines ++ all)) lines)
 
 -- a change in the first lines of an input
 pub input_change_first : (lines rest : List ℕ) (left : Option (List ℕ)) → HasEnd lines → has_change (script_version lines) lines ≡ true
@@ -616,16 +603,13 @@ too_long_after lines rest left n ends h = front-of_front (λ all. IsTooLong line
 -- more bytes came before a line end than a script may have
 pub ReadsOn-past : (before now after : Option (List ℕ)) (read buffer : List ℕ) (n : ℕ) → ReadsOn before now read → Takes now after n buffer → most_script_bytes < length read + n
     → IfSome before (λ input. IsTooLong [] input (MoreThan most_script_bytes))
-ReadsOn-past None now after read buffer n h t past = _
-ReadsOn-past (Some input) now after read buffer n h t past =
-    let taken = taken_at now after n buffer h.0 h.1 t in
-    (refl, omega (arith, ap length h.2, length-append read h.0, taken.0, past, length-ended input))
+ReadsOn-past before now after read buffer n h t past = too_long [] before most_script_bytes (omega arith) (IsPastLimit-from_read before now after read buffer n most_script_bytes h t past)
 
 -- the first lines of a source, with the bytes that came after them
-pub ReadsOn-cut : (before now after : Option (List ℕ)) (read buffer lines rest : List ℕ) (n : ℕ) → ReadsOn before now read → Takes now after n buffer → IsCut (take n buffer) lines rest
+pub ReadsOn-cut : (before now after : Option (List ℕ)) (read buffer lines rest : List ℕ) (n : ℕ) → n ≤ length buffer → ReadsOn before now read → Takes now after n buffer → IsCut (take n buffer) lines rest
     → ReadsOn before after ((read ++ lines) ++ rest)
-ReadsOn-cut before now after read buffer lines rest n h t cut =
-    subst (ReadsOn before after) (ap (λ xs. read ++ xs) cut.whole ∙ sym (append_assoc read lines rest)) (ReadsOn-more before now after read buffer n h t)
+ReadsOn-cut before now after read buffer lines rest n within h t cut =
+    subst (ReadsOn before after) (ap (λ xs. read ++ xs) cut.whole ∙ sym (append_assoc read lines rest)) (ReadsOn-read before now after read buffer n within h t)
 
 -- what holds of the first bytes and of all after them holds of the source
 pub from_first : (P : List ℕ → Type 0) (bytes : List ℕ) (before after : Option (List ℕ)) → IfSome before (λ input. (more : List ℕ) × (after ≡ Some more) × (input ≡ bytes ++ more))

@@ -20,8 +20,8 @@ use rp_scripts::{OutputFault, next_line, put_answer, split_mark};
 use std::alloc::Global;
 use std::thread::Threads;
 
-/// Has the machine answer a line, and puts the report lines of the answer, full or brief, by way of a buffer for their text.
-/// Answers whether one is a refusal.
+/// Has `machine` answer `line`, and puts the report lines of the answer, full or brief, into `sink`, by way of `text`, a buffer
+/// for their bytes. Returns whether one of them is a refusal.
 pub fn answer_line<R: Threads + Sync, K: Sink>(
     rt: &R,
     alloc: Global,
@@ -45,8 +45,8 @@ pub fn answer_line<R: Threads + Sync, K: Sink>(
     put_answer(&answer, brief, text, sink)
 }
 
-/// Has the machine answer the lines of a text, and puts their report lines, full or brief. Answers the number of the line
-/// behind them, and whether a report line is a refusal.
+/// Has `machine` answer `lines`, the first of which has the number `number`, and puts their report lines, full or brief, into
+/// `sink`. Returns the number of the line after them, and whether a report line is a refusal.
 pub fn answer_lines<R: Threads + Sync, K: Sink>(
     rt: &R,
     alloc: Global,

@@ -167,8 +167,8 @@ fn ask_after<R: Threads + Sync, S: Source, K: Sink>(
 ///
 /// - `Change` if a line of `source` changes which lots there are. No line after it is answered. The lines before it have been
 ///   answered, unless `script` is empty.
-/// - `TooLong` if `script` and the lines of `source` have more than 16,777,216 bytes together. Lines that came before have been
-///   answered.
+/// - `TooLong` if `script` and the lines of `source` have more than 16,777,216 bytes together. The lines that were complete before
+///   the last read have been answered.
 /// - `Read` if a read failed.
 /// - `Put` if a put failed.
 /// - `Memory` if memory ran out.

@@ -76,10 +76,15 @@ fn answer_questions<R: Threads + Sync, K: Sink>(
 /// A machine that has answered a script and the complete lines after it that have come so far.
 #[derive(Drop)]
 pub struct Session {
+    /// The version of the script, by which lines are read.
     version: Version,
+    /// The machine after the last line that was answered.
     machine: Machine,
+    /// The number of the next line.
     next: u32,
+    /// The bytes after the last line feed, with which the next line begins.
     unfinished: Vec<u8>,
+    /// Set if a line of the script or a line after it is refused.
     refused: bool,
 }
 
@@ -130,7 +135,7 @@ impl Session {
         self.refused
     }
 
-    /// Answers the unfinished bytes, which are complete lines now, and drops them.
+    /// Answers the bytes that were unfinished and are complete lines now, puts the answers into `sink`, and drops the bytes.
     ///
     /// # Errors
     ///
@@ -166,8 +171,8 @@ impl Session {
         Ok(())
     }
 
-    /// Answers all lines that are complete with `piece`, which comes after the pieces of the calls before. Keeps the bytes after
-    /// the last line feed for the next call.
+    /// Answers all lines that are complete with `piece`, which comes after the pieces of the calls before, and puts the answers
+    /// into `sink`. Keeps the bytes after the last line feed for the next call.
     ///
     /// # Errors
     ///
@@ -200,7 +205,7 @@ impl Session {
         Ok(())
     }
 
-    /// Answers the unfinished line, if there is one, after the last piece.
+    /// Answers the unfinished line after the last piece, if there is one, and puts the answer into `sink`.
     ///
     /// # Errors
     ///

@@ -35,5 +35,5 @@ returns-then-not-is_empty-clause-first g c =
       subst HasNoEnd (sym c.in_ok-from_slice.ensures.items) c.cut_lines.ensures.unended,
       subst (λ xs. ReadsOn before after (xs ++ c.in_ok-from_slice.field-0.items)) (sym c.in_ok-extend_from_slice.ensures.items)
           (subst (λ xs. ReadsOn before after ((held ++ lines) ++ xs)) (sym c.in_ok-from_slice.ensures.items)
-          (ReadsOn-cut before (g.S.Source.left c.loop-count.source) after held c.read.new.buf lines rest c.in-Ok.count c.loop-count.invariant.reads c.in-Ok.ensures.taken c.cut_lines.ensures)),
+          (ReadsOn-cut before (g.S.Source.left c.loop-count.source) after held c.read.new.buf lines rest c.in-Ok.count c.in-Ok.ensures.within c.loop-count.invariant.reads c.in-Ok.ensures.taken c.cut_lines.ensures)),
     )

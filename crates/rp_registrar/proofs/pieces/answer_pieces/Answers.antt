@@ -87,7 +87,7 @@ returns-in_err-answer_piece-clause-cause g c =
     let new = g.K.Sink.said c.answer_piece.new.sink in
     let change = change_in_piece c.args.script.now (with_front c.args.session.unfinished.items (g.S.Source.left c.args.source.now)) (g.S.Source.left c.loop-count.source) (g.S.Source.left c.read.new.self)
     _ c.loop-count.room c.in-Ok.count c.read.new.buf c.args.session s (g.K.Sink.said c.args.sink.now) middle new
-    c.requires.end c.requires.behind c.loop-count.invariant.read c.in-Ok.ensures.taken in
+    c.requires.end c.requires.behind c.loop-count.invariant.read c.in-Ok.ensures.within c.in-Ok.ensures.taken in
     rw (p.1, p.2)
     (ask_cause _ _ (g.K.Sink.faults c.args.sink.now) (g.K.Sink.faults c.loop-count.sink) (g.K.Sink.faults c.answer_piece.new.sink) c.args.script.now (with_front c.args.session.unfinished.items (g.S.Source.left c.args.source.now))
     s (s.unfinished.items ++ take c.in-Ok.count c.read.new.buf) (g.K.Sink.said c.args.sink.now) middle new c.in_err-answer_piece.field-0.0 c.loop-count.invariant.puts change c.in_err-answer_piece.ensures.cause)
@@ -100,7 +100,7 @@ returns-in_err-answer_piece-clause-before g c =
     let new = g.K.Sink.said c.answer_piece.new.sink in
     let change = change_in_piece c.args.script.now (with_front c.args.session.unfinished.items (g.S.Source.left c.args.source.now)) (g.S.Source.left c.loop-count.source) (g.S.Source.left c.read.new.self)
     _ c.loop-count.room c.in-Ok.count c.read.new.buf c.args.session s (g.K.Sink.said c.args.sink.now) middle new
-    c.requires.end c.requires.behind c.loop-count.invariant.read c.in-Ok.ensures.taken in
+    c.requires.end c.requires.behind c.loop-count.invariant.read c.in-Ok.ensures.within c.in-Ok.ensures.taken in
     rw (p.1, p.2)
     (ask_before (g.K.Sink.faults c.loop-count.sink) (g.K.Sink.faults c.answer_piece.new.sink) c.args.script.now (with_front c.args.session.unfinished.items (g.S.Source.left c.args.source.now))
     s (s.unfinished.items ++ take c.in-Ok.count c.read.new.buf) (g.K.Sink.said c.args.sink.now) middle new c.in_err-answer_piece.field-0.0 change c.in_err-answer_piece.ensures.cause)
