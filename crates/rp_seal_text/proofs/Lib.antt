@@ -3,3 +3,4 @@ pub mod SpelledLines
 pub mod FieldLemmas
 pub mod ActLemmas
 pub mod HashLemmas
+pub mod StreamLemmas

@@ -5,3 +5,4 @@ pub mod Fields
 pub mod ActText
 pub mod Hashes
 pub mod ProofFiles
+pub mod ActStream

@@ -3,6 +3,7 @@
 //! docs/seal.md has the formats.
 
 mod act_proof;
+mod act_stream;
 mod acts;
 mod checkpoint;
 mod fields;
@@ -14,6 +15,7 @@ mod read;
 mod write;
 
 pub use act_proof::ActProof;
+pub use act_stream::read_acts;
 pub use acts::{ACTS_MARK, read_act, read_end, write_act, write_end};
 pub use checkpoint::Checkpoint;
 pub use link::Link;
