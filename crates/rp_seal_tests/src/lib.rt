@@ -2,6 +2,8 @@
 //! Tests of `rp_seal` and `rp_seal_text` against vectors from outside.
 
 #[cfg(test)]
+mod act_streams;
+#[cfg(test)]
 mod acts;
 #[cfg(test)]
 mod checkpoints;

@@ -7,6 +7,7 @@
 //! - [`verify`] says whether it begins with the acts of a checkpoint.
 //! - [`prove`] puts an act with the proof that the book has it.
 //! - [`link`] puts the proof that it continues the acts of a checkpoint.
+//! - [`put_acts`] puts its acts as a stream, from which another book can take them.
 //!
 //! Without a book:
 //!
@@ -19,6 +20,7 @@ mod comparison;
 mod continuation;
 mod inclusion;
 mod log;
+mod stream;
 mod verdict;
 
 pub use check::{check_act, check_link};
@@ -26,4 +28,5 @@ pub use checkpoint::seal;
 pub use comparison::verify;
 pub use continuation::link;
 pub use inclusion::prove;
+pub use stream::put_acts;
 pub use verdict::SealVerdict;
