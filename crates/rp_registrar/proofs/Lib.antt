@@ -5,3 +5,4 @@ pub mod LayerLemmas
 pub mod OutcomeLemmas
 pub mod ScriptLemmas
 pub mod SessionLemmas
+pub mod ReplayLemmas

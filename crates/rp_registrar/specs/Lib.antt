@@ -6,3 +6,5 @@ pub mod Children
 pub mod Events
 pub mod Layers
 pub mod Session
+pub mod Replayed
+pub mod Joined

@@ -24,6 +24,7 @@ mod lot_line;
 mod pieces;
 mod read;
 mod session;
+pub mod replay;
 mod stop;
 
 pub use layers::{Addition, Choice, Inherited, last_choice};
