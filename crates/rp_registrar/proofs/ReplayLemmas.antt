@@ -1,5 +1,5 @@
 -- Acts that come to the end of the log of a book.
-use Rattle.std.proofs.Common.{◌≡◌, ℕ, zero, suc, get_or, map, add-one, ◌+◌, ◌-◌, ◌<◌, ◌≤◌, List, [], ◌∷◌, ◌++◌, length, take, drop, Option, None, Some, IfSome, refl, sym, ap, ap₂, ◌∙◌, subst, arith, append_assoc, length-append}
+use Rattle.std.proofs.Common.{◌≡◌, ℕ, get_or, map, add-one, ◌+◌, ◌-◌, ◌<◌, List, [], ◌∷◌, ◌++◌, length, take, drop, Option, None, Some, IfSome, refl, sym, ap, ap₂, ◌∙◌, subst, arith, append_assoc, length-append}
 use Rattle.std.specs.Prelude.{flat_map, option_map}
 use Rattle.std.specs.List.{slice_range}
 use Rattle.std.proofs.Math.Seq.{drop-cons, take-append_seam, drop-append_seam}
@@ -9,15 +9,14 @@ use Rattle.rp_io.specs.Bytes.{Appends}
 use Rattle.rp_scripts.proofs.SinkLemmas.{Appends-append, Appends-nothing}
 use Rattle.rp_book.specs.Act.{AreActs, GainsAct, HasActs, HasNumbers, Told, added_act}
 use Rattle.rp_book.specs.Kept.{Stays}
-use Rattle.rp_book.specs.Lines.{HasEnd, IsEnded, first_number, last_number}
+use Rattle.rp_book.specs.Lines.{last_number}
 use Rattle.rp_book.specs.declared.act.Entry.{Entry}
 use Rattle.rp_book.proofs.ActLemmas.{HasActs-push}
-use Rattle.rp_book.proofs.ScriptLemmas.{HasEnd-behind}
 use Rattle.rp_reports.specs.Report.{script_body, script_lines, script_version}
 use Rattle.rp_seal.specs.Act.{ActEntry, entry_of}
 use Rattle.rp_seal.specs.declared.act.SealedAct.{SealedAct}
 use Rattle.rp_sealed_book.specs.Log.{entries_from, entry_at, log_of}
-use Rattle.rp_registrar.specs.Joined.{IsJoined, MayTake}
+use Rattle.rp_registrar.specs.Joined.{MayTake}
 use Rattle.rp_registrar.specs.Replayed.{Continue, GainsEntries, IsNext, LogGrew, entry_lines}
 
 -- no line of an empty script has a number

@@ -124,11 +124,7 @@ fn is_refused<R: Threads + Sync>(
 /// # Errors
 ///
 /// The fault of the book; the acts before the one that failed are added.
-fn add_all<B: Book>(
-    alloc: Global,
-    book: &mut B,
-    acts: &[SealedAct<'_>],
-) -> Result<(), BookFault>
+fn add_all<B: Book>(alloc: Global, book: &mut B, acts: &[SealedAct<'_>]) -> Result<(), BookFault>
     requires { MayTake (B.script book.old) (B.acts book.old) (map entry_of acts.now) }
     ensures counts { B.faults book.old ≤ B.faults book.new }
     ensures script { OnOk result (Appends (B.script book.old) (B.script book.new) (entry_lines (map entry_of acts.now))) }

@@ -1,4 +1,4 @@
-use Rattle.std.proofs.Common.{◌≡◌, ◌+◌, ◌≤◌, ℕ, List, Option, drop, get_or, map, refl, subst, arith, ◌∷◌}
+use Rattle.std.proofs.Common.{◌≡◌, ◌+◌, ℕ, List, Option, drop, get_or, map, refl, subst, arith, ◌∷◌}
 use Rattle.rp_book.specs.Act.{Told}
 use Rattle.rp_book.specs.declared.act.Entry.{Entry}
 use Rattle.rp_seal.specs.Act.{ActEntry, entry_of}

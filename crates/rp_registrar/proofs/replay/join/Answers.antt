@@ -1,4 +1,4 @@
-use Rattle.std.proofs.Common.{rules, ◌≡◌, ◌+◌, ◌-◌, ◌≤◌, IsTrue, ℕ, List, ◌++◌, ◌∷◌, append_assoc, drop, get_or, length, length-append, map, ap, sym, ◌∙◌, subst, arith}
+use Rattle.std.proofs.Common.{rules, ◌≡◌, ◌+◌, ◌-◌, IsTrue, ℕ, List, ◌++◌, ◌∷◌, append_assoc, drop, get_or, length, length-append, map, ap, sym, ◌∙◌, subst, arith}
 use Rattle.std.specs.Prelude.{slice_index}
 use Rattle.rp_book.specs.Lines.{last_number}
 use Rattle.rp_book.proofs.ScriptLemmas.{HasEnd-behind}
