@@ -45,6 +45,8 @@ pub enum Query<'a> {
     Prove(u32),
     /// The proof that the book continues the acts of the seal in a file.
     Link(&'a str),
+    /// The acts from a number on.
+    Acts(u32),
 }
 
 /// What is done with a book.
@@ -56,6 +58,8 @@ pub enum Act<'a> {
     Add(Options<'a>),
     /// Copies the acts to a new book at a path.
     Copy(&'a str),
+    /// Adds the acts that another book wrote.
+    Replay,
     /// Writes what is read from the book.
     Read(Query<'a>),
 }
@@ -130,21 +134,29 @@ fn act_of_one(word: &str) -> Result<Act<'_>, Fault> {
         "script" => Ok(Act::Read(Query::Script)),
         "report" => Ok(Act::Read(Query::Report)),
         "size" => Ok(Act::Read(Query::Size)),
+        "acts" => Ok(Act::Read(Query::Acts(1))),
+        "replay" => Ok(Act::Replay),
         _ => Err(Fault::Unlisted),
     }
 }
 
-/// Reads a word about seals with another after it.
+/// Reads the number of an act, which is at least 1.
+fn number_of(word: &str) -> Result<u32, Fault> {
+    match word.parse() {
+        Ok(0) | Err(_) => Err(Fault::Seal(SealFault::NoNumber)),
+        Ok(number) => Ok(number),
+    }
+}
+
+/// Reads a word about seals and acts with another after it.
 fn seal_query<'a>(word: &str, next: &'a str) -> Result<Query<'a>, Fault> {
     match word {
         "seal" if next.is_empty() => Err(Fault::Seal(SealFault::NoOrigin)),
         "seal" => Ok(Query::Seal(next)),
         "verify" => Ok(Query::Verify(next)),
-        "prove" => match next.parse() {
-            Ok(number) => Ok(Query::Prove(number)),
-            Err(_) => Err(Fault::Seal(SealFault::NoNumber)),
-        },
+        "prove" => Ok(Query::Prove(number_of(next)?)),
         "link" => Ok(Query::Link(next)),
+        "acts" => Ok(Query::Acts(number_of(next)?)),
         _ => Err(Fault::Unlisted),
     }
 }

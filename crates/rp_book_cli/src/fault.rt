@@ -118,7 +118,7 @@ fn stop_message(stop: Stop) -> &'static str {
 fn message(fault: Fault) -> &'static str {
     match fault {
         Fault::Unlisted => {
-            "these words are not known; nothing was read or written. After the name of the file come: new [1], add [--brief] [--layer LAYER] [WHO [DEED]], ask, history ID, asof DATE [LAYER] X Y Z W, script, report, size, line DATE, copy TO, seal ORIGIN, verify SEAL, prove ACT, link SEAL. Without a book: check-act PROOF SEAL, check-link OLD NEW LINK"
+            "these words are not known; nothing was read or written. After the name of the file come: new [1], add [--brief] [--layer LAYER] [WHO [DEED]], ask, history ID, asof DATE [LAYER] X Y Z W, script, report, size, line DATE, copy TO, seal ORIGIN, verify SEAL, prove ACT, link SEAL, acts [FROM], replay. Without a book: check-act PROOF SEAL, check-link OLD NEW LINK"
         }
         Fault::Words => {
             "the words of the command line cannot be read, or a line feed or the like stands in one"

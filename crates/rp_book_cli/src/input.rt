@@ -4,7 +4,7 @@ use crate::act::{Act, Query};
 use crate::fault::Fault;
 use crate::limits::MOST_SCRIPT_BYTES;
 use crate::seal_fault::Text;
-use crate::seal_text::read_text;
+use crate::seal_text::{read_acts_text, read_text};
 use rp_io::{IntakeFault, StdSource, read_whole};
 use rp_registrar::{Length, Stop};
 
@@ -37,6 +37,7 @@ fn read_lines(rt: &HostRuntime) -> Result<Vec<u8>, Stop> {
 pub fn read_input(rt: &HostRuntime, act: Act<'_>) -> Result<Vec<u8>, Fault> {
     match act {
         Act::Add(_) => Ok(read_lines(rt)?),
+        Act::Replay => read_acts_text(rt),
         Act::Read(Query::Verify(path) | Query::Link(path)) => read_text(rt, path, Text::Seal),
         _ => Ok(Vec::new(rt.alloc())),
     }

@@ -24,6 +24,7 @@ mod seal_fault;
 mod seal_text;
 mod seals;
 mod size;
+mod standby;
 mod version;
 mod words;
 mod work;

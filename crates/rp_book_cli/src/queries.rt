@@ -4,7 +4,7 @@ use crate::act::Query;
 use crate::date::beginning_after;
 use crate::fault::Fault;
 use crate::layers::{name_of, tell_asked};
-use crate::seals::{write_link, write_proof, write_seal, write_verified};
+use crate::seals::{write_acts, write_link, write_proof, write_seal, write_verified};
 use crate::size::write_size;
 use rp_book::Book;
 use rp_io::StdSink;
@@ -58,6 +58,7 @@ fn write_seals<B: Book>(
         Query::Verify(_) => write_verified(rt, book, input),
         Query::Prove(number) => write_proof(rt, book, number),
         Query::Link(_) => write_link(rt, book, input),
+        Query::Acts(from) => write_acts(rt, book, from),
         _ => Ok(()),
     }
 }
@@ -79,7 +80,11 @@ pub fn write_query<T: Threads + Sync, B: Book>(
         Query::Script => put_script(book, &mut sink).map(|_| false)?,
         Query::Size => write_size(rt, threads, book).map(|_| false)?,
         Query::Line(date) => write_line(rt, book, date).map(|_| false)?,
-        Query::Seal(_) | Query::Verify(_) | Query::Prove(_) | Query::Link(_) => {
+        Query::Seal(_)
+        | Query::Verify(_)
+        | Query::Prove(_)
+        | Query::Link(_)
+        | Query::Acts(_) => {
             write_seals(rt, book, input, query)?;
             false
         }

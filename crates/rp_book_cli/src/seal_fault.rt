@@ -9,6 +9,8 @@ pub enum Text {
     Proof,
     /// The proof that one sealed register continues another.
     Link,
+    /// The acts of a book, from standard input.
+    Acts,
 }
 
 /// Why a seal, or a text that goes with one, does not show what is asked. The book is as it was.
@@ -34,6 +36,8 @@ pub enum SealFault {
     Shorter,
     /// The book has no act with the number.
     NoAct,
+    /// The acts of another book do not continue the book.
+    NoContinuation,
 }
 
 /// Returns what is said of a file that cannot be read.
@@ -42,6 +46,7 @@ fn unread_message(text: Text) -> &'static str {
         Text::Seal => "the file of the seal cannot be read: look at its path, and ask who may read it",
         Text::Proof => "the file of the proof cannot be read: look at its path, and ask who may read it",
         Text::Link => "the file of the link cannot be read: look at its path, and ask who may read it",
+        Text::Acts => "reading the input failed; the book is as it was",
     }
 }
 
@@ -56,6 +61,9 @@ fn other_message(text: Text) -> &'static str {
         }
         Text::Link => {
             "the file is no link, or a byte of it was changed: ask for the file that 'link' wrote"
+        }
+        Text::Acts => {
+            "the input is no stream of acts, or it was cut off or changed; the book is as it was: ask for what 'acts' wrote"
         }
     }
 }
@@ -87,6 +95,9 @@ pub fn seal_message(fault: SealFault) -> &'static str {
             "refused: the book has fewer acts than were sealed. It is an older copy, or the seal is of another book"
         }
         SealFault::NoAct => "the book has no act with this number: 'size' says how many it has",
+        SealFault::NoContinuation => {
+            "refused: the acts do not continue the book, which is as it was: ask the other book for 'acts N', where N is one more than the acts that 'size' says"
+        }
     }
 }
 
@@ -98,7 +109,8 @@ pub fn seal_status(fault: SealFault) -> u8 {
         SealFault::Differs
         | SealFault::OtherOrigin
         | SealFault::NotIncluded
-        | SealFault::NotContinued => 12,
+        | SealFault::NotContinued
+        | SealFault::NoContinuation => 12,
         SealFault::Other(_) => 13,
         SealFault::Shorter | SealFault::NoAct => 14,
     }

@@ -11,6 +11,9 @@ use std::fs;
 /// The most bytes of a text. The lines of an act, which a proof has, may be all of a script.
 const MOST_TEXT_BYTES: usize = 33_554_432;
 
+/// The most bytes of a stream of acts.
+const MOST_ACTS_BYTES: usize = 268_435_456;
+
 /// Returns why a file was not read.
 fn intake_fault(fault: IntakeFault, text: Text) -> Fault {
     match fault {
@@ -32,6 +35,18 @@ pub fn read_text(rt: &HostRuntime, path: &str, text: Text) -> Result<Vec<u8>, Fa
     match read_whole(rt.alloc(), &mut source, MOST_TEXT_BYTES) {
         Ok(bytes) => Ok(bytes),
         Err(fault) => Err(intake_fault(fault, text)),
+    }
+}
+
+/// Reads standard input, which is to have the acts of a book, to its end.
+///
+/// # Errors
+/// `Seal` if a read fails, or if there are more than 268,435,456 bytes; `Stopped` if there is not enough memory.
+pub fn read_acts_text(rt: &HostRuntime) -> Result<Vec<u8>, Fault> {
+    let mut source = StdSource::new(rt.stdin());
+    match read_whole(rt.alloc(), &mut source, MOST_ACTS_BYTES) {
+        Ok(bytes) => Ok(bytes),
+        Err(fault) => Err(intake_fault(fault, Text::Acts)),
     }
 }
 

@@ -7,7 +7,7 @@ use rp_book::Book;
 use rp_io::StdSink;
 use rp_registrar::Stop;
 use rp_seal_text::Checkpoint;
-use rp_sealed_book::{SealVerdict, link, prove, seal, verify};
+use rp_sealed_book::{SealVerdict, link, prove, put_acts, seal, verify};
 
 /// Writes the seal of `book` under `origin`.
 pub fn write_seal<B: Book>(rt: &HostRuntime, book: &B, origin: &str) -> Result<(), Fault> {
@@ -68,4 +68,11 @@ pub fn write_link<B: Book>(rt: &HostRuntime, book: &B, text: &[u8]) -> Result<()
     let mut sink = StdSink::new(rt.stdout());
     let verdict = link(rt.alloc(), book, &seal, &mut sink).map_err(Stop::from)?;
     refusal_of(verdict)
+}
+
+/// Writes the acts of `book` from the number `from` on.
+pub fn write_acts<B: Book>(rt: &HostRuntime, book: &B, from: u32) -> Result<(), Fault> {
+    let mut sink = StdSink::new(rt.stdout());
+    put_acts(rt.alloc(), book, from, &mut sink).map_err(Stop::from)?;
+    Ok(())
 }

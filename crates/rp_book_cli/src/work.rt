@@ -10,6 +10,7 @@ use crate::lines::add_lines;
 use crate::path::{is_there, path_fault};
 use crate::queries::write_query;
 use crate::questions::write_answers;
+use crate::standby::add_acts;
 use rp_book::Book;
 use rp_command::Version;
 use sqlite::{Alter, Connection, FileStore};
@@ -62,6 +63,11 @@ fn work_on<T: Threads + Sync, S: Alter + Drop>(
         Act::Add(options) => {
             let (mut book, time) = open(rt.alloc(), conn)?;
             let refused = add_lines(rt, threads, &mut book, input, options, time.as_str())?;
+            Ok((refused, Some(book.into_connection())))
+        }
+        Act::Replay => {
+            let (mut book, _) = open(rt.alloc(), conn)?;
+            let refused = add_acts(rt, threads, &mut book, input)?;
             Ok((refused, Some(book.into_connection())))
         }
         Act::Copy(path) => {
