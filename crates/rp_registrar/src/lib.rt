@@ -8,6 +8,8 @@
 //! - a question about a lot, with the acts in which the lot was born and ended and the lots that it became
 //!   ([`history::history`]);
 //! - a question about a place on a date, in a layer ([`date::as_of`]).
+//!
+//! Acts of another book are taken in as they are, if they continue the book ([`replay::replay`]).
 
 pub mod add;
 mod answers;
@@ -23,8 +25,8 @@ mod lines;
 mod lot_line;
 mod pieces;
 mod read;
-mod session;
 pub mod replay;
+mod session;
 mod stop;
 
 pub use layers::{Addition, Choice, Inherited, last_choice};
