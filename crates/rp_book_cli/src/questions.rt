@@ -1,5 +1,8 @@
 //! Questions, which are answered as they come, by a copy of the script.
 
+ghost use Rattle.std.specs.Prelude.{◌≤◌, None, length, IfOk};
+ghost use Rattle.rp_book.specs.Lines.{IsEnded};
+
 use crate::fault::Fault;
 use crate::file::{FileFault, open};
 use rp_book::Book;
@@ -11,8 +14,6 @@ use rp_scripts::split_mark;
 use sqlite::{Alter, Connection};
 use std::marker::Model;
 use std::thread::Threads;
-
-ghost use Rattle.std.specs.Prelude.{None};
 
 /// How many bytes the mark of version 2 has at most, with its line end: `rp 2`, a carriage return and a line feed.
 const MOST_MARK_BYTES: usize = 6;
@@ -101,7 +102,10 @@ impl<S: Source> Source for Unmarked<S> {
 fn script_of<S: Alter + Drop>(
     rt: &HostRuntime,
     conn: Connection<S>,
-) -> Result<Vec<u8>, FileFault> {
+) -> Result<Vec<u8>, FileFault>
+    ensures end { IfOk result (λ script. IsEnded script.items) }
+    ensures short { IfOk result (λ script. length script.items ≤ 16777216) }
+{
     let (book, _) = open(rt.alloc(), conn)?;
     let count = book.acts().len();
     let last = book.acts().last().map_or(0, |act| act.last);
