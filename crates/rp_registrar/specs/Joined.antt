@@ -3,7 +3,7 @@ use Rattle.std.specs.Prelude.{◌≡◌, ℕ, ◌≤◌, List, ◌++◌, length,
 use Rattle.rp_book.specs.Act.{HasActs, Told}
 use Rattle.rp_reports.specs.Output.{most_script_bytes}
 use Rattle.rp_seal.specs.Act.{ActEntry}
-use Rattle.rp_registrar.specs.Replayed.{Continue, entry_lines}
+use Rattle.rp_registrar.specs.Replayed.{Continue, IsFirstUnlike, entry_lines}
 use Rattle.rp_registrar.specs.declared.replay.Joined.{Joined}
 use Rattle.rp_registrar.specs.declared.replay.Joined.TheVariants.{Script, Unlike}
 
@@ -13,10 +13,10 @@ pub record IsJoined (script : List ℕ) (count : ℕ) (entries : List ActEntry) 
   pub continues : Continue script count entries
   pub short : length whole ≤ most_script_bytes
 
--- the script with the lines of entries that continue it, or nothing is claimed
+-- the script with the lines of entries that continue it, or the number of the first entry that does not
 abbrev pub MatchJoined : List ℕ → ℕ → List ActEntry → Joined → Type 0
 MatchJoined script count entries (Script whole) = IsJoined script count entries whole.items
-MatchJoined script count entries (Unlike number) = Unit {0}
+MatchJoined script count entries (Unlike number) = IsFirstUnlike script count entries number
 
 -- entries continue the script and the acts of a book, if the book tells them
 pub record MayTake (told : Option (List ℕ)) (listed : Option (List Told)) (entries : List ActEntry) : Type 0 where

@@ -1,5 +1,5 @@
 -- Acts of another book, taken into a book.
-use Rattle.std.specs.Prelude.{◌≡◌, ℕ, ◌+◌, ◌≤◌, ⊤, List, [], ◌∷◌, ◌++◌, flat_map, length, Option, Some, IfSome}
+use Rattle.std.specs.Prelude.{◌≡◌, ◌⊎◌, ℕ, ◌+◌, ◌≤◌, ⊤, List, [], ◌∷◌, ◌++◌, flat_map, length, Option, Some, IfSome}
 use Rattle.rp_book.specs.Act.{Told}
 use Rattle.rp_book.specs.Lines.{HasEnd, first_number, last_number}
 use Rattle.rp_reports.specs.Output.{most_script_bytes}
@@ -24,6 +24,11 @@ pub record IsNext (script : List ℕ) (count : ℕ) (e : ActEntry) : Type 0 wher
 abbrev pub Continue : List ℕ → ℕ → List ActEntry → Type 0
 Continue script count [] = ⊤
 Continue script count (e ∷ entries) = IsNext script count e × Continue (script ++ e.lines) (count + 1) entries
+
+-- the first entry that cannot come after a script with so many acts and the entries before it has a number
+abbrev pub IsFirstUnlike : List ℕ → ℕ → List ActEntry → ℕ → Type 0
+IsFirstUnlike script count [] number = ⊥
+IsFirstUnlike script count (e ∷ entries) number = ((¬ IsNext script count e) × (e.number ≡ number)) ⊎ (IsNext script count e × IsFirstUnlike (script ++ e.lines) (count + 1) entries number)
 
 -- a book told its script and its acts before, and entries came to the end of its log
 pub record LogGrew (told : Option (List ℕ)) (listed : Option (List Told)) (script : List ℕ) (acts : List Told) (entries : List ActEntry) : Type 0 where

@@ -1,18 +1,18 @@
 //! Acts of another book, taken into a book.
-ghost use Rattle.std.specs.Prelude.{◌≡◌, ◌+◌, ◌<◌, ◌≤◌, ◌^◌, ◌++◌, ℕ, false, length, map, take, true, IfOk, IfSome, IsTrue, OnErr, OnOk};
+ghost use Rattle.std.specs.Prelude.{◌≡◌, ◌+◌, ◌<◌, ◌≤◌, ◌^◌, ◌++◌, ◌↔◌, ℕ, false, length, map, take, true, IfOk, IfSome, IsTrue, OnErr, OnOk};
 ghost use Rattle.rp_io.specs.Bytes.{Appends};
 ghost use Rattle.rp_book.specs.Kept.{Stays};
-ghost use Rattle.rp_book.specs.Lines.{IsEnded, last_number};
+ghost use Rattle.rp_book.specs.Lines.{HasEnd, IsEnded, last_number};
 ghost use Rattle.rp_reports.specs.Output.{most_script_bytes};
 ghost use Rattle.rp_seal.specs.Act.{entry_of};
 ghost use Rattle.rp_registrar.specs.Added.{HasRefusal};
-ghost use Rattle.rp_registrar.specs.Replayed.{GainsEntries, IsNext, MatchReplayed, entry_lines};
+ghost use Rattle.rp_registrar.specs.Replayed.{GainsEntries, IsFirstUnlike, IsNext, MatchReplayed, entry_lines};
 ghost use Rattle.rp_registrar.specs.Joined.{MatchJoined, MayTake};
 
 use crate::answers::put_behind;
 use crate::lines::MOST_BYTES;
 use crate::stop::Stop;
-use rp_book::{Book, BookFault, Entry, has_end, line_numbers};
+use rp_book::{Book, BookFault, Entry, line_numbers};
 use rp_io::QuietSink;
 use rp_scripts::OutputFault;
 use rp_seal::SealedAct;
@@ -51,6 +51,13 @@ fn last_line(script: &[u8]) -> u32
     line_numbers(b"", 0, script).1
 }
 
+/// Returns whether `text` has a line end at its end.
+fn ends_line(text: &[u8]) -> bool
+    ensures { IsTrue result ↔ HasEnd text.now }
+{
+    matches!(text, [.., b'\n'])
+}
+
 /// Returns whether `act` can come after `script`, which has `count` acts and whose last line has the number `before`.
 fn is_next(script: &[u8], before: u32, count: u64, act: &SealedAct<'_>) -> bool
     requires end { IsEnded script.now }
@@ -58,11 +65,11 @@ fn is_next(script: &[u8], before: u32, count: u64, act: &SealedAct<'_>) -> bool
     requires before { before ≡ last_number script.now }
     requires fits { before ≤ length script.now }
     requires count { count < 2 ^ 63 }
-    ensures next { IsTrue result → IsNext script.now count (entry_of act.now) }
+    ensures next { IsTrue result ↔ IsNext script.now count (entry_of act.now) }
     ensures fits { IsTrue result → act.now.last ≤ length script.now + length act.now.lines.now }
     ensures small { IsTrue result → count + 1 < 2 ^ 32 }
 {
-    if !has_end(act.lines) || act.lines.len() > MOST_BYTES - script.len() {
+    if !ends_line(act.lines) || act.lines.len() > MOST_BYTES - script.len() {
         return false;
     }
     let (first, last) = line_numbers(script, before, act.lines);
@@ -164,6 +171,8 @@ pub fn replay<R: Threads + Sync, B: Book>(
     ensures nothing { IfOk result (λ done. MatchReplayed done (Unit {0})
         (Stays (B.script book.old) (B.script book.new) × Stays (B.acts book.old) (B.acts book.new))
         (λ _. Stays (B.script book.old) (B.script book.new) × Stays (B.acts book.old) (B.acts book.new))) }
+    ensures unlike { IfOk result (λ done. MatchReplayed done (Unit {0}) (Unit {0})
+        (λ number. IfSome (B.script book.new) (λ script. IfSome (B.acts book.new) (λ found. IsFirstUnlike script (length found) (map entry_of acts.now) number)))) }
     ensures part { OnErr result ((n : ℕ) × GainsEntries (B.script book.old) (B.acts book.old) (B.script book.new) (B.acts book.new) (take n (map entry_of acts.now))) }
 {
     let script = book.text();

@@ -1,8 +1,8 @@
-use Rattle.std.proofs.Common.{◌≡◌, ◌<◌, ◌≤◌, ◌^◌, ◌++◌, drop, length, map}
+use Rattle.std.proofs.Common.{◌≡◌, ℕ, ◌<◌, ◌≤◌, ◌^◌, ◌++◌, drop, length, map}
 use Rattle.rp_book.specs.Lines.{IsEnded, last_number}
 use Rattle.rp_reports.specs.Output.{most_script_bytes}
 use Rattle.rp_seal.specs.Act.{entry_of}
-use Rattle.rp_registrar.specs.Replayed.{Continue, entry_lines}
+use Rattle.rp_registrar.specs.Replayed.{Continue, IsFirstUnlike, entry_lines}
 use Rattle.rp_registrar.proofs.replay.join.Given as goal
 
 abbrev pub invariant-loop-act : goal.invariant-loop-act
@@ -15,4 +15,5 @@ invariant-loop-act l =
       fits : l.before ≤ length l.whole.items;
       count : l.count < 2 ^ 63;
       continues : Continue l.whole.items l.count (map entry_of (drop l.act-index l.acts)) → Continue l.script l.fn.count (map entry_of l.acts);
+      unlike : (number : ℕ) → IsFirstUnlike l.whole.items l.count (map entry_of (drop l.act-index l.acts)) number → IsFirstUnlike l.script l.fn.count (map entry_of l.acts) number;
     }
