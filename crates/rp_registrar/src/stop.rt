@@ -17,7 +17,7 @@ pub enum Length {
     MoreThan(usize),
 }
 
-/// Why a call stopped before it was done. Nothing was added.
+/// Why a call stopped before it was done. Nothing was added, but for `Book` of [`crate::replay::replay`].
 #[derive(Clone, Copy)]
 pub enum Stop {
     /// A read of the input failed.
