@@ -10,7 +10,7 @@ use Rattle.rp_book.specs.declared.act.Act.{Act}
 use Rattle.rp_book.specs.Act.{Told, AreActs, HasActs, HasNumbers, act_of, lines_from, start_at}
 
 -- the bytes between two lengths are those of the lines in between
-slice-middle : (script before lines more : List ℕ) → script ≡ before ++ (lines ++ more) → slice_range script (length before) (length (before ++ lines)) ≡ lines
+pub slice-middle : (script before lines more : List ℕ) → script ≡ before ++ (lines ++ more) → slice_range script (length before) (length (before ++ lines)) ≡ lines
 slice-middle script before lines more e =
     let long : length (before ++ lines) - length before ≡ length lines = omega (arith, length-append before lines) in
     ap (λ s. slice_range s (length before) (length (before ++ lines))) e

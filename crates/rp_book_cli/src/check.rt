@@ -11,7 +11,10 @@ use rp_sealed_book::{check_act, check_link};
 #[derive(Clone, Copy)]
 pub enum Check<'a> {
     /// An act, by its proof and the seal of a book.
-    Act { proof: &'a str, seal: &'a str },
+    Act {
+        proof: &'a str,
+        seal: &'a str,
+    },
     /// A link between the seals of two books.
     Link {
         old: &'a str,

@@ -80,11 +80,7 @@ pub fn write_query<T: Threads + Sync, B: Book>(
         Query::Script => put_script(book, &mut sink).map(|_| false)?,
         Query::Size => write_size(rt, threads, book).map(|_| false)?,
         Query::Line(date) => write_line(rt, book, date).map(|_| false)?,
-        Query::Seal(_)
-        | Query::Verify(_)
-        | Query::Prove(_)
-        | Query::Link(_)
-        | Query::Acts(_) => {
+        Query::Seal(_) | Query::Verify(_) | Query::Prove(_) | Query::Link(_) | Query::Acts(_) => {
             write_seals(rt, book, input, query)?;
             false
         }

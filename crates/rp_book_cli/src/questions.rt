@@ -38,7 +38,9 @@ impl<S: Source> Unmarked<S> {
     }
 
     /// Reads bytes to the front of `buf` until a mark would be whole. Returns how many they are.
-    fn read_front(&mut self, buf: &mut [u8]) -> Result<usize, Failed> {
+    fn read_front(&mut self, buf: &mut [u8]) -> Result<usize, Failed>
+        ensures { IfOk result (λ count. count ≤ length buf.new) }
+    {
         let mut count = self.source.read(buf)?;
         for _ in 0..MOST_MARK_BYTES {
             if count == 0 || count >= MOST_MARK_BYTES || buf[..count].contains(&b'\n') {
@@ -54,7 +56,9 @@ impl<S: Source> Unmarked<S> {
     }
 
     /// Reads the first bytes without the mark.
-    fn read_first(&mut self, buf: &mut [u8]) -> Result<usize, Failed> {
+    fn read_first(&mut self, buf: &mut [u8]) -> Result<usize, Failed>
+        ensures { IfOk result (λ count. count ≤ length buf.new) }
+    {
         let count = self.read_front(buf)?;
         let (Version::Two, body) = split_mark(&buf[..count]) else {
             return Ok(count);
@@ -68,7 +72,9 @@ impl<S: Source> Unmarked<S> {
     }
 
     /// Reads the next bytes.
-    fn read_next(&mut self, buf: &mut [u8]) -> Result<usize, Failed> {
+    fn read_next(&mut self, buf: &mut [u8]) -> Result<usize, Failed>
+        ensures { IfOk result (λ count. count ≤ length buf.new) }
+    {
         if self.begins {
             self.begins = false;
             return self.read_first(buf);
@@ -99,10 +105,7 @@ impl<S: Source> Source for Unmarked<S> {
 }
 
 /// Copies the script of the book in a database, and lets the book go. Says on standard error after which act the answers are.
-fn script_of<S: Alter + Drop>(
-    rt: &HostRuntime,
-    conn: Connection<S>,
-) -> Result<Vec<u8>, FileFault>
+fn script_of<S: Alter + Drop>(rt: &HostRuntime, conn: Connection<S>) -> Result<Vec<u8>, FileFault>
     ensures end { IfOk result (λ script. IsEnded script.items) }
     ensures short { IfOk result (λ script. length script.items ≤ 16777216) }
 {

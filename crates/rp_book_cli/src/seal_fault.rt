@@ -43,9 +43,12 @@ pub enum SealFault {
 /// Returns what is said of a file that cannot be read.
 fn unread_message(text: Text) -> &'static str {
     match text {
-        Text::Seal => "the file of the seal cannot be read: look at its path, and ask who may read it",
-        Text::Proof => "the file of the proof cannot be read: look at its path, and ask who may read it",
-        Text::Link => "the file of the link cannot be read: look at its path, and ask who may read it",
+        Text::Seal =>
+            "the file of the seal cannot be read: look at its path, and ask who may read it",
+        Text::Proof =>
+            "the file of the proof cannot be read: look at its path, and ask who may read it",
+        Text::Link =>
+            "the file of the link cannot be read: look at its path, and ask who may read it",
         Text::Acts => "reading the input failed; the book is as it was",
     }
 }

@@ -12,6 +12,7 @@ use Rattle.rp_book.specs.Kept.{Stays}
 use Rattle.rp_book.specs.Lines.{last_number}
 use Rattle.rp_book.specs.declared.act.Entry.{Entry}
 use Rattle.rp_book.proofs.ActLemmas.{HasActs-push}
+use Rattle.rp_book.proofs.SliceLemmas.{slice-middle}
 use Rattle.rp_reports.specs.Report.{script_body, script_lines, script_version}
 use Rattle.rp_seal.specs.Act.{ActEntry, entry_of}
 use Rattle.rp_seal.specs.declared.act.SealedAct.{SealedAct}
@@ -23,14 +24,6 @@ use Rattle.rp_registrar.specs.Replayed.{Continue, GainsEntries, IsNext, LogGrew,
 pub last_number-nothing : last_number [] ≡ 0
 unfolding script_body script_version script_lines
 last_number-nothing = refl
-
--- the bytes between two lengths are those of the lines in between
-slice-middle : (script before lines more : List ℕ) → script ≡ before ++ (lines ++ more) → slice_range script (length before) (length (before ++ lines)) ≡ lines
-slice-middle script before lines more e =
-    let long : length (before ++ lines) - length before ≡ length lines = omega (arith, length-append before lines) in
-    ap (λ s. slice_range s (length before) (length (before ++ lines))) e
-    ∙ ap (λ rest. take (length (before ++ lines) - length before) rest) (drop-append_seam before (lines ++ more))
-    ∙ ap (λ n. take n (lines ++ more)) long ∙ take-append_seam lines more
 
 -- the entries of acts and of one more act, whose lines come after their script
 entries-push : (script before : List ℕ) (number : ℕ) (acts : List Told) (ls : List (List ℕ)) (lines : List ℕ) (told : Told) → AreActs before acts ls → script ≡ before ++ flat_map (λ l. l) ls → told.end ≡ length (script ++ lines)
