@@ -1,5 +1,6 @@
 -- Numbers held at a size: the digits that are left lead to the same.
-use Rattle.std.proofs.Common.{◌≡◌, ℕ, ◌+◌, ◌*◌, ◌-◌, ◌<◌, min, List, [], ◌∷◌, length, drop, get_or, ap, ◌∙◌, sym, arith, fold}
+use Rattle.std.proofs.Common.{◌≡◌, ℕ, ◌+◌, ◌*◌, ◌-◌, ◌^◌, ◌<◌, ◌≤◌, min, List, [], ◌∷◌, length, drop, get_or, ap, ◌∙◌, sym, arith, fold}
+use Rattle.std.proofs.Math.Nat.{pow-le-pow_right}
 use Rattle.std.proofs.Math.Seq.{drop-cons}
 use Rattle.std.proofs.Common.{add-one}
 use Rattle.rp_command.specs.Held.{most_held}
@@ -26,3 +27,9 @@ drop-at i ds h = rw add-one (drop-cons ds i 0 h)
 pub fold-taken : (v i : ℕ) (ds : List ℕ) → i < length ds → min (fold step (min (step v (get_or ds i 0)) most_held) (drop (i + 1) ds)) most_held ≡ min (fold step v (drop i ds)) most_held
 fold-taken v i ds h =
     fold-held (step v (get_or ds i 0)) (drop (i + 1) ds) ∙ sym (ap (λ (xs : List ℕ). min (fold step v xs) most_held) (drop-at i ds h))
+
+-- one more of at most 17 digits keeps the number in 64 bits
+pub short-digit : (v d i : ℕ) → v + 29 ≤ 29 * 10 ^ i → i < 17 → d < 256 → 10 * v + d < 18446744073709551616
+short-digit v d i small few byte =
+    let power : 10 ^ i ≤ 10 ^ 16 = pow-le-pow_right {n = 10} (omega arith) {i = i} {j = 16} (omega (arith, few)) in
+    omega (arith, small, power, byte)

@@ -1,5 +1,5 @@
 //! Numbers as words spell them.
-ghost use Rattle.std.specs.Prelude.{◌≡◌, option_map};
+ghost use Rattle.std.specs.Prelude.{◌≡◌, ◌≤◌, length, option_map};
 ghost use Rattle.std.specs.List.{list_all};
 ghost use Rattle.std.specs.Char.{is_ascii_digit};
 ghost use Rattle.rp_command.specs.Held.{held, held_size};
@@ -11,10 +11,28 @@ use crate::version::Version;
 /// Numbers are held at this size where they are greater; it passes the bound of every place.
 const HELD: u128 = 1329227995784915872903807060280344576;
 
-/// The number that digits stand for, held at `HELD`.
+/// How many digits have a number of 64 bits, whatever they are.
+const SHORT: usize = 17;
+
+/// The number that at most 17 digits stand for.
+fn short_value_of(digits: &[u8]) -> u64
+    requires { length digits.now ≤ 17 }
+    ensures { result ≡ value_of_digits digits.now }
+{
+    let mut value = 0;
+    for digit in digits {
+        value = 10 * value + u64::from(digit.saturating_sub(b'0'));
+    }
+    value
+}
+
+/// The number that digits stand for, held at `HELD`. Numbers of a report have few digits, and are read in 64 bits.
 fn value_of(digits: &[u8]) -> u128
     ensures { result ≡ held_size (value_of_digits digits.now) }
 {
+    if digits.len() <= SHORT {
+        return u128::from(short_value_of(digits));
+    }
     let mut value = 0;
     for digit in digits {
         value = (10 * value + u128::from(digit.saturating_sub(b'0'))).min(HELD);

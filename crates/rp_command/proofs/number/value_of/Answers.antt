@@ -8,7 +8,7 @@ loop-digit-preserved c =
     let i = c.loop-digit.digit-index in
     let ds = c.args.digits.now in
     let inside : i < length ds = omega arith in
-    let value : c.min-value.result ≡ min (step c.loop-digit.value (get_or ds i 0)) most_held = omega (arith, c.min-value.ensures, c.from.ensures, c.saturating_sub.ensures) in
+    let value : c.min-value.result ≡ min (step c.loop-digit.value (get_or ds i 0)) most_held = omega (arith, c.min-value.ensures, c.from-in-loop-digit.ensures, c.saturating_sub.ensures) in
     let below : c.min-value.result ≤ most_held = omega (arith, value) in
     record {
       below = below;
