@@ -1,19 +1,26 @@
 //! The half-spaces that the lines of a part test drop.
-ghost use Rattle.std.specs.Prelude.{◌≡◌, ◌≤◌, ◌++◌, ◌∷◌, [], length};
+ghost use Rattle.std.specs.Prelude.{◌≡◌, ◌≤◌, ◌<◌, ◌++◌, ◌∷◌, [], true, length};
 ghost use Rattle.std.specs.Option.{option_map};
+ghost use Rattle.arrayvec.specs.ArrayVec.{array_vec_len};
 ghost use Rattle.rp_geometry.specs.Geometry.{complement, half_space_eq, is_listed};
+ghost use Rattle.rp_geometry.specs.searches.Certificate.{is_outside_certificate};
 ghost use Rattle.std.specs.List.{position};
 ghost use Rattle.rp_walks.specs.Walk.{done};
 ghost use Rattle.rp_reports.specs.Check.{next_proof, without, dropped_by, follow_drops};
 ghost use Rattle.rp_cert.specs.Lines.{line_of};
 
+use crate::few::{Few, MOST_FEW, put};
 use crate::trail::Trail;
+use arrayvec::ArrayVec;
 use rp_cert::{Proof, check_outside};
-use rp_space::{Half, System, joined};
+use rp_space::{Half, Term, joined};
 
 /// Takes the lines that drop half-spaces of a cell, one after the other, as long as they pass. What is kept is left,
 /// and what the next line says is answered, so that it isn't read again.
-pub(crate) fn follow_drops(kept: &mut System, trail: &mut Trail<'_>) -> Option<Proof>
+pub(crate) fn follow_drops<const N: usize>(
+    kept: &mut ArrayVec<Half, N>,
+    trail: &mut Trail<'_>,
+) -> Option<Proof>
     requires { length kept.old.items ≤ 64 }
     ensures value { follow_drops trail.old.lines kept.old.items trail.old ≡ done kept.new.items trail.new }
     ensures few { length kept.new.items ≤ 64 }
@@ -39,25 +46,40 @@ fn dropped(kept: &[Half], next: &Option<Proof>) -> Option<Half>
     if !is_listed(half, kept) {
         return None;
     }
-    if !check_outside(outside_of(half, kept).as_slice(), terms.items(), true) {
+    if !is_shown(half, kept, terms.items()) {
         return None;
     }
     Some(*half)
 }
 
-/// The cell of all half-spaces but the first place of one of them, and then of its complement.
-fn outside_of(half: &Half, halves: &[Half]) -> System
+/// Whether multiples show that the cell of all half-spaces but the first place of one of them, and then of its complement, has no
+/// point.
+fn is_shown(half: &Half, halves: &[Half], terms: &[Term]) -> bool
     requires { length halves.now ≤ 64 }
-    ensures { result.items ≡ without half.now halves.now ++ complement half.now ∷ [] }
+    ensures { result ≡ is_outside_certificate true (without half.now halves.now ++ complement half.now ∷ []) terms.now }
 {
-    let mut cell = joined(halves, &[]);
-    remove(&mut cell, half);
-    cell.push(half.not());
-    cell
+    if halves.len() >= MOST_FEW {
+        let mut cell = joined(halves, &[]);
+        turn(&mut cell, half);
+        return check_outside(cell.as_slice(), terms, true);
+    }
+    let mut cell = Few::new();
+    put(&mut cell, halves);
+    turn(&mut cell, half);
+    check_outside(cell.as_slice(), terms, true)
+}
+
+/// Takes the first place of a half-space away, if there is one, and appends its complement.
+fn turn<const N: usize>(halves: &mut ArrayVec<Half, N>, half: &Half)
+    requires { array_vec_len halves.old < N }
+    ensures { halves.new.items ≡ without half.now halves.old.items ++ complement half.now ∷ [] }
+{
+    remove(halves, half);
+    halves.push(half.not());
 }
 
 /// Takes the first place of a half-space away, if there is one.
-fn remove(halves: &mut System, half: &Half)
+fn remove<const N: usize>(halves: &mut ArrayVec<Half, N>, half: &Half)
     ensures items { halves.new.items ≡ without half.now halves.old.items }
     ensures fewer { length halves.new.items ≤ length halves.old.items }
 {

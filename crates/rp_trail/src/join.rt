@@ -5,9 +5,8 @@ ghost use Rattle.rp_tester.specs.Comes.{Comes};
 
 use crate::form::{Form, put};
 use crate::kept::Kept;
-use crate::part::made;
+use crate::part::made_of_both;
 use crate::trail::Trail;
-use rp_space::joined;
 use rp_tester::{MAX_PARTS, Stopped};
 use std::alloc::Global;
 
@@ -53,8 +52,7 @@ fn join_pair(
 ) -> Result<(), Stopped>
     ensures { Comes (λ _. form.new.items) result trail.new (join_pair line_tester form.old.items part.now other.now trail.old) }
 {
-    let cell = joined(part.cell(), other.cell());
-    let common = made(alloc, cell.as_slice(), trail)?;
+    let common = made_of_both(alloc, part.cell(), other.cell(), trail)?;
     put(form, common)?;
     if form.items().len() > MAX_PARTS {
         return Err(Stopped::Limit);

@@ -1,5 +1,5 @@
 //! Part tests.
-ghost use Rattle.std.specs.Prelude.{◌≤◌, length, Some, IfOk};
+ghost use Rattle.std.specs.Prelude.{◌≡◌, ◌+◌, ◌≤◌, ◌++◌, length, Some, IfOk};
 ghost use Rattle.rp_geometry.specs.parts.Parts.{IsCheckedPart};
 ghost use Rattle.rp_walks.specs.FormLaws.{IsMadeOf};
 ghost use Rattle.rp_reports.specs.Check.{follow_made, follow_part};
@@ -7,9 +7,11 @@ ghost use Rattle.rp_tester.specs.Comes.{Comes};
 ghost use Rattle.rp_trail.specs.Stops.{IsShown};
 
 use crate::drops::follow_drops;
+use crate::few::{Few, MOST_FEW, put};
 use crate::kept::{Kept, keep_halves};
 use crate::sides::{follow_box, follow_sides};
 use crate::trail::Trail;
+use arrayvec::ArrayVec;
 use rp_space::{Half, Halves, joined};
 use rp_tester::{MAX_HALVES, Stopped};
 use std::alloc::Global;
@@ -33,15 +35,54 @@ pub fn made(alloc: Global, cell: &[Half], trail: &mut Trail<'_>) -> Result<Optio
     Ok(Some(part))
 }
 
+/// A part test of the cell of `first` followed by `second`, at most 64 half-spaces together.
+pub(crate) fn made_of_both(
+    alloc: Global,
+    first: &[Half],
+    second: &[Half],
+    trail: &mut Trail<'_>,
+) -> Result<Option<Kept>, Stopped>
+    requires { length first.now + length second.now ≤ 64 }
+    ensures { Comes (λ part. part) result trail.new (follow_part (first.now ++ second.now) trail.old) }
+{
+    if first.len() + second.len() > MOST_FEW {
+        return made(alloc, joined(first, second).as_slice(), trail);
+    }
+    let mut cell = Few::new();
+    put(&mut cell, first);
+    put(&mut cell, second);
+    made(alloc, cell.as_slice(), trail)
+}
+
 /// The part of a cell of which a strict test has just shown that it has a point.
 fn made_inside(alloc: Global, cell: &[Half], trail: &mut Trail<'_>) -> Result<Kept, Stopped>
     requires few { length cell.now ≤ 64 }
     requires shown { IsShown cell.now trail.old }
     ensures { Comes Some result trail.new (follow_made cell.now trail.old) }
 {
+    if cell.len() > MOST_FEW {
+        return made_from(alloc, cell, &mut joined(cell, &[]), trail);
+    }
+    let mut kept = Few::new();
+    put(&mut kept, cell);
+    made_from(alloc, cell, &mut kept, trail)
+}
+
+/// The part of a cell of which a strict test has just shown that it has a point. `kept` has the half-spaces of the cell, of which
+/// those are taken away that lines drop.
+fn made_from<const N: usize>(
+    alloc: Global,
+    cell: &[Half],
+    kept: &mut ArrayVec<Half, N>,
+    trail: &mut Trail<'_>,
+) -> Result<Kept, Stopped>
+    requires few { length cell.now ≤ 64 }
+    requires same { kept.old.items ≡ cell.now }
+    requires shown { IsShown cell.now trail.old }
+    ensures { Comes Some result trail.new (follow_made cell.now trail.old) }
+{
     keep_halves(cell);
-    let mut kept = joined(cell, &[]);
-    let next = follow_drops(&mut kept, trail);
+    let next = follow_drops(kept, trail);
     if kept.len() > MAX_HALVES {
         return Err(Stopped::Limit);
     }

@@ -1,16 +1,18 @@
 //! The box that the lines of a part test give, and what shows its sides.
-ghost use Rattle.std.specs.Prelude.{◌≡◌, ◌≤◌, true, length, IfOk};
+ghost use Rattle.std.specs.Prelude.{◌≡◌, ◌≤◌, ◌++◌, ◌∷◌, [], true, length, IfOk};
 ghost use Rattle.std.specs.Option.{option_map};
-ghost use Rattle.rp_geometry.specs.Geometry.{box_half_spaces, is_box_in_bounds};
+ghost use Rattle.rp_geometry.specs.Geometry.{box_half_spaces, complement, is_box_in_bounds};
+ghost use Rattle.rp_geometry.specs.searches.Certificate.{is_outside_certificate};
 ghost use Rattle.rp_reports.specs.Check.{next_proof, is_proper_box, box_by_line, follow_side, follow_sides};
 ghost use Rattle.rp_space.specs.Boxes.{integer_box};
 ghost use Rattle.rp_cert.specs.Lines.{line_of};
 ghost use Rattle.rp_tester.specs.Comes.{Comes};
 
 use crate::drops::is_listed;
+use crate::few::{Few, MOST_FEW, put};
 use crate::trail::Trail;
 use rp_cert::{Proof, check_outside};
-use rp_space::{Half, IntBox, box_halves, cube, joined};
+use rp_space::{Half, IntBox, Term, box_halves, cube, joined};
 use rp_tester::Stopped;
 
 /// The box that the next line gives, of which is known what it says.
@@ -60,10 +62,21 @@ fn follow_side(kept: &[Half], side: &Half, trail: &mut Trail<'_>) -> Result<(), 
         return Ok(());
     }
     match trail.next_proof() {
-        Some(Proof::Out(terms)) => {
-            let outside = joined(kept, &[side.not()]);
-            trail.take_if(check_outside(outside.as_slice(), terms.items(), true), ())
-        }
+        Some(Proof::Out(terms)) => { trail.take_if(is_shown(kept, side, terms.items()), ()) }
         _ => Err(trail.nothing_due()),
     }
+}
+
+/// Whether multiples show that no point of a cell is outside a side.
+fn is_shown(kept: &[Half], side: &Half, terms: &[Term]) -> bool
+    requires { length kept.now ≤ 64 }
+    ensures { result ≡ is_outside_certificate true (kept.now ++ complement side.now ∷ []) terms.now }
+{
+    if kept.len() >= MOST_FEW {
+        return check_outside(joined(kept, &[side.not()]).as_slice(), terms, true);
+    }
+    let mut cell = Few::new();
+    put(&mut cell, kept);
+    cell.push(side.not());
+    check_outside(cell.as_slice(), terms, true)
 }

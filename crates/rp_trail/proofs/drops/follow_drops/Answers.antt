@@ -4,7 +4,7 @@ use Rattle.rp_trail.proofs.Tested.{drop_is_left, drop_step, drop_stop, fewer_lef
 use Rattle.rp_trail.proofs.drops.follow_drops.Goals as goal
 
 pub take-requires : goal.take-requires
-take-requires c =
+take-requires g c =
     let t = c.loop-half.trail in
     let kept = c.loop-half.kept.items in
     let e =
@@ -14,7 +14,7 @@ take-requires c =
     drop_is_left kept t.lines c.in-Some.half e
 
 pub loop-half-preserved : goal.loop-half-preserved
-loop-half-preserved c =
+loop-half-preserved g c =
     let t = c.loop-half.trail in
     let kept = c.loop-half.kept.items in
     let e =
@@ -28,7 +28,7 @@ loop-half-preserved c =
     }
 
 pub loop-half-smaller : goal.loop-half-smaller
-loop-half-smaller c =
+loop-half-smaller g c =
     let t = c.loop-half.trail in
     let kept = c.loop-half.kept.items in
     let e =
@@ -38,7 +38,7 @@ loop-half-smaller c =
     subst (λ (u : Trail). length u.lines < length t.lines) (sym c.take.ensures) (fewer_left t.lines (drop_is_left kept t.lines c.in-Some.half e))
 
 pub returns-clause-value : goal.returns-clause-value
-returns-clause-value c =
+returns-clause-value g c =
     let t = c.loop-half.trail in
     let kept = c.loop-half.kept.items in
     sym c.loop-half.invariant.left

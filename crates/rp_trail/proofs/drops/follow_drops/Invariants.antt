@@ -6,7 +6,7 @@ use Rattle.rp_trail.proofs.drops.follow_drops.Given as goal
 
 -- the lines still to come drop what the whole of them drops, and the next of them is read
 abbrev pub invariant-loop-half : goal.invariant-loop-half
-invariant-loop-half l =
+invariant-loop-half g l =
     record {
       left : follow_drops l.trail.lines l.kept.items l.trail ≡ follow_drops l.initial.trail.lines l.initial.kept.items l.initial.trail;
       few : length l.kept.items ≤ 64;
@@ -14,4 +14,4 @@ invariant-loop-half l =
     }
 
 abbrev pub decreases-loop-half : goal.decreases-loop-half
-decreases-loop-half l = length l.trail.lines
+decreases-loop-half g l = length l.trail.lines
