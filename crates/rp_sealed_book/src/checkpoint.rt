@@ -2,16 +2,30 @@
 ghost use Rattle.std.specs.Prelude.{◌≡◌, ◌≤◌, true, false, IfOk, IfSome, MatchOption, string_bytes};
 ghost use Rattle.rp_seal_text.specs.Checkpoint.{lines_of};
 ghost use Rattle.rp_seal_text.specs.Origin.{is_origin};
-ghost use Rattle.rp_sealed_book.specs.Log.{checkpoint_of, log_of};
+ghost use Rattle.rp_seal.specs.Hash.{bytes_of};
+ghost use Rattle.rp_sealed_book.specs.Log.{checkpoint_of, log_of, log_root};
 ghost use Rattle.rp_sealed_book.specs.Proof.{PutsSeal};
 
 use crate::log::leaf_hashes;
 use rp_book::Book;
 use rp_io::Sink;
 use rp_scripts::{OutputFault, put_lines};
-use rp_seal::root_of;
+use rp_seal::{NodeHash, root_of};
 use rp_seal_text::{Checkpoint, checkpoint_text};
 use std::alloc::{AllocError, Global};
+
+/// Returns the root hash of the acts of `book`, as [`seal`] puts it.
+///
+/// # Errors
+///
+/// `AllocError` if there is not enough memory.
+pub fn root<B: Book>(alloc: Global, book: &B) -> Result<NodeHash, AllocError>
+    ensures { IfOk result (λ root. IfSome (B.script book.now) (λ script. IfSome (B.acts book.now) (λ acts.
+        bytes_of root ≡ log_root (log_of script acts)))) }
+{
+    let leaves = leaf_hashes(alloc, book.text(), book.acts())?;
+    Ok(root_of(&leaves))
+}
 
 /// Returns the text of the checkpoint of `book` under `origin`; `None` if `origin` is empty or has an ASCII control character.
 fn text_of<B: Book>(alloc: Global, book: &B, origin: &str) -> Result<Option<String>, AllocError>

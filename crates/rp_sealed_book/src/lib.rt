@@ -3,6 +3,7 @@
 //!
 //! Of a book:
 //!
+//! - [`root`] returns the root hash of its acts.
 //! - [`seal`] puts the checkpoint of its acts.
 //! - [`verify`] says whether it begins with the acts of a checkpoint.
 //! - [`prove`] puts an act with the proof that the book has it.
@@ -24,7 +25,7 @@ mod stream;
 mod verdict;
 
 pub use check::{check_act, check_link};
-pub use checkpoint::seal;
+pub use checkpoint::{root, seal};
 pub use comparison::verify;
 pub use continuation::link;
 pub use inclusion::prove;
