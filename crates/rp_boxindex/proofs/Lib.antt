@@ -3,6 +3,7 @@ pub mod Changes
 pub mod Counts
 pub mod Exact
 pub mod Few
+pub mod Halves
 pub mod Hulls
 pub mod Ints
 pub mod Known
@@ -16,4 +17,6 @@ pub mod Rising
 pub mod Same
 pub mod Slender
 pub mod Taken
+pub mod Trees
 pub mod Visits
+pub mod Walks

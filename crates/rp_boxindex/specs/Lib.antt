@@ -1,7 +1,9 @@
 pub mod Boxes
 pub mod Bound
+pub mod cells
 pub mod Counts
 pub mod Fault
 pub mod Laws
 pub mod Meeting
+pub mod Trees
 pub mod tree

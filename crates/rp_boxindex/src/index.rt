@@ -6,15 +6,18 @@ ghost use Rattle.rp_boxindex.specs.Bound.{count_on_x, IsGreatestExponent};
 ghost use Rattle.rp_boxindex.specs.Fault.{is_known};
 ghost use Rattle.rp_boxindex.specs.Meeting.{first_that, meeting_ids};
 
+use crate::cells::{CellNode, Cells};
 use crate::choice::Choice;
 use crate::fault::IndexFault;
 use crate::lows::Lows;
+use crate::middle::Middle;
 use crate::place::{Corner, Place};
 use crate::query::Query;
 use crate::search::collect;
 use crate::steps::Steps;
 use crate::take::{Ids, Least};
 use crate::tree::{Node, Tree};
+use crate::walk::Walk;
 use crate::watch::Watch;
 use rp_space::IntBox;
 use std::alloc::{AllocError, Global};
@@ -23,19 +26,20 @@ use std::sync::ledger::Ledger;
 
 /// Boxes under their ids. A contract sees the finite map from the ids to the boxes.
 ///
-/// The boxes stand in the tree alone. Beside it stands the least corner of each, by which the tree finds an id.
+/// The boxes are in two trees, one by x and one by cells of space. Next to them is the least corner of each box, by which
+/// the trees find an id.
 #[derive(Drop)]
 pub struct Index {
     lows: Lows,
     tree: Tree,
+    cells: Cells,
 }
 
 impl Model for Index {
     ghost use Rattle.std.specs.FinMap as map;
     ghost use Rattle.std.specs.Coded.{coded_ℕ};
     ghost use Rattle.rp_boxindex.specs.Boxes.{Boxes, coded_box};
-    ghost use Rattle.rp_boxindex.specs.Counts.{SameCounts};
-    ghost use Rattle.rp_boxindex.specs.tree.Order.{lows_of};
+    ghost use Rattle.rp_boxindex.specs.Trees.{AreTrees};
 
     ghost Value = { Boxes };
 
@@ -43,7 +47,7 @@ impl Model for Index {
 
     ghost view = { λ a. map.from_entries a.tree.entries };
 
-    ghost invariant = { λ a. SameCounts (lows_of a.tree.entries) a.lows.map.entries };
+    ghost invariant = { λ a. AreTrees a.tree.entries a.cells.entries a.lows.map.entries };
 }
 
 impl Index {
@@ -54,6 +58,7 @@ impl Index {
         Index {
             lows: Lows::new(alloc),
             tree: Tree::new(),
+            cells: Cells::new(),
         }
     }
 
@@ -74,9 +79,12 @@ impl Index {
         let entry = (id, bounds);
         let low = Corner::of(&entry);
         let node = Node::alone(alloc, entry)?;
+        let cell = CellNode::alone(alloc, entry)?;
         self.lows.insert(id, low)?;
         let tree = self.tree.take();
         self.tree = tree.with(node);
+        let cells = self.cells.take();
+        self.cells = cells.with(cell, Middle::of_all());
         Ok(())
     }
 
@@ -93,11 +101,17 @@ impl Index {
         let Some(low) = self.lows.change(id, Corner::of(&entry)) else {
             return false;
         };
+        let place = Place { low, id };
         let tree = self.tree.take();
-        let (rest, node) = tree.without(&Place { low, id });
+        let (rest, node) = tree.without(&place);
         let Some(mut node) = node else { unreachable!() };
         node.hold(entry);
         self.tree = rest.with(node);
+        let cells = self.cells.take();
+        let (others, cell) = cells.without(&place);
+        let Some(mut cell) = cell else { unreachable!() };
+        cell.hold(entry);
+        self.cells = others.with(cell, Middle::of_all());
         true
     }
 
@@ -111,9 +125,13 @@ impl Index {
         let Some(low) = self.lows.remove(id) else {
             return false;
         };
+        let place = Place { low, id };
         let tree = self.tree.take();
-        let (rest, _) = tree.without(&Place { low, id });
+        let (rest, _) = tree.without(&place);
         self.tree = rest;
+        let cells = self.cells.take();
+        let (others, _) = cells.without(&place);
+        self.cells = others;
         true
     }
 
@@ -144,10 +162,15 @@ impl Index {
         let mut ids = Ids {
             list: Vec::new(alloc),
         };
-        collect(&self.tree, &query, watch, steps, &mut ids)?;
-        let mut ids = ids.list;
-        ids.sort_unstable();
-        Ok(ids)
+        let others = Ids {
+            list: Vec::new(alloc),
+        };
+        let mut walk = Walk::new(&self.cells, others);
+        collect(&self.tree, &query, watch, steps, &mut ids, &mut walk)?;
+        if walk.is_done() {
+            return Ok(walk.into_taker().into_sorted());
+        }
+        Ok(ids.into_sorted())
     }
 
     /// The least id that passes the test of `choice` and whose box meets `bounds`, where `closed` with boundaries, as
@@ -171,9 +194,16 @@ impl Index {
             closed,
         };
         let mut least = Least { choice, id: None };
-        match collect(&self.tree, &query, watch, steps, &mut least) {
-            Ok(()) => least.id,
+        let other = Least { choice, id: None };
+        let mut walk = Walk::new(&self.cells, other);
+        match collect(&self.tree, &query, watch, steps, &mut least, &mut walk) {
+            Ok(()) => {}
             Err(never) => match never {},
+        }
+        if walk.is_done() {
+            walk.into_taker().id
+        } else {
+            least.id
         }
     }
 }

@@ -6,17 +6,20 @@
 //! test, without memory. With n boxes, of which k meet it on the x axis, at most (k + 1)(2h + 2) nodes are visited, h
 //! the greatest number with 2^h at most (n + 1)^2. Calls that answer `AllocError` do so only for want of memory.
 
+mod cells;
 mod choice;
 mod fault;
 mod index;
 mod laws;
 mod lows;
+mod middle;
 mod place;
 mod query;
 mod search;
 mod steps;
 mod take;
 mod tree;
+mod walk;
 mod watch;
 
 pub use choice::Choice;

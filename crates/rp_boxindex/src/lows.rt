@@ -9,10 +9,10 @@ use crate::place::Corner;
 use std::alloc::{AllocError, Global};
 use std::collections::BTreeMap;
 
-/// The least corner of the box under each id, by which the tree finds an id.
+/// The least corner of the box under each id, by which the trees find an id.
 ///
 /// Nobody can go over the ids, or read a corner without taking it out. So what a search reads of the boxes goes by
-/// counted steps: `Tree::visit` is the one call that shows a node outside its module.
+/// counted steps: `Tree::visit` and `Cells::visit` are the calls that show a node outside its module.
 #[derive(Drop)]
 pub(crate) struct Lows {
     map: BTreeMap<u32, Corner>,

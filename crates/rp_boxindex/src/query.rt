@@ -1,8 +1,10 @@
 //! Which boxes are looked for.
 ghost use Rattle.std.specs.Prelude.{◌≡◌, ◌<◌, get_or, pos};
 ghost use Rattle.rp_space.specs.Boxes.{integer_box};
+ghost use Rattle.rp_boxindex.specs.Bound.{meets_on_x};
 ghost use Rattle.rp_boxindex.specs.Meeting.{is_below, do_meet, do_spans_meet};
 
+use crate::place::Entry;
 use rp_space::IntBox;
 
 /// The boxes that meet a box, as closed boxes or as half-open ones.
@@ -25,6 +27,13 @@ impl Query {
         ensures { result ≡ is_below self.now.closed low (integer_box self.now.bounds).x2 }
     {
         is_below(self.closed, low, self.bounds.hi[0])
+    }
+
+    /// Returns whether the box of an entry meets the one asked about on the x axis.
+    pub(crate) fn is_met_on_x(&self, entry: &Entry) -> bool
+        ensures { result ≡ meets_on_x self.now.closed (integer_box self.now.bounds) entry.now }
+    {
+        self.is_met_on(&entry.1, 0)
     }
 
     /// Whether a box meets the one asked about.

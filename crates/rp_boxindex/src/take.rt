@@ -1,8 +1,13 @@
 //! What is done with the ids that a search finds.
-ghost use Rattle.std.specs.Prelude.{◌≡◌, ℕ, OnOk};
-ghost use Rattle.rp_boxindex.specs.tree.Taking.{is_less};
+ghost use Rattle.std.specs.Prelude.{◌≡◌, ℕ, OnOk, ◌∷◌, [], IsPermutation, IsSorted};
+ghost use Rattle.std.specs.Ordering.{nat_cmp};
+ghost use Rattle.rp_space.specs.Boxes.{integer_box};
+ghost use Rattle.rp_boxindex.specs.Meeting.{ids_that_meet};
+ghost use Rattle.rp_boxindex.specs.tree.Taking.{is_less, taken};
 
 use crate::choice::Choice;
+use crate::place::Entry;
+use crate::query::Query;
 use std::alloc::AllocError;
 use std::convert::Infallible;
 use std::marker::Model;
@@ -34,6 +39,18 @@ impl Model for Ids {
     ghost coded = { coded_list coded_ℕ };
 
     ghost view = { λ a. a.list.items };
+}
+
+impl Ids {
+    /// Returns the ids in rising order.
+    pub(crate) fn into_sorted(self) -> Vec<u32>
+        ensures permutation { IsPermutation self result.items }
+        ensures sorted { IsSorted nat_cmp result.items }
+    {
+        let mut list = self.list;
+        list.sort_unstable();
+        list
+    }
 }
 
 impl Take for Ids {
@@ -79,4 +96,18 @@ fn is_less(least: &Option<u32>, id: u32) -> bool
         None => true,
         Some(least) => id < *least,
     }
+}
+
+/// Hands the id of an entry whose box is looked for to a taker.
+pub(crate) fn collect_one<T: Take>(
+    entry: &Entry,
+    query: &Query,
+    taker: &mut T,
+) -> Result<(), T::Fault>
+    ensures { OnOk result (taker.new ≡ taken T.after taker.old (ids_that_meet query.now.closed (integer_box query.now.bounds) (entry.now ∷ []))) }
+{
+    if query.is_met_by(&entry.1) {
+        taker.take(entry.0)?;
+    }
+    Ok(())
 }

@@ -1,4 +1,4 @@
--- How many nodes of a tree a search visits.
+-- How many nodes a search visits.
 use Rattle.std.specs.Prelude.{◌≡◌, ℕ, ◌+◌, ◌*◌, Bool, not, List}
 use Rattle.rp_geometry.specs.Geometry.{IntegerBox}
 use Rattle.rp_boxindex.specs.Boxes.{Entry}
@@ -10,10 +10,10 @@ use Rattle.rp_boxindex.specs.tree.Order.{low}
 abbrev pub AllLow : Bool → IntegerBox → List Entry → Type 0
 AllLow closed b es = count (λ e. not (is_below closed (low e) b.x2)) es ≡ 0
 
--- the most nodes of a tree of height h that are visited, where k of its boxes meet on the x axis
+-- the most nodes that are visited in turns, of a tree of height h and of the tree of cells, where k boxes of the first meet on the x axis
 abbrev pub most_steps : ℕ → ℕ → ℕ
-most_steps k h = 2 * (k * h) + 2 * h + 1
+most_steps k h = 2 * (k * h) + 2 * h + 2 * k + 1
 
 -- the same where all boxes are low
 abbrev pub most_steps_low : ℕ → ℕ → ℕ
-most_steps_low k h = 2 * (k * h) + 1
+most_steps_low k h = 2 * (k * h) + 2 * k + 1

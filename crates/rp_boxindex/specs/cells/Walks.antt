@@ -1,0 +1,34 @@
+-- A walk through a tree of cells.
+use Rattle.std.specs.Prelude.{◌≡◌, ℕ, Bool, true, false, not, ◌&&◌, List, [], ◌∷◌, ◌++◌, Option, Some, None}
+use Rattle.std.specs.Borrow.{Bor}
+use Rattle.rp_geometry.specs.Geometry.{IntegerBox}
+use Rattle.rp_boxindex.specs.Boxes.{Entry}
+use Rattle.rp_boxindex.specs.cells.Views.{CellsView}
+use Rattle.rp_boxindex.specs.declared.walk.Walk.{Walk}
+use Rattle.rp_boxindex.specs.Meeting.{ids_that_meet}
+use Rattle.rp_boxindex.specs.tree.Taking.{taken}
+
+-- the entries of the pending trees, those of the last one first
+abbrev pub pending_entries : List (Option (Bor CellsView)) → List Entry
+pending_entries [] = []
+pending_entries (None ∷ rest) = pending_entries rest
+pending_entries (Some cells ∷ rest) = pending_entries rest ++ cells.now.entries
+
+-- no tree is pending
+abbrev pub are_none : List (Option (Bor CellsView)) → Bool
+are_none [] = true
+are_none (o ∷ rest) = false
+
+-- a walk has gone through its whole tree
+abbrev pub is_done : {S : Type 0} → Walk S → Bool
+is_done walk = not walk.is_lost && are_none walk.pending.items
+
+-- what the taker of a walk is at its end
+abbrev pub outcome : {S : Type 0} → (S → ℕ → S) → Bool → IntegerBox → Walk S → S
+outcome after closed b walk = taken after walk.taker (ids_that_meet closed b (pending_entries walk.pending.items))
+
+-- a walk has the outcome that it had, unless it is lost, and is done if it was
+pub record IsFurther {S : Type 0} (after : S → ℕ → S) (closed : Bool) (b : IntegerBox) (old new : Walk S) : Type 0 where
+  pub done : is_done old ≡ true → is_done new ≡ true
+  pub stays : new.is_lost ≡ false → old.is_lost ≡ false
+  pub same : new.is_lost ≡ false → outcome after closed b new ≡ outcome after closed b old
