@@ -125,6 +125,44 @@ def beams(count):
     return mixed(lines)
 
 
+def street(count, slant=0):
+    """Boxes in one row along y, in no order of place, and each a little out of line: all share an interval on x, and begin at many
+    places of it. With a slant the row leaves the axis by so many units of x for each two of y."""
+    draw = random.Random(3)
+    lines = []
+    for number in range(count):
+        y, z = 1001 * (number % 33_000) - 16_700_000, 1000 * (number // 33_000)
+        x = draw.randint(0, 998) + slant * y // 2
+        lines.append(f"register p{number} {regions.box((x, y, z), (x + 1000, y + 1001, z + 1000))}")
+    return mixed(lines)
+
+
+def slanted_street(count):
+    """The same, half as far along x as along y."""
+    return street(count, 1)
+
+
+def scattered(count, axes):
+    """Boxes of the places of a grid over so many axes, in no order of place, each moved a little on each of these axes."""
+    draw = random.Random(5)
+    edge = round(count ** (1 / axes))
+    lines = []
+    for number, place in enumerate(itertools.product(range(edge), repeat=axes)):
+        low = [20_000 * step + draw.randint(0, 7_000) for step in place] + [0] * (3 - axes)
+        lines.append(f"register p{number} {regions.box(low, [side + 12_000 for side in low])}")
+    return mixed(lines)
+
+
+def scattered_houses(count):
+    """A town of houses, each moved a little on x and y."""
+    return scattered(count, 2)
+
+
+def scattered_rooms(count):
+    """Rooms one beside and above the other, each moved a little on every axis."""
+    return scattered(count, 3)
+
+
 def apart_pairs(count):
     """So many boxes, two in each lot, so far from each other that the box around each lot meets that of each other one."""
     edge = EDGE_OF_ALL
