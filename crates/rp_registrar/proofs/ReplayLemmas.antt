@@ -1,6 +1,6 @@
 -- Acts that come to the end of the log of a book.
 use Rattle.std.proofs.Common.{◌≡◌, ℕ, get_or, map, add-one, ◌+◌, ◌-◌, ◌<◌, List, [], ◌∷◌, ◌++◌, length, take, drop, Option, None, Some, IfSome, refl, sym, ap, ap₂, ◌∙◌, subst, arith, append_assoc, length-append}
-use Rattle.std.specs.Prelude.{flat_map, option_map}
+use Rattle.std.specs.Prelude.{Bool, IsTrue, flat_map, option_map}
 use Rattle.std.specs.List.{slice_range}
 use Rattle.std.proofs.Math.Seq.{drop-cons, take-append_seam, drop-append_seam}
 use Rattle.std.proofs.lemmas.List.{append-nil}
@@ -8,7 +8,7 @@ use Rattle.std.proofs.lemmas.List.Concat.{flat_map-append}
 use Rattle.rp_io.specs.Bytes.{Appends}
 use Rattle.rp_scripts.proofs.SinkLemmas.{Appends-append, Appends-nothing}
 use Rattle.rp_book.specs.Act.{AreActs, GainsAct, HasActs, HasNumbers, Told, added_act}
-use Rattle.rp_book.specs.Kept.{Stays}
+use Rattle.rp_book.specs.Kept.{Finds, FindsAllOrNone, Stays}
 use Rattle.rp_book.specs.Lines.{last_number}
 use Rattle.rp_book.specs.declared.act.Entry.{Entry}
 use Rattle.rp_book.proofs.ActLemmas.{HasActs-push}
@@ -18,7 +18,7 @@ use Rattle.rp_seal.specs.Act.{ActEntry, entry_of}
 use Rattle.rp_seal.specs.declared.act.SealedAct.{SealedAct}
 use Rattle.rp_sealed_book.specs.Log.{entries_from, entry_at, log_of}
 use Rattle.rp_registrar.specs.Joined.{MayTake}
-use Rattle.rp_registrar.specs.Replayed.{Continue, GainsEntries, IsNext, LogGrew, entry_lines}
+use Rattle.rp_registrar.specs.Replayed.{Continue, FindsBeginning, GainsEntries, IsNext, LogGrew, entry_lines}
 
 -- no line of an empty script has a number
 pub last_number-nothing : last_number [] ≡ 0
@@ -187,6 +187,27 @@ taken-more told middle new listed middle_acts new_acts entries more act entry t 
       script = subst (Appends told new) (sym lines) (Appends-append told middle new (entry_lines t.done) act.lines.now t.script app);
       log = gains-more told middle new listed middle_acts new_acts m.script m.count act entry t.done t.log m.continues.0 added who deed m.is app gains;
     }
+
+-- the script with the lines of one more entry is that with the lines of a beginning of all entries
+next-passes : (told middle : Option (List ℕ)) (entries done more : List ActEntry) (e : ActEntry) (test : List ℕ → Bool) → entries ≡ done ++ e ∷ more → Appends told middle (entry_lines done)
+    → IfSome told (λ script. (n : ℕ) → IsTrue (test (script ++ entry_lines (take n entries)))) → IfSome middle (λ before. IsTrue (test (before ++ e.lines)))
+next-passes told None entries done more e test all app each = tt
+next-passes None (Some after) entries done more e test all app each = let f = app.1 in absurd (cc)
+next-passes (Some script) (Some after) entries done more e test all app each =
+    let f = app.1 in
+    let before : app.0 ≡ script = (cc) in
+    let first : List ActEntry = done ++ e ∷ [] in
+    let part : take (length first) entries ≡ first = ap (take (length first)) (all ∙ sym (append_assoc done (e ∷ []) more)) ∙ take-append_seam first more in
+    let lines : entry_lines first ≡ entry_lines done ++ e.lines = flat_map-append (λ (x : ActEntry). x.lines) done (e ∷ []) ∙ ap (λ l. entry_lines done ++ l) (append-nil e.lines) in
+    let start : script ++ entry_lines done ≡ after = ap (λ s. s ++ entry_lines done) (sym before) ∙ sym app.2 in
+    let whole : script ++ entry_lines (take (length first) entries) ≡ after ++ e.lines =
+    ap (λ es. script ++ entry_lines es) part ∙ ap (λ l. script ++ l) lines ∙ sym (append_assoc script (entry_lines done) e.lines) ∙ ap (λ s. s ++ e.lines) start in
+    subst (λ s. IsTrue (test s)) whole (each (length first))
+
+-- one more entry is found, or none
+pub finds-more : (old between new : Finds) (told middle : Option (List ℕ)) (listed middle_acts : Option (List Told)) (entries more : List ActEntry) (e : ActEntry) → FindsBeginning old between told entries
+    → FindsAllOrNone between new middle e.lines → IsTaken told middle listed middle_acts entries (e ∷ more) → FindsBeginning old new told entries
+finds-more old between new told middle listed middle_acts entries more e before all t = λ test was each. all test (before test was each) (next-passes told middle entries t.done more e test t.all t.script each)
 
 -- a beginning of entries was added
 pub taken-part : (told now : Option (List ℕ)) (listed listed_now : Option (List Told)) (entries rest : List ActEntry) → IsTaken told now listed listed_now entries rest → (n : ℕ) × GainsEntries told listed now listed_now (take n entries)

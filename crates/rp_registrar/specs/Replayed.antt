@@ -1,6 +1,7 @@
 -- Acts of another book, taken into a book.
-use Rattle.std.specs.Prelude.{◌≡◌, ◌⊎◌, ℕ, ◌+◌, ◌≤◌, ⊤, List, [], ◌∷◌, ◌++◌, flat_map, length, Option, Some, IfSome}
+use Rattle.std.specs.Prelude.{◌≡◌, ◌⊎◌, ℕ, ◌+◌, ◌≤◌, ⊤, Bool, List, [], ◌∷◌, ◌++◌, flat_map, length, take, Option, Some, IfSome, IsTrue}
 use Rattle.rp_book.specs.Act.{Told}
+use Rattle.rp_book.specs.Kept.{Finds}
 use Rattle.rp_book.specs.Lines.{HasEnd, first_number, last_number}
 use Rattle.rp_reports.specs.Output.{most_script_bytes}
 use Rattle.rp_seal.specs.Act.{ActEntry}
@@ -41,6 +42,10 @@ pub record LogGrew (told : Option (List ℕ)) (listed : Option (List Told)) (scr
 -- if a book tells its script and its acts, entries came to the end of its log
 abbrev pub GainsEntries : Option (List ℕ) → Option (List Told) → Option (List ℕ) → Option (List Told) → List ActEntry → Type 0
 GainsEntries told_old listed_old told_new listed_new entries = IfSome told_new (λ script. IfSome listed_new (λ acts. LogGrew told_old listed_old script acts entries))
+
+-- a test that all scripts passed, and that the script passes with the lines of a beginning of entries after it, whichever beginning that is, they pass still: a beginning of the entries is found, or what was found before
+abbrev pub FindsBeginning : Finds → Finds → Option (List ℕ) → List ActEntry → Type 0
+FindsBeginning old new told entries = (test : List ℕ → Bool) → old test → IfSome told (λ script. (n : ℕ) → IsTrue (test (script ++ entry_lines (take n entries)))) → new test
 
 -- the first fact if all acts were added, the second if a line is refused, the third, of the number of an act, if this act does not continue the book
 abbrev pub MatchReplayed : Replayed → Type 0 → Type 0 → (ℕ → Type 0) → Type 0

@@ -1,12 +1,12 @@
 //! Acts of another book, taken into a book.
 ghost use Rattle.std.specs.Prelude.{◌≡◌, ◌+◌, ◌<◌, ◌≤◌, ◌^◌, ◌++◌, ◌↔◌, ℕ, false, length, map, take, true, IfOk, IfSome, IsTrue, OnErr, OnOk};
 ghost use Rattle.rp_io.specs.Bytes.{Appends};
-ghost use Rattle.rp_book.specs.Kept.{Stays};
+ghost use Rattle.rp_book.specs.Kept.{FindsNoOther, FindsOnly, MayFind, Stays};
 ghost use Rattle.rp_book.specs.Lines.{HasEnd, IsEnded, last_number};
 ghost use Rattle.rp_reports.specs.Output.{most_script_bytes};
 ghost use Rattle.rp_seal.specs.Act.{entry_of};
 ghost use Rattle.rp_registrar.specs.Added.{HasRefusal};
-ghost use Rattle.rp_registrar.specs.Replayed.{GainsEntries, IsFirstUnlike, IsNext, MatchReplayed, entry_lines};
+ghost use Rattle.rp_registrar.specs.Replayed.{FindsBeginning, GainsEntries, IsFirstUnlike, IsNext, MatchReplayed, entry_lines};
 ghost use Rattle.rp_registrar.specs.Joined.{MatchJoined, MayTake};
 
 use crate::answers::put_behind;
@@ -137,6 +137,9 @@ fn add_all<B: Book>(alloc: Global, book: &mut B, acts: &[SealedAct<'_>]) -> Resu
     ensures script { OnOk result (Appends (B.script book.old) (B.script book.new) (entry_lines (map entry_of acts.now))) }
     ensures log { OnOk result (GainsEntries (B.script book.old) (B.acts book.old) (B.script book.new) (B.acts book.new) (map entry_of acts.now)) }
     ensures part { OnErr result ((n : ℕ) × GainsEntries (B.script book.old) (B.acts book.old) (B.script book.new) (B.acts book.new) (take n (map entry_of acts.now))) }
+    ensures crash { FindsBeginning (B.finds book.old) (B.finds book.new) (B.script book.old) (map entry_of acts.now) }
+    ensures only { OnOk result (0 < length acts.now → FindsOnly (B.finds book.new) (B.script book.new)) }
+    ensures found { OnOk result (0 < length acts.now → B.has_honest_disk book.new → MayFind (B.finds book.new) (B.script book.new)) }
 {
     for act in acts {
         let entry = Entry {
@@ -150,7 +153,7 @@ fn add_all<B: Book>(alloc: Global, book: &mut B, acts: &[SealedAct<'_>]) -> Resu
 }
 
 /// Takes `acts`, which come after the acts of `book` in another book, into `book`: each with its time, who and deed. All acts are
-/// looked at before the first is added.
+/// looked at before the first is added. A crash in the call leaves a beginning of the acts, each whole.
 ///
 /// # Errors
 ///
@@ -174,6 +177,12 @@ pub fn replay<R: Threads + Sync, B: Book>(
     ensures unlike { IfOk result (λ done. MatchReplayed done (Unit {0}) (Unit {0})
         (λ number. IfSome (B.script book.new) (λ script. IfSome (B.acts book.new) (λ found. IsFirstUnlike script (length found) (map entry_of acts.now) number)))) }
     ensures part { OnErr result ((n : ℕ) × GainsEntries (B.script book.old) (B.acts book.old) (B.script book.new) (B.acts book.new) (take n (map entry_of acts.now))) }
+    // Whoever opens the book next, after a crash too, finds what was to be found before or a beginning of the acts after it.
+    ensures crash { FindsBeginning (B.finds book.old) (B.finds book.new) (B.script book.old) (map entry_of acts.now) }
+    ensures only { IfOk result (λ done. MatchReplayed done (0 < length acts.now → FindsOnly (B.finds book.new) (B.script book.new))
+        (FindsNoOther (B.finds book.old) (B.finds book.new)) (λ _. FindsNoOther (B.finds book.old) (B.finds book.new))) }
+    ensures found { IfOk result (λ done. MatchReplayed done
+        (0 < length acts.now → B.has_honest_disk book.new → MayFind (B.finds book.new) (B.script book.new)) (Unit {0}) (λ _. Unit {0})) }
 {
     let script = book.text();
     let whole = match join(alloc, script, book.acts().len() as u64, acts)? {

@@ -4,7 +4,7 @@ use Rattle.rp_book.specs.declared.act.Entry.{Entry}
 use Rattle.rp_seal.specs.Act.{ActEntry, entry_of}
 use Rattle.rp_seal.specs.declared.act.SealedAct.{SealedAct}
 use Rattle.rp_registrar.specs.Joined.{MayTake}
-use Rattle.rp_registrar.proofs.ReplayLemmas.{IsTaken, may-take-more, no_act, rest-next, taken-more}
+use Rattle.rp_registrar.proofs.ReplayLemmas.{IsTaken, may-take-more, no_act, rest-next, finds-more, taken-more}
 use Rattle.rp_registrar.proofs.replay.add_all.Goals as goal
 
 pub loop-act-preserved : goal.loop-act-preserved
@@ -27,4 +27,21 @@ loop-act-preserved g c =
       counts = omega (arith, c.loop-act.invariant.counts, c.add.ensures.counts);
       may = may-take-more told told_now listed listed_now act entry more may refl refl refl c.in_ok-add.ensures.ok c.in_ok-add.ensures.gained;
       taken = taken-more told_old told told_now listed_old listed listed_now (map entry_of acts) more act entry taken may refl refl refl c.in_ok-add.ensures.ok c.in_ok-add.ensures.gained;
+      crash = finds-more (g.B.Book.finds c.args.book.now) (g.B.Book.finds c.loop-act.book) (g.B.Book.finds c.add.new.self) told_old told listed_old listed (map entry_of acts) more (entry_of act) c.loop-act.invariant.crash c.add.ensures.crash taken;
+      only = λ _. c.in_ok-add.ensures.only;
+      found = λ _. c.in_ok-add.ensures.found;
     }
+
+pub returns-in_err-add-clause-crash : goal.returns-in_err-add-clause-crash
+returns-in_err-add-clause-crash g c =
+    let acts : List SealedAct = c.args.acts.now in
+    let i : ℕ = c.loop-act.act-index in
+    let act : SealedAct = get_or acts i no_act in
+    let more : List ActEntry = map entry_of (drop (i + 1) acts) in
+    let told_old : Option (List ℕ) = g.B.Book.script c.args.book.now in
+    let listed_old : Option (List Told) = g.B.Book.acts c.args.book.now in
+    let told : Option (List ℕ) = g.B.Book.script c.loop-act.book in
+    let listed : Option (List Told) = g.B.Book.acts c.loop-act.book in
+    let rest : map entry_of (drop i acts) ≡ entry_of act ∷ more = rest-next acts i no_act c.loop-act-test.true in
+    let taken : IsTaken told_old told listed_old listed (map entry_of acts) (entry_of act ∷ more) = subst (IsTaken told_old told listed_old listed (map entry_of acts)) rest c.loop-act.invariant.taken in
+    finds-more (g.B.Book.finds c.args.book.now) (g.B.Book.finds c.loop-act.book) (g.B.Book.finds c.add.new.self) told_old told listed_old listed (map entry_of acts) more (entry_of act) c.loop-act.invariant.crash c.add.ensures.crash taken

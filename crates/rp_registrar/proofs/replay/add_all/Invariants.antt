@@ -1,6 +1,8 @@
-use Rattle.std.proofs.Common.{◌≤◌, drop, map}
+use Rattle.std.proofs.Common.{◌<◌, ◌≤◌, drop, map}
+use Rattle.rp_book.specs.Kept.{FindsOnly, MayFind}
 use Rattle.rp_seal.specs.Act.{entry_of}
 use Rattle.rp_registrar.specs.Joined.{MayTake}
+use Rattle.rp_registrar.specs.Replayed.{FindsBeginning}
 use Rattle.rp_registrar.proofs.ReplayLemmas.{IsTaken}
 use Rattle.rp_registrar.proofs.replay.add_all.Given as goal
 
@@ -10,4 +12,7 @@ invariant-loop-act g l =
       counts : g.B.Book.faults l.fn.book ≤ g.B.Book.faults l.book;
       may : MayTake (g.B.Book.script l.book) (g.B.Book.acts l.book) (map entry_of (drop l.act-index l.acts));
       taken : IsTaken (g.B.Book.script l.fn.book) (g.B.Book.script l.book) (g.B.Book.acts l.fn.book) (g.B.Book.acts l.book) (map entry_of l.acts) (map entry_of (drop l.act-index l.acts));
+      crash : FindsBeginning (g.B.Book.finds l.fn.book) (g.B.Book.finds l.book) (g.B.Book.script l.fn.book) (map entry_of l.acts);
+      only : 0 < l.act-index → FindsOnly (g.B.Book.finds l.book) (g.B.Book.script l.book);
+      found : 0 < l.act-index → g.B.Book.has_honest_disk l.book → MayFind (g.B.Book.finds l.book) (g.B.Book.script l.book);
     }
