@@ -88,6 +88,12 @@ Answers-end brief machine now number next text rest old said mark h e =
       goes_on = λ more. subst (λ (ls : List (List ℕ)). lines_by machine false number ls ++ lines_by now false next more ≡ lines_by machine false number (ls ++ more)) all (h.goes_on false more);
     }
 
+-- the answers to a body, of whose text nothing is claimed
+pub Answers-quiet : {E : Type 0} (r : Result (ℕ × Bool) E) (machine after : Running) (body : List ℕ) (before hidden : Option (List ℕ)) → IfOk r (λ done. Answers true machine 1 body after done.0 before hidden done.1)
+    → IfOk r (λ done. Answers true machine 1 body after done.0 None None done.1)
+Answers-quiet (Err e) machine after body before hidden h = tt
+Answers-quiet (Ok done) machine after body before hidden h = record { put = tt; marks = h.marks; version = h.version; goes_on = h.goes_on }
+
 -- a body is answered, and then lines behind it
 pub AnswersBehind-both : (machine middle after : Running) (number next : ℕ) (body lines : List ℕ) (before hidden old new : Option (List ℕ)) (known also : Bool) → machine.state ≡ opening
     → Answers true machine 1 body middle number before hidden known → Answers false middle number lines after next old new also → AnswersBehind machine.version body lines old new (known || also)

@@ -21,6 +21,21 @@ use Rattle.rp_registrar.proofs.SessionLemmas.{TellsChange, from_all, from_first,
 HasRisen-earlier : (k m n : ℕ) → k ≤ m → HasRisen m n → HasRisen k n
 HasRisen-earlier k m n f h = omega (arith, f, h)
 
+-- where no put failed, memory ran out
+pub quiet_cause : (k n : ℕ) (f : OutputFault) → HasOutputCause 0 0 f → HasOutputCause k n f
+quiet_cause k n output.Put h = absurd (omega (arith, h))
+quiet_cause k n (output.Memory e) h = tt
+
+-- a script that was not run stops the answers to an input
+pub open_cause : (reads k : ℕ) (script : List ℕ) (left : Option (List ℕ)) (f : OutputFault) → HasOutputCause 0 0 f → HasAskCause reads reads k k script left (stop_of_output f)
+open_cause reads k script left output.Put h = absurd (omega (arith, h))
+open_cause reads k script left (output.Memory e) h = tt
+
+-- no change was met where a script was not run
+pub open_before : (P : Type 0) (f : OutputFault) → IfChange (stop_of_output f) P
+open_before P output.Put = tt
+open_before P (output.Memory e) = tt
+
 -- an answer that was not put stops the answers to lines
 pub answer_cause : (k m n : ℕ) (machine : Running) (number : ℕ) (lines : List ℕ) (old new : Option (List ℕ)) (f : OutputFault) → k ≤ m → HasOutputCause m n f
     → HasAnswerCause k n machine number lines old new (stop_of_output f)

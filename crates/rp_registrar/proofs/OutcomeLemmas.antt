@@ -1,5 +1,5 @@
 -- What came of lines that were to be added.
-use Rattle.std.proofs.Common.{◌≡◌, ℕ, List, Option, None, Some, IfSome, refl, sym, ap, subst}
+use Rattle.std.proofs.Common.{◌≡◌, ℕ, List, Option, None, Some, IfSome, subst}
 use Rattle.rp_book.specs.declared.act.Entry.{Entry}
 use Rattle.rp_book.specs.Act.{Told, GainsAct, added_act}
 use Rattle.rp_book.specs.Kept.{Stays}

@@ -1,8 +1,8 @@
 -- Acts that come to the end of the log of a book.
-use Rattle.std.proofs.Common.{◌≡◌, ℕ, get_or, map, add-one, ◌+◌, ◌-◌, ◌<◌, List, [], ◌∷◌, ◌++◌, length, take, drop, Option, None, Some, IfSome, refl, sym, ap, ap₂, ◌∙◌, subst, arith, append_assoc, length-append}
+use Rattle.std.proofs.Common.{◌≡◌, ℕ, get_or, map, add-one, ◌+◌, ◌<◌, List, [], ◌∷◌, ◌++◌, length, take, drop, Option, None, Some, IfSome, refl, sym, ap, ap₂, ◌∙◌, subst, arith, append_assoc, length-append}
 use Rattle.std.specs.Prelude.{Bool, IsTrue, flat_map, option_map}
 use Rattle.std.specs.List.{slice_range}
-use Rattle.std.proofs.Math.Seq.{drop-cons, take-append_seam, drop-append_seam}
+use Rattle.std.proofs.Math.Seq.{drop-cons, take-append_seam}
 use Rattle.std.proofs.lemmas.List.{append-nil}
 use Rattle.std.proofs.lemmas.List.Concat.{flat_map-append}
 use Rattle.rp_io.specs.Bytes.{Appends}

@@ -1,5 +1,5 @@
 //! The answers to lines behind those of a script.
-ghost use Rattle.std.specs.Prelude.{◌≡◌, ◌+◌, ◌≤◌, [], false, length, IfErr, IfOk, OnOk};
+ghost use Rattle.std.specs.Prelude.{◌≡◌, ◌+◌, ◌≤◌, [], None, false, length, true, IfErr, IfOk, OnOk};
 ghost use Rattle.std.specs.List.{list_any};
 ghost use Rattle.rp_io.specs.Bytes.{Appends};
 ghost use Rattle.rp_model.specs.states.State.{opening, state_of_parts};
@@ -77,8 +77,36 @@ pub fn answer_lines<R: Threads + Sync, K: Sink>(
     Ok((next, refused))
 }
 
-/// Has a machine that answered no line yet answer a body, of which nothing is told, and the lines behind it, whose report
-/// lines are put. Answers whether a report line is a refusal.
+/// Has `machine`, which has answered no line, answer `body`, and puts nothing. Returns the number of the line after `body`, and
+/// whether one of its report lines is a refusal.
+///
+/// # Errors
+///
+/// `Memory` if memory ran out.
+pub fn run_body<R: Threads + Sync>(
+    rt: &R,
+    alloc: Global,
+    machine: &mut Machine,
+    body: &[u8],
+) -> Result<(u32, bool), OutputFault>
+    requires few { length body.now ≤ most_script_bytes }
+    requires opened { machine.old.state ≡ opening }
+    ensures few { IfOk result (λ done. done.0 ≤ 1 + length body.now) }
+    ensures later { IfOk result (λ done. IsLaterThan done.0 (state_of_parts machine.new.state)) }
+    ensures answers { IfOk result (λ done. Answers true machine.old 1 body.now machine.new done.0 None None done.1) }
+    ensures cause { IfErr result (HasOutputCause 0 0) }
+{
+    let mut nowhere = QuietSink::new(alloc, 0)?;
+    answer_lines(rt, alloc, machine, 1, body, true, &mut nowhere)
+}
+
+/// Has `machine`, which has answered no line, answer `body` and then `lines`. Puts the report lines of `lines` alone into `sink`.
+/// Returns whether a report line of either is a refusal.
+///
+/// # Errors
+///
+/// - `Put` if a put failed.
+/// - `Memory` if memory ran out.
 fn answer_both<R: Threads + Sync, K: Sink>(
     rt: &R,
     alloc: Global,
@@ -94,14 +122,18 @@ fn answer_both<R: Threads + Sync, K: Sink>(
         AnswersBehind machine.old.version body.now lines.now (K.said sink.old) (K.said sink.new) refused) }
     ensures cause { IfErr result (HasOutputCause (K.faults sink.old) (K.faults sink.new)) }
 {
-    let mut nowhere = QuietSink::new(alloc, 0)?;
-    let (number, before) = answer_lines(rt, alloc, machine, 1, body, true, &mut nowhere)?;
+    let (number, before) = run_body(rt, alloc, machine, body)?;
     let (_, refused) = answer_lines(rt, alloc, machine, number, lines, false, sink)?;
     Ok(before | refused)
 }
 
-/// Puts into `sink` what the report of `script` with `lines` behind it has behind the report of `script`. Answers whether a
-/// line of that report is a refusal.
+/// Puts into `sink` what the report of `script` with `lines` after it has after the report of `script`. Returns whether a line of
+/// the report of both is a refusal.
+///
+/// # Errors
+///
+/// - `Put` if a put failed.
+/// - `Memory` if memory ran out.
 pub fn put_behind<R: Threads + Sync, K: Sink>(
     rt: &R,
     alloc: Global,
@@ -120,10 +152,17 @@ pub fn put_behind<R: Threads + Sync, K: Sink>(
     }
     let (version, body) = split_mark(script);
     let mut machine = Machine::new(alloc, version)?;
-    answer_both(rt, alloc, &mut machine, body, lines, sink)
+    let answered = answer_both(rt, alloc, &mut machine, body, lines, sink);
+    drop(machine);
+    answered
 }
 
-/// Puts the report of lines behind an empty script.
+/// Puts the report of `lines`, which come after an empty script, into `sink`. Returns whether a line of it is a refusal.
+///
+/// # Errors
+///
+/// - `Put` if a put failed.
+/// - `Memory` if memory ran out.
 fn put_first<R: Threads + Sync, K: Sink>(
     rt: &R,
     alloc: Global,

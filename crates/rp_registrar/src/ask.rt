@@ -11,8 +11,7 @@ use crate::answers::put_behind;
 use crate::change::has_change;
 use crate::first::{First, read_first};
 use crate::lines::{MOST_BYTES, end_lines};
-use crate::pieces::answer_pieces;
-use crate::session::Session;
+use crate::pieces::answer_rest;
 use crate::stop::{Length, Stop};
 use rp_io::{Sink, Source};
 use rp_scripts::split_mark;
@@ -29,7 +28,13 @@ fn zeros(alloc: Global, length: usize) -> Result<Vec<u8>, AllocError>
     vec![in alloc; 0u8; length]
 }
 
-/// Puts the answers to lines that stand behind a script, where there are not too many, and answers whether one is refused.
+/// Puts the answers to `lines`, which come after `script`, into `sink`. Returns whether a line of either is refused.
+///
+/// # Errors
+///
+/// - `TooLong` if `script` and `lines` have more than 16,777,216 bytes together. Nothing was put.
+/// - `Put` if a put failed.
+/// - `Memory` if memory ran out.
 pub(crate) fn answer<R: Threads + Sync, K: Sink>(
     rt: &R,
     alloc: Global,
@@ -81,7 +86,11 @@ fn answer_first<R: Threads + Sync, K: Sink>(
 ///
 /// # Errors
 ///
-/// Those of [`ask`].
+/// - `Change` if a line changes which lots there are. No line after it is answered.
+/// - `TooLong` if `lines`, `rest` and `source` have more than 16,777,216 bytes together.
+/// - `Read` if a read failed.
+/// - `Put` if a put failed.
+/// - `Memory` if memory ran out.
 fn answer_after<R: Threads + Sync, S: Source, K: Sink>(
     rt: &R,
     alloc: Global,
@@ -101,15 +110,18 @@ fn answer_after<R: Threads + Sync, S: Source, K: Sink>(
     ensures cause { IfErr result (HasAskCause (S.faults source.old) (S.faults source.new) (K.faults sink.old) (K.faults sink.new) [] (with_front (lines.now ++ rest.items) (S.left source.old))) }
 {
     answer_first(rt, alloc, lines, sink)?;
-    let session = Session::open(rt, alloc, lines, rest)?;
-    answer_pieces(rt, alloc, lines, session, buffer, source, sink)
+    answer_rest(rt, alloc, lines, rest, buffer, source, sink)
 }
 
 /// Answers the lines of `source` after an empty script. Returns whether a line is refused.
 ///
 /// # Errors
 ///
-/// Those of [`ask`].
+/// - `Change` if a line changes which lots there are. No line after it is answered.
+/// - `TooLong` if `source` has more than 16,777,216 bytes.
+/// - `Read` if a read failed.
+/// - `Put` if a put failed.
+/// - `Memory` if memory ran out.
 fn ask_first<R: Threads + Sync, S: Source, K: Sink>(
     rt: &R,
     alloc: Global,
@@ -133,7 +145,12 @@ fn ask_first<R: Threads + Sync, S: Source, K: Sink>(
 ///
 /// # Errors
 ///
-/// Those of [`ask`].
+/// - `Change` if a line of `source` changes which lots there are. The lines before it have been answered, and no line after it.
+/// - `TooLong` if `script` and `source` have more than 16,777,216 bytes together. The lines that were complete before the last read
+///   have been answered.
+/// - `Read` if a read failed.
+/// - `Put` if a put failed.
+/// - `Memory` if memory ran out.
 fn ask_after<R: Threads + Sync, S: Source, K: Sink>(
     rt: &R,
     alloc: Global,
@@ -151,8 +168,7 @@ fn ask_after<R: Threads + Sync, S: Source, K: Sink>(
     ensures cause { IfErr result (HasAskCause (S.faults source.old) (S.faults source.new) (K.faults sink.old) (K.faults sink.new) script.now (S.left source.old)) }
     ensures before { IfErr result (λ stop. IfChange stop (IfSome (S.left source.old) (λ lines. PutsBeforeChange script.now (ended lines) (K.said sink.old) (K.said sink.new)))) }
 {
-    let session = Session::open(rt, alloc, script, Vec::new(alloc))?;
-    answer_pieces(rt, alloc, script, session, buffer, source, sink)
+    answer_rest(rt, alloc, script, Vec::new(alloc), buffer, source, sink)
 }
 
 /// Answers the questions of `source`, as if their lines came after those of `script`, and puts the answers into `sink`. Returns

@@ -17,7 +17,7 @@ use std::thread::Threads;
 /// How many bytes of a time are its date.
 const DATE_LENGTH: usize = 10;
 
-/// Whether what was added at a time was added on a date or before.
+/// Returns whether what was added at `time` was added on `date` or before.
 fn is_by(date: &str, time: &str) -> bool
     ensures { result ≡ is_by date.now time.now }
 {
@@ -26,7 +26,7 @@ fn is_by(date: &str, time: &str) -> bool
     day.cmp(date.as_bytes()).is_le()
 }
 
-/// The number of the last line of an act that was added on a date or before, else 0.
+/// Returns the number of the last line of `act` if `act` was added on `date` or before, otherwise 0.
 fn line_by(date: &str, act: &Act) -> u32
     ensures { result ≡ line_by date.now (act_of act.now) }
 {
@@ -37,15 +37,15 @@ fn line_by(date: &str, act: &Act) -> u32
     }
 }
 
-/// The greater of two numbers.
+/// Returns the greater of `a` and `b`.
 fn greater(a: u32, b: u32) -> u32
     ensures { result ≡ max a b }
 {
     if a < b { b } else { a }
 }
 
-/// The number of the last line that was added on `date`, as 2026-11-30, or before; 0 if there is none. The times of `acts` are
-/// those of UTC, and so is the date.
+/// Returns the number of the last line that was added on `date`, as 2026-11-30, or before; 0 if there is none. The times of `acts`
+/// and `date` are UTC.
 pub fn last_line_by(acts: &[Act], date: &str) -> u32
     ensures { result ≡ last_by date.now (map act_of acts.now) }
 {
@@ -58,7 +58,7 @@ pub fn last_line_by(acts: &[Act], date: &str) -> u32
     last
 }
 
-/// The line that asks for a point, which the words spell, as of a line.
+/// Returns the line that asks for the point that `words` spell, as of `line`.
 fn question(alloc: Global, line: u32, words: &[String]) -> Result<Vec<u8>, AllocError>
     ensures { IfOk result (λ text. text.items ≡ as_of_line line (map string_bytes words.now)) }
 {

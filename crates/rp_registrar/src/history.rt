@@ -41,7 +41,7 @@ impl Sink for TextSink {
     }
 }
 
-/// The line that asks for a lot.
+/// Returns the line that asks for the lot `id`.
 fn question(alloc: Global, id: &str) -> Result<Vec<u8>, AllocError>
     ensures { IfOk result (λ text. text.items ≡ history_line id.now) }
 {
@@ -51,7 +51,12 @@ fn question(alloc: Global, id: &str) -> Result<Vec<u8>, AllocError>
     Ok(text)
 }
 
-/// The answer to `history` for a lot, as if it stood behind a script, and whether it is a refusal.
+/// Returns the answer to `history` for the lot `id` after `script`, and whether a line of either is refused.
+///
+/// # Errors
+///
+/// - `TooLong` if `script` and the question have more than 16,777,216 bytes together.
+/// - `Memory` if memory ran out.
 fn answer_text<R: Threads + Sync>(
     rt: &R,
     alloc: Global,

@@ -5,7 +5,7 @@ ghost use Rattle.rp_reports.specs.Output.{most_script_bytes};
 ghost use Rattle.rp_reports.specs.Report.{script_version};
 ghost use Rattle.rp_registrar.specs.Added.{PutsBehind, ended, has_change};
 ghost use Rattle.rp_registrar.specs.Cause.{HasAskCause};
-ghost use Rattle.rp_registrar.specs.Session.{IfChange, IsBehind, IsReady, PutsBeforeChange, with_front};
+ghost use Rattle.rp_registrar.specs.Session.{HasNoEnd, IfChange, IsBehind, IsReady, PutsBeforeChange, with_front};
 
 use crate::lines::MOST_BYTES;
 use crate::session::Session;
@@ -21,26 +21,31 @@ use std::thread::Threads;
 ///
 /// # Errors
 ///
-/// Those of [`crate::ask::ask`].
-pub fn answer_pieces<R: Threads + Sync, S: Source, K: Sink>(
+/// - `Change` if a line of `source` changes which lots there are. The lines before it have been answered, and no line after it.
+/// - `TooLong` if `script`, the unfinished line and `source` have more than 16,777,216 bytes together. The lines that were complete
+///   before the last read have been answered.
+/// - `Read` if a read failed.
+/// - `Put` if a put failed.
+/// - `Memory` if memory ran out.
+fn answer_pieces<R: Threads + Sync, S: Source, K: Sink>(
     rt: &R,
     alloc: Global,
     script: &[u8],
-    mut session: Session,
+    session: &mut Session,
     buffer: &mut [u8],
     source: &mut S,
     sink: &mut K,
 ) -> Result<bool, Stop>
     requires end { HasEnd script.now }
-    requires short { length script.now + length session.unfinished.items ≤ most_script_bytes }
+    requires short { length script.now + length session.old.unfinished.items ≤ most_script_bytes }
     requires room { 0 < length buffer.old }
-    requires ready { IsReady session }
-    requires behind { IsBehind script.now session }
+    requires ready { IsReady session.old }
+    requires behind { IsBehind script.now session.old }
     ensures counts { (S.faults source.old ≤ S.faults source.new) × (K.faults sink.old ≤ K.faults sink.new) }
-    ensures questions { IfOk result (λ _. IfSome (with_front session.unfinished.items (S.left source.old)) (λ lines. has_change (script_version (script.now ++ ended lines)) (ended lines) ≡ false)) }
-    ensures answers { IfOk result (λ refused. IfSome (with_front session.unfinished.items (S.left source.old)) (λ lines. PutsBehind script.now (ended lines) (K.said sink.old) (K.said sink.new) refused)) }
-    ensures cause { IfErr result (HasAskCause (S.faults source.old) (S.faults source.new) (K.faults sink.old) (K.faults sink.new) script.now (with_front session.unfinished.items (S.left source.old))) }
-    ensures before { IfErr result (λ stop. IfChange stop (IfSome (with_front session.unfinished.items (S.left source.old)) (λ lines. PutsBeforeChange script.now (ended lines) (K.said sink.old) (K.said sink.new)))) }
+    ensures questions { IfOk result (λ _. IfSome (with_front session.old.unfinished.items (S.left source.old)) (λ lines. has_change (script_version (script.now ++ ended lines)) (ended lines) ≡ false)) }
+    ensures answers { IfOk result (λ refused. IfSome (with_front session.old.unfinished.items (S.left source.old)) (λ lines. PutsBehind script.now (ended lines) (K.said sink.old) (K.said sink.new) refused)) }
+    ensures cause { IfErr result (HasAskCause (S.faults source.old) (S.faults source.new) (K.faults sink.old) (K.faults sink.new) script.now (with_front session.old.unfinished.items (S.left source.old))) }
+    ensures before { IfErr result (λ stop. IfChange stop (IfSome (with_front session.old.unfinished.items (S.left source.old)) (λ lines. PutsBeforeChange script.now (ended lines) (K.said sink.old) (K.said sink.new)))) }
 {
     let mut room = MOST_BYTES - script.len() - session.unfinished_bytes();
     loop {
@@ -57,4 +62,40 @@ pub fn answer_pieces<R: Threads + Sync, S: Source, K: Sink>(
         session.answer_piece(rt, alloc, &buffer[..count], sink)?;
         room -= count;
     }
+}
+
+/// Answers the lines of `source` after those of `script`. The first of them begins with the bytes of `unfinished`. Returns whether
+/// a line of `script` or a line after it is refused.
+///
+/// Runs `script` once. Answers all lines that a read into `buffer` completes before the next read.
+///
+/// # Errors
+///
+/// - `Change` if a line changes which lots there are. The lines before it have been answered, and no line after it.
+/// - `TooLong` if `script`, `unfinished` and `source` have more than 16,777,216 bytes together. The lines that were complete before
+///   the last read have been answered.
+/// - `Read` if a read failed.
+/// - `Put` if a put failed.
+/// - `Memory` if memory ran out.
+pub fn answer_rest<R: Threads + Sync, S: Source, K: Sink>(
+    rt: &R,
+    alloc: Global,
+    script: &[u8],
+    unfinished: Vec<u8>,
+    buffer: &mut [u8],
+    source: &mut S,
+    sink: &mut K,
+) -> Result<bool, Stop>
+    requires end { HasEnd script.now }
+    requires short { length script.now + length unfinished.items ≤ most_script_bytes }
+    requires room { 0 < length buffer.old }
+    requires unended { HasNoEnd unfinished.items }
+    ensures counts { (S.faults source.old ≤ S.faults source.new) × (K.faults sink.old ≤ K.faults sink.new) }
+    ensures questions { IfOk result (λ _. IfSome (with_front unfinished.items (S.left source.old)) (λ lines. has_change (script_version (script.now ++ ended lines)) (ended lines) ≡ false)) }
+    ensures answers { IfOk result (λ refused. IfSome (with_front unfinished.items (S.left source.old)) (λ lines. PutsBehind script.now (ended lines) (K.said sink.old) (K.said sink.new) refused)) }
+    ensures cause { IfErr result (HasAskCause (S.faults source.old) (S.faults source.new) (K.faults sink.old) (K.faults sink.new) script.now (with_front unfinished.items (S.left source.old))) }
+    ensures before { IfErr result (λ stop. IfChange stop (IfSome (with_front unfinished.items (S.left source.old)) (λ lines. PutsBeforeChange script.now (ended lines) (K.said sink.old) (K.said sink.new)))) }
+{
+    let mut session = Session::open(rt, alloc, script, unfinished)?;
+    answer_pieces(rt, alloc, script, &mut session, buffer, source, sink)
 }

@@ -23,7 +23,7 @@ pub fn put_script<B: Book, K: Sink>(book: &B, sink: &mut K) -> Result<(), Stop>
     Ok(())
 }
 
-/// Puts the report of the script of `book` into `sink`. Answers whether a line is refused.
+/// Puts the report of the script of `book` into `sink`. Returns whether a line is refused.
 pub fn put_report<R: Threads + Sync, B: Book, K: Sink>(
     rt: &R,
     alloc: Global,

@@ -9,11 +9,11 @@ ghost use Rattle.rp_registrar.specs.Added.{has_change};
 ghost use Rattle.rp_registrar.specs.Answered.{Answers};
 ghost use Rattle.rp_registrar.specs.Session.{AnswersLines, HasAnswerCause, HasNoEnd, HasPieceCause, IsBehind, IsCut, IsReady, Replies, missing_end};
 
-use crate::answers::{answer_line, answer_lines};
+use crate::answers::{answer_line, run_body};
 use crate::change::line_changes;
 use crate::stop::Stop;
 use rp_command::Version;
-use rp_io::{QuietSink, Sink};
+use rp_io::Sink;
 use rp_machine::Machine;
 use rp_scripts::{OutputFault, next_line, split_mark};
 use std::alloc::Global;
@@ -74,7 +74,6 @@ fn answer_questions<R: Threads + Sync, K: Sink>(
 }
 
 /// A machine that has answered a script and the complete lines after it that have come so far.
-#[derive(Drop)]
 pub struct Session {
     /// The version of the script, by which lines are read.
     version: Version,
@@ -86,6 +85,22 @@ pub struct Session {
     unfinished: Vec<u8>,
     /// Set if a line of the script or a line after it is refused.
     refused: bool,
+}
+
+// A derived drop stands in line, with all that a machine holds, at each way out of a function that holds a session; this one is
+// a call there.
+impl Drop for Session {
+    fn drop(self) {
+        let Session {
+            version: _,
+            machine,
+            next: _,
+            unfinished,
+            refused: _,
+        } = self;
+        drop(machine);
+        drop(unfinished);
+    }
 }
 
 impl Session {
@@ -110,15 +125,19 @@ impl Session {
     {
         let (version, body) = split_mark(script);
         let mut machine = Machine::new(alloc, version)?;
-        let mut nowhere = QuietSink::new(alloc, 0)?;
-        let (next, refused) = answer_lines(rt, alloc, &mut machine, 1, body, true, &mut nowhere)?;
-        Ok(Session {
-            version,
-            machine,
-            next,
-            unfinished,
-            refused,
-        })
+        match run_body(rt, alloc, &mut machine, body) {
+            Ok((next, refused)) => Ok(Session {
+                version,
+                machine,
+                next,
+                unfinished,
+                refused,
+            }),
+            Err(fault) => {
+                drop(machine);
+                Err(fault)
+            }
+        }
     }
 
     /// Returns how many bytes the unfinished line has.
@@ -139,7 +158,9 @@ impl Session {
     ///
     /// # Errors
     ///
-    /// Those of [`answer_questions`].
+    /// - `Change` if a line changes which lots there are. The lines before it have been answered, and no line after it.
+    /// - `Put` if a put failed.
+    /// - `Memory` if memory ran out.
     fn answer_unfinished<R: Threads + Sync, K: Sink>(
         &mut self,
         rt: &R,
@@ -209,7 +230,9 @@ impl Session {
     ///
     /// # Errors
     ///
-    /// Those of [`Session::answer_piece`].
+    /// - `Change` if the line changes which lots there are. It is not answered.
+    /// - `Put` if a put failed.
+    /// - `Memory` if memory ran out.
     pub fn finish<R: Threads + Sync, K: Sink>(
         &mut self,
         rt: &R,

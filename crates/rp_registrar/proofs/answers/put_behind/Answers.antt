@@ -13,11 +13,11 @@ returns-clause-answers g c =
     let some = nonempty_from_test c.args.script.now (sym c.is_empty.ensures ∙ c.if-is_empty.false) in
     let body = c.split_mark-version.result.1.now in
     let old = g.K.Sink.said c.args.sink.now in
-    let new = g.K.Sink.said c.answer_both.new.sink in
-    IfOk-weaker c.answer_both.result
+    let new = g.K.Sink.said c.answer_both-answered.new.sink in
+    IfOk-weaker c.answer_both-answered.result
     (λ refused. AnswersBehind c.in_ok-machine.machine.version body c.args.lines.now old new refused) (λ refused. PutsBehind c.args.script.now c.args.lines.now old new refused)
     (λ refused h.
     PutsBehind-answered c.args.script.now body c.args.lines.now (version_of c.split_mark-version.result.0) old new refused
     (some, c.requires.end some) c.split_mark-version.ensures.version c.split_mark-version.ensures.body
     (subst (λ (v : Version). AnswersBehind v body c.args.lines.now old new refused) (ap (λ m. m.version) c.in_ok-machine.ensures) h))
-    c.answer_both.ensures.answers
+    c.answer_both-answered.ensures.answers

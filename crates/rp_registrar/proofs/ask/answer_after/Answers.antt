@@ -1,4 +1,4 @@
-use Rattle.std.proofs.Common.{◌≡◌, ℕ, List, Option, ◌++◌, [], false, IfOk, IfSome, subst, arith}
+use Rattle.std.proofs.Common.{◌≡◌, ℕ, List, Option, ◌++◌, [], false, IfSome, arith}
 use Rattle.std.proofs.lemmas.Result.{IfErr-weaker, IfOk-weaker, err_from_is_err_and}
 use Rattle.rp_reports.specs.Report.{script_version}
 use Rattle.rp_registrar.specs.Added.{PutsBehind, ended, has_change}
@@ -22,8 +22,8 @@ returns-clause-questions g c =
     let left = g.S.Source.left c.args.source.now in
     let P : Option (List ℕ) → Type 0 = λ o. IfSome o (λ all. has_change (script_version (lines ++ ended all)) (ended all) ≡ false) in
     let Q : Type 0 = IfSome (with_front (lines ++ rest) left) (λ all. has_change (script_version (ended all)) (ended all) ≡ false) in
-    IfOk-weaker c.answer_pieces.result (λ _. P (with_front rest left)) (λ _. Q) (λ _ h. first_questions lines rest left c.requires.end c.in_ok-answer_first.ensures.questions h)
-    (subst (λ u. IfOk c.answer_pieces.result (λ _. P (with_front u left))) c.in_ok-session.ensures.unfinished c.answer_pieces.ensures.questions)
+    IfOk-weaker c.answer_rest.result (λ _. P (with_front rest left)) (λ _. Q) (λ _ h. first_questions lines rest left c.requires.end c.in_ok-answer_first.ensures.questions h)
+    c.answer_rest.ensures.questions
 
 pub returns-clause-answers : goal.returns-clause-answers
 returns-clause-answers g c =
@@ -32,11 +32,11 @@ returns-clause-answers g c =
     let left = g.S.Source.left c.args.source.now in
     let old = g.K.Sink.said c.args.sink.now in
     let middle = g.K.Sink.said c.answer_first.new.sink in
-    let new = g.K.Sink.said c.answer_pieces.new.sink in
-    IfOk-weaker c.answer_pieces.result (λ l. IfSome (with_front rest left) (λ all. PutsBehind lines (ended all) middle new l))
+    let new = g.K.Sink.said c.answer_rest.new.sink in
+    IfOk-weaker c.answer_rest.result (λ l. IfSome (with_front rest left) (λ all. PutsBehind lines (ended all) middle new l))
     (λ l. IfSome (with_front (lines ++ rest) left) (λ all. PutsBehind [] (ended all) old new l))
     (λ l h. first_answers lines rest left old middle new c.in_ok-answer_first.field-0 l c.requires.end c.in_ok-answer_first.ensures.answers h)
-    (subst (λ u. IfOk c.answer_pieces.result (λ l. IfSome (with_front u left) (λ all. PutsBehind lines (ended all) middle new l))) c.in_ok-session.ensures.unfinished c.answer_pieces.ensures.answers)
+    c.answer_rest.ensures.answers
 
 pub returns-clause-cause : goal.returns-clause-cause
 returns-clause-cause g c =
@@ -44,12 +44,9 @@ returns-clause-cause g c =
     let rest = c.args.rest.items in
     let left = g.S.Source.left c.args.source.now in
     let reads = g.S.Source.faults c.args.source.now in
-    let later = g.S.Source.faults c.answer_pieces.new.source in
+    let later = g.S.Source.faults c.answer_rest.new.source in
     let k = g.K.Sink.faults c.args.sink.now in
     let m = g.K.Sink.faults c.answer_first.new.sink in
-    let n = g.K.Sink.faults c.answer_pieces.new.sink in
-    IfErr-weaker c.answer_pieces.result (HasAskCause reads later m n lines (with_front c.in_ok-session.session.unfinished.items left)) (HasAskCause reads later k n [] (with_front (lines ++ rest) left))
-    (λ stop h.
-    after_cause reads later k m n lines rest left stop c.requires.end c.in_ok-answer_first.ensures.counts
-    (subst (λ u. HasAskCause reads later m n lines (with_front u left) stop) c.in_ok-session.ensures.unfinished h))
-    c.answer_pieces.ensures.cause
+    let n = g.K.Sink.faults c.answer_rest.new.sink in
+    IfErr-weaker c.answer_rest.result (HasAskCause reads later m n lines (with_front rest left)) (HasAskCause reads later k n [] (with_front (lines ++ rest) left))
+    (λ stop h. after_cause reads later k m n lines rest left stop c.requires.end c.in_ok-answer_first.ensures.counts h) c.answer_rest.ensures.cause

@@ -1,4 +1,4 @@
-use Rattle.std.proofs.Common.{◌≡◌, ltb, refl, rules, sym, ap, true, false, length, ◌∙◌, option_map, Option, Bor}
+use Rattle.std.proofs.Common.{ltb, refl, rules, ap, length, ◌∙◌, option_map, Bor}
 use Rattle.std.proofs.lemmas.List.Sorted.{IsPartitionPoint-from_clause, IsPartitionedBy-ltb}
 use Rattle.std.proofs.lemmas.Option.{slice_get_past, slice_get_read}
 use Rattle.rp_book.specs.declared.act.Act.{Act}

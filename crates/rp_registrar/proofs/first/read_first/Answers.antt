@@ -1,11 +1,12 @@
-use Rattle.std.proofs.Common.{◌++◌, length, ap, sym, subst, ◌∙◌, arith, length-append}
+use Rattle.std.proofs.Common.{◌≡◌, ◌++◌, ◌+◌, List, ℕ, length, refl, ap, sym, subst, ◌∙◌, arith, length-append}
 use Rattle.std.proofs.lemmas.List.{length-take-le}
 use Rattle.rp_algebra.proofs.Lists.{nonempty_from_test}
 use Rattle.rp_book.specs.Lines.{HasEnd}
 use Rattle.rp_book.proofs.ScriptLemmas.{HasEnd-behind}
 use Rattle.rp_registrar.specs.Session.{HasNoEnd}
+use Rattle.rp_io.specs.Bytes.{IsAtEnd}
 use Rattle.rp_io.proofs.IntakeLemmas.{ReadsOn}
-use Rattle.rp_registrar.proofs.SessionLemmas.{ReadsOn-cut, ReadsOn-past}
+use Rattle.rp_registrar.proofs.SessionLemmas.{ReadsOn-cut, ReadsOn-past, read_whole}
 use Rattle.rp_registrar.proofs.first.read_first.Goals as goal
 
 pub returns-then-count-len-clause-cause : goal.returns-then-count-len-clause-cause
@@ -37,3 +38,29 @@ returns-then-not-is_empty-clause-first g c =
           (subst (λ xs. ReadsOn before after ((held ++ lines) ++ xs)) (sym c.in_ok-from_slice.ensures.items)
           (ReadsOn-cut before (g.S.Source.left c.loop-count.source) after held c.read.new.buf lines rest c.in-Ok.count c.in-Ok.ensures.within c.loop-count.invariant.reads c.in-Ok.ensures.taken c.cut_lines.ensures)),
     )
+
+pub returns-then-count-eq0-clause-first : goal.returns-then-count-eq0-clause-first
+returns-then-count-eq0-clause-first g c =
+    let held = c.loop-count.held.items in
+    let end : IsAtEnd (g.S.Source.left c.loop-count.source) = c.in-Ok.ensures.end c.if-count-eq0.true (omega (arith, c.loop-count.auto.buffer, c.read.auto.buf, c.requires)) in
+    read_whole (λ input. input ≡ held) (g.S.Source.left c.args.source.now) (g.S.Source.left c.loop-count.source) held c.loop-count.invariant.reads end refl
+
+pub loop-count-preserved : goal.loop-count-preserved
+loop-count-preserved g c =
+    let held = c.loop-count.held.items in
+    let lines = c.cut_lines.result.0.now in
+    let rest = c.cut_lines.result.1.now in
+    let before = g.S.Source.left c.args.source.now in
+    let after = g.S.Source.left c.read.new.self in
+    let first = c.in_ok-extend_from_slice.ensures.items in
+    let items = c.in_ok-extend_from_slice-2.ensures.items ∙ ap (λ (xs : List ℕ). xs ++ rest) first in
+    let both = ap length c.cut_lines.ensures.whole ∙ length-append lines rest in
+    let all = ap length items ∙ length-append (held ++ lines) rest ∙ ap (λ (n : ℕ). n + length rest) (length-append held lines) in
+    let count = length-take-le c.in-Ok.count c.read.new.buf c.in-Ok.ensures.within in
+    record {
+      faults = omega (arith, c.loop-count.invariant.faults, c.in-Ok.ensures.counts);
+      short = omega (arith, both, all, count, c.if-count-len.false, c.len.ensures, c.loop-count.invariant.short, c.loop-count.held.ok.0);
+      reads =
+          subst (ReadsOn before after) (sym items)
+          (ReadsOn-cut before (g.S.Source.left c.loop-count.source) after held c.read.new.buf lines rest c.in-Ok.count c.in-Ok.ensures.within c.loop-count.invariant.reads c.in-Ok.ensures.taken c.cut_lines.ensures);
+    }

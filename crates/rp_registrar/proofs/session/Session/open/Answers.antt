@@ -1,7 +1,13 @@
-use Rattle.std.proofs.lemmas.Result.{err_from_is_err_and}
+use Rattle.std.proofs.Common.{None, true, subst, arith}
+use Rattle.rp_command.specs.Versions.{version_of}
+use Rattle.rp_reports.specs.Machine.{Running}
+use Rattle.rp_registrar.specs.Answered.{Answers}
+use Rattle.rp_registrar.proofs.SessionLemmas.{IsBehind-run}
 use Rattle.rp_registrar.proofs.session.Session.open.Goals as goal
 
-pub returns-in_err-next-clause-cause : goal.returns-in_err-next-clause-cause
-returns-in_err-next-clause-cause g c =
-    let p = err_from_is_err_and c.from_residual-in_err-next.result c.from_residual-in_err-next.ensures.1 in
-    rw (p.1, p.2) c.in_err-next.ensures.cause
+pub returns-in-Ok-clause-behind : goal.returns-in-Ok-clause-behind
+returns-in-Ok-clause-behind g c =
+    let body = c.split_mark-version.result.1.now in
+    IsBehind-run c.args.script.now body (version_of c.split_mark-version.result.0) _ None None c.split_mark-version.ensures.version c.split_mark-version.ensures.body
+    (omega (arith, c.in-Ok.ensures.few, c.split_mark-version.ensures.within))
+    (subst (λ (m : Running). Answers true m 1 body c.run_body.new.machine c.in-Ok.next None None c.in-Ok.refused) c.in_ok-machine.ensures c.in-Ok.ensures.answers)
