@@ -69,6 +69,43 @@ fn few_nodes_are_visited_where_all_boxes_meet_on_x(rt: HostRuntime) {
     assert!(rt; index.remove(500));
 }
 
+/// A box of a street along y: all boxes meet on x, where they begin at many places, and none meets another on y.
+fn house(number: u16) -> IntBox {
+    let number = number as i32;
+    let x = number * 7 % 997;
+    let y = number * 1001;
+    IntBox {
+        lo: [x, y, 0],
+        hi: [x + 1000, y + 1000, 1000],
+    }
+}
+
+/// Many such boxes, put in by no order of place.
+fn street(rt: &impl Abort, alloc: Global) -> Index {
+    let mut index = Index::new(alloc);
+    for i in 0..2000u32 {
+        let number = i * 791 % 2000;
+        index
+            .insert(alloc, number, house(number as u16))
+            .expect(rt, "no memory");
+    }
+    index
+}
+
+#[test]
+fn few_nodes_are_visited_in_a_street(rt: HostRuntime) {
+    let alloc = rt.alloc();
+    let index = street(&rt, alloc);
+    let visits = VisitCount::counted();
+    let open = search::<_, Brand>(&index, alloc, &house(1000), &visits, Blank::new(1)).expect(
+        &rt,
+        "no memory",
+    );
+    assert_eq!(rt; open.as_slice(), [1000].as_slice());
+    // In the tree by x alone nearly all 2,000 would be visited.
+    assert!(rt; (1..=200).contains(&visits.count()));
+}
+
 /// The ids from one on.
 #[derive(Clone, Copy)]
 struct AtLeast(u32);
