@@ -7,7 +7,7 @@ use crate::layers::{name_of, tell_asked};
 use crate::seals::{write_acts, write_link, write_proof, write_seal, write_verified};
 use crate::size::write_size;
 use rp_book::Book;
-use rp_io::StdSink;
+use rp_io::{BufferedSink, StdSink};
 use rp_registrar::date::{as_of, last_line_by};
 use rp_registrar::history::history;
 use rp_registrar::{Stop, put_report, put_script};
@@ -46,6 +46,25 @@ fn write_line<B: Book>(rt: &HostRuntime, book: &B, date: &str) -> Result<(), Sto
     println!(rt; "{line}").map_err(|_| Stop::Put)
 }
 
+/// Writes the history of `id`, or the report of `book` if it is `None`, in pieces of up to 65,536 bytes. Returns whether a line is
+/// refused.
+fn write_report<T: Threads + Sync, B: Book>(
+    rt: &HostRuntime,
+    threads: &T,
+    book: &B,
+    id: Option<&str>,
+) -> Result<bool, Stop> {
+    let mut sink = BufferedSink::new(rt.alloc(), StdSink::new(rt.stdout()))?;
+    let outcome = match id {
+        Some(id) => history(threads, rt.alloc(), book, id, &mut sink),
+        None => put_report(threads, rt.alloc(), book, &mut sink),
+    };
+    let written = sink.finish();
+    let refused = outcome?;
+    written.map_err(|_| Stop::Put)?;
+    Ok(refused)
+}
+
 /// Writes what is asked about the seals of `book`; nothing for another query. `input` has the seal that the query names.
 fn write_seals<B: Book>(
     rt: &HostRuntime,
@@ -72,12 +91,11 @@ pub fn write_query<T: Threads + Sync, B: Book>(
     input: &[u8],
     query: Query<'_>,
 ) -> Result<bool, Fault> {
-    let mut sink = StdSink::new(rt.stdout());
     let refused = match query {
-        Query::History(id) => history(threads, rt.alloc(), book, id, &mut sink)?,
+        Query::History(id) => write_report(rt, threads, book, Some(id))?,
         Query::AsOf { date, layer, place } => write_as_of(rt, threads, book, date, layer, place)?,
-        Query::Report => put_report(threads, rt.alloc(), book, &mut sink)?,
-        Query::Script => put_script(book, &mut sink).map(|_| false)?,
+        Query::Report => write_report(rt, threads, book, None)?,
+        Query::Script => put_script(book, &mut StdSink::new(rt.stdout())).map(|_| false)?,
         Query::Size => write_size(rt, threads, book).map(|_| false)?,
         Query::Line(date) => write_line(rt, book, date).map(|_| false)?,
         Query::Seal(_) | Query::Verify(_) | Query::Prove(_) | Query::Link(_) | Query::Acts(_) => {

@@ -5,13 +5,16 @@ ghost use Rattle.rp_book.specs.Lines.{IsEnded};
 
 use crate::fault::Fault;
 use crate::file::{FileFault, open};
+use base64::engine::general_purpose::STANDARD;
 use rp_book::Book;
 use rp_command::Version;
 use rp_io::{Failed, Source, StdSink, StdSource};
 use rp_registrar::Stop;
 use rp_registrar::ask::ask;
 use rp_scripts::split_mark;
+use rp_sealed_book::root;
 use sqlite::{Alter, Connection};
+use std::alloc::AllocError;
 use std::marker::Model;
 use std::thread::Threads;
 
@@ -104,16 +107,32 @@ impl<S: Source> Source for Unmarked<S> {
     }
 }
 
-/// Copies the script of the book in a database, and lets the book go. Says on standard error after which act the answers are.
+/// Says on standard error after which act and which line the answers are, with the root hash that a seal of `book` has.
+fn tell_state<B: Book>(rt: &HostRuntime, book: &B) -> Result<(), AllocError> {
+    let count = book.acts().len();
+    let last = book.acts().last().map_or(0, |act| act.last);
+    let hash = root(rt.alloc(), book)?;
+    let text = STANDARD.encode(rt.alloc(), hash.bytes.as_slice())?;
+    let _ = eprintln!(rt; "rpstore-book: asked after act {count}, line {last}, root hash {text}");
+    Ok(())
+}
+
+/// Copies the script of `book`. Says on standard error of which state of the book the answers are.
+fn copied<B: Book>(rt: &HostRuntime, book: &B) -> Result<Vec<u8>, AllocError>
+    ensures end { IfOk result (λ script. IsEnded script.items) }
+    ensures short { IfOk result (λ script. length script.items ≤ 16777216) }
+{
+    tell_state(rt, book)?;
+    Vec::from_slice(rt.alloc(), book.text())
+}
+
+/// Copies the script of the book in a database, and lets the book go.
 fn script_of<S: Alter + Drop>(rt: &HostRuntime, conn: Connection<S>) -> Result<Vec<u8>, FileFault>
     ensures end { IfOk result (λ script. IsEnded script.items) }
     ensures short { IfOk result (λ script. length script.items ≤ 16777216) }
 {
     let (book, _) = open(rt.alloc(), conn)?;
-    let count = book.acts().len();
-    let last = book.acts().last().map_or(0, |act| act.last);
-    let _ = eprintln!(rt; "rpstore-book: asked after act {count}, line {last}");
-    let script = Vec::from_slice(rt.alloc(), book.text())?;
+    let script = copied(rt, &book)?;
     Ok(script)
 }
 
