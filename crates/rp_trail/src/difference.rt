@@ -1,10 +1,12 @@
 //! What is left of a list of parts outside a second one, test by test.
-ghost use Rattle.std.specs.Prelude.{◌+◌, ◌≤◌, ◌<◌, [], length};
+ghost use Rattle.std.specs.Prelude.{◌+◌, ◌≤◌, ◌<◌, ◌++◌, ◌∷◌, [], length};
+ghost use Rattle.rp_geometry.specs.Geometry.{complement};
 ghost use Rattle.rp_geometry.specs.parts.Parts.{most_half_spaces};
-ghost use Rattle.rp_reports.specs.Check.{follow_count, line_tester};
+ghost use Rattle.rp_reports.specs.Check.{follow_count, follow_part, line_tester};
 ghost use Rattle.rp_walks.specs.Form.{carve_one, carve, subtract_pair, subtract_part, subtract};
 ghost use Rattle.rp_tester.specs.Comes.{Comes};
 
+use crate::few::{self, Few, MOST_FEW};
 use crate::form::{Form, put};
 use crate::kept::Kept;
 use crate::meeting::Meeting;
@@ -106,11 +108,32 @@ fn carve_one(
     ensures { Comes (λ _. left.new.items) result trail.new (carve_one line_tester left.old.items cell.now before.now half.now trail.old) }
 {
     count_test(trail)?;
-    let mut piece = joined(cell, before);
-    piece.push(half.not());
-    let part = made(alloc, piece.as_slice(), trail)?;
+    let part = made_outside(alloc, cell, before, half, trail)?;
     put(left, part)?;
     Ok(())
+}
+
+/// A part test of what is left of a cell outside one half-space, inside those before.
+fn made_outside(
+    alloc: Global,
+    cell: &[Half],
+    before: &[Half],
+    half: &Half,
+    trail: &mut Trail<'_>,
+) -> Result<Option<Kept>, Stopped>
+    requires { length cell.now + length before.now < 64 }
+    ensures { Comes (λ part. part) result trail.new (follow_part ((cell.now ++ before.now) ++ complement half.now ∷ []) trail.old) }
+{
+    if cell.len() + before.len() >= MOST_FEW {
+        let mut piece = joined(cell, before);
+        piece.push(half.not());
+        return made(alloc, piece.as_slice(), trail);
+    }
+    let mut piece = Few::new();
+    few::put(&mut piece, cell);
+    few::put(&mut piece, before);
+    piece.push(half.not());
+    made(alloc, piece.as_slice(), trail)
 }
 
 /// Counts one test.
