@@ -113,7 +113,7 @@ fn carve_one(
     Ok(())
 }
 
-/// A part test of what is left of a cell outside one half-space, inside those before.
+/// Makes the part test of what is in `cell` and in all of `before`, and outside `half`.
 fn made_outside(
     alloc: Global,
     cell: &[Half],

@@ -52,8 +52,7 @@ fn dropped(kept: &[Half], next: &Option<Proof>) -> Option<Half>
     Some(*half)
 }
 
-/// Whether multiples show that the cell of all half-spaces but the first place of one of them, and then of its complement, has no
-/// point.
+/// Returns whether the multiples `terms` show that no point is in all of `halves` except the first `half`, and outside `half`.
 fn is_shown(half: &Half, halves: &[Half], terms: &[Term]) -> bool
     requires { length halves.now ≤ 64 }
     ensures { result ≡ is_outside_certificate true (without half.now halves.now ++ complement half.now ∷ []) terms.now }
@@ -69,7 +68,7 @@ fn is_shown(half: &Half, halves: &[Half], terms: &[Term]) -> bool
     check_outside(cell.as_slice(), terms, true)
 }
 
-/// Takes the first place of a half-space away, if there is one, and appends its complement.
+/// Removes the first `half` of `halves`, if there is one, and appends the complement of `half`.
 fn turn<const N: usize>(halves: &mut ArrayVec<Half, N>, half: &Half)
     requires { array_vec_len halves.old < N }
     ensures { halves.new.items ≡ without half.now halves.old.items ++ complement half.now ∷ [] }

@@ -35,7 +35,7 @@ pub fn made(alloc: Global, cell: &[Half], trail: &mut Trail<'_>) -> Result<Optio
     Ok(Some(part))
 }
 
-/// A part test of the cell of `first` followed by `second`, at most 64 half-spaces together.
+/// Makes the part test of the cell of `first` followed by `second`, at most 64 half-spaces together ([`made`]).
 pub(crate) fn made_of_both(
     alloc: Global,
     first: &[Half],
@@ -68,8 +68,8 @@ fn made_inside(alloc: Global, cell: &[Half], trail: &mut Trail<'_>) -> Result<Ke
     made_from(alloc, cell, &mut kept, trail)
 }
 
-/// The part of a cell of which a strict test has just shown that it has a point. `kept` has the half-spaces of the cell, of which
-/// those are taken away that lines drop.
+/// Returns the part of `cell`, of which a strict test has just shown that it has a point. `kept` has the half-spaces of `cell`; the
+/// half-spaces that lines drop are removed from it.
 fn made_from<const N: usize>(
     alloc: Global,
     cell: &[Half],

@@ -67,7 +67,7 @@ fn follow_side(kept: &[Half], side: &Half, trail: &mut Trail<'_>) -> Result<(), 
     }
 }
 
-/// Whether multiples show that no point of a cell is outside a side.
+/// Returns whether the multiples `terms` show that no point of the cell `kept` is outside `side`.
 fn is_shown(kept: &[Half], side: &Half, terms: &[Term]) -> bool
     requires { length kept.now ≤ 64 }
     ensures { result ≡ is_outside_certificate true (kept.now ++ complement side.now ∷ []) terms.now }
