@@ -9,13 +9,16 @@ use Rattle.rp_walks.specs.Walk.{Outcome, done, stopped, after_first, Walk, pass,
 use Rattle.rp_walks.specs.Form.{form}
 use Rattle.rp_model.specs.states.State.{PlainState, parts_in}
 use Rattle.rp_model.specs.commands.Verdict.{Refusal, unknown}
-use Rattle.rp_model.specs.commands.Row.{Reply, refusal, check, with_form, row_section, row}
+use Rattle.rp_model.specs.commands.Reply.{Reply, refusal, check}
+use Rattle.rp_model.specs.commands.Definition.{with_form}
+use Rattle.rp_model.specs.commands.Section.{row_section}
+use Rattle.rp_model.specs.commands.Row.{row}
 use Rattle.rp_reports.specs.Check.{limit_allowed}
-use Rattle.rp_accepted.proofs.Likeness.{Likeness, PartsHave, ExpressionHas, Related, Audited}
-use Rattle.rp_accepted.proofs.Forms.{form_alike}
-use Rattle.rp_accepted.proofs.Kept.{MayRefuse, StateHas, CommandHas, ReplyHas, IsOther, may_map, unknown_among_has, meaning_has}
+use Rattle.rp_parametricity.proofs.Likeness.{Likeness, PartsHave, ExpressionHas, Related, Audited}
+use Rattle.rp_parametricity.proofs.Forms.{form_alike}
+use Rattle.rp_parametricity.proofs.Kept.{MayRefuse, StateHas, CommandHas, ReplyHas, IsOther, may_map, unknown_among_has, meaning_has}
 use Rattle.rp_accepted.proofs.Commands.{Kind, an_audit, a_section, another, kind_of, checked, ready, row_is_ready}
-use Rattle.rp_accepted.proofs.Rows.{row_alike, audit_alike}
+use Rattle.rp_parametricity.proofs.Rows.{row_alike, audit_alike}
 
 -- a reply, or the parts whose slices at a height are due
 pub data Due : Type 0 where

@@ -11,7 +11,7 @@ use Rattle.rp_language.specs.Expression.{Command}
 use Rattle.rp_walks.specs.Walk.{Outcome, done, stopped, after_first, Walk, pass, ◌>>◌}
 use Rattle.rp_model.specs.states.State.{PlainState}
 use Rattle.rp_model.specs.commands.Verdict.{Verdict, section_lines}
-use Rattle.rp_model.specs.commands.Row.{Reply, reply_lines}
+use Rattle.rp_model.specs.commands.Reply.{Reply, reply_lines}
 use Rattle.rp_reports.specs.Text.{verdict_text}
 use Rattle.rp_reports.specs.ProofText.{loose_words}
 use Rattle.rp_reports.specs.SliceText.{is_written_slice, slice_of_words, slice_if_spelled, slice_read}

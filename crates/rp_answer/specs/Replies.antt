@@ -5,7 +5,8 @@ use Rattle.rp_language.specs.Expression.{Expression, Meaning, first_unknown_amon
 use Rattle.rp_walks.specs.Walk.{Outcome, done, Walk, Tester, ◌>>=◌}
 use Rattle.rp_walks.specs.Form.{form}
 use Rattle.rp_model.specs.commands.Verdict.{unknown}
-use Rattle.rp_model.specs.commands.Row.{Reply, reply_lines, refusal, check, with_forms}
+use Rattle.rp_model.specs.commands.Reply.{Reply, reply_lines, refusal, check}
+use Rattle.rp_model.specs.commands.Definition.{with_forms}
 use Rattle.rp_lists.specs.Listed.{Listed}
 use Rattle.rp_history.specs.declared.fault.NameFault.{NameFault}
 use Rattle.rp_history.specs.declared.fault.NameFault.TheVariants.{Known as NameKnown, Unknown as NameUnknown, Repeated as NameRepeated, Layers as NameLayers, Same as NameSame, Few as NameFew, Memory as NameMemory}

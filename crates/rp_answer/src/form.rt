@@ -6,7 +6,7 @@ ghost use Rattle.rp_geometry.specs.parts.Parts.{most_parts};
 ghost use Rattle.rp_language.specs.Expression.{IsKeptExpression};
 ghost use Rattle.rp_walks.specs.Walk.{Walk};
 ghost use Rattle.rp_walks.specs.Form.{form};
-ghost use Rattle.rp_model.specs.commands.Row.{Reply};
+ghost use Rattle.rp_model.specs.commands.Reply.{Reply};
 ghost use Rattle.rp_tester.specs.Comes.{Comes};
 ghost use Rattle.rp_answer.specs.Replies.{GoesOn, row_of_form};
 

@@ -1,6 +1,6 @@
 //! What a question comes to: verdict lines, or why it ends.
 ghost use Rattle.std.specs.Prelude.{◌≡◌, ◌∷◌, [], map, IfOk};
-ghost use Rattle.rp_model.specs.commands.Row.{reply_lines, yes_or_no};
+ghost use Rattle.rp_model.specs.commands.Reply.{reply_lines, yes_or_no};
 ghost use Rattle.rp_answer.specs.Views.{verdict_of};
 
 use crate::answer::{Refusal, Verdict, Verdicts};

@@ -8,7 +8,9 @@ use Rattle.rp_walks.specs.Form.{near_pair}
 use Rattle.rp_model.specs.states.State.{Lot, PlainState, live_lots, lots_of_layer, ids_of}
 use Rattle.rp_model.specs.commands.Verdict.{known, overlaps}
 use Rattle.rp_model.specs.commands.Checks.{refuse_if, check_new}
-use Rattle.rp_model.specs.commands.Row.{Reply, check, lot_parts, count_with_each, first_overlapped}
+use Rattle.rp_model.specs.commands.Reply.{Reply, check}
+use Rattle.rp_model.specs.commands.Parts.{lot_parts, count_with_each}
+use Rattle.rp_model.specs.commands.Register.{first_overlapped}
 use Rattle.rp_lotindex.specs.declared.near.Reach.TheVariants.{Overlap}
 use Rattle.rp_lotindex.specs.Near.{others_in, is_near, pairs_with}
 use Rattle.rp_lotindex.proofs.Skipped.{search_near, others_all}

@@ -6,7 +6,9 @@ use Rattle.rp_walks.specs.Walk.{Walk, Tester, pass, ◌>>◌}
 use Rattle.rp_walks.specs.Form.{join, subtract}
 use Rattle.rp_model.specs.states.State.{NewLot, PlainState, layer_with_id, parts_under_lots, lots_replaced, most_kept_parts}
 use Rattle.rp_model.specs.commands.Checks.{check_cut}
-use Rattle.rp_model.specs.commands.Row.{Reply, accepted, check, check_size, new_lot, parts_with_id, row_cut}
+use Rattle.rp_model.specs.commands.Reply.{Reply, accepted, check, check_size}
+use Rattle.rp_model.specs.commands.Parts.{new_lot, parts_with_id}
+use Rattle.rp_model.specs.commands.Cut.{row_cut}
 use Rattle.rp_history.specs.declared.lot.Birth.{Birth}
 use Rattle.rp_history.specs.Parts.{new_lots}
 use Rattle.rp_changes.specs.Steps.{with_side}

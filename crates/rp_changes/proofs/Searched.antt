@@ -5,7 +5,7 @@ use Rattle.rp_language.specs.Name.{Label}
 use Rattle.rp_walks.specs.Walk.{done, Walk, Tester, ◌>>=◌}
 use Rattle.rp_walks.specs.Form.{common_nearby}
 use Rattle.rp_model.specs.states.State.{Lot}
-use Rattle.rp_model.specs.commands.Row.{first_overlapped}
+use Rattle.rp_model.specs.commands.Register.{first_overlapped}
 use Rattle.rp_tester.proofs.Left.{IsLeft, left_as, next_left}
 use Rattle.rp_lotindex.specs.Near.{lots_at}
 use Rattle.rp_lotindex.proofs.Places.{lots_left}

@@ -9,7 +9,9 @@ use Rattle.rp_walks.specs.Walk.{Stop, Outcome, done, stopped, limit_met, Walk, p
 use Rattle.rp_walks.specs.Form.{if_at_most}
 use Rattle.rp_model.specs.states.State.{PlainState, parts_under_lots, layer_of_first, lots_replaced, most_kept_parts}
 use Rattle.rp_model.specs.commands.Checks.{check_consolidate}
-use Rattle.rp_model.specs.commands.Row.{Reply, accepted, check, check_size, new_lot, parts_with_id, joined_parts, row_consolidate}
+use Rattle.rp_model.specs.commands.Reply.{Reply, accepted, check, check_size}
+use Rattle.rp_model.specs.commands.Parts.{new_lot, parts_with_id, joined_parts}
+use Rattle.rp_model.specs.commands.Consolidate.{row_consolidate}
 use Rattle.rp_tester.specs.declared.stopped.Stopped.{Stopped}
 use Rattle.rp_tester.specs.Comes.{stop_of, StopsBy}
 use Rattle.rp_tester.proofs.Left.{IsLeft, all_left, left_as, next_left, stops_on, stop_left}

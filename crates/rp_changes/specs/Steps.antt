@@ -7,7 +7,9 @@ use Rattle.rp_walks.specs.Form.{near_pair}
 use Rattle.rp_model.specs.states.State.{Lot, PlainState, parts_under_lots, most_kept_parts}
 use Rattle.rp_model.specs.commands.Verdict.{empty_region, empty_side, overlaps}
 use Rattle.rp_model.specs.commands.Checks.{refuse_if, and_then, check_new}
-use Rattle.rp_model.specs.commands.Row.{Reply, check, check_size, lot_parts, count_with_each, first_overlapped}
+use Rattle.rp_model.specs.commands.Reply.{Reply, check, check_size}
+use Rattle.rp_model.specs.commands.Parts.{lot_parts, count_with_each}
+use Rattle.rp_model.specs.commands.Register.{first_overlapped}
 
 -- its checks: a new id, a part, and room
 abbrev pub lot_checked : {W : Type 0} → PlainState → Label → List Part → Walk W Reply → Walk W Reply

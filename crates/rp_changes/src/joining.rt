@@ -4,7 +4,10 @@ ghost use Rattle.rp_geometry.specs.sets.Shape.{Part};
 ghost use Rattle.rp_geometry.specs.parts.Parts.{most_parts};
 ghost use Rattle.rp_walks.specs.Form.{if_at_most};
 ghost use Rattle.rp_model.specs.states.State.{live_lot, lots_replaced, parts_of_lot};
-ghost use Rattle.rp_model.specs.commands.Row.{joined_parts, new_lot, parts_with_id, row_consolidate, row_define, row_retire};
+ghost use Rattle.rp_model.specs.commands.Parts.{joined_parts, new_lot, parts_with_id};
+ghost use Rattle.rp_model.specs.commands.Consolidate.{row_consolidate};
+ghost use Rattle.rp_model.specs.commands.Let.{row_define};
+ghost use Rattle.rp_model.specs.commands.Retire.{row_retire};
 ghost use Rattle.rp_tester.specs.Comes.{Comes};
 ghost use Rattle.rp_lots.specs.Changes.{Changes, change_of, replaced_of};
 

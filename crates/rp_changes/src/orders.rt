@@ -6,7 +6,8 @@ ghost use Rattle.rp_geometry.specs.parts.Parts.{most_parts};
 ghost use Rattle.rp_language.specs.Expression.{IsKeptExpression, define, register as register_lot, cut, consolidate, retire};
 ghost use Rattle.rp_walks.specs.Walk.{Walk};
 ghost use Rattle.rp_model.specs.states.State.{parts_in};
-ghost use Rattle.rp_model.specs.commands.Row.{Reply, row};
+ghost use Rattle.rp_model.specs.commands.Reply.{Reply};
+ghost use Rattle.rp_model.specs.commands.Row.{row};
 ghost use Rattle.rp_answer.specs.Replies.{GoesOn, row_of_form};
 ghost use Rattle.rp_lots.specs.Changes.{Changes, change_of};
 

@@ -7,7 +7,7 @@ ghost use Rattle.rp_geometry.specs.parts.Parts.{IsCheckedPart};
 ghost use Rattle.rp_geometry.specs.sections.Trace.{IsHeight};
 ghost use Rattle.rp_language.specs.Expression.{IsKeptExpression, expressions_of, first_unknown_among, heights_of, HasFewChildren};
 ghost use Rattle.rp_language.specs.Grammar.{bad, reading};
-ghost use Rattle.rp_model.specs.commands.Row.{Reply as ModelReply, accepted};
+ghost use Rattle.rp_model.specs.commands.Reply.{Reply as ModelReply, accepted};
 ghost use Rattle.rp_model.specs.states.State.{PlainState, changed, parts_in, state_of_parts};
 ghost use Rattle.rp_model.specs.states.Sound.{IsLaterThan};
 ghost use Rattle.rp_reports.specs.Check.{Trail as ModelTrail, limit_allowed, follow_walk, follow_reply, follow_command, follow_fault, follow_text, follow_echo, next_echo, follow_answer};

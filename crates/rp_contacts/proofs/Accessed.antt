@@ -10,7 +10,9 @@ use Rattle.rp_model.specs.states.State.{Lot, PlainState, live_lots, lots_of_laye
 use Rattle.rp_model.specs.states.Sound.{are_distinct}
 use Rattle.rp_model.specs.commands.Verdict.{Refusal}
 use Rattle.rp_model.specs.commands.Checks.{check_access}
-use Rattle.rp_model.specs.commands.Row.{Reply, reply_lines, check, lot_parts, numbered_lists, links_among_lists, count_among, access_by_links, row_access}
+use Rattle.rp_model.specs.commands.Reply.{Reply, reply_lines, check}
+use Rattle.rp_model.specs.commands.Parts.{lot_parts, numbered_lists, count_among}
+use Rattle.rp_model.specs.commands.Access.{links_among_lists, access_by_links, row_access}
 use Rattle.rp_lotindex.specs.declared.near.Reach.TheVariants.{Touch}
 use Rattle.rp_lotindex.specs.Near.{lots_at}
 use Rattle.rp_verdicts.proofs.Access.{places_below}

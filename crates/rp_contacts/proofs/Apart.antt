@@ -6,7 +6,9 @@ use Rattle.rp_walks.specs.Walk.{taken_wrong, Outcome, done, stopped, Walk, Teste
 use Rattle.rp_walks.specs.Form.{near_pair, common_nearby}
 use Rattle.rp_model.specs.states.State.{Lot, PlainState, is_live, live_lots, lots_of_layer}
 use Rattle.rp_model.specs.commands.Verdict.{clear}
-use Rattle.rp_model.specs.commands.Row.{Reply, reply, lot_parts, count_in_layers, all_apart, all_apart_from, row_audit}
+use Rattle.rp_model.specs.commands.Reply.{Reply, reply}
+use Rattle.rp_model.specs.commands.Parts.{lot_parts}
+use Rattle.rp_model.specs.commands.Audit.{count_in_layers, all_apart, all_apart_from, row_audit}
 use Rattle.rp_tester.specs.declared.stopped.Stopped.{Stopped}
 use Rattle.rp_tester.specs.Comes.{StopsBy}
 use Rattle.rp_tester.proofs.Left.{IsLeft, next_left, stop_left}

@@ -8,7 +8,9 @@ use Rattle.rp_walks.specs.Walk.{Outcome, done, stopped, Walk, Tester, pass, afte
 use Rattle.rp_model.specs.states.State.{Lot, PlainState, layer_with_id, bare_lot}
 use Rattle.rp_model.specs.commands.Verdict.{Refusal, neighbour_lines}
 use Rattle.rp_model.specs.commands.Checks.{check_live}
-use Rattle.rp_model.specs.commands.Row.{Reply, reply_lines, check, lot_parts, parts_with_id, touched_lots, row_neighbours}
+use Rattle.rp_model.specs.commands.Reply.{Reply, reply_lines, check}
+use Rattle.rp_model.specs.commands.Parts.{lot_parts, parts_with_id}
+use Rattle.rp_model.specs.commands.Neighbours.{touched_lots, row_neighbours}
 use Rattle.rp_lotindex.specs.declared.near.Reach.TheVariants.{Touch}
 use Rattle.rp_lotindex.specs.Near.{others_in, is_near, pairs_with, lots_at, AreWithin}
 use Rattle.rp_lotindex.proofs.Skipped.{touch_near}

@@ -5,7 +5,7 @@ use Rattle.std.specs.Option.{option_to_list}
 use Rattle.std.proofs.lemmas.Option.{get_or_from_slice_get, slice_get-map}
 use Rattle.rp_language.specs.Name.{Label}
 use Rattle.rp_model.specs.states.State.{Lot}
-use Rattle.rp_model.specs.commands.Row.{lot_parts}
+use Rattle.rp_model.specs.commands.Parts.{lot_parts}
 use Rattle.rp_lotindex.specs.Near.{lots_at}
 use Rattle.rp_contacts.specs.Meets.{parts_at, id_at}
 

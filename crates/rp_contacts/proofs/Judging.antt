@@ -5,7 +5,7 @@ use Rattle.std.proofs.lemmas.List.{length-map}
 use Rattle.rp_geometry.specs.sets.Shape.{Part}
 use Rattle.rp_walks.specs.Walk.{Outcome, done, Walk, Tester, pass, after_first}
 use Rattle.rp_model.specs.states.State.{Lot, bare_lot}
-use Rattle.rp_model.specs.commands.Row.{lot_parts}
+use Rattle.rp_model.specs.commands.Parts.{lot_parts}
 use Rattle.rp_tester.specs.declared.stopped.Stopped.{Stopped}
 use Rattle.rp_tester.specs.Comes.{StopsBy}
 use Rattle.rp_tester.proofs.Left.{stops_on}

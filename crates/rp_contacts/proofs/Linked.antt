@@ -9,7 +9,8 @@ use Rattle.rp_geometry.specs.sets.Shape.{Part}
 use Rattle.rp_walks.specs.Walk.{Outcome, done, stopped, Walk, Tester, pass, after_first, ◌>>=◌}
 use Rattle.rp_walks.specs.Form.{touch_nearby, touching_pair}
 use Rattle.rp_model.specs.states.State.{Lot, ids_of}
-use Rattle.rp_model.specs.commands.Row.{count_pairs, lot_parts, numbered_lists, links_with_list, links_among_lists}
+use Rattle.rp_model.specs.commands.Parts.{count_pairs, lot_parts, numbered_lists}
+use Rattle.rp_model.specs.commands.Access.{links_with_list, links_among_lists}
 use Rattle.rp_lotindex.specs.declared.near.Reach.TheVariants.{Touch}
 use Rattle.rp_lotindex.specs.Near.{lots_at, AreWithin}
 use Rattle.rp_lotindex.proofs.Skipped.{none_of_pairs}

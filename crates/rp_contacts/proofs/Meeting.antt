@@ -10,7 +10,8 @@ use Rattle.rp_language.specs.Name.{Label}
 use Rattle.rp_walks.specs.Walk.{Outcome, done, stopped, Walk, Tester, pass, after_first, ◌>>=◌}
 use Rattle.rp_walks.specs.Form.{touch_nearby}
 use Rattle.rp_model.specs.states.State.{Lot}
-use Rattle.rp_model.specs.commands.Row.{lot_parts, touched_lots}
+use Rattle.rp_model.specs.commands.Parts.{lot_parts}
+use Rattle.rp_model.specs.commands.Neighbours.{touched_lots}
 use Rattle.rp_history.specs.declared.lot.LotLine.{LotLine}
 use Rattle.rp_history.specs.Lots.{lot_of}
 use Rattle.rp_lotindex.specs.declared.near.Reach.{Reach}

@@ -11,7 +11,7 @@ use Rattle.rp_language.specs.Name.{Label, label_eq}
 use Rattle.rp_walks.specs.Form.{touching_pair}
 use Rattle.rp_model.specs.states.State.{Lot, bare_lot, is_live, live_lots, lots_of_layer, ids_of}
 use Rattle.rp_model.specs.states.Sound.{are_distinct}
-use Rattle.rp_model.specs.commands.Row.{count_with_each, count_among, lot_parts}
+use Rattle.rp_model.specs.commands.Parts.{count_with_each, count_among, lot_parts}
 use Rattle.rp_states.proofs.Labels.{label_is}
 use Rattle.rp_history.specs.declared.lot.LotLine.{LotLine}
 use Rattle.rp_history.specs.Lots.{lot_of}

@@ -5,7 +5,8 @@ use Rattle.rp_walks.specs.Walk.{taken_wrong, Outcome, Walk, Tester, pass, stop, 
 use Rattle.rp_walks.specs.Form.{common_nearby}
 use Rattle.rp_model.specs.states.State.{Lot}
 use Rattle.rp_model.specs.commands.Verdict.{clear}
-use Rattle.rp_model.specs.commands.Row.{Reply, reply, lot_parts}
+use Rattle.rp_model.specs.commands.Reply.{Reply, reply}
+use Rattle.rp_model.specs.commands.Parts.{lot_parts}
 use Rattle.rp_tester.specs.declared.stopped.Stopped.{Stopped}
 use Rattle.rp_tester.specs.Comes.{StopsBy}
 use Rattle.rp_contacts.specs.declared.pair.Pair.{Pair}

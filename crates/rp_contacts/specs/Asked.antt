@@ -6,7 +6,10 @@ use Rattle.rp_language.specs.Name.{Label}
 use Rattle.rp_walks.specs.Walk.{Outcome, done, Walk, Tester, pass, after_first, ◌>>◌}
 use Rattle.rp_model.specs.states.State.{Lot, place_among, most_kept_parts}
 use Rattle.rp_model.specs.commands.Verdict.{neighbour_lines}
-use Rattle.rp_model.specs.commands.Row.{Reply, reply_lines, lot_parts, touched_lots, access_by_links}
+use Rattle.rp_model.specs.commands.Reply.{Reply, reply_lines}
+use Rattle.rp_model.specs.commands.Parts.{lot_parts}
+use Rattle.rp_model.specs.commands.Neighbours.{touched_lots}
+use Rattle.rp_model.specs.commands.Access.{access_by_links}
 use Rattle.rp_lotindex.specs.declared.near.Reach.TheVariants.{Touch}
 use Rattle.rp_lotindex.specs.Near.{pairs_with}
 use Rattle.rp_answer.specs.declared.reply.RowEnd.{RowEnd}

@@ -5,7 +5,7 @@ use Rattle.rp_language.specs.Name.{Label}
 use Rattle.rp_walks.specs.Walk.{Walk, Tester, pass, ◌>>=◌}
 use Rattle.rp_walks.specs.Form.{common_nearby, touch_nearby}
 use Rattle.rp_model.specs.states.State.{Lot}
-use Rattle.rp_model.specs.commands.Row.{lot_parts}
+use Rattle.rp_model.specs.commands.Parts.{lot_parts}
 use Rattle.rp_lotindex.specs.declared.near.Reach.{Reach}
 use Rattle.rp_lotindex.specs.declared.near.Reach.TheVariants.{Overlap, Touch}
 use Rattle.rp_contacts.specs.declared.pair.Pair.{Pair}

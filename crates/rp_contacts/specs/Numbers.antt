@@ -3,7 +3,7 @@ use Rattle.std.specs.Prelude.{ℕ, ◌<◌, Bool, not, ◌==◌, List, [], ◌�
 use Rattle.rp_geometry.specs.sets.Shape.{Part}
 use Rattle.rp_walks.specs.Form.{touching_pair}
 use Rattle.rp_model.specs.states.State.{Lot}
-use Rattle.rp_model.specs.commands.Row.{count_pairs}
+use Rattle.rp_model.specs.commands.Parts.{count_pairs}
 use Rattle.rp_history.specs.Places.{IsOneOf}
 use Rattle.rp_contacts.specs.declared.pair.Pair.{Pair}
 use Rattle.rp_contacts.specs.Meets.{pair_of, parts_at}

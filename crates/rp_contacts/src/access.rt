@@ -4,7 +4,7 @@ ghost use Rattle.std.specs.Prelude.{◌≡◌, ◌<◌, ◌≤◌, None, length,
 ghost use Rattle.std.specs.List.{AllByRecursion};
 ghost use Rattle.rp_model.specs.states.State.{ids_of, place_among, layer_with_id, most_kept_parts};
 ghost use Rattle.rp_model.specs.commands.Checks.{check_access};
-ghost use Rattle.rp_model.specs.commands.Row.{access_by_links, row_access};
+ghost use Rattle.rp_model.specs.commands.Access.{access_by_links, row_access};
 ghost use Rattle.rp_history.specs.Lots.{lot_of};
 ghost use Rattle.rp_history.specs.Places.{AreRising};
 ghost use Rattle.rp_rows.specs.Access.{told_access};

@@ -1,7 +1,7 @@
 //! All lots of one layer are to be shown apart: before the pairs of lots are judged.
 ghost use Rattle.std.specs.Prelude.{IfOk};
 ghost use Rattle.std.specs.List.{AllByRecursion};
-ghost use Rattle.rp_model.specs.commands.Row.{row_audit};
+ghost use Rattle.rp_model.specs.commands.Audit.{row_audit};
 ghost use Rattle.rp_contacts.specs.Meets.{IsPairWithin};
 ghost use Rattle.rp_contacts.specs.Apart.{LeavesAudit};
 

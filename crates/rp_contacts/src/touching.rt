@@ -2,7 +2,7 @@
 ghost use Rattle.std.specs.Prelude.{◌≡◌, ◌<◌, ◌≤◌, IfOk, length, map};
 ghost use Rattle.std.specs.List.{AllByRecursion};
 ghost use Rattle.rp_model.specs.states.State.{most_kept_parts};
-ghost use Rattle.rp_model.specs.commands.Row.{row_neighbours};
+ghost use Rattle.rp_model.specs.commands.Neighbours.{row_neighbours};
 ghost use Rattle.rp_history.specs.Lots.{lot_of};
 ghost use Rattle.rp_lotindex.specs.Near.{others_in, AreWithin};
 ghost use Rattle.rp_contacts.specs.Asked.{LeavesContacts, touch_counted, LeavesPairs};

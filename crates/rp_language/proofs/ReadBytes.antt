@@ -11,8 +11,8 @@ use Rattle.rp_algebra.proofs.Listed.{all_append}
 use Rattle.rp_geometry.specs.Geometry.{HalfSpace, half_space_of, is_zero_half_space, reduced_half_space}
 use Rattle.rp_geometry.specs.sets.Prism.{corner_of}
 use Rattle.rp_language.specs.Name.{is_letter, is_name_byte, is_name, label_eq}
-use Rattle.rp_language.specs.Expression.{Expression, Command}
-use Rattle.rp_language.specs.Grammar.{Word, space, Version, one, two, Place, Reader, Fault, bad_syntax, out_of_range, zero_half_space, too_many_nodes, nonzero_half_space, gives, ◌>>=◌, next_word, or_fault, in_bounds, named_word, name, looked_up, keyword, minus_sign, value_of_digits, starts_above_zero, spells_zero, natural_spelled, as_whole, number_spelled, decimal_point, fraction_spelled, in_thousandths, thousandths_spelled, as_negative, signed, coordinate_spelled, spelled_so, number, coordinate, cube_coordinate, height, coefficient, count_between, counted, many, half_space_numbers, point, box_numbers, corner_numbers, prism_numbers, Node, half_node, box_node, prism_node, all_node, none_node, name_node, lot_node, not_node, node_table, count_node, node_words, expression_within, expression, child, equals_sign, equals_word, end_of, end_of_line, Verb, let_verb, member_verb, empty_verb, pieces_verb, show_verb, register_verb, cut_verb, subdivide_verb, consolidate_verb, retire_verb, neighbours_verb, history_verb, layer_verb, at_verb, asof_verb, audit_verb, list_verb, section_verb, access_verb, verb_table, verb_words, command_words, words_of, spaced, reading, command}
+use Rattle.rp_language.specs.Expression.{Expression, Kind, name_kind, expression_kind, point_kind, height_kind, line_kind, equals_kind, names_kind, children_kind, Operand, Operands, signature, Command, said}
+use Rattle.rp_language.specs.Grammar.{Word, space, Version, one, two, Place, Reader, Fault, bad_syntax, out_of_range, zero_half_space, too_many_nodes, nonzero_half_space, gives, ◌>>=◌, next_word, or_fault, in_bounds, named_word, name, looked_up, keyword, minus_sign, value_of_digits, starts_above_zero, spells_zero, natural_spelled, as_whole, number_spelled, decimal_point, fraction_spelled, in_thousandths, thousandths_spelled, as_negative, signed, coordinate_spelled, spelled_so, number, coordinate, cube_coordinate, height, coefficient, count_between, counted, many, half_space_numbers, point, box_numbers, corner_numbers, prism_numbers, Node, half_node, box_node, prism_node, all_node, none_node, name_node, lot_node, not_node, node_table, count_node, node_words, expression_within, expression, child, equals_sign, equals_word, end_of, end_of_line, Verb, verb_table, operand_read, operands_read, verb_words, command_words, words_of, spaced, reading, command}
 use Rattle.rp_language.proofs.ReadAgain.{given, steps, same_success, no_success}
 use Rattle.rp_language.proofs.WordsAgain.{takes_word, checked_if, checked_some}
 use Rattle.rp_language.proofs.ShapesAgain.{checked_unless}
@@ -293,28 +293,25 @@ module _ (v : Version) where
 
   -- ---- commands
 
+  -- an operand
+  of_operand : (k : Kind) → TakesPrinted (operand_read v k)
+  of_operand name_kind = of_name
+  of_operand expression_kind = of_expression
+  of_operand point_kind = of_point
+  of_operand height_kind = of_coordinate v _ _
+  of_operand line_kind = of_count 0 16777216
+  of_operand equals_kind = of_equals
+  of_operand names_kind = of_counted 0 65536 name of_name
+  of_operand children_kind = of_counted 0 1024 (child v) (of_two name (expression v) _ of_name of_expression)
+
+  -- several operands
+  of_operands : {A : Type 0} (ks : List Kind) (make : Operands ks → A) → TakesPrinted (operands_read v ks make)
+  of_operands [] make = of_given _
+  of_operands (k ∷ ks) make = of_both (operand_read v k) _ (of_operand k) λ x. of_operands ks (λ xs. make (x, xs))
+
   -- what follows the word of a command
   of_verb : (verb : Verb) → TakesPrinted (verb_words v verb)
-  of_verb let_verb = of_both name _ of_name λ x. of_both equals_word _ of_equals λ _. of_one (expression v) _ of_expression
-  of_verb member_verb = of_two (expression v) (point v) _ of_expression of_point
-  of_verb empty_verb = of_one (expression v) _ of_expression
-  of_verb pieces_verb = of_one (expression v) _ of_expression
-  of_verb show_verb = of_one (expression v) _ of_expression
-  of_verb register_verb = of_two name (expression v) _ of_name of_expression
-  of_verb cut_verb = of_both name _ of_name λ x. of_both (expression v) _ of_expression λ e. of_two name name _ of_name of_name
-  of_verb subdivide_verb = of_both name _ of_name λ x. of_one (counted 0 1024 (child v)) _ (of_counted 0 1024 (child v) (of_two name (expression v) _ of_name of_expression))
-  of_verb consolidate_verb = of_both name _ of_name λ x. of_one (counted 0 65536 name) _ (of_counted 0 65536 name of_name)
-  of_verb retire_verb = of_one name _ of_name
-  of_verb neighbours_verb = of_one name _ of_name
-  of_verb history_verb = of_one name _ of_name
-  of_verb layer_verb = of_one name _ of_name
-  of_verb at_verb = of_one (point v) _ of_point
-  of_verb asof_verb = of_two (count_between 0 16777216) (point v) _ (of_count 0 16777216) of_point
-  of_verb audit_verb = of_given _
-  of_verb list_verb = of_given _
-  of_verb section_verb = of_two (expression v) (height v) _ of_expression (of_coordinate v _ _)
-  of_verb access_verb = of_two name name _ of_name of_name
-  of_verb _ = of_two (expression v) (expression v) _ of_expression of_expression
+  of_verb verb = of_operands (signature verb) (said verb)
 
   -- a whole command
   command_printed : (p : Place) (c : Command) (q : Place) → command_words v p ≡ Ok (c, q) → ArePrinted p.words

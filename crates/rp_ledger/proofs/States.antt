@@ -12,7 +12,8 @@ use Rattle.rp_walks.specs.Walk.{Outcome, done, stopped, Walk, Tester}
 use Rattle.rp_walks.specs.FormLaws.{IfDone}
 use Rattle.rp_model.specs.states.State.{Kept, Lot, NewLot, State, PlainState, plain_kept, plain_lot, plain_of, kept_of_parts, lot_of_parts, state_of_parts, ids_of, Change, nothing_changes, name_added, lots_replaced, layer_changed, changed}
 use Rattle.rp_model.specs.states.Sound.{IsSoundWith, IsLaterThan}
-use Rattle.rp_model.specs.commands.Row.{Reply as ModelReply, row}
+use Rattle.rp_model.specs.commands.Reply.{Reply as ModelReply}
+use Rattle.rp_model.specs.commands.Row.{row}
 use Rattle.rp_model.specs.commands.Rule.{formed_by, rule_without_limits, change_of, with_parts}
 use Rattle.rp_reports.specs.laws.RowLaws.{IsSoundChange, IsRightReply, RowIsRight}
 use Rattle.rp_states.proofs.Computed.{changed_plain, reply_plain}

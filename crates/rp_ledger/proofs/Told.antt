@@ -3,7 +3,7 @@ use Rattle.std.proofs.Common.{◌≡◌, List, Result, Ok, Err, sym, subst}
 use Rattle.rp_geometry.specs.sets.Shape.{Part}
 use Rattle.rp_walks.specs.Walk.{Outcome, Tester}
 use Rattle.rp_model.specs.states.State.{PlainState}
-use Rattle.rp_model.specs.commands.Row.{Reply as ModelReply}
+use Rattle.rp_model.specs.commands.Reply.{Reply as ModelReply}
 use Rattle.rp_answer.specs.declared.answer.Verdict.{Verdict as CodeVerdict}
 use Rattle.rp_lists.specs.Listed.{Listed}
 use Rattle.rp_answer.specs.declared.reply.RowEnd.{RowEnd}

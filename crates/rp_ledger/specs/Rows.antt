@@ -5,7 +5,11 @@ use Rattle.rp_geometry.specs.sections.Trace.{IsHeight}
 use Rattle.rp_geometry.specs.sets.Shape.{Part}
 use Rattle.rp_walks.specs.Walk.{Outcome, done, Tester, Walk, pass}
 use Rattle.rp_model.specs.states.State.{Change as ModelChange, nothing_changes, PlainState}
-use Rattle.rp_model.specs.commands.Row.{Reply as ModelReply, reply_lines, accepted, row_access, row_audit, row_neighbours, row_section}
+use Rattle.rp_model.specs.commands.Reply.{Reply as ModelReply, reply_lines, accepted}
+use Rattle.rp_model.specs.commands.Access.{row_access}
+use Rattle.rp_model.specs.commands.Audit.{row_audit}
+use Rattle.rp_model.specs.commands.Neighbours.{row_neighbours}
+use Rattle.rp_model.specs.commands.Section.{row_section}
 use Rattle.rp_lists.specs.Listed.{Listed}
 use Rattle.rp_answer.specs.declared.answer.Verdict.{Verdict as CodeVerdict}
 use Rattle.rp_answer.specs.Views.{verdict_of}

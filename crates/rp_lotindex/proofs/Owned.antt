@@ -20,7 +20,8 @@ use Rattle.rp_geometry.proofs.LeastBoxes.{box_itself}
 use Rattle.rp_language.specs.Name.{Label, label_eq}
 use Rattle.rp_model.specs.states.State.{Lot, ends_later, lots_of_layer, bare_lot, lot_of_parts}
 use Rattle.rp_model.specs.commands.Verdict.{Verdict}
-use Rattle.rp_model.specs.commands.Row.{is_in_parts, owner_line}
+use Rattle.rp_model.specs.commands.Parts.{is_in_parts}
+use Rattle.rp_model.specs.commands.At.{owner_line}
 use Rattle.rp_states.proofs.Listing.{all_unmapped}
 use Rattle.rp_boxindex.specs.Boxes.{Boxes}
 use Rattle.rp_boxindex.specs.Meeting.{do_meet, meeting_ids, first_that}

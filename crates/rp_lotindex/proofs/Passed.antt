@@ -24,7 +24,7 @@ use Rattle.rp_geometry.specs.Geometry.{IntegerBox}
 use Rattle.rp_geometry.specs.sets.Shape.{Part}
 use Rattle.rp_language.specs.Name.{Label, label_eq}
 use Rattle.rp_model.specs.states.State.{Lot, is_live, live_lots, lots_of_layer, other_lots, bare_lot}
-use Rattle.rp_model.specs.commands.Row.{count_pairs, lot_parts}
+use Rattle.rp_model.specs.commands.Parts.{count_pairs, lot_parts}
 use Rattle.rp_boxindex.specs.Boxes.{Boxes}
 use Rattle.rp_lotindex.specs.declared.near.Reach.{Reach}
 use Rattle.rp_lotindex.specs.Indexed.{NoneBehind}

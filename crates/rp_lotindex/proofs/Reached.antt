@@ -18,7 +18,7 @@ use Rattle.rp_space.specs.declared.bounds.IntBox.{IntBox}
 use Rattle.rp_space.specs.Boxes.{integer_box}
 use Rattle.rp_language.specs.Name.{Label, label_eq}
 use Rattle.rp_model.specs.states.State.{Lot, is_live}
-use Rattle.rp_model.specs.commands.Row.{count_pairs}
+use Rattle.rp_model.specs.commands.Parts.{count_pairs}
 use Rattle.rp_boxindex.specs.Boxes.{Boxes}
 use Rattle.rp_boxindex.specs.Laws.{is_there_and_meets}
 use Rattle.rp_boxindex.specs.Meeting.{do_meet, meeting_ids}

@@ -8,7 +8,10 @@ use Rattle.rp_language.specs.Name.{Label, label_eq, is_among}
 use Rattle.rp_walks.specs.Walk.{Outcome, done, stopped, stop, taken_wrong, Walk, pass, after_first, Tester}
 use Rattle.rp_walks.specs.Form.{near_pair, touching_pair, test_pair_if, first_with_part, first_pair, common_nearby}
 use Rattle.rp_model.specs.states.State.{Lot, is_live, live_lots, lots_of_layer, other_lots, ids_of}
-use Rattle.rp_model.specs.commands.Row.{count_pairs, lot_parts, first_overlapped, touched_lot, touched_lots, all_apart_from}
+use Rattle.rp_model.specs.commands.Parts.{count_pairs, lot_parts}
+use Rattle.rp_model.specs.commands.Register.{first_overlapped}
+use Rattle.rp_model.specs.commands.Neighbours.{touched_lot, touched_lots}
+use Rattle.rp_model.specs.commands.Audit.{all_apart_from}
 use Rattle.rp_history.proofs.Found.{picked_not_there}
 use Rattle.rp_lotindex.specs.declared.near.Reach.{Reach}
 use Rattle.rp_lotindex.specs.declared.near.Reach.TheVariants.{Overlap, Touch}

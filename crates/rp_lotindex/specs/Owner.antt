@@ -7,7 +7,8 @@ use Rattle.rp_geometry.specs.parts.LeastBox.{BoxHoldsCell}
 use Rattle.rp_language.specs.Name.{Label, label_eq}
 use Rattle.rp_model.specs.states.State.{Lot, is_live, is_alive_after, lots_of_layer, bare_lot}
 use Rattle.rp_model.specs.commands.Verdict.{Verdict}
-use Rattle.rp_model.specs.commands.Row.{is_in_parts, owner_line}
+use Rattle.rp_model.specs.commands.Parts.{is_in_parts}
+use Rattle.rp_model.specs.commands.At.{owner_line}
 use Rattle.rp_boxindex.specs.Boxes.{Boxes}
 use Rattle.rp_boxindex.specs.Meeting.{first_that, meeting_ids}
 use Rattle.rp_lotindex.specs.declared.moment.Moment.{Moment}

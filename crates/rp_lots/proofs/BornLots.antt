@@ -3,7 +3,8 @@ use Rattle.std.proofs.Common.{◌≡◌, List, [], ◌∷◌, ◌++◌, length, 
 use Rattle.rp_geometry.specs.sets.Shape.{Part}
 use Rattle.rp_walks.specs.Walk.{Outcome}
 use Rattle.rp_model.specs.states.State.{NewLot}
-use Rattle.rp_model.specs.commands.Row.{Reply, new_lot}
+use Rattle.rp_model.specs.commands.Reply.{Reply}
+use Rattle.rp_model.specs.commands.Parts.{new_lot}
 use Rattle.rp_history.specs.declared.lot.Birth.{Birth}
 use Rattle.rp_history.specs.Parts.{new_lots}
 use Rattle.rp_answer.specs.declared.reply.RowEnd.{RowEnd}

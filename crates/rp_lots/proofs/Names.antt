@@ -9,7 +9,8 @@ use Rattle.rp_walks.specs.Walk.{Walk}
 use Rattle.rp_walks.specs.Form.{parts_or_none}
 use Rattle.rp_model.specs.states.State.{Lot, PlainState, live_lot, parts_of_lot}
 use Rattle.rp_model.specs.commands.Verdict.{Refusal}
-use Rattle.rp_model.specs.commands.Row.{Reply, check, lot_parts, parts_with_id}
+use Rattle.rp_model.specs.commands.Reply.{Reply, check}
+use Rattle.rp_model.specs.commands.Parts.{lot_parts, parts_with_id}
 use Rattle.rp_history.specs.declared.fault.NameFault.{NameFault}
 use Rattle.rp_history.specs.declared.fault.NameFault.TheVariants.{Known, Unknown, Repeated, Layers, Same, Few, Memory}
 use Rattle.rp_history.specs.Checks.{FailsNames}

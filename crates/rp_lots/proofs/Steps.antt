@@ -4,7 +4,7 @@ use Rattle.rp_walks.specs.Walk.{done, Walk, after_first, ◌>>◌}
 use Rattle.rp_model.specs.states.State.{most_kept_parts}
 use Rattle.rp_model.specs.commands.Verdict.{Refusal}
 use Rattle.rp_model.specs.commands.Checks.{and_then}
-use Rattle.rp_model.specs.commands.Row.{Reply, refusal, check, check_size}
+use Rattle.rp_model.specs.commands.Reply.{Reply, refusal, check, check_size}
 use Rattle.rp_tester.specs.declared.stopped.Stopped.{Stopped}
 use Rattle.rp_tester.specs.Comes.{StopsBy}
 use Rattle.rp_tester.proofs.Left.{stops_on}

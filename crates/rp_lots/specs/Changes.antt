@@ -3,7 +3,7 @@ use Rattle.std.specs.Prelude.{◌≡◌, List, map, Result, Ok, Err}
 use Rattle.rp_geometry.specs.sets.Shape.{Part}
 use Rattle.rp_walks.specs.Walk.{Outcome, done}
 use Rattle.rp_model.specs.states.State.{Change as ModelChange, name_added, lots_replaced, layer_changed}
-use Rattle.rp_model.specs.commands.Row.{Reply, accepted}
+use Rattle.rp_model.specs.commands.Reply.{Reply, accepted}
 use Rattle.rp_history.specs.Parts.{new_lots}
 use Rattle.rp_answer.specs.declared.reply.RowEnd.{RowEnd}
 use Rattle.rp_answer.specs.Replies.{EndsBy}

@@ -1,7 +1,7 @@
 //! Checks of sizes, and counts.
 ghost use Rattle.std.specs.Prelude.{◌≡◌, ◌+◌, length};
 ghost use Rattle.rp_model.specs.states.State.{parts_under_lots, most_kept_parts};
-ghost use Rattle.rp_model.specs.commands.Row.{check_size};
+ghost use Rattle.rp_model.specs.commands.Reply.{check_size};
 ghost use Rattle.rp_tester.specs.Comes.{Comes};
 
 use crate::keeper::Keeper;

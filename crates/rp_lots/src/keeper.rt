@@ -5,7 +5,7 @@ ghost use Rattle.rp_geometry.specs.parts.Parts.{most_parts};
 ghost use Rattle.rp_space.specs.Boxes.{integer_box};
 ghost use Rattle.rp_walks.specs.Walk.{stopped, limit_met, most_tests};
 ghost use Rattle.rp_model.specs.states.State.{PlainState, bare_lot, parts_under_lots, most_kept_parts};
-ghost use Rattle.rp_model.specs.commands.Row.{lot_parts};
+ghost use Rattle.rp_model.specs.commands.Parts.{lot_parts};
 ghost use Rattle.rp_lotindex.specs.Near.{others_in, is_near, lots_at, AreWithin};
 
 use rp_history::History;

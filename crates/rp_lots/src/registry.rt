@@ -2,7 +2,7 @@
 ghost use Rattle.std.specs.Prelude.{◌≡◌, ◌+◌, ◌&&◌, filter, length, nat_le};
 ghost use Rattle.rp_walks.specs.Form.{common_nearby};
 ghost use Rattle.rp_model.specs.states.State.{lots_of_layer, parts_in, parts_under_names, most_names, most_kept_parts};
-ghost use Rattle.rp_model.specs.commands.Row.{owner_line};
+ghost use Rattle.rp_model.specs.commands.At.{owner_line};
 ghost use Rattle.rp_lotindex.specs.Owner.{is_there, owner_verdict};
 ghost use Rattle.rp_tester.specs.Comes.{Comes};
 

@@ -9,7 +9,7 @@ use Rattle.rp_walks.specs.Form.{form}
 use Rattle.rp_walks.specs.FormLaws.{IfDone, MeaningsAgree}
 use Rattle.rp_forms.proofs.First.{first_tester_is_right_spec}
 use Rattle.rp_forms.proofs.Forms.{form_is_right_spec}
-use Rattle.rp_accepted.proofs.Likeness.{PartsHave}
+use Rattle.rp_parametricity.proofs.Likeness.{PartsHave}
 use Rattle.rp_accepted.proofs.Commands.{Any}
 use Rattle.rp_tester.specs.declared.stopped.Stopped.{Stopped}
 use Rattle.rp_tester.specs.Comes.{Comes}

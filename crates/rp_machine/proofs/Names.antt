@@ -10,7 +10,7 @@ use Rattle.rp_language.specs.Name.{Label, label_eq}
 use Rattle.rp_walks.specs.FormLaws.{Agree, MeaningsAgree}
 use Rattle.rp_model.specs.states.State.{Kept, Lot, PlainState, kept_of_parts, lot_of_parts, state_of_parts, parts_in, is_live, live_lots, live_lot, lot_with_id, kept_named, parts_of_kept, parts_of_lot}
 use Rattle.rp_model.specs.states.Sound.{IsSound}
-use Rattle.rp_model.specs.commands.Row.{shapes_of_parts}
+use Rattle.rp_model.specs.commands.Parts.{shapes_of_parts}
 use Rattle.rp_states.proofs.Listing.{all_unmapped}
 
 -- a region agrees with the shape of its parts

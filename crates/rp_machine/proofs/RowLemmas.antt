@@ -3,7 +3,8 @@ use Rattle.std.proofs.Common.{◌≡◌, ℤ, List, refl}
 use Rattle.rp_geometry.specs.sets.Shape.{Part}
 use Rattle.rp_walks.specs.Walk.{Work, done, slices_found, first_tester}
 use Rattle.rp_model.specs.commands.Verdict.{section_lines}
-use Rattle.rp_model.specs.commands.Row.{reply_lines, row_section}
+use Rattle.rp_model.specs.commands.Reply.{reply_lines}
+use Rattle.rp_model.specs.commands.Section.{row_section}
 use Rattle.rp_section.specs.Shown.{slices_of}
 
 -- the lines of a section are those of the slices of the parts

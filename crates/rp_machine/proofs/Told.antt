@@ -6,7 +6,8 @@ use Rattle.rp_language.specs.Expression.{Command}
 use Rattle.rp_language.specs.Grammar.{Version, Reading, command, reading}
 use Rattle.rp_walks.specs.Walk.{Stop, Outcome, stopped, Work, no_work, first_tester}
 use Rattle.rp_model.specs.states.State.{PlainState, changed}
-use Rattle.rp_model.specs.commands.Row.{Reply, row}
+use Rattle.rp_model.specs.commands.Reply.{Reply}
+use Rattle.rp_model.specs.commands.Row.{row}
 use Rattle.rp_model.specs.commands.Rule.{walked, proofs_walked}
 use Rattle.rp_reports.specs.Text.{Answer}
 use Rattle.rp_reports.specs.Machine.{verdicts_walked, change_walked, answer_read, state_read, step_answer, step_state, Running, after_line}

@@ -8,7 +8,7 @@ ghost use Rattle.rp_walks.specs.Walk.{first_tester};
 ghost use Rattle.rp_walks.specs.Form.{form};
 ghost use Rattle.rp_model.specs.states.State.{parts_in, state_of_parts};
 ghost use Rattle.rp_model.specs.states.Sound.{IsSound};
-ghost use Rattle.rp_model.specs.commands.Row.{shapes_of_parts};
+ghost use Rattle.rp_model.specs.commands.Parts.{shapes_of_parts};
 ghost use Rattle.rp_machine.specs.Forms.{MakesForm};
 
 use crate::fault::FormFault;

@@ -6,7 +6,8 @@ ghost use Rattle.rp_walks.specs.Walk.{Work as ModelWork, stopped, limit_met, mos
 ghost use Rattle.rp_walks.specs.Form.{common_nearby};
 ghost use Rattle.rp_tester.specs.Comes.{Comes};
 ghost use Rattle.rp_model.specs.states.State.{bare_lot, lots_of_layer, parts_in, parts_under_names, parts_under_lots, most_names, most_kept_parts};
-ghost use Rattle.rp_model.specs.commands.Row.{lot_parts, owner_line};
+ghost use Rattle.rp_model.specs.commands.Parts.{lot_parts};
+ghost use Rattle.rp_model.specs.commands.At.{owner_line};
 ghost use Rattle.rp_lotindex.specs.Near.{others_in, is_near, lots_at, AreWithin};
 ghost use Rattle.rp_lotindex.specs.Owner.{is_there, owner_verdict};
 

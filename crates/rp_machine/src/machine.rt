@@ -12,7 +12,7 @@ ghost use Rattle.rp_walks.specs.Walk.{first_tester};
 ghost use Rattle.rp_walks.specs.Form.{form};
 ghost use Rattle.rp_model.specs.states.State.{opening, live_lots, parts_in, state_of_parts};
 ghost use Rattle.rp_model.specs.states.Sound.{IsSound, IsLaterThan};
-ghost use Rattle.rp_model.specs.commands.Row.{shapes_of_parts};
+ghost use Rattle.rp_model.specs.commands.Parts.{shapes_of_parts};
 ghost use Rattle.rp_reports.specs.Machine.{step_answer, after_line, answer_read, state_read};
 ghost use Rattle.rp_answer.specs.Views.{answer_of};
 ghost use Rattle.rp_machine.specs.Forms.{MakesForm};

@@ -6,7 +6,11 @@ ghost use Rattle.rp_geometry.specs.parts.Parts.{most_parts};
 ghost use Rattle.rp_geometry.specs.sections.Trace.{IsHeight};
 ghost use Rattle.rp_language.specs.Expression.{IsKeptExpression, expressions_of, heights_of, HasFewChildren};
 ghost use Rattle.rp_walks.specs.Walk.{first_tester};
-ghost use Rattle.rp_model.specs.commands.Row.{row, row_access, row_audit, row_neighbours, row_section};
+ghost use Rattle.rp_model.specs.commands.Row.{row};
+ghost use Rattle.rp_model.specs.commands.Access.{row_access};
+ghost use Rattle.rp_model.specs.commands.Audit.{row_audit};
+ghost use Rattle.rp_model.specs.commands.Neighbours.{row_neighbours};
+ghost use Rattle.rp_model.specs.commands.Section.{row_section};
 ghost use Rattle.rp_answer.specs.Replies.{Tells};
 ghost use Rattle.rp_ledger.specs.Rows.{Replies, reply_told};
 

@@ -4,7 +4,7 @@ ghost use Rattle.rp_geometry.specs.parts.Parts.{IsPart};
 ghost use Rattle.rp_walks.specs.FormLaws.{MeaningsAgree};
 ghost use Rattle.rp_model.specs.states.State.{opening, parts_in, state_of_parts, live_lots, changed};
 ghost use Rattle.rp_model.specs.states.Sound.{IsSound, IsLaterThan};
-ghost use Rattle.rp_model.specs.commands.Row.{shapes_of_parts};
+ghost use Rattle.rp_model.specs.commands.Parts.{shapes_of_parts};
 ghost use Rattle.rp_ledger.specs.Taken.{IsTaken};
 ghost use Rattle.rp_machine.specs.Replies.{made};
 

@@ -11,7 +11,8 @@ use Rattle.rp_language.specs.Name.{Label, label_eq}
 use Rattle.rp_model.specs.states.State.{Lot, is_live, live_lots, lots_of_layer, lot_of_parts}
 use Rattle.rp_model.specs.states.Sound.{Pairwise}
 use Rattle.rp_model.specs.commands.Verdict.{Verdict}
-use Rattle.rp_model.specs.commands.Row.{owner_line, is_in_parts}
+use Rattle.rp_model.specs.commands.At.{owner_line}
+use Rattle.rp_model.specs.commands.Parts.{is_in_parts}
 use Rattle.rp_verdicts.proofs.Points.{in_parts_is_member}
 use Rattle.rp_states.proofs.Labels.{label_is, label_same}
 use Rattle.rp_states.proofs.Listing.{all_passed, all_true, pairs_kept, pairs_unmapped}

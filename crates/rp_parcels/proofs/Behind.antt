@@ -14,17 +14,25 @@ use Rattle.rp_walks.proofs.Outcomes.{weaker_done}
 use Rattle.rp_model.specs.states.State.{Lot, PlainState, live_lots, lots_of_layer}
 use Rattle.rp_model.specs.states.Sound.{Pairwise}
 use Rattle.rp_model.specs.commands.Verdict.{clear}
-use Rattle.rp_model.specs.commands.Row.{Reply, FormedChild, reply, lot_parts, count_in_layers, all_apart_from, all_apart, row_register, row_cut, row_subdivide, row_consolidate, row_neighbours, row_access, row_audit}
+use Rattle.rp_model.specs.commands.Reply.{Reply, reply}
+use Rattle.rp_model.specs.commands.Subdivide.{FormedChild, row_subdivide}
+use Rattle.rp_model.specs.commands.Parts.{lot_parts}
+use Rattle.rp_model.specs.commands.Audit.{count_in_layers, all_apart_from, all_apart, row_audit}
+use Rattle.rp_model.specs.commands.Register.{row_register}
+use Rattle.rp_model.specs.commands.Cut.{row_cut}
+use Rattle.rp_model.specs.commands.Consolidate.{row_consolidate}
+use Rattle.rp_model.specs.commands.Neighbours.{row_neighbours}
+use Rattle.rp_model.specs.commands.Access.{row_access}
 use Rattle.rp_verdicts.proofs.Right.{first_walks_are_right}
 use Rattle.rp_states.proofs.Labels.{label_is}
 use Rattle.rp_history.specs.Lots.{lots_in}
 use Rattle.rp_lotindex.proofs.Skipped.{apart_on}
 use Rattle.rp_region.proofs.Behind.{ComesBehind}
-use Rattle.rp_accepted.proofs.Kept.{FormedHave, ReplyHas}
+use Rattle.rp_parametricity.proofs.Kept.{FormedHave, ReplyHas}
 use Rattle.rp_accepted.proofs.Commands.{Any, AnyLabel, any_parts, any_labels, any_state}
-use Rattle.rp_accepted.proofs.Rows.{register_alike, cut_alike, subdivide_alike, consolidate_alike, neighbours_alike, access_alike}
-use Rattle.rp_accepted.proofs.Likeness.{Anything}
-use Rattle.rp_accepted.proofs.Forms.{after, common_nearby_alike}
+use Rattle.rp_parametricity.proofs.Rows.{register_alike, cut_alike, subdivide_alike, consolidate_alike, neighbours_alike, access_alike}
+use Rattle.rp_parametricity.proofs.Likeness.{Anything}
+use Rattle.rp_parametricity.proofs.Forms.{after, common_nearby_alike}
 use Rattle.rp_queries.proofs.Appended.{behind, Again, Appended, appended, binds_appended, related_appended, ends_behind, stops_behind}
 use Rattle.rp_parcels.specs.Kept.{AreSound}
 use Rattle.rp_parcels.proofs.Alone.{ApartLots, live_apart}

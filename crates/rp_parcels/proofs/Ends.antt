@@ -18,7 +18,15 @@ use Rattle.rp_model.specs.states.State.{Lot, StateOf, present_lots, live_lots, l
 use Rattle.rp_geometry.specs.parts.Levels.{levels_along, chain_along}
 use Rattle.rp_model.specs.commands.Verdict.{Refusal, Verdict, access_lines, neighbour_lines, clear, refused, known, unknown, repeated, layers, same_name, too_few, empty_region, overlaps, empty_side, empty_child, outside_lot, children_overlap, gap}
 use Rattle.rp_model.specs.commands.Checks.{refuse_if, and_then, check_new, check_live, check_each, check_repeated, check_layer, check_cut, check_subdivide, check_consolidate, check_access}
-use Rattle.rp_model.specs.commands.Row.{Reply, reply, reply_lines, access_by_links, lot_parts, numbered_lists, links_among_lists, touched_lots, all_apart, check, check_size, FormedChild, parts_with_id, joined_parts, child_parts, first_overlapped, first_empty_child, first_outside_child, first_overlapping_child, first_overlapping_children, row_register, row_cut, row_subdivide, row_consolidate, row_neighbours, row_access, row_audit}
+use Rattle.rp_model.specs.commands.Reply.{Reply, reply, reply_lines, check, check_size}
+use Rattle.rp_model.specs.commands.Access.{access_by_links, links_among_lists, row_access}
+use Rattle.rp_model.specs.commands.Parts.{lot_parts, numbered_lists, parts_with_id, joined_parts}
+use Rattle.rp_model.specs.commands.Neighbours.{touched_lots, row_neighbours}
+use Rattle.rp_model.specs.commands.Audit.{all_apart, row_audit}
+use Rattle.rp_model.specs.commands.Subdivide.{FormedChild, child_parts, first_empty_child, first_outside_child, first_overlapping_child, first_overlapping_children, row_subdivide}
+use Rattle.rp_model.specs.commands.Register.{first_overlapped, row_register}
+use Rattle.rp_model.specs.commands.Cut.{row_cut}
+use Rattle.rp_model.specs.commands.Consolidate.{row_consolidate}
 use Rattle.rp_verdicts.proofs.Parts.{difference_done}
 use Rattle.rp_verdicts.proofs.Right.{first_walks_are_right}
 use Rattle.rp_parcels.specs.Shown.{EndsInside, by_none, kind_of, IsShownBy, IsShown}

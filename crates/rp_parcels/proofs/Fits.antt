@@ -14,7 +14,14 @@ use Rattle.rp_model.specs.states.State.{Lot, NewLot, PlainState, state_of_parts,
 use Rattle.rp_model.specs.states.Sound.{are_distinct, IsSound, IsLaterThan}
 use Rattle.rp_model.specs.commands.Verdict.{Refusal, too_few, unknown}
 use Rattle.rp_model.specs.commands.Checks.{refuse_if, and_then, check_live, check_new, check_each, check_subdivide, check_repeated}
-use Rattle.rp_model.specs.commands.Row.{Reply, accepted, refusal, check, check_size, FormedChild, joined_parts, child_parts, row_register, row_cut, row_subdivide, row_consolidate, row_retire, row}
+use Rattle.rp_model.specs.commands.Reply.{Reply, accepted, refusal, check, check_size}
+use Rattle.rp_model.specs.commands.Subdivide.{FormedChild, child_parts, row_subdivide}
+use Rattle.rp_model.specs.commands.Parts.{joined_parts}
+use Rattle.rp_model.specs.commands.Register.{row_register}
+use Rattle.rp_model.specs.commands.Cut.{row_cut}
+use Rattle.rp_model.specs.commands.Consolidate.{row_consolidate}
+use Rattle.rp_model.specs.commands.Retire.{row_retire}
+use Rattle.rp_model.specs.commands.Row.{row}
 use Rattle.rp_model.proofs.Refusals.{neither}
 use Rattle.rp_run_laws.proofs.Rows.{first_rows}
 use Rattle.rp_states.proofs.Accepted.{not_repeated}

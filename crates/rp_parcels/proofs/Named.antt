@@ -16,7 +16,10 @@ use Rattle.rp_walks.specs.Form.{parts_or_none}
 use Rattle.rp_model.specs.states.State.{Kept, Lot, PlainState, names_of, kept_named, parts_of_kept, kept_of_parts, state_of_parts, parts_in, parts_under_names, most_kept_parts}
 use Rattle.rp_model.specs.states.Sound.{are_distinct, IsSound}
 use Rattle.rp_model.specs.commands.Verdict.{unknown}
-use Rattle.rp_model.specs.commands.Row.{Reply, FormedChild, check, with_form, form_children, joined_parts, child_parts}
+use Rattle.rp_model.specs.commands.Reply.{Reply, check}
+use Rattle.rp_model.specs.commands.Subdivide.{FormedChild, form_children, child_parts}
+use Rattle.rp_model.specs.commands.Definition.{with_form}
+use Rattle.rp_model.specs.commands.Parts.{joined_parts}
 use Rattle.rp_states.proofs.Labels.{label_itself, label_turned}
 use Rattle.rp_parcels.specs.Kept.{AreSound}
 

@@ -9,7 +9,8 @@ use Rattle.rp_algebra.proofs.Lists.{all_filter}
 use Rattle.rp_language.specs.Name.{Label, label_eq}
 use Rattle.rp_walks.specs.Form.{parts_or_none}
 use Rattle.rp_model.specs.states.State.{Lot, lot_of_parts, bare_lot, is_live, live_lots, lot_with_id, parts_of_lot, state_of_parts}
-use Rattle.rp_model.specs.commands.Row.{FormedChild, parts_with_id}
+use Rattle.rp_model.specs.commands.Subdivide.{FormedChild}
+use Rattle.rp_model.specs.commands.Parts.{parts_with_id}
 use Rattle.rp_states.proofs.Listing.{all_mapped, all_unmapped}
 use Rattle.rp_states.proofs.Plain.{kept_images}
 use Rattle.rp_geometry.proofs.Kept.{part_is_checked}

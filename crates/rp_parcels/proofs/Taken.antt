@@ -6,7 +6,7 @@ use Rattle.rp_geometry.specs.sets.Shape.{Part}
 use Rattle.rp_walks.specs.Walk.{Outcome, done, Walk, Work}
 use Rattle.rp_model.specs.states.State.{Lot}
 use Rattle.rp_model.specs.commands.Verdict.{Refusal as ModelRefusal}
-use Rattle.rp_model.specs.commands.Row.{Reply, refusal, accepted}
+use Rattle.rp_model.specs.commands.Reply.{Reply, refusal, accepted}
 use Rattle.rp_tester.specs.Comes.{Comes}
 use Rattle.rp_region.specs.declared.fault.OpFault.{OpFault}
 use Rattle.rp_region.specs.declared.fault.OpFault.TheVariants.{Limit as OpLimit}

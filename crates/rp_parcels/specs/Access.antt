@@ -1,5 +1,5 @@
 -- What access answers.
-use Rattle.rp_model.specs.commands.Row.{Reply, reply_lines}
+use Rattle.rp_model.specs.commands.Reply.{Reply, reply_lines}
 use Rattle.rp_rows.specs.declared.access.Access.{Access}
 use Rattle.rp_rows.specs.Access.{told_access}
 

@@ -4,7 +4,7 @@ use Rattle.std.specs.List.{list_any}
 use Rattle.rp_geometry.specs.Geometry.{RationalPoint, IsPoint}
 use Rattle.rp_language.specs.Name.{Label, label_eq}
 use Rattle.rp_model.specs.states.State.{Lot}
-use Rattle.rp_model.specs.commands.Row.{is_in_parts}
+use Rattle.rp_model.specs.commands.Parts.{is_in_parts}
 
 -- a lot with the id is among the lots, and has the point
 abbrev pub has_point : {S : Type 0} → List (Lot S) → RationalPoint → Label → Bool

@@ -3,7 +3,7 @@ use Rattle.std.specs.Prelude.{ℕ, List, []}
 use Rattle.rp_language.specs.Name.{Label}
 use Rattle.rp_model.specs.states.State.{Lot, NewLot, lots_replaced, state_of_parts}
 use Rattle.rp_model.specs.states.Sound.{IsLaterThan}
-use Rattle.rp_model.specs.commands.Row.{FormedChild}
+use Rattle.rp_model.specs.commands.Subdivide.{FormedChild}
 use Rattle.rp_history.specs.Lots.{lots_in, lots_after, AreNew}
 use Rattle.rp_parcels.specs.declared.child.Child.{Child}
 use Rattle.rp_parcels.specs.Kept.{AreSound}

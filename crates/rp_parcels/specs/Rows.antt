@@ -5,7 +5,7 @@ use Rattle.rp_walks.specs.Walk.{Outcome, done, stopped, limit_met, Walk, Work}
 use Rattle.rp_language.specs.Name.{Label}
 use Rattle.rp_model.specs.states.State.{Lot, NewLot, lots_replaced}
 use Rattle.rp_model.specs.commands.Verdict.{Refusal, known, unknown, repeated, layers, same_name, too_few, empty_region, overlaps, empty_side, empty_child, outside_lot, children_overlap, gap}
-use Rattle.rp_model.specs.commands.Row.{Reply, refusal, accepted}
+use Rattle.rp_model.specs.commands.Reply.{Reply, refusal, accepted}
 use Rattle.rp_region.specs.Makes.{IsCutShort}
 use Rattle.rp_region.specs.Pairs.{IsLast}
 use Rattle.rp_history.specs.Lots.{lots_after}

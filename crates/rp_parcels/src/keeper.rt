@@ -7,7 +7,7 @@ ghost use Rattle.rp_walks.specs.Form.{common_nearby};
 ghost use Rattle.rp_space.specs.Boxes.{integer_box};
 ghost use Rattle.rp_tester.specs.Comes.{Comes};
 ghost use Rattle.rp_model.specs.states.State.{bare_lot, parts_under_lots, most_kept_parts};
-ghost use Rattle.rp_model.specs.commands.Row.{lot_parts};
+ghost use Rattle.rp_model.specs.commands.Parts.{lot_parts};
 ghost use Rattle.rp_history.specs.Lots.{lots_in};
 ghost use Rattle.rp_lotindex.specs.Near.{others_in, is_near, lots_at, AreWithin};
 

@@ -1,7 +1,7 @@
 //! Whose a point is.
 ghost use Rattle.std.specs.Prelude.{◌≡◌, filter};
 ghost use Rattle.rp_model.specs.states.State.{live_lots, lots_of_layer, alive_after};
-ghost use Rattle.rp_model.specs.commands.Row.{owner_line};
+ghost use Rattle.rp_model.specs.commands.At.{owner_line};
 ghost use Rattle.rp_lotindex.specs.Owner.{is_there, owner_verdict};
 ghost use Rattle.rp_parcels.specs.Kept.{AreSound};
 ghost use Rattle.rp_parcels.specs.Points.{IsOnlyOwner};

@@ -13,9 +13,9 @@ use Rattle.rp_language.specs.Expression.{Expression, Meaning}
 use Rattle.rp_walks.specs.Form.{made_part, parts_or_none, form}
 use Rattle.rp_walks.specs.Compare.{show_then_no, is_covered, relation_of_parts}
 use Rattle.rp_walks.specs.Pieces.{pair_count, numbered_from, pieces_of_parts}
-use Rattle.rp_accepted.proofs.Likeness.{Anything, Likeness, PartsHave, MadeHas, MeaningHas, Related}
-use Rattle.rp_accepted.proofs.Forms.{either, after, common_in_full_alike, form_alike}
-use Rattle.rp_accepted.proofs.Rows.{show_alike, covered_alike, by_overlap_alike, among_alike}
+use Rattle.rp_parametricity.proofs.Likeness.{Anything, Likeness, PartsHave, MadeHas, MeaningHas, Related}
+use Rattle.rp_parametricity.proofs.Forms.{either, after, common_in_full_alike, form_alike}
+use Rattle.rp_parametricity.proofs.Rows.{show_alike, covered_alike, by_overlap_alike, among_alike}
 use Rattle.rp_accepted.proofs.Commands.{Any, AnyLabel, any_cell, any_parts, any_expression}
 
 -- ---- the relation

@@ -4,7 +4,7 @@ ghost use Rattle.rp_command.specs.Views.{expression_of};
 ghost use Rattle.rp_language.specs.Expression.{IsKeptExpression, closed, shape_or_nothing};
 ghost use Rattle.rp_geometry.specs.Geometry.{is_cube_point};
 ghost use Rattle.rp_geometry.specs.sets.Shape.{passes, is_member, shape_of_parts};
-ghost use Rattle.rp_model.specs.commands.Row.{shapes_of_parts};
+ghost use Rattle.rp_model.specs.commands.Parts.{shapes_of_parts};
 
 use rp_command::Expr;
 use rp_footprint::prism_holds;

@@ -6,7 +6,9 @@ use Rattle.rp_walks.specs.Walk.{limit_met, taken_wrong, Outcome, done, stopped, 
 use Rattle.rp_model.specs.states.State.{Lot, PlainState, state_of_parts}
 use Rattle.rp_model.specs.states.Sound.{IsSound}
 use Rattle.rp_model.specs.commands.Verdict.{clear}
-use Rattle.rp_model.specs.commands.Row.{Reply, reply, lot_parts, row_audit}
+use Rattle.rp_model.specs.commands.Reply.{Reply, reply}
+use Rattle.rp_model.specs.commands.Parts.{lot_parts}
+use Rattle.rp_model.specs.commands.Audit.{row_audit}
 use Rattle.rp_states.proofs.Parted.{same_lots}
 use Rattle.rp_states.proofs.PlainRows.{row_same}
 use Rattle.rp_verdicts.proofs.Right.{first_walks_are_right}

@@ -4,7 +4,8 @@ ghost use Rattle.rp_walks.specs.Walk.{first_tester};
 ghost use Rattle.rp_model.specs.states.State.{state_of_parts};
 ghost use Rattle.rp_model.specs.states.Sound.{IsSound};
 ghost use Rattle.rp_model.specs.commands.Verdict.{clear};
-ghost use Rattle.rp_model.specs.commands.Row.{reply, row_audit};
+ghost use Rattle.rp_model.specs.commands.Reply.{reply};
+ghost use Rattle.rp_model.specs.commands.Audit.{row_audit};
 ghost use Rattle.rp_contacts.specs.Asked.{Answers};
 
 use crate::halves::meet_in_halves;

@@ -3,7 +3,9 @@ ghost use Rattle.std.specs.Prelude.{◌≤◌, IfOk, length};
 ghost use Rattle.rp_walks.specs.Walk.{first_tester};
 ghost use Rattle.rp_model.specs.states.State.{most_kept_parts};
 ghost use Rattle.rp_model.specs.commands.Verdict.{neighbour_lines};
-ghost use Rattle.rp_model.specs.commands.Row.{reply_lines, row_access, row_neighbours};
+ghost use Rattle.rp_model.specs.commands.Reply.{reply_lines};
+ghost use Rattle.rp_model.specs.commands.Access.{row_access};
+ghost use Rattle.rp_model.specs.commands.Neighbours.{row_neighbours};
 ghost use Rattle.rp_rows.specs.Access.{told_access};
 ghost use Rattle.rp_contacts.specs.Asked.{Answers};
 

@@ -1,6 +1,6 @@
 //! Regions are kept.
 ghost use Rattle.std.specs.Prelude.{◌≡◌};
-ghost use Rattle.rp_model.specs.commands.Row.{is_in_parts};
+ghost use Rattle.rp_model.specs.commands.Parts.{is_in_parts};
 
 use rp_region::{Part, Region};
 use rp_space::{IntBox, Point};

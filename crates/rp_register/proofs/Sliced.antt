@@ -5,7 +5,8 @@ use Rattle.std.proofs.lemmas.List.{length-map}
 use Rattle.rp_geometry.specs.sets.Shape.{Part}
 use Rattle.rp_walks.specs.Walk.{Outcome, done, after_first}
 use Rattle.rp_model.specs.commands.Verdict.{Verdict, section_lines}
-use Rattle.rp_model.specs.commands.Row.{reply_lines, row_section}
+use Rattle.rp_model.specs.commands.Reply.{reply_lines}
+use Rattle.rp_model.specs.commands.Section.{row_section}
 use Rattle.rp_reports.specs.Text.{verdict_text}
 use Rattle.rp_reports.specs.Check.{Trail, taken, follow_line, follow_lines, slices_told, follow_slices, line_tester}
 use Rattle.rp_accepted.proofs.Shown.{told_length}

@@ -3,7 +3,7 @@ use Rattle.std.specs.Prelude.{◌≡◌, ℕ, map, Result, Ok, Err}
 use Rattle.rp_geometry.specs.sets.Shape.{Part}
 use Rattle.rp_walks.specs.Walk.{Outcome, done, stopped, line_wrong}
 use Rattle.rp_model.specs.states.State.{Change as ModelChange, nothing_changes}
-use Rattle.rp_model.specs.commands.Row.{Reply as ModelReply}
+use Rattle.rp_model.specs.commands.Reply.{Reply as ModelReply}
 use Rattle.rp_reports.specs.Check.{Trail, follow_lines}
 use Rattle.rp_reports.specs.Text.{verdict_text}
 use Rattle.rp_lists.specs.Listed.{Listed}

@@ -1,7 +1,10 @@
 //! Commands that ask which lots are in contact, and whether all are apart.
 ghost use Rattle.std.specs.Prelude.{◌≡◌, length, map, IfOk};
 ghost use Rattle.rp_language.specs.Expression.{ask_access};
-ghost use Rattle.rp_model.specs.commands.Row.{access_by_links, row, row_audit, row_neighbours};
+ghost use Rattle.rp_model.specs.commands.Access.{access_by_links};
+ghost use Rattle.rp_model.specs.commands.Row.{row};
+ghost use Rattle.rp_model.specs.commands.Audit.{row_audit};
+ghost use Rattle.rp_model.specs.commands.Neighbours.{row_neighbours};
 ghost use Rattle.rp_reports.specs.Check.{line_tester};
 ghost use Rattle.rp_answer.specs.Replies.{Tells};
 ghost use Rattle.rp_answer.specs.Views.{verdict_of};

@@ -1,6 +1,6 @@
 //! Forms that the lines of a report show are kept.
 ghost use Rattle.std.specs.Prelude.{◌≡◌, map};
-ghost use Rattle.rp_model.specs.commands.Row.{is_in_parts};
+ghost use Rattle.rp_model.specs.commands.Parts.{is_in_parts};
 ghost use Rattle.rp_space.specs.Boxes.{integer_box};
 
 use rp_space::{IntBox, Point};

@@ -2,7 +2,7 @@
 ghost use Rattle.std.specs.Prelude.{◌≡◌, ◌≤◌, IfOk, IfErr, OnOk, length, map};
 ghost use Rattle.rp_geometry.specs.parts.Parts.{most_parts};
 ghost use Rattle.rp_geometry.specs.sections.Trace.{IsHeight};
-ghost use Rattle.rp_model.specs.commands.Row.{row_section};
+ghost use Rattle.rp_model.specs.commands.Section.{row_section};
 ghost use Rattle.rp_reports.specs.Text.{verdict_text};
 ghost use Rattle.rp_reports.specs.Check.{taken, slices_told, follow_line, line_tester};
 ghost use Rattle.rp_cert.specs.Section.{slice_shown};

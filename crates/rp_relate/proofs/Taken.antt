@@ -7,7 +7,7 @@ use Rattle.rp_region.specs.declared.fault.OpFault.{OpFault}
 use Rattle.rp_region.specs.Makes.{Makes}
 use Rattle.rp_region.specs.Stops.{fresh, TakesOver}
 use Rattle.rp_region.proofs.Behind.{ComesBehind, makes_behind}
-use Rattle.rp_accepted.proofs.Likeness.{Anything}
+use Rattle.rp_parametricity.proofs.Likeness.{Anything}
 use Rattle.rp_queries.proofs.Appended.{Appended, ends_behind, stops_behind}
 
 -- a walk that comes to the same behind any lines

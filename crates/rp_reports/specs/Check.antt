@@ -9,10 +9,12 @@ use Rattle.rp_geometry.specs.sections.Slice.{Slice, is_slice, slice_of}
 use Rattle.rp_walks.specs.Walk.{pass, stop, ◌>>=◌, ◌>>◌, limit_met, limit_told, line_wrong, taken_wrong, Outcome, done, stopped, Walk, Tester, most_tests}
 use Rattle.rp_geometry.specs.parts.Parts.{most_half_spaces}
 use Rattle.rp_language.specs.Name.{label_eq}
-use Rattle.rp_language.specs.Expression.{Command, expressions_of, first_unknown_among, ask_member, retire, ask_history, ask_at, ask_as_of, ask_list, set_layer}
+use Rattle.rp_language.specs.Expression.{Command, expressions_of, first_unknown_among, said}
+use Rattle.rp_model.specs.commands.Table.{definition}
+use Rattle.rp_model.specs.commands.Reply.{Reply}
+use Rattle.rp_model.specs.commands.Row.{row}
 use Rattle.rp_model.specs.states.State.{PlainState, opening, changed, parts_in}
 use Rattle.rp_model.specs.commands.Verdict.{refused, Refusal, limit}
-use Rattle.rp_model.specs.commands.Row.{Reply, row}
 use Rattle.rp_language.specs.Grammar.{Version, one, two, Fault, too_long, Reading, blank, command, bad, reading}
 use Rattle.rp_reports.specs.Text.{verdict_text, line_end}
 use Rattle.rp_reports.specs.ProofText.{proof_read, Echo, echo_read}
@@ -187,14 +189,7 @@ follow_lines (want ∷ wanted) = do
 
 -- commands whose answer may be a limit
 abbrev pub may_meet_limit : Command → Bool
-may_meet_limit (ask_member e p) = false
-may_meet_limit (retire x) = false
-may_meet_limit (ask_history x) = false
-may_meet_limit (ask_at p) = false
-may_meet_limit (ask_as_of n p) = false
-may_meet_limit ask_list = false
-may_meet_limit (set_layer y) = false
-may_meet_limit _ = true
+may_meet_limit (said verb os) = (definition verb).may_meet_limit
 
 -- a limit may be told where the command can meet one and all its names and lots in expressions are there
 abbrev pub limit_allowed : PlainState → Command → Bool

@@ -3,7 +3,7 @@ use Rattle.std.specs.Prelude.{ℕ, suc, Bool, List, [], ◌∷◌, ◌++◌}
 use Rattle.rp_walks.specs.Walk.{Outcome, done, stopped, Work}
 use Rattle.rp_model.specs.states.State.{PlainState, opening, Change, nothing_changes, changed}
 use Rattle.rp_model.specs.commands.Verdict.{Verdict, refused, limit}
-use Rattle.rp_model.specs.commands.Row.{Reply}
+use Rattle.rp_model.specs.commands.Reply.{Reply}
 use Rattle.rp_model.specs.commands.Rule.{walked, proofs_of}
 use Rattle.rp_language.specs.Grammar.{Version, Reading, blank, command, bad, reading}
 use Rattle.rp_reports.specs.Text.{Answer, answer_lines}

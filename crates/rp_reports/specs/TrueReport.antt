@@ -13,7 +13,10 @@ use Rattle.rp_language.specs.Grammar.{Version, too_long, Reading, blank, command
 use Rattle.rp_model.specs.states.State.{State, sets_in, changed, opening}
 use Rattle.rp_geometry.specs.parts.Parts.{IsCheckedPart, AreOf}
 use Rattle.rp_model.specs.commands.Verdict.{Verdict, says_ok, refused, Refusal, limit, piece_lines, section_lines}
-use Rattle.rp_model.specs.commands.Rule.{Rule, answers, labels_then, set_of, nothing_formed, rule_without_limits, change_of}
+use Rattle.rp_model.specs.commands.Rules.{Rule, answers, labels_then}
+use Rattle.rp_model.specs.commands.Sets.{set_of}
+use Rattle.rp_model.specs.commands.Definition.{nothing_formed}
+use Rattle.rp_model.specs.commands.Rule.{rule_without_limits, change_of}
 use Rattle.rp_reports.specs.Report.{report_mark, version_by, marked}
 use Rattle.rp_reports.specs.Text.{proof_text, verdict_text, echo_text}
 

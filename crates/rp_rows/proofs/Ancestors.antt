@@ -12,7 +12,8 @@ use Rattle.rp_model.specs.states.State.{Lot, PlainState, Traced, trace, lineage,
 use Rattle.rp_model.specs.states.Sound.{are_distinct}
 use Rattle.rp_model.specs.commands.Verdict.{Verdict, unknown, lot_lines}
 use Rattle.rp_model.specs.commands.Checks.{refuse_if}
-use Rattle.rp_model.specs.commands.Row.{Reply, reply_lines, refusal, check, row_history}
+use Rattle.rp_model.specs.commands.Reply.{Reply, reply_lines, refusal, check}
+use Rattle.rp_model.specs.commands.History.{row_history}
 use Rattle.rp_states.proofs.Labels.{label_itself, label_turned}
 use Rattle.rp_rows.specs.Lots.{lots_under}
 

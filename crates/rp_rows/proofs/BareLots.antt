@@ -7,7 +7,8 @@ use Rattle.rp_walks.specs.Walk.{Outcome, done, stopped, Walk, pass}
 use Rattle.rp_model.specs.states.State.{Lot, PlainState, Traced, trace, lineage, bare_lot, live_lots, ids_of}
 use Rattle.rp_model.specs.commands.Verdict.{Verdict, unknown, entry_of, lot_lines}
 use Rattle.rp_model.specs.commands.Checks.{refuse_if}
-use Rattle.rp_model.specs.commands.Row.{Reply, reply_lines, check, row_history}
+use Rattle.rp_model.specs.commands.Reply.{Reply, reply_lines, check}
+use Rattle.rp_model.specs.commands.History.{row_history}
 use Rattle.rp_history.specs.Lots.{lots_in}
 use Rattle.rp_lists.specs.Listed.{Listed}
 use Rattle.rp_answer.specs.declared.answer.Verdict.{Verdict as CodeVerdict}

@@ -5,7 +5,8 @@ use Rattle.rp_geometry.specs.sets.Shape.{Part}
 use Rattle.rp_walks.specs.Walk.{Tester, pass, after_first}
 use Rattle.rp_walks.specs.Compare.{relation_of_parts}
 use Rattle.rp_model.specs.commands.Verdict.{Verdict, empty_operand}
-use Rattle.rp_model.specs.commands.Row.{refusal, reply, row_relation}
+use Rattle.rp_model.specs.commands.Reply.{refusal, reply}
+use Rattle.rp_model.specs.commands.Rcc.{row_relation}
 use Rattle.rp_queries.proofs.Rests.{not_empty}
 
 -- a list is as empty as what it shows

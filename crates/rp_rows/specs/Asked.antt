@@ -5,7 +5,12 @@ use Rattle.rp_geometry.specs.sets.Shape.{Part, is_member}
 use Rattle.rp_language.specs.Expression.{Expression, Meaning, closed, first_unknown_among}
 use Rattle.rp_walks.specs.Walk.{Walk, Tester, pass}
 use Rattle.rp_model.specs.commands.Verdict.{unknown, part_lines_of}
-use Rattle.rp_model.specs.commands.Row.{Reply, reply_lines, yes_or_no, check, shapes_of_parts, row_equal, row_within, row_overlap, row_contact}
+use Rattle.rp_model.specs.commands.Reply.{Reply, reply_lines, yes_or_no, check}
+use Rattle.rp_model.specs.commands.Parts.{shapes_of_parts}
+use Rattle.rp_model.specs.commands.Equal.{row_equal}
+use Rattle.rp_model.specs.commands.Within.{row_within}
+use Rattle.rp_model.specs.commands.Overlap.{row_overlap}
+use Rattle.rp_model.specs.commands.Contact.{row_contact}
 use Rattle.rp_queries.specs.declared.question.Question.{Question}
 use Rattle.rp_queries.specs.declared.question.Question.TheVariants.{Equal, Within, Overlap, Contact}
 use Rattle.rp_queries.specs.declared.operand.Operand.{Operand}

@@ -4,7 +4,7 @@ use Rattle.std.specs.Option.{option_to_list}
 use Rattle.rp_language.specs.Name.{Label}
 use Rattle.rp_model.specs.states.State.{Lot, lot_with_id, live_lots}
 use Rattle.rp_model.specs.commands.Verdict.{Verdict, lot_lines}
-use Rattle.rp_model.specs.commands.Row.{row_history}
+use Rattle.rp_model.specs.commands.History.{row_history}
 use Rattle.rp_history.specs.Lots.{lots_in}
 use Rattle.rp_lists.specs.Listed.{Listed}
 use Rattle.rp_answer.specs.declared.answer.Verdict.{Verdict as CodeVerdict}

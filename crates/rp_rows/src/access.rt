@@ -24,7 +24,7 @@ impl Access {
     ghost use Rattle.std.specs.Prelude.{◌≡◌, ◌<◌, IfOk};
     ghost use Rattle.std.specs.List.{AllByRecursion};
     ghost use Rattle.rp_model.specs.states.State.{place_among};
-    ghost use Rattle.rp_model.specs.commands.Row.{access_by_links};
+    ghost use Rattle.rp_model.specs.commands.Access.{access_by_links};
     ghost use Rattle.rp_access.specs.Chain.{IsBelow};
     ghost use Rattle.rp_rows.specs.Access.{told_access};
 

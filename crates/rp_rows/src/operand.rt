@@ -4,7 +4,7 @@ ghost use Rattle.rp_command.specs.Views.{expression_of};
 ghost use Rattle.rp_geometry.specs.sets.Shape.{Part};
 ghost use Rattle.rp_language.specs.Expression.{IsKeptExpression, first_unknown_among};
 ghost use Rattle.rp_walks.specs.Walk.{Walk};
-ghost use Rattle.rp_model.specs.commands.Row.{Reply};
+ghost use Rattle.rp_model.specs.commands.Reply.{Reply};
 ghost use Rattle.rp_rows.specs.Asked.{both_of};
 ghost use Rattle.rp_answer.specs.Replies.{GoesOn, row_of_forms};
 

@@ -1,7 +1,9 @@
 //! The rows of questions about points and forms.
 ghost use Rattle.rp_command.specs.Views.{expression_of};
 ghost use Rattle.rp_language.specs.Expression.{IsKeptExpression};
-ghost use Rattle.rp_model.specs.commands.Row.{row_empty, row_pieces, row_relation};
+ghost use Rattle.rp_model.specs.commands.Empty.{row_empty};
+ghost use Rattle.rp_model.specs.commands.Pieces.{row_pieces};
+ghost use Rattle.rp_model.specs.commands.Rcc.{row_relation};
 ghost use Rattle.rp_rows.specs.Asked.{row_asking, row_of_member, row_show};
 ghost use Rattle.rp_answer.specs.Replies.{Tells, row_of_form, row_of_forms};
 

@@ -1,7 +1,7 @@
 //! The relation of two forms.
 ghost use Rattle.std.specs.Prelude.{◌≡◌};
 ghost use Rattle.rp_model.specs.commands.Verdict.{Verdict as ModelVerdict};
-ghost use Rattle.rp_model.specs.commands.Row.{row_relation};
+ghost use Rattle.rp_model.specs.commands.Rcc.{row_relation};
 ghost use Rattle.rp_queries.specs.Relations.{relation_of};
 ghost use Rattle.rp_answer.specs.Views.{verdict_of};
 ghost use Rattle.rp_answer.specs.Replies.{Tells};

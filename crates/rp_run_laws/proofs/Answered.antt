@@ -12,7 +12,8 @@ use Rattle.rp_model.specs.commands.Verdict.{Verdict, refused, Refusal, limit}
 use Rattle.rp_geometry.specs.searches.ProofLine.{ProofLine}
 use Rattle.rp_reports.specs.Text.{proof_text, verdict_text}
 use Rattle.rp_reports.specs.ProofText.{Echo}
-use Rattle.rp_model.specs.commands.Row.{Reply, row}
+use Rattle.rp_model.specs.commands.Reply.{Reply}
+use Rattle.rp_model.specs.commands.Row.{row}
 use Rattle.rp_reports.specs.Check.{Trail, refusal_line, tells_limit, taken, line_tester, follow_lines, limit_allowed, follow_limit, follow_reply, follow_walk, follow_command, follow_fault, follow_text, follow_echo, Progress, with_no_tests, follow_numbered, next_echo, follow_answer}
 use Rattle.rp_reports.specs.TrueReport.{ToldAnswer, IsNextNumber, told_echo, told_lines, true_by_reading, IsTrueAnswer, is_accepted_change, after_reading_told, after_told}
 use Rattle.rp_reports.specs.laws.CheckLaws.{TellsTruth, FollowedRowTellsTruth}

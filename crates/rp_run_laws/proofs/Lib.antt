@@ -2,7 +2,6 @@ pub mod Rows
 pub mod Runs
 pub mod Upgrades
 -- walks of a row
-pub mod Walked
 pub mod Taken
 -- lines
 pub mod Echoed

@@ -18,7 +18,8 @@ use Rattle.rp_model.specs.states.State.{StateOf}
 use Rattle.rp_model.specs.commands.Row.{row}
 use Rattle.rp_reports.specs.Check.{Trail, tells_limit, nothing_due, next_proof, taken, taken_if, follow_count, strict_by_line, follow_strict, weak_by_line, follow_weak, without, dropped_by, follow_drops, if_few, is_proper_box, box_by_line, side_by_line, follow_side, follow_sides, follow_made, part_if, follow_part, follow_slices, line_tester}
 use Rattle.rp_states.proofs.Labels.{label_is}
-use Rattle.rp_run_laws.proofs.Walked.{WalkFact, TestsHold, row_holds}
+use Rattle.rp_parametricity.proofs.OneTester.{OutcomeFact, TestsFulfil}
+use Rattle.rp_parametricity.proofs.Audits.{each_row_fulfils}
 
 -- ---- a proof line that is read is the line
 
@@ -75,13 +76,14 @@ takes_then : {A B : Type 0} (next : A → Walk Trail B) (t : Trail) (o : Outcome
 takes_then next t (done x u) h g = took_both t u (trail_after (next x u)) h (g x u)
 takes_then next t (stopped e u) h g = h
 
--- walks that take proof lines
-taking : WalkFact Trail
+-- that a walk takes proof lines, as a fact of what it comes to
+abbrev taking : OutcomeFact Trail
 taking = record {
-  Holds = λ walk. Takes walk;
+  Of = λ t o. Took t (trail_after o);
   passes = λ x t. took_nothing t t refl;
-  stops = λ e t. took_nothing t t refl;
-  binds = λ first next h g t. takes_then next t (first t) (h t) g;
+  limits = λ t. took_nothing t t refl;
+  ends = λ e t u h. h;
+  goes_on = λ x t u o h g. took_both t u (trail_after o) h g;
 }
 
 -- one walk and then the next
@@ -217,11 +219,9 @@ unfolding follow_slices
 slices_take z ps t = took_nothing t t refl
 
 -- each test of the check
-tests_take : TestsHold taking line_tester
-unfolding taking
-tests_take = record { count = count_takes; strict = strict_takes; weak = weak_takes; part = part_takes; slices = slices_take }
+tests_take : TestsFulfil taking line_tester
+tests_take = record { count = count_takes; strict = strict_takes; weak = weak_takes; part = part_takes }
 
 -- the row of a command takes proof lines, whatever it comes to
 pub row_takes : {S : Type 0} (s : StateOf S) (c : Command) → Takes (row line_tester s c)
-unfolding taking
-row_takes s c = row_holds taking line_tester tests_take s c
+row_takes s c = each_row_fulfils taking line_tester tests_take slices_take (λ _ e t. took_nothing t t refl) s c

@@ -7,8 +7,14 @@ use Rattle.rp_language.specs.Name.{Label}
 use Rattle.rp_language.specs.Expression.{Command, expressions_of, first_unknown_among, define, ask_member, ask_empty, ask_pieces, ask_show, ask_equal, ask_within, ask_overlap, ask_contact, ask_relation, register, cut, subdivide, consolidate, retire, ask_neighbours, ask_history, ask_at, ask_as_of, ask_audit, ask_list, set_layer, ask_section, ask_access}
 use Rattle.rp_walks.specs.Walk.{Outcome, done, stopped, limit_met, limit_told, line_wrong, taken_wrong, Work}
 use Rattle.rp_model.specs.commands.Checks.{check_new, check_live, check_name, check_registered, check_cut, check_subdivide, check_consolidate, check_access, child_ids}
-use Rattle.rp_model.specs.commands.Row.{Reply}
-use Rattle.rp_model.specs.commands.Rule.{Rule, Formed, answers, yes_where, labels_then, names_then, refused_where, accepts, child_sets, set_with_id, refused_at_overlap, refused_at_empty, refused_at_outside, refused_at_later, refused_at_pair, parcel_at, rule_after_labels, rule_without_limits, limit_then, first_formed, rule_of, walked}
+use Rattle.rp_model.specs.commands.Reply.{Reply}
+use Rattle.rp_model.specs.commands.Rules.{Rule, answers, yes_where, labels_then, names_then, refused_where, accepts}
+use Rattle.rp_model.specs.commands.Definition.{Formed}
+use Rattle.rp_model.specs.commands.Subdivide.{child_sets, refused_at_empty, refused_at_outside, refused_at_later, refused_at_pair}
+use Rattle.rp_model.specs.commands.Sets.{set_with_id}
+use Rattle.rp_model.specs.commands.Register.{refused_at_overlap}
+use Rattle.rp_model.specs.commands.At.{parcel_at}
+use Rattle.rp_model.specs.commands.Rule.{rule_after_labels, rule_without_limits, limit_then, first_formed, rule_of, walked}
 use Rattle.rp_model.specs.commands.Verdict.{Verdict, Refusal, access_lines}
 use Rattle.rp_model.specs.states.State.{Lot, State, present_lots, lots_of_layer, alive_after, sets_in}
 

@@ -7,7 +7,8 @@ use Rattle.rp_walks.specs.Walk.{Walk, done, stopped, limit_met, pass, stop, ◌>
 use Rattle.rp_model.specs.states.State.{PlainState, name_added, names_of, parts_under_names, most_names, most_kept_parts}
 use Rattle.rp_model.specs.commands.Verdict.{known}
 use Rattle.rp_model.specs.commands.Checks.{refuse_if}
-use Rattle.rp_model.specs.commands.Row.{Reply, refusal, accepted, check, row_define}
+use Rattle.rp_model.specs.commands.Reply.{Reply, refusal, accepted, check}
+use Rattle.rp_model.specs.commands.Let.{row_define}
 use Rattle.rp_store.specs.Kept.{kept_under}
 
 -- the row of a definition, by its three tests

@@ -7,7 +7,7 @@ use Rattle.rp_geometry.specs.sets.Shape.{Part}
 use Rattle.rp_language.specs.Name.{Label}
 use Rattle.rp_model.specs.states.State.{Lot, ids_of, bare_lot, ended_at, born_at, lots_replaced, parts_under_lots, most_kept_parts}
 use Rattle.rp_model.specs.states.Sound.{are_distinct}
-use Rattle.rp_model.specs.commands.Row.{is_in_parts, lot_parts}
+use Rattle.rp_model.specs.commands.Parts.{is_in_parts, lot_parts}
 use Rattle.rp_states.proofs.Replaced.{ended_parts}
 use Rattle.rp_history.specs.declared.lot.Birth.{Birth}
 use Rattle.rp_history.specs.Lots.{lots_after, new_lot_of}

@@ -5,7 +5,7 @@ use Rattle.rp_geometry.specs.sets.Shape.{Part}
 use Rattle.rp_language.specs.Name.{Label, is_among}
 use Rattle.rp_model.specs.states.State.{Kept, Lot, PlainState, names_of, ids_of, bare_lot, parts_under_names, parts_under_lots, most_names, most_kept_parts}
 use Rattle.rp_model.specs.states.Sound.{are_distinct}
-use Rattle.rp_model.specs.commands.Row.{is_in_parts}
+use Rattle.rp_model.specs.commands.Parts.{is_in_parts}
 use Rattle.rp_history.specs.Parts.{lots_with_parts}
 use Rattle.rp_boxindex.specs.Boxes.{Boxes}
 use Rattle.rp_lotindex.specs.Indexed.{IsIndexOf}

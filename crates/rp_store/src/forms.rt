@@ -1,7 +1,7 @@
 //! What is kept under a name, or of a lot.
 ghost use Rattle.std.specs.Prelude.{◌≡◌, List, map};
 ghost use Rattle.rp_geometry.specs.sets.Shape.{Part};
-ghost use Rattle.rp_model.specs.commands.Row.{is_in_parts};
+ghost use Rattle.rp_model.specs.commands.Parts.{is_in_parts};
 ghost use Rattle.rp_space.specs.Boxes.{integer_box};
 
 use rp_space::{IntBox, Point};

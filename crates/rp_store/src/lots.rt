@@ -2,7 +2,8 @@
 ghost use Rattle.std.specs.Prelude.{◌≡◌, ◌+◌, ◌<◌, ◌≤◌, [], ◌∷◌, length, map, filter, drop, nat_le, slice_get, sum_by, option_copied, option_map, Some, IsTrue, IfOk, OnOk, OnErr};
 ghost use Rattle.rp_model.specs.states.State.{live_lot, lots_of_layer, parts_of_lot, bare_lot, ids_of, lots_replaced, parts_under_lots, most_kept_parts};
 ghost use Rattle.rp_model.specs.states.Sound.{are_distinct};
-ghost use Rattle.rp_model.specs.commands.Row.{lot_parts, owner_line};
+ghost use Rattle.rp_model.specs.commands.Parts.{lot_parts};
+ghost use Rattle.rp_model.specs.commands.At.{owner_line};
 ghost use Rattle.rp_history.specs.Lots.{new_lot_of, lots_after, AreBornBefore, AreKeptWell, AreNew};
 ghost use Rattle.rp_history.specs.Parts.{new_lots};
 ghost use Rattle.rp_lotindex.specs.Indexed.{index_of, AreFree, AreBorn, AllStay};

@@ -4,7 +4,8 @@ use Rattle.std.proofs.lemmas.List.{length-map, map-append}
 use Rattle.rp_geometry.specs.sets.Shape.{Part}
 use Rattle.rp_language.specs.Name.{Label}
 use Rattle.rp_model.specs.states.State.{NewLot}
-use Rattle.rp_model.specs.commands.Row.{FormedChild, new_lot}
+use Rattle.rp_model.specs.commands.Subdivide.{FormedChild}
+use Rattle.rp_model.specs.commands.Parts.{new_lot}
 use Rattle.rp_history.specs.declared.lot.Birth.{Birth}
 use Rattle.rp_history.specs.Parts.{new_lots}
 use Rattle.rp_lots.proofs.BornLots.{lots_and_one}

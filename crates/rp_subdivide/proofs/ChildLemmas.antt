@@ -6,7 +6,9 @@ use Rattle.rp_language.specs.Expression.{Expression, subdivide, first_unknown_am
 use Rattle.rp_walks.specs.Walk.{done, Walk, Tester, after_first, ◌>>=◌}
 use Rattle.rp_model.specs.states.State.{PlainState, parts_in}
 use Rattle.rp_model.specs.commands.Verdict.{unknown}
-use Rattle.rp_model.specs.commands.Row.{Reply, refusal, check, FormedChild, form_children, row_subdivide, row}
+use Rattle.rp_model.specs.commands.Reply.{Reply, refusal, check}
+use Rattle.rp_model.specs.commands.Subdivide.{FormedChild, form_children, row_subdivide}
+use Rattle.rp_model.specs.commands.Row.{row}
 use Rattle.rp_tester.specs.declared.stopped.Stopped.{Stopped}
 use Rattle.rp_tester.specs.Comes.{StopsBy}
 use Rattle.rp_tester.proofs.Left.{stops_on}

@@ -11,7 +11,7 @@ use Rattle.rp_walks.specs.Walk.{Walk, Tester, pass, after_first}
 use Rattle.rp_walks.specs.Compare.{is_covered}
 use Rattle.rp_walks.specs.Form.{common_nearby, form}
 use Rattle.rp_model.specs.commands.Verdict.{Refusal, outside_lot, children_overlap}
-use Rattle.rp_model.specs.commands.Row.{FormedChild, form_children, first_outside_child, first_overlapping_child, first_overlapping_children}
+use Rattle.rp_model.specs.commands.Subdivide.{FormedChild, form_children, first_outside_child, first_overlapping_child, first_overlapping_children}
 use Rattle.rp_subdivide.specs.declared.child.Child.{Child}
 use Rattle.rp_subdivide.specs.Children.{formed_child}
 

@@ -2,7 +2,7 @@
 use Rattle.std.specs.Prelude.{◌≤◌, List, map, length}
 use Rattle.rp_geometry.specs.sets.Shape.{Part}
 use Rattle.rp_geometry.specs.parts.Parts.{most_parts}
-use Rattle.rp_model.specs.commands.Row.{FormedChild}
+use Rattle.rp_model.specs.commands.Subdivide.{FormedChild}
 use Rattle.rp_lists.specs.Listed.{Listed}
 use Rattle.rp_subdivide.specs.declared.child.Child.{Child}
 

@@ -8,7 +8,9 @@ use Rattle.rp_walks.specs.Compare.{is_covered}
 use Rattle.rp_model.specs.states.State.{PlainState, parts_under_lots, most_kept_parts}
 use Rattle.rp_model.specs.commands.Verdict.{gap}
 use Rattle.rp_model.specs.commands.Checks.{refuse_if, and_then, check_subdivide}
-use Rattle.rp_model.specs.commands.Row.{Reply, check, check_size, FormedChild, joined_parts, child_parts, count_among, first_empty_child, first_outside_child, first_overlapping_children}
+use Rattle.rp_model.specs.commands.Reply.{Reply, check, check_size}
+use Rattle.rp_model.specs.commands.Subdivide.{FormedChild, child_parts, first_empty_child, first_outside_child, first_overlapping_children}
+use Rattle.rp_model.specs.commands.Parts.{joined_parts, count_among}
 
 -- its checks: names, a part in each child, and room
 abbrev pub children_checked : {W : Type 0} → PlainState → Label → List FormedChild → Walk W Reply → Walk W Reply

@@ -2,8 +2,7 @@
 ghost use Rattle.std.specs.Prelude.{◌≡◌, IfOk, map};
 ghost use Rattle.rp_command.specs.Versions.{version_of};
 ghost use Rattle.rp_command.specs.Views.{child_of, command_of};
-ghost use Rattle.rp_language.specs.Expression.{register};
-ghost use Rattle.rp_language.specs.Grammar.{keyword, verb_table, verb_words, equals_word, let_words, member_words, on_name_and_expression, cut_words, subdivide_words, consolidate_words, as_of_words, section_words, access_words, many, child, name, end_of_line, command_words};
+ghost use Rattle.rp_language.specs.Grammar.{Version as ModelVersion, keyword, verb_table, verb_words, equals_word, let_verb, member_verb, register_verb, cut_verb, subdivide_verb, consolidate_verb, asof_verb, section_verb, access_verb, many, child, name, end_of_line, command_words};
 ghost use Rattle.rp_syntax.specs.Keywords.{comparison_of, verb_of};
 ghost use Rattle.rp_syntax.specs.Reads.{Reads};
 
@@ -48,7 +47,7 @@ impl<'a> Words<'a> {
 
     /// What follows the word `let`.
     fn definition(&mut self, alloc: Global, version: Version) -> Result<Command, ReadFault>
-        ensures { Reads command_of result self.new (let_words (version_of version) self.old) }
+        ensures { Reads command_of result self.new (verb_words (version_of version) let_verb self.old) }
     {
         let name = self.name()?;
         self.equals()?;
@@ -58,7 +57,7 @@ impl<'a> Words<'a> {
 
     /// What follows the word `member`.
     fn member(&mut self, alloc: Global, version: Version) -> Result<Command, ReadFault>
-        ensures { Reads command_of result self.new (member_words (version_of version) self.old) }
+        ensures { Reads command_of result self.new (verb_words (version_of version) member_verb self.old) }
     {
         let region = self.expression(alloc, version)?;
         let point = self.point(version)?;
@@ -87,7 +86,7 @@ impl<'a> Words<'a> {
 
     /// What follows the word `register`.
     fn registration(&mut self, alloc: Global, version: Version) -> Result<Command, ReadFault>
-        ensures { Reads command_of result self.new (on_name_and_expression (version_of version) register self.old) }
+        ensures { Reads command_of result self.new (verb_words (version_of version) register_verb self.old) }
     {
         let id = self.name()?;
         let region = self.expression(alloc, version)?;
@@ -96,7 +95,7 @@ impl<'a> Words<'a> {
 
     /// What follows the word `cut`.
     fn cut(&mut self, alloc: Global, version: Version) -> Result<Command, ReadFault>
-        ensures { Reads command_of result self.new (cut_words (version_of version) self.old) }
+        ensures { Reads command_of result self.new (verb_words (version_of version) cut_verb self.old) }
     {
         let lot = self.name()?;
         let region = self.expression(alloc, version)?;
@@ -133,7 +132,7 @@ impl<'a> Words<'a> {
 
     /// What follows the word `subdivide`.
     fn subdivision(&mut self, alloc: Global, version: Version) -> Result<Command, ReadFault>
-        ensures { Reads command_of result self.new (subdivide_words (version_of version) self.old) }
+        ensures { Reads command_of result self.new (verb_words (version_of version) subdivide_verb self.old) }
     {
         let lot = self.name()?;
         let count = self.count(0, MAX_CHILDREN)?;
@@ -155,7 +154,7 @@ impl<'a> Words<'a> {
 
     /// What follows the word `consolidate`.
     fn consolidation(&mut self, alloc: Global) -> Result<Command, ReadFault>
-        ensures { Reads command_of result self.new (consolidate_words self.old) }
+        ensures { (v : ModelVersion) → Reads command_of result self.new (verb_words v consolidate_verb self.old) }
     {
         let new = self.name()?;
         let count = self.count(0, MAX_LOTS)?;
@@ -165,7 +164,7 @@ impl<'a> Words<'a> {
 
     /// What follows the word `asof`.
     fn as_of(&mut self, version: Version) -> Result<Command, ReadFault>
-        ensures { Reads command_of result self.new (as_of_words (version_of version) self.old) }
+        ensures { Reads command_of result self.new (verb_words (version_of version) asof_verb self.old) }
     {
         let line = self.count(0, MAX_LINES)?;
         let point = self.point(version)?;
@@ -174,7 +173,7 @@ impl<'a> Words<'a> {
 
     /// What follows the word `section`.
     fn section(&mut self, alloc: Global, version: Version) -> Result<Command, ReadFault>
-        ensures { Reads command_of result self.new (section_words (version_of version) self.old) }
+        ensures { Reads command_of result self.new (verb_words (version_of version) section_verb self.old) }
     {
         let region = self.expression(alloc, version)?;
         let z = self.height(version)?;
@@ -183,7 +182,7 @@ impl<'a> Words<'a> {
 
     /// What follows the word `access`.
     fn access(&mut self) -> Result<Command, ReadFault>
-        ensures { Reads command_of result self.new (access_words self.old) }
+        ensures { (v : ModelVersion) → Reads command_of result self.new (verb_words v access_verb self.old) }
     {
         let from = self.name()?;
         let to = self.name()?;

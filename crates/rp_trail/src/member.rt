@@ -3,7 +3,7 @@ ghost use Rattle.std.specs.Prelude.{◌≡◌};
 ghost use Rattle.std.specs.List.{list_any};
 ghost use Rattle.rp_geometry.specs.Geometry.{all_hold};
 ghost use Rattle.rp_geometry.specs.sets.Shape.{passes, is_member, shape_of_parts};
-ghost use Rattle.rp_model.specs.commands.Row.{is_in_parts};
+ghost use Rattle.rp_model.specs.commands.Parts.{is_in_parts};
 
 use crate::form::Form;
 use crate::kept::Kept;

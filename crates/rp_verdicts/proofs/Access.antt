@@ -23,8 +23,8 @@ use Rattle.rp_model.specs.states.State.{Lot, StateOf, State, live_lots, lots_of_
 use Rattle.rp_model.specs.states.Sound.{IsSoundWith}
 use Rattle.rp_model.specs.commands.Verdict.{Refusal, access_lines}
 use Rattle.rp_model.specs.commands.Checks.{refuse_if, and_then, check_live, check_layer, check_access}
-use Rattle.rp_model.specs.commands.Row.{numbered_lists, lot_parts, links_with_list, links_among_lists, count_among, row_access}
-use Rattle.rp_model.specs.commands.Rule.{AreInContactAt, tells_access, rule_access}
+use Rattle.rp_model.specs.commands.Parts.{numbered_lists, lot_parts, count_among}
+use Rattle.rp_model.specs.commands.Access.{links_with_list, links_among_lists, row_access, AreInContactAt, tells_access, rule_access}
 use Rattle.rp_algebra.proofs.Filter.{some_passes, passes_some}
 use Rattle.rp_geometry.proofs.Members.{contact_turned}
 use Rattle.rp_geometry.proofs.SameMembers.{same_back, contact_same}

@@ -15,8 +15,17 @@ use Rattle.rp_model.specs.states.State.{State, most_kept_parts, parts_in, sets_i
 use Rattle.rp_model.specs.states.Sound.{Pairwise, IsSoundWith}
 use Rattle.rp_model.specs.commands.Verdict.{Refusal, unknown, empty_region, empty_side, empty_child, outside_lot}
 use Rattle.rp_model.specs.commands.Checks.{refuse_if, and_then, check_name, check_new, check_live, check_registered, check_cut, check_subdivide, check_consolidate, check_access}
-use Rattle.rp_model.specs.commands.Row.{Reply, FormedChild, check, check_size, parts_with_id, joined_parts, child_parts, count_among, first_empty_child, first_outside_child, first_overlapping_children, form_children, with_form, row_relation, row_register, row_cut, row_subdivide, row_of, row}
-use Rattle.rp_model.specs.commands.Rule.{Rule, refused_at_later, refused_at_pair, set_of, set_with_id, child_sets, walked}
+use Rattle.rp_model.specs.commands.Reply.{Reply, check, check_size}
+use Rattle.rp_model.specs.commands.Subdivide.{FormedChild, child_parts, first_empty_child, first_outside_child, first_overlapping_children, form_children, row_subdivide, refused_at_later, refused_at_pair, child_sets}
+use Rattle.rp_model.specs.commands.Parts.{parts_with_id, joined_parts, count_among}
+use Rattle.rp_model.specs.commands.Definition.{with_form}
+use Rattle.rp_model.specs.commands.Rcc.{row_relation}
+use Rattle.rp_model.specs.commands.Register.{row_register}
+use Rattle.rp_model.specs.commands.Cut.{row_cut}
+use Rattle.rp_model.specs.commands.Row.{row_of, row}
+use Rattle.rp_model.specs.commands.Rules.{Rule}
+use Rattle.rp_model.specs.commands.Sets.{set_of, set_with_id}
+use Rattle.rp_model.specs.commands.Rule.{walked}
 use Rattle.rp_verdicts.specs.Limits.{IfDoneWith, AreWithinSoFar, AreApartIfSearched, PassedByCut, PassedBySubdivide, PassedBy, LimitComesAfterRefusals}
 use Rattle.rp_language.proofs.ReadBounds.{read_expressions_are_kept_spec}
 use Rattle.rp_geometry.proofs.SameMembers.{within_same, rest_of_within, overlaps_of_common}

@@ -12,8 +12,11 @@ use Rattle.rp_walks.specs.Compare.{is_covered}
 use Rattle.rp_model.specs.states.State.{State, most_kept_parts, parts_in, sets_in, parts_under_lots}
 use Rattle.rp_model.specs.states.Sound.{Pairwise, IsSound}
 use Rattle.rp_model.specs.commands.Checks.{check_name, check_new, check_live, check_cut, check_subdivide, check_consolidate, check_access, child_ids}
-use Rattle.rp_model.specs.commands.Row.{FormedChild, check_size, parts_with_id, joined_parts, child_parts, count_among, first_outside_child, first_overlapping_children, form_children}
-use Rattle.rp_model.specs.commands.Rule.{set_of, set_with_id, child_sets, walked}
+use Rattle.rp_model.specs.commands.Subdivide.{FormedChild, child_parts, first_outside_child, first_overlapping_children, form_children, child_sets}
+use Rattle.rp_model.specs.commands.Reply.{check_size}
+use Rattle.rp_model.specs.commands.Parts.{parts_with_id, joined_parts, count_among}
+use Rattle.rp_model.specs.commands.Sets.{set_of, set_with_id}
+use Rattle.rp_model.specs.commands.Rule.{walked}
 
 -- the fact holds of what a walk comes to and of the work as it is then, where it is not stopped
 abbrev pub IfDoneWith : {W A : Type 0} → Outcome W A → (A → W → Type 0) → Type 0

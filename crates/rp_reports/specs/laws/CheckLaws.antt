@@ -6,7 +6,8 @@ use Rattle.rp_language.specs.Expression.{Command, IsKeptExpression, expressions_
 use Rattle.rp_model.specs.states.State.{State, plain_of, bare_of, changed}
 use Rattle.rp_geometry.specs.parts.Parts.{IsCheckedPart}
 use Rattle.rp_model.specs.states.Sound.{IsSoundWith, IsLaterThan, AreAlike}
-use Rattle.rp_model.specs.commands.Row.{Reply, row}
+use Rattle.rp_model.specs.commands.Reply.{Reply}
+use Rattle.rp_model.specs.commands.Row.{row}
 use Rattle.rp_model.specs.commands.Rule.{change_of}
 use Rattle.rp_walks.specs.FormLaws.{IfDone}
 use Rattle.rp_reports.specs.Text.{proof_text, verdict_text, text_of_lines}

@@ -13,8 +13,10 @@ use Rattle.rp_walks.specs.Form.{form}
 use Rattle.rp_model.specs.states.State.{Kept, State, live_lots, names_of, ids_of, parts_in, sets_in, parts_under_names, parts_under_lots, NewLot, Change, nothing_changes, name_added, lots_replaced, layer_changed}
 use Rattle.rp_geometry.specs.parts.Parts.{IsPart, IsCheckedPart, AreOf}
 use Rattle.rp_model.specs.states.Sound.{are_distinct, Pairwise, AreOfLayer, IsSoundWith, IsSound}
-use Rattle.rp_model.specs.commands.Row.{Reply, row}
-use Rattle.rp_model.specs.commands.Rule.{Rule, formed_by, rule_of, rule_without_limits, walked, change_of, with_parts}
+use Rattle.rp_model.specs.commands.Reply.{Reply}
+use Rattle.rp_model.specs.commands.Row.{row}
+use Rattle.rp_model.specs.commands.Rules.{Rule}
+use Rattle.rp_model.specs.commands.Rule.{formed_by, rule_of, rule_without_limits, walked, change_of, with_parts}
 use Rattle.rp_model.specs.commands.Verdict.{Verdict}
 use Rattle.rp_reports.specs.Machine.{verdicts_walked}
 use Rattle.rp_reports.specs.Check.{line_tester}

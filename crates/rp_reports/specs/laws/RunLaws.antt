@@ -8,7 +8,8 @@ use Rattle.rp_language.specs.Grammar.{Version, command, reading}
 use Rattle.rp_model.specs.states.State.{State, opening, plain_of, bare_of, changed}
 use Rattle.rp_model.specs.states.Sound.{IsSound, IsLaterThan, SameState}
 use Rattle.rp_model.specs.commands.Verdict.{Verdict, says_ok}
-use Rattle.rp_model.specs.commands.Rule.{rule_of, union_of, change_of}
+use Rattle.rp_model.specs.commands.Rule.{rule_of, change_of}
+use Rattle.rp_model.specs.commands.Sets.{union_of}
 use Rattle.rp_reports.specs.Machine.{step_answer, step_state, report}
 use Rattle.rp_reports.specs.TrueReport.{is_accepted_change}
 use Rattle.rp_reports.specs.Text.{Answer}

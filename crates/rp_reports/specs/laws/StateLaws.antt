@@ -10,7 +10,9 @@ use Rattle.rp_language.specs.Grammar.{Version, reading}
 use Rattle.rp_model.specs.states.State.{Lot, State, opening, live_lots, lots_of_layer, alive_after, lot_with_id, ids_of, lineage, Change, lots_replaced, NewLot, plain_of, state_of_parts, changed}
 use Rattle.rp_model.specs.states.Sound.{IsSound, IsLaterThan, SameState}
 use Rattle.rp_model.specs.commands.Verdict.{Verdict, says_ok}
-use Rattle.rp_model.specs.commands.Rule.{rule_of, walked, union_of, parcel_at, change_of}
+use Rattle.rp_model.specs.commands.Rule.{rule_of, walked, change_of}
+use Rattle.rp_model.specs.commands.Sets.{union_of}
+use Rattle.rp_model.specs.commands.At.{parcel_at}
 use Rattle.rp_reports.specs.Report.{after_reading}
 
 -- ---- the states of a run

@@ -3,7 +3,8 @@ use Rattle.std.proofs.lemmas.Result.{err_from_is_err_and}
 use Rattle.rp_language.specs.Name.{Label}
 use Rattle.rp_walks.specs.Walk.{Outcome, done, pass, after_first}
 use Rattle.rp_model.specs.states.State.{Change, lots_replaced}
-use Rattle.rp_model.specs.commands.Row.{Reply, accepted, new_lot}
+use Rattle.rp_model.specs.commands.Reply.{Reply, accepted}
+use Rattle.rp_model.specs.commands.Parts.{new_lot}
 use Rattle.rp_tester.specs.Comes.{StopsBy}
 use Rattle.rp_tester.proofs.Left.{stops_on}
 use Rattle.rp_answer.specs.Replies.{EndsBy}

@@ -3,7 +3,8 @@ use Rattle.std.proofs.lemmas.Result.{err_from_is_err_and}
 use Rattle.rp_language.specs.Name.{Label}
 use Rattle.rp_walks.specs.Walk.{done, pass}
 use Rattle.rp_model.specs.states.State.{Change, parts_under_lots, lots_replaced, most_kept_parts}
-use Rattle.rp_model.specs.commands.Row.{accepted, check_size, new_lot}
+use Rattle.rp_model.specs.commands.Reply.{accepted, check_size}
+use Rattle.rp_model.specs.commands.Parts.{new_lot}
 use Rattle.rp_tester.specs.Comes.{StopsBy}
 use Rattle.rp_tester.proofs.Left.{next_left, stop_left, end_left}
 use Rattle.rp_lots.proofs.Names.{names_end}

@@ -1,7 +1,7 @@
 use Rattle.std.proofs.Common.{refl, ap, sym, ◌∙◌, subst}
 use Rattle.std.proofs.lemmas.Result.{err_from_is_err_and}
 use Rattle.rp_walks.specs.Walk.{done, after_first}
-use Rattle.rp_model.specs.commands.Row.{first_overlapped}
+use Rattle.rp_model.specs.commands.Register.{first_overlapped}
 use Rattle.rp_lotindex.specs.declared.near.Reach.TheVariants.{Overlap}
 use Rattle.rp_lotindex.specs.Near.{others_in, pairs_with, lots_at}
 use Rattle.rp_tester.specs.Comes.{StopsBy}

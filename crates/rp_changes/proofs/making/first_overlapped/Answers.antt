@@ -6,7 +6,7 @@ use Rattle.rp_language.specs.Name.{Label}
 use Rattle.rp_walks.specs.Walk.{done}
 use Rattle.rp_walks.specs.Form.{common_nearby}
 use Rattle.rp_model.specs.states.State.{Lot, bare_lot}
-use Rattle.rp_model.specs.commands.Row.{first_overlapped}
+use Rattle.rp_model.specs.commands.Register.{first_overlapped}
 use Rattle.rp_tester.proofs.Left.{all_left, left_as, stop_left}
 use Rattle.rp_history.specs.declared.lot.LotLine.{LotLine}
 use Rattle.rp_history.specs.Lots.{lot_of}

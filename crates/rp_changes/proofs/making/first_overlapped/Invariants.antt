@@ -1,5 +1,5 @@
 use Rattle.std.proofs.Common.{drop}
-use Rattle.rp_model.specs.commands.Row.{first_overlapped}
+use Rattle.rp_model.specs.commands.Register.{first_overlapped}
 use Rattle.rp_tester.proofs.Left.{IsLeft}
 use Rattle.rp_lotindex.specs.Near.{lots_at}
 use Rattle.rp_changes.proofs.making.first_overlapped.Given as goal

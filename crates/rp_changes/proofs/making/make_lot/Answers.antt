@@ -2,7 +2,8 @@ use Rattle.std.proofs.Common.{[], ◌∷◌, ap, sym, ◌∙◌, subst}
 use Rattle.std.proofs.lemmas.Result.{err_from_is_err_and}
 use Rattle.rp_walks.specs.Walk.{done, pass}
 use Rattle.rp_model.specs.states.State.{Change, live_lots, lots_of_layer, lots_replaced}
-use Rattle.rp_model.specs.commands.Row.{accepted, new_lot}
+use Rattle.rp_model.specs.commands.Reply.{accepted}
+use Rattle.rp_model.specs.commands.Parts.{new_lot}
 use Rattle.rp_answer.specs.Replies.{EndsBy}
 use Rattle.rp_changes.specs.Steps.{lots_tested}
 use Rattle.rp_changes.proofs.making.make_lot.Goals as goal

@@ -1,5 +1,5 @@
 use Rattle.std.proofs.lemmas.Result.{err_from_is_err_and}
-use Rattle.rp_model.specs.commands.Row.{row_cut}
+use Rattle.rp_model.specs.commands.Cut.{row_cut}
 use Rattle.rp_lots.proofs.BornLots.{replaced_row}
 use Rattle.rp_changes.proofs.orders.cutting.Goals as goal
 

@@ -1,5 +1,5 @@
 use Rattle.std.proofs.Common.{sym, subst}
-use Rattle.rp_model.specs.commands.Row.{row_define}
+use Rattle.rp_model.specs.commands.Let.{row_define}
 use Rattle.rp_lots.specs.Changes.{Changes, change_of}
 use Rattle.rp_changes.proofs.orders.definition.Goals as goal
 

@@ -1,7 +1,7 @@
 use Rattle.std.proofs.Common.{subst}
 use Rattle.std.proofs.lemmas.Result.{err_from_is_err_and}
 use Rattle.rp_language.specs.Name.{Label}
-use Rattle.rp_model.specs.commands.Row.{row_register}
+use Rattle.rp_model.specs.commands.Register.{row_register}
 use Rattle.rp_history.specs.Lots.{lots_in}
 use Rattle.rp_lots.specs.Changes.{Changes, replaced_of}
 use Rattle.rp_lots.proofs.BornLots.{replaced_row}

@@ -6,7 +6,12 @@ use Rattle.rp_geometry.specs.sets.Shape.{Part}
 use Rattle.rp_lists.specs.Listed.{Listed}
 use Rattle.rp_command.specs.Views.{command_of}
 use Rattle.rp_walks.specs.Walk.{Outcome}
-use Rattle.rp_model.specs.commands.Row.{Reply as ModelReply, row, row_access, row_audit, row_neighbours, row_section}
+use Rattle.rp_model.specs.commands.Reply.{Reply as ModelReply}
+use Rattle.rp_model.specs.commands.Row.{row}
+use Rattle.rp_model.specs.commands.Access.{row_access}
+use Rattle.rp_model.specs.commands.Audit.{row_audit}
+use Rattle.rp_model.specs.commands.Neighbours.{row_neighbours}
+use Rattle.rp_model.specs.commands.Section.{row_section}
 use Rattle.rp_reports.specs.Check.{Trail, line_tester}
 use Rattle.rp_answer.specs.declared.answer.Verdict.{Verdict as CodeVerdict}
 use Rattle.rp_answer.specs.declared.reply.RowEnd.{RowEnd}

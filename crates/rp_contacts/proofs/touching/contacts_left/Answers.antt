@@ -2,7 +2,7 @@ use Rattle.std.proofs.Common.{List, [], map, length, refl, sym, ap, ◌∙◌}
 use Rattle.std.proofs.lemmas.List.{length-map}
 use Rattle.std.proofs.lemmas.Result.{err_from_is_err_and}
 use Rattle.rp_walks.specs.Walk.{pass, after_first}
-use Rattle.rp_model.specs.commands.Row.{lot_parts}
+use Rattle.rp_model.specs.commands.Parts.{lot_parts}
 use Rattle.rp_lotindex.specs.declared.near.Reach.TheVariants.{Touch}
 use Rattle.rp_lotindex.specs.Near.{others_in, pairs_with}
 use Rattle.rp_lots.specs.declared.near.Near.{Near}

@@ -1,6 +1,6 @@
 use Rattle.std.proofs.Common.{[]}
 use Rattle.std.proofs.lemmas.Result.{err_from_is_err_and}
-use Rattle.rp_model.specs.commands.Row.{lot_parts}
+use Rattle.rp_model.specs.commands.Parts.{lot_parts}
 use Rattle.rp_lotindex.specs.Near.{others_in}
 use Rattle.rp_lotindex.specs.declared.near.Reach.TheVariants.{Touch}
 use Rattle.rp_tester.proofs.Left.{stop_left}

@@ -3,7 +3,7 @@ use Rattle.std.proofs.lemmas.List.{length-map}
 use Rattle.rp_walks.specs.Walk.{done}
 use Rattle.rp_model.specs.states.State.{bare_lot}
 use Rattle.rp_model.specs.commands.Verdict.{Verdict}
-use Rattle.rp_model.specs.commands.Row.{reply_lines}
+use Rattle.rp_model.specs.commands.Reply.{reply_lines}
 use Rattle.rp_rows.proofs.BareLots.{bare_list}
 use Rattle.rp_ledger.proofs.lots.live_list.Goals as goal
 

@@ -8,7 +8,10 @@ use Rattle.rp_language.specs.Expression.{Command, IsKeptExpression, Meaning, exp
 use Rattle.rp_command.specs.declared.command.Expr.{Expr}
 use Rattle.rp_command.specs.Views.{child_of, command_of, expression_of, shapes_of}
 use Rattle.rp_command.proofs.Children.{kept_shapes}
-use Rattle.rp_model.specs.commands.Row.{row, row_empty, row_pieces, row_relation}
+use Rattle.rp_model.specs.commands.Row.{row}
+use Rattle.rp_model.specs.commands.Empty.{row_empty}
+use Rattle.rp_model.specs.commands.Pieces.{row_pieces}
+use Rattle.rp_model.specs.commands.Rcc.{row_relation}
 use Rattle.rp_queries.specs.declared.question.Question.TheVariants.{Equal, Within, Overlap, Contact}
 use Rattle.rp_rows.specs.Asked.{row_asking, row_of_member, row_show}
 use Rattle.rp_answer.specs.Replies.{Tells, GoesOn, row_of_form, row_of_forms}

@@ -4,7 +4,7 @@ use Rattle.std.proofs.lemmas.Result.{err_from_is_err_and}
 use Rattle.rp_command.specs.Views.{expression_of}
 use Rattle.rp_geometry.specs.sets.Shape.{Part}
 use Rattle.rp_language.specs.Expression.{Meaning}
-use Rattle.rp_model.specs.commands.Row.{row_section}
+use Rattle.rp_model.specs.commands.Section.{row_section}
 use Rattle.rp_answer.specs.Replies.{EndsBy, row_of_form}
 use Rattle.rp_ledger.proofs.rows.formed.Goals as goal
 

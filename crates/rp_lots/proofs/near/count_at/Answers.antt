@@ -4,7 +4,7 @@ use Rattle.std.proofs.lemmas.Bool.Decides.{nat_tests}
 use Rattle.rp_algebra.proofs.Listed.{all_append}
 use Rattle.rp_algebra.proofs.Lists.{get_some}
 use Rattle.rp_walks.specs.Walk.{most_tests}
-use Rattle.rp_model.specs.commands.Row.{count_pairs}
+use Rattle.rp_model.specs.commands.Parts.{count_pairs}
 use Rattle.rp_lotindex.specs.Near.{may_meet, pairs_with, is_near, lots_at, AreWithin}
 use Rattle.rp_lotindex.proofs.Places.{place_within}
 use Rattle.rp_lots.specs.declared.near.Near.{Near}

@@ -2,7 +2,7 @@ use Rattle.std.proofs.Common.{List, ap, sym, ◌∙◌}
 use Rattle.std.proofs.lemmas.Result.{err_from_is_err_and}
 use Rattle.rp_walks.specs.Walk.{done}
 use Rattle.rp_model.specs.commands.Verdict.{Verdict, clear}
-use Rattle.rp_model.specs.commands.Row.{reply, reply_lines}
+use Rattle.rp_model.specs.commands.Reply.{reply, reply_lines}
 use Rattle.rp_reports.specs.Check.{line_tester}
 use Rattle.rp_contacts.specs.Apart.{apart_each}
 use Rattle.rp_contacts.proofs.Judging.{within_forms, judged_stops, judged_ends}

@@ -3,7 +3,7 @@ use Rattle.std.proofs.lemmas.Result.{err_from_is_err_and}
 use Rattle.rp_walks.specs.Walk.{done}
 use Rattle.rp_model.specs.states.State.{Lot}
 use Rattle.rp_model.specs.commands.Verdict.{Verdict, neighbour_lines}
-use Rattle.rp_model.specs.commands.Row.{reply_lines}
+use Rattle.rp_model.specs.commands.Reply.{reply_lines}
 use Rattle.rp_reports.specs.Check.{line_tester}
 use Rattle.rp_lotindex.specs.declared.near.Reach.TheVariants.{Touch}
 use Rattle.rp_contacts.specs.Asked.{contacts_reply}

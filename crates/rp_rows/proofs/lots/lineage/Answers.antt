@@ -2,7 +2,7 @@ use Rattle.std.proofs.Common.{◌≤◌, List, [], ◌∷◌, ◌++◌, length, 
 use Rattle.rp_language.specs.Name.{Label}
 use Rattle.rp_walks.specs.Walk.{done}
 use Rattle.rp_model.specs.commands.Verdict.{Verdict, lot_lines}
-use Rattle.rp_model.specs.commands.Row.{reply_lines}
+use Rattle.rp_model.specs.commands.Reply.{reply_lines}
 use Rattle.rp_history.specs.Lots.{lots_in}
 use Rattle.rp_answer.specs.Views.{verdict_of}
 use Rattle.rp_rows.specs.Lots.{lots_under}

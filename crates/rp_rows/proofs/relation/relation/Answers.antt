@@ -2,7 +2,7 @@ use Rattle.std.proofs.Common.{true, false, [], ◌∷◌, sym, ap, ◌∙◌, su
 use Rattle.std.proofs.lemmas.Result.{err_from_is_err_and}
 use Rattle.rp_walks.specs.Walk.{done, pass, after_first}
 use Rattle.rp_model.specs.commands.Verdict.{Verdict}
-use Rattle.rp_model.specs.commands.Row.{reply, reply_lines}
+use Rattle.rp_model.specs.commands.Reply.{reply, reply_lines}
 use Rattle.rp_tester.specs.Comes.{StopsBy}
 use Rattle.rp_tester.proofs.Left.{stops_on}
 use Rattle.rp_rows.proofs.TwoForms.{as_empty, first_missing, second_missing, both_there}

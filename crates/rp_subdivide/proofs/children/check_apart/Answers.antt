@@ -4,7 +4,9 @@ use Rattle.std.proofs.lemmas.Result.{err_from_is_err_and}
 use Rattle.rp_walks.specs.Walk.{done, after_first, ◌>>=◌}
 use Rattle.rp_walks.specs.Form.{near_pair}
 use Rattle.rp_model.specs.commands.Verdict.{children_overlap}
-use Rattle.rp_model.specs.commands.Row.{check, child_parts, count_among, first_overlapping_children}
+use Rattle.rp_model.specs.commands.Reply.{check}
+use Rattle.rp_model.specs.commands.Subdivide.{child_parts, first_overlapping_children}
+use Rattle.rp_model.specs.commands.Parts.{count_among}
 use Rattle.rp_tester.specs.Comes.{StopsBy}
 use Rattle.rp_tester.proofs.Left.{stops_on}
 use Rattle.rp_subdivide.specs.Children.{formed_child}

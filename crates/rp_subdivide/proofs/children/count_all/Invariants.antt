@@ -1,6 +1,7 @@
 use Rattle.std.proofs.Common.{◌≡◌, ◌+◌, ◌*◌, ◌≤◌, length, map, drop}
 use Rattle.std.specs.List.{AllByRecursion}
-use Rattle.rp_model.specs.commands.Row.{child_parts, joined_parts}
+use Rattle.rp_model.specs.commands.Subdivide.{child_parts}
+use Rattle.rp_model.specs.commands.Parts.{joined_parts}
 use Rattle.rp_subdivide.specs.Children.{formed_child, IsShort}
 use Rattle.rp_subdivide.proofs.children.count_all.Given as goal
 

@@ -1,7 +1,8 @@
 use Rattle.std.proofs.Common.{◌≡◌, ◌+◌, ◌*◌, ◌≤◌, map, drop}
 use Rattle.std.specs.List.{AllByRecursion}
 use Rattle.rp_walks.specs.Form.{near_pair}
-use Rattle.rp_model.specs.commands.Row.{child_parts, count_with_each}
+use Rattle.rp_model.specs.commands.Subdivide.{child_parts}
+use Rattle.rp_model.specs.commands.Parts.{count_with_each}
 use Rattle.rp_subdivide.specs.Children.{formed_child, IsShort}
 use Rattle.rp_subdivide.proofs.children.count_near_with.Given as goal
 

@@ -1,5 +1,5 @@
 use Rattle.std.proofs.Common.{◌≡◌, ◌+◌, map, drop}
-use Rattle.rp_model.specs.commands.Row.{first_empty_child}
+use Rattle.rp_model.specs.commands.Subdivide.{first_empty_child}
 use Rattle.rp_subdivide.specs.Children.{formed_child}
 use Rattle.rp_subdivide.proofs.children.first_empty.Given as goal
 

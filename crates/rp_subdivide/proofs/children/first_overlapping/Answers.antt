@@ -4,7 +4,7 @@ use Rattle.std.proofs.lemmas.List.{drop_all}
 use Rattle.std.proofs.lemmas.Result.{err_from_is_err_and}
 use Rattle.rp_walks.specs.Walk.{after_first}
 use Rattle.rp_model.specs.commands.Verdict.{children_overlap}
-use Rattle.rp_model.specs.commands.Row.{first_overlapping_children}
+use Rattle.rp_model.specs.commands.Subdivide.{first_overlapping_children}
 use Rattle.rp_tester.specs.Comes.{StopsBy}
 use Rattle.rp_tester.proofs.Left.{stops_on}
 use Rattle.rp_subdivide.specs.declared.child.Child.{Child}

@@ -1,5 +1,5 @@
 use Rattle.std.proofs.Common.{◌≡◌, ◌+◌, map, drop}
-use Rattle.rp_model.specs.commands.Row.{first_overlapping_children}
+use Rattle.rp_model.specs.commands.Subdivide.{first_overlapping_children}
 use Rattle.rp_subdivide.specs.Children.{formed_child}
 use Rattle.rp_subdivide.proofs.children.first_overlapping.Given as goal
 

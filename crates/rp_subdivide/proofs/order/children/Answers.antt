@@ -12,7 +12,7 @@ use Rattle.rp_command.specs.Views.{child_of, expression_of, shapes_of}
 use Rattle.rp_walks.specs.Walk.{done, after_first}
 use Rattle.rp_walks.specs.Form.{form}
 use Rattle.rp_model.specs.states.State.{parts_in}
-use Rattle.rp_model.specs.commands.Row.{FormedChild, form_children}
+use Rattle.rp_model.specs.commands.Subdivide.{FormedChild, form_children}
 use Rattle.rp_tester.specs.Comes.{StopsBy}
 use Rattle.rp_tester.proofs.Left.{stops_on}
 use Rattle.rp_subdivide.specs.declared.child.Child.{Child}

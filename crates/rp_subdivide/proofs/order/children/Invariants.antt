@@ -2,7 +2,7 @@ use Rattle.std.proofs.Common.{◌≡◌, [], map, length, drop}
 use Rattle.std.specs.List.{AllByRecursion}
 use Rattle.rp_language.specs.Expression.{IsKeptExpression}
 use Rattle.rp_model.specs.states.State.{parts_in}
-use Rattle.rp_model.specs.commands.Row.{form_children}
+use Rattle.rp_model.specs.commands.Subdivide.{form_children}
 use Rattle.rp_command.specs.Views.{child_of, shapes_of}
 use Rattle.rp_subdivide.specs.Children.{formed_children, IsShort}
 use Rattle.rp_subdivide.proofs.order.children.Given as goal

@@ -1,6 +1,6 @@
 use Rattle.std.proofs.Common.{sym, ◌∙◌}
 use Rattle.std.proofs.lemmas.Result.{err_from_is_err_and}
-use Rattle.rp_model.specs.commands.Row.{row_subdivide}
+use Rattle.rp_model.specs.commands.Subdivide.{row_subdivide}
 use Rattle.rp_subdivide.specs.Children.{formed_children}
 use Rattle.rp_subdivide.proofs.ChildLemmas.{shape_missing, children_stop, children_made}
 use Rattle.rp_lots.proofs.BornLots.{replaced_row}

@@ -4,7 +4,8 @@ use Rattle.std.proofs.lemmas.Result.{err_from_is_err_and}
 use Rattle.rp_model.specs.states.State.{parts_under_lots}
 use Rattle.rp_model.specs.commands.Verdict.{empty_child}
 use Rattle.rp_model.specs.commands.Checks.{check_subdivide}
-use Rattle.rp_model.specs.commands.Row.{FormedChild, joined_parts, child_parts, first_empty_child}
+use Rattle.rp_model.specs.commands.Subdivide.{FormedChild, child_parts, first_empty_child}
+use Rattle.rp_model.specs.commands.Parts.{joined_parts}
 use Rattle.rp_history.proofs.Checked.{fails_first, fails_as, divided_is_live}
 use Rattle.rp_lots.proofs.Names.{names_end}
 use Rattle.rp_subdivide.specs.Children.{formed_child}

@@ -1,6 +1,6 @@
 use Rattle.std.proofs.Common.{◌≡◌, List, ◌∷◌, [], map, length}
 use Rattle.rp_geometry.specs.sets.Shape.{Part}
-use Rattle.rp_model.specs.commands.Row.{new_lot}
+use Rattle.rp_model.specs.commands.Parts.{new_lot}
 use Rattle.rp_history.specs.Parts.{new_lots}
 use Rattle.rp_subdivide.specs.Children.{formed_child}
 use Rattle.rp_subdivide.proofs.subdividing.children_born.Given as goal

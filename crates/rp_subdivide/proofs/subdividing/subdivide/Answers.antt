@@ -4,7 +4,9 @@ use Rattle.rp_geometry.specs.sets.Shape.{Part}
 use Rattle.rp_language.specs.Name.{Label}
 use Rattle.rp_walks.specs.Walk.{done, pass, Walk, Tester}
 use Rattle.rp_model.specs.states.State.{PlainState, Change, layer_with_id, lots_replaced}
-use Rattle.rp_model.specs.commands.Row.{Reply, FormedChild, accepted, new_lot, parts_with_id, row_subdivide}
+use Rattle.rp_model.specs.commands.Reply.{Reply, accepted}
+use Rattle.rp_model.specs.commands.Subdivide.{FormedChild, row_subdivide}
+use Rattle.rp_model.specs.commands.Parts.{new_lot, parts_with_id}
 use Rattle.rp_answer.specs.Replies.{EndsBy}
 use Rattle.rp_lots.proofs.Names.{parts_here}
 use Rattle.rp_subdivide.specs.Children.{formed_child, formed_children}

@@ -8,7 +8,7 @@ use Rattle.rp_walks.specs.Walk.{first_tester}
 use Rattle.rp_walks.specs.Form.{form}
 use Rattle.rp_model.specs.states.State.{parts_in, state_of_parts}
 use Rattle.rp_model.specs.states.Sound.{IsSound}
-use Rattle.rp_model.specs.commands.Row.{shapes_of_parts}
+use Rattle.rp_model.specs.commands.Parts.{shapes_of_parts}
 use Rattle.rp_reports.specs.Machine.{Running}
 use Rattle.rp_machine.specs.Forms.{MakesForm}
 use Rattle.rp_machine.specs.declared.fault.FormFault.TheVariants.{Unknown}

@@ -2,7 +2,7 @@ use Rattle.std.proofs.Common.{List, sym, ap, ◌∙◌}
 use Rattle.std.proofs.lemmas.Result.{err_from_is_err_and}
 use Rattle.rp_walks.specs.Walk.{done}
 use Rattle.rp_model.specs.commands.Verdict.{Verdict}
-use Rattle.rp_model.specs.commands.Row.{reply_lines}
+use Rattle.rp_model.specs.commands.Reply.{reply_lines}
 use Rattle.rp_machine.proofs.state.State.audit.Goals as goal
 
 pub returns-in_err-live : goal.returns-in_err-live

@@ -5,7 +5,11 @@ use Rattle.std.proofs.lemmas.Result.{err_from_is_err_and}
 use Rattle.rp_geometry.specs.sets.Shape.{Part}
 use Rattle.rp_walks.specs.Walk.{first_tester}
 use Rattle.rp_command.specs.Views.{command_of}
-use Rattle.rp_model.specs.commands.Row.{row, row_access, row_audit, row_neighbours, row_section}
+use Rattle.rp_model.specs.commands.Row.{row}
+use Rattle.rp_model.specs.commands.Access.{row_access}
+use Rattle.rp_model.specs.commands.Audit.{row_audit}
+use Rattle.rp_model.specs.commands.Neighbours.{row_neighbours}
+use Rattle.rp_model.specs.commands.Section.{row_section}
 use Rattle.rp_ledger.specs.declared.reply.Row.{Row as CodeRow}
 use Rattle.rp_ledger.specs.Rows.{rest_of, IsReadyRow}
 use Rattle.rp_ledger.proofs.Told.{question_replied}

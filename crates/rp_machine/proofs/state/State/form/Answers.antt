@@ -1,7 +1,7 @@
 use Rattle.std.specs.Prelude.{Ok, Err}
 use Rattle.std.proofs.lemmas.Result.{err_from_is_err_and}
 use Rattle.rp_model.specs.states.State.{parts_in}
-use Rattle.rp_model.specs.commands.Row.{shapes_of_parts}
+use Rattle.rp_model.specs.commands.Parts.{shapes_of_parts}
 use Rattle.rp_command.specs.Views.{expression_of}
 use Rattle.rp_machine.proofs.Formed.{form_has, form_taken, op_fails}
 use Rattle.rp_machine.proofs.state.State.form.Goals as goal

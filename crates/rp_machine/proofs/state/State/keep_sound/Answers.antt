@@ -2,7 +2,7 @@ use Rattle.std.proofs.Common.{subst}
 use Rattle.rp_geometry.specs.parts.Parts.{IsPart}
 use Rattle.rp_walks.specs.FormLaws.{MeaningsAgree}
 use Rattle.rp_model.specs.states.State.{PlainState, parts_in}
-use Rattle.rp_model.specs.commands.Row.{shapes_of_parts}
+use Rattle.rp_model.specs.commands.Parts.{shapes_of_parts}
 use Rattle.rp_machine.proofs.Names.{regions_agree}
 use Rattle.rp_machine.proofs.state.State.keep_sound.Goals as goal
 

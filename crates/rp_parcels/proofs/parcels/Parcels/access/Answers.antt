@@ -1,7 +1,7 @@
 use Rattle.std.proofs.Common.{List, [], subst}
 use Rattle.rp_walks.specs.Walk.{first_tester}
 use Rattle.rp_model.specs.states.State.{Lot}
-use Rattle.rp_model.specs.commands.Row.{row_access}
+use Rattle.rp_model.specs.commands.Access.{row_access}
 use Rattle.rp_history.specs.Lots.{lots_in}
 use Rattle.rp_contacts.specs.Asked.{Answers}
 use Rattle.rp_parcels.proofs.Behind.{access_behind}

@@ -1,14 +1,14 @@
 use Rattle.std.proofs.Common.{List, [], subst}
 use Rattle.rp_walks.specs.Walk.{first_tester}
 use Rattle.rp_model.specs.states.State.{Lot}
-use Rattle.rp_model.specs.commands.Row.{row_audit}
+use Rattle.rp_model.specs.commands.Audit.{row_audit}
+use Rattle.rp_model.specs.commands.Reply.{reply}
 use Rattle.rp_history.specs.Lots.{lots_in}
 use Rattle.rp_contacts.specs.Asked.{Answers}
 use Rattle.rp_parcels.proofs.Behind.{audit_behind}
 use Rattle.rp_parcels.proofs.Ends.{audit_ends}
 use Rattle.rp_parcels.proofs.Taken.{end_shown, row_answered}
 use Rattle.rp_model.specs.commands.Verdict.{clear}
-use Rattle.rp_model.specs.commands.Row.{reply}
 use Rattle.rp_parcels.proofs.parcels.Parcels.audit.Goals as goal
 
 pub answered-requires : goal.answered-requires

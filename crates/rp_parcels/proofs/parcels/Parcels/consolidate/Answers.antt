@@ -1,6 +1,6 @@
 use Rattle.std.proofs.Common.{List, []}
 use Rattle.rp_model.specs.states.State.{Lot}
-use Rattle.rp_model.specs.commands.Row.{row_consolidate}
+use Rattle.rp_model.specs.commands.Consolidate.{row_consolidate}
 use Rattle.rp_history.specs.Lots.{lots_in}
 use Rattle.rp_parcels.proofs.Behind.{consolidate_behind}
 use Rattle.rp_parcels.proofs.Ends.{consolidate_ends}

@@ -1,7 +1,7 @@
 use Rattle.std.proofs.Common.{List, []}
 use Rattle.rp_walks.specs.Walk.{first_tester}
 use Rattle.rp_model.specs.states.State.{Lot}
-use Rattle.rp_model.specs.commands.Row.{row_cut}
+use Rattle.rp_model.specs.commands.Cut.{row_cut}
 use Rattle.rp_history.specs.Lots.{lots_in}
 use Rattle.rp_parcels.proofs.Behind.{cut_behind}
 use Rattle.rp_parcels.proofs.Ends.{cut_ends}

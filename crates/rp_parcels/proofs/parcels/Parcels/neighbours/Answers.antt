@@ -1,14 +1,14 @@
 use Rattle.std.proofs.Common.{List, [], subst}
 use Rattle.rp_walks.specs.Walk.{first_tester}
 use Rattle.rp_model.specs.states.State.{Lot}
-use Rattle.rp_model.specs.commands.Row.{row_neighbours}
+use Rattle.rp_model.specs.commands.Neighbours.{row_neighbours}
+use Rattle.rp_model.specs.commands.Reply.{reply_lines}
 use Rattle.rp_history.specs.Lots.{lots_in}
 use Rattle.rp_contacts.specs.Asked.{Answers}
 use Rattle.rp_parcels.proofs.Behind.{neighbours_behind}
 use Rattle.rp_parcels.proofs.Ends.{neighbours_ends}
 use Rattle.rp_parcels.proofs.Taken.{end_shown, row_answered}
 use Rattle.rp_model.specs.commands.Verdict.{neighbour_lines}
-use Rattle.rp_model.specs.commands.Row.{reply_lines}
 use Rattle.rp_parcels.proofs.parcels.Parcels.neighbours.Goals as goal
 
 pub answered-requires : goal.answered-requires

@@ -3,7 +3,7 @@ use Rattle.std.proofs.lemmas.List.{length-map}
 use Rattle.std.proofs.lemmas.Result.{err_from_is_err_and}
 use Rattle.rp_walks.specs.Walk.{first_tester}
 use Rattle.rp_model.specs.states.State.{Lot}
-use Rattle.rp_model.specs.commands.Row.{row_subdivide}
+use Rattle.rp_model.specs.commands.Subdivide.{row_subdivide}
 use Rattle.rp_region.proofs.Behind.{behind_tells}
 use Rattle.rp_region.proofs.Left.{not_begun}
 use Rattle.rp_history.specs.Lots.{lots_in}

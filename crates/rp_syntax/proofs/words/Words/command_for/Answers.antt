@@ -1,6 +1,7 @@
-use Rattle.std.proofs.Common.{◌≡◌, Result, refl, sym, subst}
+use Rattle.std.proofs.Common.{◌≡◌, Result, Ok, refl, sym, subst}
 use Rattle.rp_command.specs.declared.command.Command.{Command}
 use Rattle.rp_command.specs.declared.command.Command.TheVariants as commands
+use Rattle.rp_command.specs.Versions.{version_of}
 use Rattle.rp_command.specs.Views.{command_of, expression_of}
 use Rattle.rp_language.specs.Expression.{ask_empty, ask_pieces, ask_show, retire, ask_neighbours, ask_history, ask_at, set_layer}
 use Rattle.rp_language.specs.Grammar.{Place, Version, verb_words}
@@ -43,7 +44,7 @@ pub returns-in-Subdivide : goal.returns-in-Subdivide
 returns-in-Subdivide c = by_verb _ _ _ _ _ _ c.in-Subdivide.is c.subdivision.ensures
 
 pub returns-in-Consolidate : goal.returns-in-Consolidate
-returns-in-Consolidate c = by_verb _ _ _ _ _ _ c.in-Consolidate.is c.consolidation.ensures
+returns-in-Consolidate c = by_verb _ _ _ _ _ _ c.in-Consolidate.is (c.consolidation.ensures (version_of c.args.version))
 
 pub returns-in-Retire : goal.returns-in-Retire
 returns-in-Retire c = by_verb _ _ _ _ _ _ c.in-Retire.is (read_made_of (λ x. x) command_of retire commands.Retire _ _ _ _ c.map-in-Retire.ensures.cases (λ _. refl) c.name.ensures)
@@ -67,4 +68,10 @@ pub returns-in-Section : goal.returns-in-Section
 returns-in-Section c = by_verb _ _ _ _ _ _ c.in-Section.is c.section.ensures
 
 pub returns-in-Access : goal.returns-in-Access
-returns-in-Access c = by_verb _ _ _ _ _ _ c.in-Access.is c.access.ensures
+returns-in-Access c = by_verb _ _ _ _ _ _ c.in-Access.is (c.access.ensures (version_of c.args.version))
+
+pub returns-in-Audit : goal.returns-in-Audit
+returns-in-Audit c = by_verb _ _ _ (Ok commands.Audit) _ _ c.in-Audit.is refl
+
+pub returns-in-List : goal.returns-in-List
+returns-in-List c = by_verb _ _ _ (Ok commands.List) _ _ c.in-List.is refl

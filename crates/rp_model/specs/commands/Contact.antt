@@ -1,0 +1,21 @@
+-- contact EXPRESSION EXPRESSION: whether the closures of two regions share a point.
+use Rattle.std.specs.Prelude.{List}
+use Rattle.rp_geometry.specs.sets.Contact.{IsInContact}
+use Rattle.rp_geometry.specs.sets.Shape.{Part}
+use Rattle.rp_language.specs.Expression.{signature, contact_verb}
+use Rattle.rp_walks.specs.Form.{touch_in_full}
+use Rattle.rp_walks.specs.Walk.{Walk, pass, ◌>>=◌, Tester}
+use Rattle.rp_model.specs.commands.Definition.{Definition, of_forms}
+use Rattle.rp_model.specs.commands.Reply.{Reply, yes_or_no}
+use Rattle.rp_model.specs.commands.Rules.{yes_where}
+
+module _ {W : Type 0} (tester : Tester W) where
+  -- whether two forms are in contact
+  abbrev pub row_contact : List Part → List Part → Walk W Reply
+  row_contact ps qs = do
+    answer ← touch_in_full tester ps qs
+    pass (yes_or_no answer)
+
+-- the definition of contact
+abbrev pub contact_definition : Definition (signature contact_verb)
+contact_definition = of_forms (record { row = row_contact; rule = λ a b. yes_where (IsInContact a b) })

@@ -1,0 +1,21 @@
+-- empty EXPRESSION: whether a region has no point.
+use Rattle.std.specs.Prelude.{List}
+use Rattle.rp_geometry.specs.sets.Sets.{IsEmpty}
+use Rattle.rp_geometry.specs.sets.Shape.{Part}
+use Rattle.rp_language.specs.Expression.{signature, empty_verb}
+use Rattle.rp_walks.specs.Compare.{show_then_no}
+use Rattle.rp_walks.specs.Walk.{Walk, pass, ◌>>=◌, Tester}
+use Rattle.rp_model.specs.commands.Definition.{Definition, of_form}
+use Rattle.rp_model.specs.commands.Reply.{Reply, yes_or_no}
+use Rattle.rp_model.specs.commands.Rules.{yes_where}
+
+module _ {W : Type 0} (tester : Tester W) where
+  -- no part, or else the strict test of the first part again
+  abbrev pub row_empty : List Part → Walk W Reply
+  row_empty ps = do
+    answer ← show_then_no tester ps
+    pass (yes_or_no answer)
+
+-- the definition of empty
+abbrev pub empty_definition : Definition (signature empty_verb)
+empty_definition = of_form (record { row = row_empty; rule = λ formed a. yes_where (IsEmpty a) })

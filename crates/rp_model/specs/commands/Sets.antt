@@ -1,0 +1,24 @@
+-- The sets that expressions and ids stand for.
+use Rattle.std.specs.Prelude.{List, [], ◌∷◌, unwrap_or}
+use Rattle.rp_geometry.specs.sets.Shape.{Shape}
+use Rattle.rp_language.specs.Expression.{Expression, closed}
+use Rattle.rp_language.specs.Name.{Label}
+use Rattle.rp_model.specs.states.State.{live_lot, NewLot, State, sets_in, set_of_lot}
+
+-- the set that an expression stands for
+abbrev pub set_of : State → Expression → Shape
+set_of s e = closed (sets_in s) e
+
+-- the set of a live lot
+abbrev pub set_with_id : State → Label → Shape
+set_with_id s x = unwrap_or (set_of_lot (live_lot x s.lots)) Shape.nothing
+
+-- the union of a list of sets, in order
+abbrev pub union_of : List Shape → Shape
+union_of [] = Shape.nothing
+union_of (a ∷ []) = a
+union_of (a ∷ b ∷ sets) = Shape.union a (union_of (b ∷ sets))
+
+-- a lot of this layer and this set, whose parts are still to be filled in
+abbrev pub lot_of_set : Label → Label → Shape → List Label → NewLot Shape
+lot_of_set y x a origins = record { id = x; layer = y; set = a; parts = []; origins = origins }

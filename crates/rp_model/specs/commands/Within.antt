@@ -1,0 +1,21 @@
+-- within EXPRESSION EXPRESSION: whether one region is within another.
+use Rattle.std.specs.Prelude.{List}
+use Rattle.rp_geometry.specs.sets.Sets.{IsWithin}
+use Rattle.rp_geometry.specs.sets.Shape.{Part}
+use Rattle.rp_language.specs.Expression.{signature, within_verb}
+use Rattle.rp_walks.specs.Compare.{is_covered}
+use Rattle.rp_walks.specs.Walk.{Walk, pass, ◌>>=◌, Tester}
+use Rattle.rp_model.specs.commands.Definition.{Definition, of_forms}
+use Rattle.rp_model.specs.commands.Reply.{Reply, yes_or_no}
+use Rattle.rp_model.specs.commands.Rules.{yes_where}
+
+module _ {W : Type 0} (tester : Tester W) where
+  -- whether the first is within the second
+  abbrev pub row_within : List Part → List Part → Walk W Reply
+  row_within ps qs = do
+    answer ← is_covered tester ps qs
+    pass (yes_or_no answer)
+
+-- the definition of within
+abbrev pub within_definition : Definition (signature within_verb)
+within_definition = of_forms (record { row = row_within; rule = λ a b. yes_where (IsWithin a b) })
