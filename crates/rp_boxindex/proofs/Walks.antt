@@ -4,7 +4,9 @@ use Rattle.std.specs.Borrow.{Bor}
 use Rattle.rp_geometry.specs.Geometry.{IntegerBox}
 use Rattle.rp_boxindex.specs.Boxes.{Entry}
 use Rattle.rp_boxindex.specs.cells.Views.{CellsView}
-use Rattle.rp_boxindex.specs.cells.Walks.{pending_entries, are_none, is_done, outcome, IsFurther}
+use Rattle.rp_boxindex.specs.cells.Walks.{tree_entries, has_no_item, pending_entries, are_none, is_done, outcome, IsFurther}
+use Rattle.rp_boxindex.specs.declared.walk.Pending.{Pending}
+use Rattle.rp_boxindex.specs.declared.walk.Pending.TheVariants.{Whole, Trees}
 use Rattle.rp_boxindex.specs.declared.walk.Walk.{Walk}
 use Rattle.rp_boxindex.specs.Meeting.{do_meet, ids_that_meet}
 use Rattle.rp_boxindex.specs.tree.Nodes.{AreWithin}
@@ -17,40 +19,44 @@ use Rattle.rp_boxindex.proofs.Taken.{taken-append}
 use Rattle.rp_algebra.proofs.Tests.{both_follow, false_of_not}
 
 -- the entries of the last pending tree come first
-pub pending-push : (xs : List (Option (Bor CellsView))) (cells : Bor CellsView) → pending_entries (xs ++ Some cells ∷ []) ≡ cells.now.entries ++ pending_entries xs
+pub pending-push : (xs : List (Option (Bor CellsView))) (cells : Bor CellsView) → tree_entries (xs ++ Some cells ∷ []) ≡ cells.now.entries ++ tree_entries xs
 pending-push [] cells = sym (append-nil cells.now.entries)
 pending-push (None ∷ xs) cells = pending-push xs cells
-pending-push (Some other ∷ xs) cells = ap (λ (es : List Entry). es ++ other.now.entries) (pending-push xs cells) ∙ append_assoc cells.now.entries (pending_entries xs) other.now.entries
+pending-push (Some other ∷ xs) cells = ap (λ (es : List Entry). es ++ other.now.entries) (pending-push xs cells) ∙ append_assoc cells.now.entries (tree_entries xs) other.now.entries
 
 -- a place with no tree has no entries
-pub pending-none : (xs : List (Option (Bor CellsView))) → pending_entries (xs ++ None ∷ []) ≡ pending_entries xs
+pub pending-none : (xs : List (Option (Bor CellsView))) → tree_entries (xs ++ None ∷ []) ≡ tree_entries xs
 pending-none [] = refl
 pending-none (None ∷ xs) = pending-none xs
 pending-none (Some other ∷ xs) = ap (λ (es : List Entry). es ++ other.now.entries) (pending-none xs)
 
 -- one is pending behind others
-pub one_pending : (xs : List (Option (Bor CellsView))) (o : Option (Bor CellsView)) → are_none (xs ++ o ∷ []) ≡ false
+pub one_pending : (xs : List (Option (Bor CellsView))) (o : Option (Bor CellsView)) → has_no_item (xs ++ o ∷ []) ≡ false
 one_pending [] o = refl
 one_pending (x ∷ xs) o = refl
 
-nothing_left : (xs : List (Option (Bor CellsView))) → are_none xs ≡ true → pending_entries xs ≡ []
-nothing_left [] h = refl
-nothing_left (x ∷ xs) h = absurd (false_not_true h)
+no_entries : (xs : List (Option (Bor CellsView))) → has_no_item xs ≡ true → tree_entries xs ≡ []
+no_entries [] h = refl
+no_entries (x ∷ xs) h = absurd (false_not_true h)
+
+nothing_left : (p : Pending) → are_none p ≡ true → pending_entries p ≡ []
+nothing_left (Whole cells) h = absurd (false_not_true h)
+nothing_left (Trees trees) h = no_entries trees.items h
 
 -- ---- what a walk keeps
 
 -- a walk that only lost places with no tree
-pub further_same : {S : Type 0} (after : S → ℕ → S) (c : Bool) (b : IntegerBox) (old new : Walk S) → pending_entries new.pending.items ≡ pending_entries old.pending.items → new.taker ≡ old.taker → new.is_lost ≡ old.is_lost → (are_none old.pending.items ≡ true → are_none new.pending.items ≡ true) → IsFurther after c b old new
+pub further_same : {S : Type 0} (after : S → ℕ → S) (c : Bool) (b : IntegerBox) (old new : Walk S) → pending_entries new.pending ≡ pending_entries old.pending → new.taker ≡ old.taker → new.is_lost ≡ old.is_lost → (are_none old.pending ≡ true → are_none new.pending ≡ true) → IsFurther after c b old new
 further_same after c b old new pending taker lost none = record {
-  done = λ h. both_follow (not old.is_lost) (are_none old.pending.items) (not new.is_lost) (are_none new.pending.items) (λ k. rw lost k) none h;
+  done = λ h. both_follow (not old.is_lost) (are_none old.pending) (not new.is_lost) (are_none new.pending) (λ k. rw lost k) none h;
   stays = λ h. sym lost ∙ h;
   same = λ h. ap₂ (λ t es. taken after t (ids_that_meet c b es)) taker pending;
 }
 
 -- a walk from which a tree is taken, with the outcome that it had
-pub further_step : {S : Type 0} (after : S → ℕ → S) (c : Bool) (b : IntegerBox) (old new : Walk S) → are_none old.pending.items ≡ false → (new.is_lost ≡ false → old.is_lost ≡ false) → (new.is_lost ≡ false → outcome after c b new ≡ outcome after c b old) → IsFurther after c b old new
+pub further_step : {S : Type 0} (after : S → ℕ → S) (c : Bool) (b : IntegerBox) (old new : Walk S) → are_none old.pending ≡ false → (new.is_lost ≡ false → old.is_lost ≡ false) → (new.is_lost ≡ false → outcome after c b new ≡ outcome after c b old) → IsFurther after c b old new
 further_step after c b old new some stays same = record {
-  done = λ h. absurd (false_not_true (sym some ∙ (and_parts (not old.is_lost) (are_none old.pending.items) h).1));
+  done = λ h. absurd (false_not_true (sym some ∙ (and_parts (not old.is_lost) (are_none old.pending) h).1));
   stays = stays;
   same = same;
 }
@@ -73,11 +79,11 @@ not_done_before after c b old new further h false is = is
 -- ---- one step
 
 -- a tree around which the hull does not meet the box is left out
-pub outcome_pruned : {S : Type 0} (after : S → ℕ → S) (c : Bool) (b hull : IntegerBox) (old new : Walk S) (es : List Entry) → pending_entries old.pending.items ≡ es ++ pending_entries new.pending.items → new.taker ≡ old.taker → AreWithin hull es → do_meet c b hull ≡ false → outcome after c b new ≡ outcome after c b old
+pub outcome_pruned : {S : Type 0} (after : S → ℕ → S) (c : Bool) (b hull : IntegerBox) (old new : Walk S) (es : List Entry) → pending_entries old.pending ≡ es ++ pending_entries new.pending → new.taker ≡ old.taker → AreWithin hull es → do_meet c b hull ≡ false → outcome after c b new ≡ outcome after c b old
 outcome_pruned after c b hull old new es pending taker within apart =
-    let rest = pending_entries new.pending.items in
+    let rest = pending_entries new.pending in
     let none : ids_that_meet c b es ≡ [] = ids-unmet c b es (none_in_hull c b hull es within apart) in
-    let ids : ids_that_meet c b (pending_entries old.pending.items) ≡ ids_that_meet c b rest = ap (ids_that_meet c b) pending ∙ (ids-append c b es rest ∙ ap (λ (xs : List ℕ). xs ++ ids_that_meet c b rest) none) in
+    let ids : ids_that_meet c b (pending_entries old.pending) ≡ ids_that_meet c b rest = ap (ids_that_meet c b) pending ∙ (ids-append c b es rest ∙ ap (λ (xs : List ℕ). xs ++ ids_that_meet c b rest) none) in
     ap₂ (λ t xs. taken after t xs) taker (sym ids)
 
 -- an entry is handed to the taker, and both sides are pending
@@ -90,9 +96,9 @@ outcome_visited after c b taker new es e lower upper rest old all shown pending 
 -- ---- the whole walk
 
 -- the taker of a walk that is done has the ids of all boxes that meet
-pub walked : {S : Type 0} (after : S → ℕ → S) (c : Bool) (b : IntegerBox) (old new : Walk S) (taker : S) (es : List Entry) → IsFurther after c b old new → is_done new ≡ true → (old.is_lost ≡ false → pending_entries old.pending.items ≡ es) → old.taker ≡ taker → new.taker ≡ taken after taker (ids_that_meet c b es)
+pub walked : {S : Type 0} (after : S → ℕ → S) (c : Bool) (b : IntegerBox) (old new : Walk S) (taker : S) (es : List Entry) → IsFurther after c b old new → is_done new ≡ true → (old.is_lost ≡ false → pending_entries old.pending ≡ es) → old.taker ≡ taker → new.taker ≡ taken after taker (ids_that_meet c b es)
 walked after c b old new taker es further done begins is =
-    let parts = and_parts (not new.is_lost) (are_none new.pending.items) done in
+    let parts = and_parts (not new.is_lost) (are_none new.pending) done in
     let found : new.is_lost ≡ false = false_of_not new.is_lost parts.0 in
-    let ends : new.taker ≡ outcome after c b new = sym (ap (λ (xs : List Entry). taken after new.taker (ids_that_meet c b xs)) (nothing_left new.pending.items parts.1)) in
+    let ends : new.taker ≡ outcome after c b new = sym (ap (λ (xs : List Entry). taken after new.taker (ids_that_meet c b xs)) (nothing_left new.pending parts.1)) in
     ends ∙ (further.same found ∙ ap₂ (λ t xs. taken after t (ids_that_meet c b xs)) is (begins (further.stays found)))

@@ -1,5 +1,6 @@
 //! A walk through a tree of cells, which makes one step when it is told to.
-ghost use Rattle.std.specs.Prelude.{◌≡◌, ◌+◌, ◌≤◌, ◌∷◌, [], ◌++◌, true, false, MatchOption};
+ghost use Rattle.std.specs.Prelude.{◌≡◌, ◌+◌, ◌≤◌, ◌∷◌, [], ◌++◌, Bool, true, false, MatchOption};
+ghost use Rattle.rp_geometry.specs.Geometry.{IntegerBox};
 ghost use Rattle.rp_space.specs.Boxes.{integer_box};
 ghost use Rattle.rp_boxindex.specs.cells.Walks.{pending_entries, are_none, is_done, IsFurther};
 ghost use Rattle.rp_boxindex.specs.Meeting.{ids_that_meet};
@@ -23,11 +24,33 @@ use std::sync::ledger::Ledger;
 /// taker does not take an id. Then its taker tells nothing.
 #[derive(Drop)]
 pub(crate) struct Walk<'a, T> {
-    pending: ArrayVec<Option<&'a Cells>, 130>,
+    pending: Pending<'a>,
     is_lost: bool,
     /// How many turns are still to pass.
     pauses: u8,
     taker: T,
+}
+
+/// The trees that a walk still has to go through. Room for more than one takes 2 KB to set up, and most walks make no
+/// step. So the room is made before the first step.
+#[derive(Drop)]
+pub(crate) enum Pending<'a> {
+    /// The whole tree, before the first step.
+    Whole(&'a Cells),
+    /// The trees that are left, the next one last.
+    Trees(ArrayVec<Option<&'a Cells>, 130>),
+}
+
+impl<'a> Pending<'a> {
+    /// Returns whether no tree is pending.
+    fn is_empty(&self) -> bool
+        ensures { result ≡ are_none self.now }
+    {
+        match self {
+            Pending::Whole(_) => false,
+            Pending::Trees(trees) => trees.is_empty(),
+        }
+    }
 }
 
 /// How many turns pass with no step.
@@ -36,17 +59,15 @@ const PAUSES: u8 = 20;
 impl<'a, T: Take> Walk<'a, T> {
     /// Returns a walk that begins at the root of a tree.
     pub(crate) fn new(cells: &'a Cells, taker: T) -> Walk<'a, T>
-        ensures pending { result.is_lost ≡ false → pending_entries result.pending.items ≡ cells.now.entries }
+        ensures pending { result.is_lost ≡ false → pending_entries result.pending ≡ cells.now.entries }
         ensures taker { result.taker ≡ taker }
     {
-        let mut walk = Walk {
-            pending: ArrayVec::new(),
+        Walk {
+            pending: Pending::Whole(cells),
             is_lost: false,
             pauses: PAUSES,
             taker,
-        };
-        walk.add(cells);
-        walk
+        }
     }
 
     /// Returns whether the walk has gone through the whole tree.
@@ -78,8 +99,20 @@ impl<'a, T: Take> Walk<'a, T> {
             self.pauses -= 1;
             return;
         }
+        self.begin();
         self.step(query, watch, steps);
         self.step(query, watch, steps);
+    }
+
+    /// Makes room for the pending trees if there is none yet. The whole tree is then the one that is pending.
+    fn begin(&mut self)
+        ensures further { (closed : Bool) (bounds : IntegerBox) → IsFurther T.after closed bounds self.old self.new }
+    {
+        let Pending::Whole(cells) = self.pending else {
+            return;
+        };
+        self.pending = Pending::Trees(ArrayVec::new());
+        self.add(cells);
     }
 
     /// Visits one node, if one is left.
@@ -114,31 +147,38 @@ impl<'a, T: Take> Walk<'a, T> {
         }
     }
 
-    /// Returns the last of the pending trees, if there is one, which is no longer pending.
+    /// Removes the last of the pending trees and returns it. Returns `None` if there is none, or before room is made.
     fn next(&mut self) -> Option<&'a Cells>
-        ensures pending { MatchOption result (pending_entries self.new.pending.items ≡ pending_entries self.old.pending.items) (λ cells. pending_entries self.old.pending.items ≡ cells.now.entries ++ pending_entries self.new.pending.items) }
-        ensures done { are_none self.old.pending.items ≡ true → are_none self.new.pending.items ≡ true }
-        ensures some { MatchOption result (self.new.is_lost ≡ self.old.is_lost) (λ _. are_none self.old.pending.items ≡ false) }
+        ensures pending { MatchOption result (pending_entries self.new.pending ≡ pending_entries self.old.pending) (λ cells. pending_entries self.old.pending ≡ cells.now.entries ++ pending_entries self.new.pending) }
+        ensures done { are_none self.old.pending ≡ true → are_none self.new.pending ≡ true }
+        ensures some { MatchOption result (self.new.is_lost ≡ self.old.is_lost) (λ _. are_none self.old.pending ≡ false) }
         ensures lost { self.new.is_lost ≡ self.old.is_lost }
         ensures taker { self.new.taker ≡ self.old.taker }
     {
-        match self.pending.pop() {
+        let Pending::Trees(trees) = &mut self.pending else {
+            return None;
+        };
+        match trees.pop() {
             Some(Some(cells)) => Some(cells),
             Some(None) => None,
             None => None,
         }
     }
 
-    /// Puts a tree behind the pending ones.
+    /// Adds a tree after the pending ones. The walk is lost if there is no room.
     fn add(&mut self, cells: &'a Cells)
-        ensures pending { self.new.is_lost ≡ false → pending_entries self.new.pending.items ≡ cells.now.entries ++ pending_entries self.old.pending.items }
+        ensures pending { self.new.is_lost ≡ false → pending_entries self.new.pending ≡ cells.now.entries ++ pending_entries self.old.pending }
         ensures lost { self.new.is_lost ≡ false → self.old.is_lost ≡ false }
         ensures taker { self.new.taker ≡ self.old.taker }
     {
         if cells.is_empty() {
             return;
         }
-        match self.pending.try_push(Some(cells)) {
+        let Pending::Trees(trees) = &mut self.pending else {
+            self.is_lost = true;
+            return;
+        };
+        match trees.try_push(Some(cells)) {
             Ok(()) => {}
             Err(_) => self.is_lost = true,
         }

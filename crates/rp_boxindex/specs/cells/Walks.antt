@@ -4,28 +4,40 @@ use Rattle.std.specs.Borrow.{Bor}
 use Rattle.rp_geometry.specs.Geometry.{IntegerBox}
 use Rattle.rp_boxindex.specs.Boxes.{Entry}
 use Rattle.rp_boxindex.specs.cells.Views.{CellsView}
+use Rattle.rp_boxindex.specs.declared.walk.Pending.{Pending}
+use Rattle.rp_boxindex.specs.declared.walk.Pending.TheVariants.{Whole, Trees}
 use Rattle.rp_boxindex.specs.declared.walk.Walk.{Walk}
 use Rattle.rp_boxindex.specs.Meeting.{ids_that_meet}
 use Rattle.rp_boxindex.specs.tree.Taking.{taken}
 
+-- the entries of the trees of a list, those of the last one first
+abbrev pub tree_entries : List (Option (Bor CellsView)) → List Entry
+tree_entries [] = []
+tree_entries (None ∷ rest) = tree_entries rest
+tree_entries (Some cells ∷ rest) = tree_entries rest ++ cells.now.entries
+
+-- a list has no item
+abbrev pub has_no_item : List (Option (Bor CellsView)) → Bool
+has_no_item [] = true
+has_no_item (o ∷ rest) = false
+
 -- the entries of the pending trees, those of the last one first
-abbrev pub pending_entries : List (Option (Bor CellsView)) → List Entry
-pending_entries [] = []
-pending_entries (None ∷ rest) = pending_entries rest
-pending_entries (Some cells ∷ rest) = pending_entries rest ++ cells.now.entries
+abbrev pub pending_entries : Pending → List Entry
+pending_entries (Whole cells) = cells.now.entries
+pending_entries (Trees trees) = tree_entries trees.items
 
 -- no tree is pending
-abbrev pub are_none : List (Option (Bor CellsView)) → Bool
-are_none [] = true
-are_none (o ∷ rest) = false
+abbrev pub are_none : Pending → Bool
+are_none (Whole cells) = false
+are_none (Trees trees) = has_no_item trees.items
 
 -- a walk has gone through its whole tree
 abbrev pub is_done : {S : Type 0} → Walk S → Bool
-is_done walk = not walk.is_lost && are_none walk.pending.items
+is_done walk = not walk.is_lost && are_none walk.pending
 
 -- what the taker of a walk is at its end
 abbrev pub outcome : {S : Type 0} → (S → ℕ → S) → Bool → IntegerBox → Walk S → S
-outcome after closed b walk = taken after walk.taker (ids_that_meet closed b (pending_entries walk.pending.items))
+outcome after closed b walk = taken after walk.taker (ids_that_meet closed b (pending_entries walk.pending))
 
 -- a walk has the outcome that it had, unless it is lost, and is done if it was
 pub record IsFurther {S : Type 0} (after : S → ℕ → S) (closed : Bool) (b : IntegerBox) (old new : Walk S) : Type 0 where

@@ -30,6 +30,6 @@ returns-clause-further g c =
     let shown : IsShown c.in-Some.cells.now e (integer_box c.in-Some-visit.node.hull) c.in-Some-visit.node.lower.now c.in-Some-visit.node.upper.now = c.in-Some-visit.ensures.shown in
     further_step g.T.Take.after closed b c.args.self.now c.hand.new.self c.in-Some.ensures.some
     (λ h. sym c.next.ensures.lost ∙ c.add.ensures.lost (c.add-2.ensures.lost (c.hand.ensures.lost h)))
-    (λ h. outcome_visited g.T.Take.after closed b c.args.self.now.taker c.hand.new.self.taker c.in-Some.cells.now.entries e lower upper (pending_entries c.next.new.self.pending.items) (pending_entries c.args.self.now.pending.items) (pending_entries c.hand.new.self.pending.items) shown.entries c.in-Some.ensures.pending
-    (ap (λ p. pending_entries p.items) c.hand.ensures.pending ∙ (c.add-2.ensures.pending (c.hand.ensures.lost h) ∙ ap (λ (xs : List Entry). lower ++ xs) (c.add.ensures.pending (c.add-2.ensures.lost (c.hand.ensures.lost h)))))
+    (λ h. outcome_visited g.T.Take.after closed b c.args.self.now.taker c.hand.new.self.taker c.in-Some.cells.now.entries e lower upper (pending_entries c.next.new.self.pending) (pending_entries c.args.self.now.pending) (pending_entries c.hand.new.self.pending) shown.entries c.in-Some.ensures.pending
+    (ap pending_entries c.hand.ensures.pending ∙ (c.add-2.ensures.pending (c.hand.ensures.lost h) ∙ ap (λ (xs : List Entry). lower ++ xs) (c.add.ensures.pending (c.add-2.ensures.lost (c.hand.ensures.lost h)))))
     (c.hand.ensures.taken h ∙ ap (λ t. taken g.T.Take.after t (ids_that_meet closed b (e ∷ []))) (c.add-2.ensures.taker ∙ (c.add.ensures.taker ∙ c.next.ensures.taker))))
