@@ -1,20 +1,24 @@
 -- What a change in one half of a cell does to the entries of its tree.
-use Rattle.std.proofs.Common.{◌≡◌, ◌+◌, Bool, true, false, cond, not, List, ◌∷◌, ◌++◌, Option, Some, None, MatchOption, sym, ap, ◌∙◌, arith, subst}
+use Rattle.std.proofs.Common.{◌≡◌, ℕ, ◌+◌, Bool, true, false, cond, not, List, ◌∷◌, ◌++◌, Option, Some, None, Box, MatchOption, sym, ap, ◌∙◌, arith, subst}
+use Rattle.std.specs.declared.alloc.Global.{Global}
 use Rattle.std.specs.Option.{option_to_list}
 use Rattle.rp_geometry.specs.Geometry.{IntegerBox}
+use Rattle.rp_geometry.specs.parts.LeastBox.{box_union}
+use Rattle.rp_space.specs.declared.bounds.IntBox.{IntBox}
 use Rattle.rp_space.specs.Boxes.{integer_box}
 use Rattle.rp_boxindex.specs.Boxes.{Entry}
-use Rattle.rp_boxindex.specs.cells.Halves.{is_upper}
-use Rattle.rp_boxindex.specs.cells.Nodes.{AreSides}
+use Rattle.rp_boxindex.specs.cells.Halves.{is_upper, AreHalves}
+use Rattle.rp_boxindex.specs.cells.Nodes.{AreCells, AreSides, IsCell, cells_view, cell_entries}
 use Rattle.rp_boxindex.specs.cells.Views.{CellsView}
 use Rattle.rp_boxindex.specs.Counts.{count, SameCounts}
+use Rattle.rp_boxindex.specs.declared.cells.CellNode.{CellNode}
 use Rattle.rp_boxindex.specs.declared.middle.Middle.{Middle}
 use Rattle.rp_boxindex.specs.declared.place.Place.{Place}
 use Rattle.rp_boxindex.specs.tree.Nodes.{is_within, AreWithin}
 use Rattle.rp_boxindex.specs.tree.Order.{place_of, is_at_place}
 use Rattle.rp_boxindex.proofs.Counts.{count-append, count-none, count-round, when}
 use Rattle.rp_boxindex.proofs.Changes.{is_not}
-use Rattle.rp_boxindex.proofs.Hulls.{hull_of_node}
+use Rattle.rp_boxindex.proofs.Hulls.{hull_of_node, are_within_further, union_first, union_second}
 use Rattle.rp_boxindex.proofs.Order.{at_place}
 
 -- of the entries of a tree, those that pass are the node's own or in one of the halves
@@ -39,6 +43,85 @@ more_lower {t} {lower} {upper} {m} {e} x more r sides grown is p =
     let new = count_of p r e more upper.entries is in
     let side = grown p in
     omega arith
+
+-- an entry more in a half, by its place
+halves_upper : {lower upper : List Entry} {m : Middle} (x : Entry) (more : List Entry) → AreHalves lower m upper → SameCounts more (x ∷ upper) → is_upper m (place_of x) ≡ true → AreHalves lower m more
+halves_upper {lower} {upper} {m} x more halves grown up = record {
+  below = halves.below;
+  above =
+      let side = grown (λ e. not (is_upper m (place_of e))) in
+      let own = when (not (is_upper m (place_of x))) false (ap not up) in
+      let rest = halves.above in
+      omega arith;
+}
+
+halves_lower : {lower upper : List Entry} {m : Middle} (x : Entry) (more : List Entry) → AreHalves lower m upper → SameCounts more (x ∷ lower) → is_upper m (place_of x) ≡ false → AreHalves more m upper
+halves_lower {lower} {upper} {m} x more halves grown low = record {
+  below =
+      let side = grown (λ e. is_upper m (place_of e)) in
+      let own = when (is_upper m (place_of x)) false low in
+      let rest = halves.below in
+      omega arith;
+  above = halves.above;
+}
+
+-- a box around all boxes of the tree and the new one is around all boxes of the new tree
+hull_upper : (s : IntegerBox) (x e : Entry) (lower upper more : List Entry) → is_within s (integer_box x.1) ≡ true → AreWithin s (e ∷ (lower ++ upper)) → SameCounts more (x ∷ upper) → AreWithin s (e ∷ (lower ++ more))
+hull_upper s x e lower upper more own around grown =
+    let p : Entry → Bool = λ y. not (is_within s (integer_box y.1)) in
+    let all : cond {A = ℕ} (p e) 1 0 + count p (lower ++ upper) ≡ 0 = around in
+    let here : cond {A = ℕ} (p x) 1 0 ≡ 0 = when (p x) false (ap not own) in
+    let side : count p more ≡ cond {A = ℕ} (p x) 1 0 + count p upper = grown p in
+    let before = count-append p lower upper in
+    let after = count-append p lower more in
+    omega arith
+
+hull_lower : (s : IntegerBox) (x e : Entry) (lower upper more : List Entry) → is_within s (integer_box x.1) ≡ true → AreWithin s (e ∷ (lower ++ upper)) → SameCounts more (x ∷ lower) → AreWithin s (e ∷ (more ++ upper))
+hull_lower s x e lower upper more own around grown =
+    let p : Entry → Bool = λ y. not (is_within s (integer_box y.1)) in
+    let all : cond {A = ℕ} (p e) 1 0 + count p (lower ++ upper) ≡ 0 = around in
+    let here : cond {A = ℕ} (p x) 1 0 ≡ 0 = when (p x) false (ap not own) in
+    let side : count p more ≡ cond {A = ℕ} (p x) 1 0 + count p lower = grown p in
+    let before = count-append p lower upper in
+    let after = count-append p more upper in
+    omega arith
+
+-- the union of a hull and of an entry's box is around both
+pub wide_union : (u hull : IntBox) (x : Entry) → integer_box u ≡ box_union (integer_box hull) (integer_box x.1) → (is_within (integer_box u) (integer_box hull) ≡ true) × (is_within (integer_box u) (integer_box x.1) ≡ true)
+wide_union u hull x is =
+    let b : IntegerBox = integer_box hull in
+    let e : IntegerBox = integer_box x.1 in
+    (subst (λ (v : IntegerBox). is_within v b ≡ true) (sym is) (union_first b e), subst (λ (v : IntegerBox). is_within v e ≡ true) (sym is) (union_second b e))
+
+-- a node with another hull
+abbrev pub with_hull : CellNode → IntBox → CellNode
+with_hull n u = record { lower = n.lower; entry = n.entry; middle = n.middle; hull = u; upper = n.upper }
+
+-- a node keeps what holds of it when its hull grows
+pub settled_wider : (n : CellNode) (u : IntBox) → IsCell n → is_within (integer_box u) (integer_box n.hull) ≡ true → IsCell (with_hull n u)
+settled_wider n u settled wide = record { halves = settled.halves; hull = are_within_further (integer_box u) (integer_box n.hull) (cell_entries n) wide settled.hull }
+
+-- a node keeps what holds of it when a half has an entry more, by its place, whose box is in the hull
+pub settled_upper : (n : CellNode) (x : Entry) (more : CellsView) → IsCell n → is_within (integer_box n.hull) (integer_box x.1) ≡ true → SameCounts more.entries (x ∷ n.upper.entries) → is_upper n.middle (place_of x) ≡ true → IsCell (record { lower = n.lower; entry = n.entry; middle = n.middle; hull = n.hull; upper = more })
+settled_upper n x more settled own grown up = record {
+  halves = halves_upper x more.entries settled.halves grown up;
+  hull = hull_upper (integer_box n.hull) x n.entry n.lower.entries n.upper.entries more.entries own settled.hull grown;
+}
+
+pub settled_lower : (n : CellNode) (x : Entry) (more : CellsView) → IsCell n → is_within (integer_box n.hull) (integer_box x.1) ≡ true → SameCounts more.entries (x ∷ n.lower.entries) → is_upper n.middle (place_of x) ≡ false → IsCell (record { lower = more; entry = n.entry; middle = n.middle; hull = n.hull; upper = n.upper })
+settled_lower n x more settled own grown low = record {
+  halves = halves_lower x more.entries settled.halves grown low;
+  hull = hull_lower (integer_box n.hull) x n.entry n.lower.entries n.upper.entries more.entries own settled.hull grown;
+}
+
+-- the sides of a tree whose root has a node
+pub sides_of : (t : CellsView) (root : Option (Box CellNode Global)) (held : Box CellNode Global) → cells_view root ≡ t → root ≡ Some held → AreCells root → AreSides t held.value.lower held.value.middle held.value.entry held.value.upper
+sides_of t root held view is cells =
+    let settled : IsCell held.value = subst AreCells is cells in
+    record {
+      entries = sym (ap (λ (v : CellsView). v.entries) view) ∙ ap (λ (r : Option (Box CellNode Global)). (cells_view r).entries) is;
+      halves = settled.halves;
+    }
 
 -- what is gone from one half is gone from the tree
 pub gone_upper : {t lower upper : CellsView} {m : Middle} {e : Entry} (gone : Option Entry) (less r : List Entry) → AreSides t lower m e upper → SameCounts upper.entries (option_to_list gone ++ less) → r ≡ e ∷ (lower.entries ++ less) → SameCounts t.entries (option_to_list gone ++ r)

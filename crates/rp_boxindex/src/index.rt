@@ -83,8 +83,7 @@ impl Index {
         self.lows.insert(id, low)?;
         let tree = self.tree.take();
         self.tree = tree.with(node);
-        let cells = self.cells.take();
-        self.cells = cells.with(cell, Middle::of_all());
+        self.cells.put(cell, Middle::of_all());
         Ok(())
     }
 
@@ -111,7 +110,8 @@ impl Index {
         let (others, cell) = cells.without(&place);
         let Some(mut cell) = cell else { unreachable!() };
         cell.hold(entry);
-        self.cells = others.with(cell, Middle::of_all());
+        self.cells = others;
+        self.cells.put(cell, Middle::of_all());
         true
     }
 

@@ -45,23 +45,26 @@ impl CellNode {
 }
 
 impl Cells {
-    /// Returns the tree with the entry of a node put in. `middle` is that of the tree's cell. Takes no memory.
-    pub(crate) fn with(self, new: Box<CellNode>, middle: Middle) -> Cells
-        ensures { SameCounts result.entries (new.value.entry ∷ self.entries) }
+    /// Puts the entry of a node into the tree. `middle` is that of the tree's cell. Takes no memory.
+    ///
+    /// The tree changes in place: each node on the way down keeps its sides, and its hull grows by the new box.
+    pub(crate) fn put(&mut self, new: Box<CellNode>, middle: Middle)
+        ensures { SameCounts self.new.entries (new.value.entry ∷ self.old.entries) }
     {
-        match self.into_parts() {
-            None => join(Cells::new(), middle, new, Cells::new()),
-            Some((lower, node, upper)) => {
-                let own = node.middle;
-                let place = Place::of(&new.entry);
-                let next = own.next(&place);
-                if own.is_upper(&place) {
-                    join(lower, own, node, upper.with(new, next))
-                } else {
-                    join(lower.with(new, next), own, node, upper)
-                }
-            }
+        let Some(mut node) = self.root.take() else {
+            *self = join(Cells::new(), middle, new, Cells::new());
+            return;
+        };
+        let place = Place::of(&new.entry);
+        let next = node.middle.next(&place);
+        node.hull = node.hull.union(&new.entry.1);
+        if node.middle.is_upper(&place) {
+            node.upper.put(new, next);
+            self.root = Some(node);
+            return;
         }
+        node.lower.put(new, next);
+        self.root = Some(node);
     }
 
     /// Returns the tree without the entry at a place, and the node of that entry, if there is one. Takes no memory.

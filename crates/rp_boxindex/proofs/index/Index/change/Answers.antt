@@ -74,9 +74,9 @@ invariant_of-self-2 c =
     let others : List Entry = c.without-others.result.0.entries in
     let off = taken_out cs others c.args.id c.in-Some.low c.take-cells.result.entries (cell_entry c.without-others.result.1) (ap (λ t. t.entries) c.take-cells.ensures.taken) c.without-others.ensures.entries c.without-others.ensures.gone in
     let cell = taken cs others pl (remove_entry (is_at (nat_cmp c.args.id)) pl) c.args.id c.in-Some.low (cell_entry c.without-others.result.1) c.self.invariant.cells_lows there refl off in
-    trees_changed t cs rest others c.with.result.entries c.with-2.result.entries pl c.change.new.self.map.entries c.args.id c.in-Some.low c.args.bounds c.self.invariant c.show_order.ensures.ordered there entry cell
+    trees_changed t cs rest others c.with.result.entries c.put.new.self.entries pl c.change.new.self.map.entries c.args.id c.in-Some.low c.args.bounds c.self.invariant c.show_order.ensures.ordered there entry cell
     (grown c.hold.new.self.entry (c.args.id, c.args.bounds) c.with.result.entries rest c.hold.ensures c.with.ensures.entries)
-    (grown c.hold-2.new.self.entry (c.args.id, c.args.bounds) c.with-2.result.entries others c.hold-2.ensures c.with-2.ensures)
+    (grown c.hold-2.new.self.entry (c.args.id, c.args.bounds) c.put.new.self.entries others c.hold-2.ensures c.put.ensures)
     (c.in-Some.ensures.entries ∙ ap (insert_entry nat_cmp pl c.args.id) c.of.ensures)
 
 pub returns-clause-there : goal.returns-clause-there

@@ -44,10 +44,10 @@ invariant_of-self-2 c =
     let absent : lookup (is_at (nat_cmp c.args.id)) c.self.inside.lows.map.entries ≡ None = none_of _ (sym c.contains.ensures ∙ c.if-contains.false) in
     let given = c.with.ensures.entries in
     let grown : SameCounts c.with.result.entries ((c.args.id, c.args.bounds) ∷ c.self.inside.tree.entries) = rw (c.in_ok-node.ensures, c.take-tree.ensures.taken) at given in
-    let more_given = c.with-2.ensures in
-    let more : SameCounts c.with-2.result.entries ((c.args.id, c.args.bounds) ∷ c.self.inside.cells.entries) = rw (c.in_ok-cell.ensures, c.take-cells.ensures.taken) at more_given in
+    let more_given = c.put.ensures in
+    let more : SameCounts c.put.new.self.entries ((c.args.id, c.args.bounds) ∷ c.self.inside.cells.entries) = rw c.in_ok-cell.ensures at more_given in
     let put : c.insert.new.self.map.entries ≡ insert_entry nat_cmp c.self.inside.lows.map.entries c.args.id (corner_of (c.args.id, c.args.bounds)) = c.in_ok-insert.ensures.entries ∙ ap (insert_entry nat_cmp c.self.inside.lows.map.entries c.args.id) c.of-low.ensures in
-    trees_inserted c.self.inside.tree.entries c.self.inside.cells.entries c.with.result.entries c.with-2.result.entries c.self.inside.lows.map.entries c.insert.new.self.map.entries c.args.id c.args.bounds c.self.invariant absent grown more put c.in_ok-insert.ensures.ordered
+    trees_inserted c.self.inside.tree.entries c.self.inside.cells.entries c.with.result.entries c.put.new.self.entries c.self.inside.lows.map.entries c.insert.new.self.map.entries c.args.id c.args.bounds c.self.invariant absent grown more put c.in_ok-insert.ensures.ordered
 
 pub returns-clause-new : goal.returns-clause-new
 returns-clause-new c = contains_is c.self.inside.tree.entries c.self.inside.lows.map.entries c.args.self.now c.args.id c.self.invariant.tree_lows c.self.view_is ∙ (sym c.contains.ensures ∙ c.if-contains.false)
