@@ -1,5 +1,5 @@
 #![tactic(auto)]
-//! Boxes under their ids, in a search tree that finds the boxes which meet a box without a look at each.
+//! Boxes under their ids, in two search trees that find the boxes which meet a box without a look at each.
 //!
 //! An [`Index`] is a finite map: a box is refused exactly where its id is there. The ids of the boxes that meet a box,
 //! half-open or closed, are answered: all of them and no other, in rising order; or the least of them that passes a

@@ -1,5 +1,6 @@
-//! Which axis of a box comes first in the index, which goes by the least x of boxes: one on which the box is thin.
-//! Boxes that are long on the first axis are not told apart there, however many there are beside one another.
+//! Which axis of a box comes first in the index: one on which the box is thin. The first tree of the index goes by the
+//! least x of boxes, and does not tell apart boxes that are long on the first axis. The second tree, by cells of space,
+//! does, but a search begins with the first tree alone.
 ghost use Rattle.std.specs.Prelude.{◌≡◌, ◌-ℤ◌};
 ghost use Rattle.rp_algebra.specs.Within.{IsWithin};
 ghost use Rattle.rp_space.specs.Boxes.{integer_box};

@@ -47,7 +47,7 @@ impl CellNode {
 impl Cells {
     /// Puts the entry of a node into the tree. `middle` is that of the tree's cell. Takes no memory.
     ///
-    /// The tree changes in place: each node on the way down keeps its sides, and its hull grows by the new box.
+    /// Each node on the way down keeps its place and the side that does not change. Its hull grows by the new box.
     pub(crate) fn put(&mut self, new: Box<CellNode>, middle: Middle)
         ensures { SameCounts self.new.entries (new.value.entry ∷ self.old.entries) }
     {
