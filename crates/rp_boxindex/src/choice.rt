@@ -5,7 +5,7 @@ ghost use Rattle.std.specs.Prelude.{◌≡◌, ℕ, Bool};
 pub trait Choice {
     ghost passes: { Self → ℕ → Bool };
 
-    /// Whether an id passes.
+    /// Returns whether `id` passes.
     fn passes(&self, id: u32) -> bool
         ensures { result ≡ passes self.now id };
 }

@@ -51,7 +51,7 @@ impl Model for Index {
 }
 
 impl Index {
-    /// The index with no box. Takes no memory.
+    /// Returns the index with no box. Takes no memory.
     pub fn new(alloc: Global) -> Index
         ensures { result ≡ map.empty }
     {
@@ -62,9 +62,11 @@ impl Index {
         }
     }
 
-    /// Takes `bounds` in under `id`, which has no box.
+    /// Adds `bounds` under `id`, which has no box.
     ///
-    /// Answers `Known` exactly where `id` has a box, and `Memory` only for want of memory; then the index is as it was.
+    /// # Errors
+    ///
+    /// `Known` iff `id` has a box; `Memory` only for want of memory. The index is then as it was.
     pub fn insert(&mut self, alloc: Global, id: u32, bounds: IntBox) -> Result<(), IndexFault>
         ensures new { OnOk result (map.contains_key self.old id ≡ false) }
         ensures ok { OnOk result (self.new ≡ map.insert self.old id bounds) }
@@ -87,8 +89,8 @@ impl Index {
         Ok(())
     }
 
-    /// Puts `bounds` in the place of the box that `id` has, and answers whether it has one; else all is as it was. Takes
-    /// no memory.
+    /// Puts `bounds` in the place of the box that `id` has. Returns whether it has one; otherwise the index is as it was.
+    /// Takes no memory.
     pub fn change(&mut self, id: u32, bounds: IntBox) -> bool
         ensures there { result ≡ map.contains_key self.old id }
         ensures changed { result ≡ true → self.new ≡ map.insert self.old id bounds }
@@ -115,7 +117,7 @@ impl Index {
         true
     }
 
-    /// Takes the box of an id out, and answers whether the id had one. Takes no memory.
+    /// Removes the box of `id`. Returns whether it had one. Takes no memory.
     pub fn remove(&mut self, id: u32) -> bool
         ensures there { result ≡ map.contains_key self.old id }
         ensures gone { self.new ≡ map.remove self.old id }
@@ -135,12 +137,16 @@ impl Index {
         true
     }
 
-    /// The ids of the boxes that meet `bounds`, in rising order. Half-open boxes meet where each begins before the
-    /// other ends, on each axis; where `closed`, also where one begins as the other ends. `watch` is told of each node
-    /// that is visited.
+    /// Returns the ids of the boxes that meet `bounds`, in rising order. Half-open boxes meet iff each begins before the
+    /// other ends, on each axis; if `closed`, also if one begins where the other ends. `watch` is told of each node that
+    /// is visited.
     ///
-    /// One of `steps` is one node that is visited. Where h is the greatest number with 2^h <= (n + 1)^2 for n boxes,
-    /// and k of them meet on the x axis, there are at most (k + 1) * (2h + 2).
+    /// One of `steps` is one node that is visited. Let h be the greatest number with 2^h <= (n + 1)^2 for n boxes, of
+    /// which k meet `bounds` on the x axis. Then there are at most (k + 1) * (2h + 2).
+    ///
+    /// # Errors
+    ///
+    /// `AllocError` for want of memory.
     pub fn meeting<W: Watch, L: Ledger>(
         &self,
         alloc: Global,
@@ -173,8 +179,9 @@ impl Index {
         Ok(ids.into_sorted())
     }
 
-    /// The least id that passes the test of `choice` and whose box meets `bounds`, where `closed` with boundaries, as
-    /// `meeting` says. `None` exactly where there is none. Takes no memory, and at most as many `steps` as `meeting`.
+    /// Returns the least id that passes the test of `choice` and whose box meets `bounds`, if `closed` with boundaries,
+    /// as [`Index::meeting`] says; `None` iff there is none. Takes no memory, and at most as many `steps` as
+    /// [`Index::meeting`].
     pub fn first<C: Choice, W: Watch, L: Ledger>(
         &self,
         bounds: &IntBox,

@@ -19,7 +19,7 @@ pub(crate) struct Lows {
 }
 
 impl Lows {
-    /// No ids. Takes no memory.
+    /// Returns the map of no ids. Takes no memory.
     pub(crate) fn new(alloc: Global) -> Lows
         ensures { result.map.entries ≡ [] }
     {
@@ -62,7 +62,7 @@ impl Lows {
         self.map.remove(&id)
     }
 
-    /// Whether an id is there.
+    /// Returns whether an id is there.
     pub(crate) fn contains(&self, id: u32) -> bool
         ensures { result ≡ is_some (lookup (is_at (nat_cmp id)) self.now.map.entries) }
     {

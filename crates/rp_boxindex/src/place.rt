@@ -7,7 +7,7 @@ use rp_space::IntBox;
 /// An id with its box.
 pub(crate) type Entry = (u32, IntBox);
 
-/// The least corner of a box.
+/// Returns the least corner of a box.
 #[derive(Clone, Copy)]
 pub(crate) struct Corner {
     pub(crate) x: i32,
@@ -16,7 +16,7 @@ pub(crate) struct Corner {
 }
 
 impl Corner {
-    /// The least corner of the box of an entry.
+    /// Returns the least corner of the box of an entry.
     pub(crate) fn of(entry: &Entry) -> Corner
         ensures { result ≡ corner_of entry.now }
     {
@@ -34,7 +34,7 @@ pub(crate) struct Place {
 }
 
 impl Place {
-    /// The place of an entry.
+    /// Returns the place of an entry.
     pub(crate) fn of(entry: &Entry) -> Place
         ensures { result ≡ place_of entry.now }
     {
@@ -44,7 +44,7 @@ impl Place {
         }
     }
 
-    /// Whether the place comes before another.
+    /// Returns whether the place comes before another.
     pub(crate) fn precedes(&self, other: &Place) -> bool
         ensures { result ≡ precedes self.now other.now }
     {

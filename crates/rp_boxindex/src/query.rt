@@ -15,14 +15,14 @@ pub(crate) struct Query {
 }
 
 impl Query {
-    /// Whether a box that ends there on the x axis ends after the one asked about begins.
+    /// Returns whether a box that ends there on the x axis ends after the one asked about begins.
     pub(crate) fn is_reached_from(&self, high: i32) -> bool
         ensures { result ≡ is_below self.now.closed (integer_box self.now.bounds).x1 high }
     {
         is_below(self.closed, self.bounds.lo[0], high)
     }
 
-    /// Whether a box that begins there on the x axis begins before the one asked about ends.
+    /// Returns whether a box that begins there on the x axis begins before the one asked about ends.
     pub(crate) fn reaches(&self, low: i32) -> bool
         ensures { result ≡ is_below self.now.closed low (integer_box self.now.bounds).x2 }
     {
@@ -36,14 +36,14 @@ impl Query {
         self.is_met_on(&entry.1, 0)
     }
 
-    /// Whether a box meets the one asked about.
+    /// Returns whether a box meets the one asked about.
     pub(crate) fn is_met_by(&self, other: &IntBox) -> bool
         ensures { result ≡ do_meet self.now.closed (integer_box self.now.bounds) (integer_box other.now) }
     {
         self.is_met_on(other, 0) && self.is_met_on(other, 1) && self.is_met_on(other, 2)
     }
 
-    /// Whether a box meets the one asked about on an axis.
+    /// Returns whether a box meets the one asked about on an axis.
     fn is_met_on(&self, other: &IntBox, axis: usize) -> bool
         requires { axis < 3 }
         ensures { result ≡ do_spans_meet self.now.closed (get_or self.now.bounds.lo axis (pos 0)) (get_or self.now.bounds.hi axis (pos 0)) (get_or other.now.lo axis (pos 0)) (get_or other.now.hi axis (pos 0)) }
@@ -53,7 +53,7 @@ impl Query {
     }
 }
 
-/// Whether a bound lies before another; those of closed boxes may be equal.
+/// Returns whether a bound lies before another; those of closed boxes may be equal.
 fn is_below(closed: bool, a: i32, b: i32) -> bool
     ensures { result ≡ is_below closed a b }
 {

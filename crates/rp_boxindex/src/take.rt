@@ -88,7 +88,7 @@ impl<'a, C: Choice> Take for Least<'a, C> {
     }
 }
 
-/// Whether an id is less than the least one so far, where there is one.
+/// Returns whether an id is less than the least one so far, if there is one.
 fn is_less(least: &Option<u32>, id: u32) -> bool
     ensures { result ≡ is_less least.now id }
 {

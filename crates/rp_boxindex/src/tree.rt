@@ -68,14 +68,14 @@ pub(crate) struct Visit<'a> {
 }
 
 impl Tree {
-    /// The tree with no entry.
+    /// Returns the tree with no entry.
     pub(crate) fn new() -> Tree
         ensures { result ≡ empty_tree }
     {
         Tree { root: None }
     }
 
-    /// Whether there is no entry.
+    /// Returns whether there is no entry.
     pub(crate) fn is_empty(&self) -> bool
         ensures empty { result ≡ true → self.now ≡ empty_tree }
         ensures nonempty { result ≡ false → 0 < length self.now.entries }
@@ -87,7 +87,7 @@ impl Tree {
         }
     }
 
-    /// How many nodes stand on the longest way down.
+    /// Returns the height: the number of nodes on the longest way down.
     fn height(&self) -> u8
         ensures value { result ≡ self.now.height }
         ensures slender { IsSlender (length self.now.entries) self.now.height }
@@ -98,7 +98,7 @@ impl Tree {
         }
     }
 
-    /// The greatest x of all boxes, where there is a box.
+    /// Returns the greatest x of all boxes, if there is a box.
     fn top(&self) -> Option<i32>
         ensures { MatchOption result (self.now ≡ empty_tree) (λ top. IsTop top self.now.entries) }
     {
@@ -108,7 +108,7 @@ impl Tree {
         }
     }
 
-    /// A box around all boxes, where there is a box.
+    /// Returns a box around all boxes, if there is a box.
     fn hull(&self) -> Option<IntBox>
         ensures { MatchOption result (self.now ≡ empty_tree) (λ hull. AreWithin (integer_box hull) self.now.entries) }
     {
@@ -151,7 +151,7 @@ impl Tree {
         mem::replace(self, Tree::new())
     }
 
-    /// The left side of the root, its node without its sides, and the right side.
+    /// Returns the left side of the root, its node without its sides, and the right side.
     fn into_parts(self) -> Option<(Tree, Box<Node>, Tree)>
         ensures { MatchOption result (self ≡ empty_tree) (λ p. AreParts self p.0 p.1.value.entry p.2) }
     {

@@ -28,12 +28,12 @@ pub struct VisitCount {
 }
 
 impl VisitCount {
-    /// The onlooker that does not count, at the cost of a branch for each node.
+    /// Returns the onlooker that does not count, at the cost of a branch for each node.
     pub const fn uncounted() -> VisitCount {
         VisitCount { count: None }
     }
 
-    /// The onlooker that counts, from 0.
+    /// Returns the onlooker that counts, from 0.
     pub const fn counted() -> VisitCount {
         VisitCount {
             count: Some(AtomicU64::new(0)),

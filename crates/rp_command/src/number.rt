@@ -14,7 +14,7 @@ const HELD: u128 = 1329227995784915872903807060280344576;
 /// How many digits have a number of 64 bits, whatever they are.
 const SHORT: usize = 17;
 
-/// The number that at most 17 digits stand for.
+/// Returns the number that at most 17 digits stand for.
 fn short_value_of(digits: &[u8]) -> u64
     requires { length digits.now ≤ 17 }
     ensures { result ≡ value_of_digits digits.now }

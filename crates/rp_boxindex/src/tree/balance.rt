@@ -8,7 +8,7 @@ ghost use Rattle.rp_boxindex.specs.tree.Order.{IsBetween};
 use super::{Node, Tree};
 use rp_space::IntBox;
 
-/// The tree of two sides that differ by at most two in height, and of a node between them.
+/// Returns the tree of two sides that differ by at most two in height, and of a node between them.
 pub(super) fn balance(left: Tree, node: Box<Node>, right: Tree) -> Tree
     requires between { IsBetween left.entries node.value.entry right.entries }
     requires level { DifferByAtMost 2 left.height right.height }
@@ -28,7 +28,7 @@ pub(super) fn balance(left: Tree, node: Box<Node>, right: Tree) -> Tree
     }
 }
 
-/// The tree of `left`, `node` and `right`, in this order, where `left` is two levels higher than `right`.
+/// Returns the tree of `left`, `node` and `right`, in this order, where `left` is two levels higher than `right`.
 fn rotate_right(left: Tree, node: Box<Node>, right: Tree) -> Tree
     requires between { IsBetween left.entries node.value.entry right.entries }
     requires leans { left.height ≡ right.height + 2 }
@@ -49,7 +49,7 @@ fn rotate_right(left: Tree, node: Box<Node>, right: Tree) -> Tree
     join(join(a, j, u), i, join(v, node, right))
 }
 
-/// The tree of `left`, `node` and `right`, in this order, where `right` is two levels higher than `left`.
+/// Returns the tree of `left`, `node` and `right`, in this order, where `right` is two levels higher than `left`.
 fn rotate_left(left: Tree, node: Box<Node>, right: Tree) -> Tree
     requires between { IsBetween left.entries node.value.entry right.entries }
     requires leans { right.height ≡ left.height + 2 }
@@ -70,7 +70,7 @@ fn rotate_left(left: Tree, node: Box<Node>, right: Tree) -> Tree
     join(join(left, node, u), i, join(v, j, c))
 }
 
-/// The tree of `left`, `node` and `right`, in this order, where the sides differ by at most one level.
+/// Returns the tree of `left`, `node` and `right`, in this order, where the sides differ by at most one level.
 fn join(left: Tree, mut node: Box<Node>, right: Tree) -> Tree
     requires between { IsBetween left.entries node.value.entry right.entries }
     requires level { DifferByAtMost 1 left.height right.height }
@@ -99,7 +99,7 @@ fn fill(node: &mut Node, left: Tree, right: Tree)
     node.right = right;
 }
 
-/// The greatest of a number and the x of a tree's boxes.
+/// Returns the greatest of a number and the x of a tree's boxes.
 fn top_with(top: i32, tree: &Tree) -> i32
     ensures above { int_le top result ≡ true }
     ensures all { count (λ e. int_lt result (high e)) tree.now.entries ≡ 0 }
@@ -111,7 +111,7 @@ fn top_with(top: i32, tree: &Tree) -> i32
     }
 }
 
-/// A box around a box and the boxes of a tree.
+/// Returns a box around a box and the boxes of a tree.
 fn hull_with(hull: &IntBox, tree: &Tree) -> IntBox
     ensures first { is_within (integer_box result) (integer_box hull.now) ≡ true }
     ensures all { AreWithin (integer_box result) tree.now.entries }

@@ -13,7 +13,7 @@ use crate::place::{Entry, Place};
 use std::alloc::{AllocError, Global};
 
 impl Node {
-    /// A node for an entry, with nothing below it; its height, top and hull are set where it is put into a tree.
+    /// Returns a node for an entry, with nothing below it; its height, top and hull are set where it is put into a tree.
     pub(crate) fn alone(alloc: Global, entry: Entry) -> Result<Box<Node>, AllocError>
         ensures { IfOk result (λ node. node.value.entry ≡ entry) }
     {
@@ -32,7 +32,7 @@ impl Node {
         Ok(node)
     }
 
-    /// Lets the node have another entry; its height, top and hull are set where it is put into a tree.
+    /// Puts another entry in the node; its height, top and hull are set where it is put into a tree.
     pub(crate) fn hold(&mut self, entry: Entry)
         ensures { self.new.entry ≡ entry }
     {
@@ -41,7 +41,7 @@ impl Node {
 }
 
 impl Tree {
-    /// The tree with the entry of a node put in its place, which is free. Takes no memory.
+    /// Returns the tree with the entry of a node put in its place, which is free. Takes no memory.
     pub(crate) fn with(self, new: Box<Node>) -> Tree
         requires fits { self.height ≤ 198 }
         requires free { count (is_at_place (place_of new.value.entry)) self.entries ≡ 0 }
@@ -61,7 +61,7 @@ impl Tree {
         }
     }
 
-    /// The tree without the entry at a place, and the node of that entry, if there is one. Takes no memory.
+    /// Returns the tree without the entry at a place, and the node of that entry, if there is one. Takes no memory.
     pub(crate) fn without(self, place: &Place) -> (Tree, Option<Box<Node>>)
         requires fits { self.height ≤ 198 }
         ensures entries { SameCounts self.entries (option_to_list (entry_of result.1) ++ result.0.entries) }
@@ -84,7 +84,7 @@ impl Tree {
         }
     }
 
-    /// The node of the first entry, and the tree of the others.
+    /// Returns the node of the first entry, and the tree of the others.
     fn split_first(self) -> Option<(Box<Node>, Tree)>
         requires fits { self.height ≤ 198 }
         ensures { MatchOption result (self ≡ empty_tree) (λ p. IsSplit self p.0.value.entry p.1) }
@@ -97,7 +97,7 @@ impl Tree {
     }
 }
 
-/// The tree of the two sides of a node that is gone.
+/// Returns the tree of the two sides of a node that is gone.
 fn concat(left: Tree, right: Tree) -> Tree
     requires between { (e : Entry) × IsBetween left.entries e right.entries }
     requires level { DifferByAtMost 1 left.height right.height }
