@@ -12,8 +12,8 @@ pub struct Entry<'a> {
     pub deed: Option<&'a str>,
 }
 
-/// Lines that a book keeps, which were added at once: the numbers of the first and the last of them, when they were added,
-/// by whom and under which deed, where that was told.
+/// Lines that a book keeps, which were added at once: the numbers of the first and the last of them, when they were
+/// added, by whom and under which deed, where that was told.
 #[derive(Drop)]
 pub struct Act {
     pub first: u32,
@@ -25,7 +25,7 @@ pub struct Act {
     pub deed: Option<String>,
 }
 
-/// A text that may not be told, of its own.
+/// Returns a text that may not be told, of its own.
 fn own(alloc: Global, text: Option<&str>) -> Result<Option<String>, AllocError>
     ensures { IfOk result (λ own. option_map string_bytes own ≡ option_map (λ t. t.now) text.entry) }
 {
@@ -36,7 +36,7 @@ fn own(alloc: Global, text: Option<&str>) -> Result<Option<String>, AllocError>
 }
 
 impl Act {
-    /// The act of lines from `first` to `last`, at whose end the script has `end` bytes.
+    /// Returns the act of lines from `first` to `last`, at whose end the script has `end` bytes.
     pub fn new(
         alloc: Global,
         first: u32,
@@ -68,8 +68,8 @@ pub fn start_of(acts: &[Act], place: usize) -> usize
     if place == 0 { 0 } else { acts[place - 1].end }
 }
 
-/// Returns the lines of the act at `place` of `acts`, the acts of `script`. Returns `None` if there is no such act, or if an end
-/// of an act is not in the script.
+/// Returns the lines of the act at `place` of `acts`, the acts of `script`. Returns `None` if there is no such act, or
+/// if an end of an act is not in the script.
 pub fn act_lines<'a>(script: &'a [u8], acts: &[Act], place: usize) -> Option<&'a [u8]>
     ensures lines { (h : HasActs script.now (map act_of acts.now)) → option_map (λ lines. lines.now) result ≡ slice_get h.lines place }
     ensures slices { HasActs script.now (map act_of acts.now) → option_map (λ lines. lines.now) result ≡ slice_get (lines_from script.now 0 (map act_of acts.now)) place }

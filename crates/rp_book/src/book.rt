@@ -27,22 +27,22 @@ pub trait Book {
 
     ghost faults: { Self → ℕ };
 
-    /// The bytes of the script. Its last line has a line end.
+    /// Returns the bytes of the script. Its last line has a line end.
     fn text(&self) -> &[u8]
         ensures bytes { IfSome (script self.now) (λ kept. result.now ≡ kept) }
         ensures end { IsEnded result.now }
         ensures short { length result.now ≤ most_script_bytes };
 
-    /// The acts in the order in which they were added. Their lines, one after the other, are the script.
+    /// Returns the acts in the order in which they were added. Their lines, one after the other, are the script.
     fn acts(&self) -> &[Act]
         ensures told { IfSome (acts self.now) (λ kept. map act_of result.now ≡ kept) }
         ensures lines { IfSome (script self.now) (λ kept. HasActs kept (map act_of result.now)) };
 
-    /// Adds `lines`, each with its line end, under `entry`. Where it fails the script is as it was. A crash in the call leaves
-    /// all of `lines` or none.
+    /// Adds `lines`, each with its line end, under `entry`. Where it fails the script is as it was. A crash in the call
+    /// leaves all of `lines` or none.
     ///
-    /// After `Ok` the next one who opens the book finds the new script and no other. A failure that leaves `faults` as it was
-    /// wrote nothing.
+    /// After `Ok` the next one who opens the book finds the new script and no other. A failure that leaves `faults` as
+    /// it was wrote nothing.
     fn add(&mut self, alloc: Global, lines: &[u8], entry: Entry<'_>) -> Result<(), BookFault>
         requires end { HasEnd lines.now }
         requires short { IfSome (script self.old) (λ kept. length kept + length lines.now ≤ most_script_bytes) }

@@ -21,7 +21,8 @@ use rp_store::MAX_KEPT_PARTS;
 use rp_tester::{Stopped, Tests};
 use std::alloc::{AllocError, Global};
 
-/// The live lot `id` is to be cut in two: `first` gets its points in the form `by`, and `second` the others.
+/// Returns the change that cuts the live lot `id` in two: `first` gets its points in the form `by`, `second` the
+/// others.
 pub fn cut<T: Tests, K: Keeper<T>>(
     alloc: Global,
     keeper: &K,
@@ -43,7 +44,7 @@ pub fn cut<T: Tests, K: Keeper<T>>(
     Ok(in_two(alloc, layer, id, first, second, inner, outer)?)
 }
 
-/// What a form has inside the form `by`, refused where that is no part.
+/// Returns what a form has inside the form `by`, refused where that is no part.
 fn inner_side<T: Tests>(
     alloc: Global,
     whole: &T::Form,
@@ -55,7 +56,7 @@ fn inner_side<T: Tests>(
     filled::<T>(1, tests.both(alloc, whole, by)?)
 }
 
-/// What a form has outside the form `by`, refused where that is no part.
+/// Returns what a form has outside the form `by`, refused where that is no part.
 fn outer_side<T: Tests>(
     alloc: Global,
     whole: &T::Form,
@@ -67,7 +68,7 @@ fn outer_side<T: Tests>(
     filled::<T>(2, tests.minus(alloc, whole, by)?)
 }
 
-/// A side of a cut, refused by its number where it has no part.
+/// Returns a side of a cut, refused by its number where it has no part.
 fn filled<T: Tests>(number: u8, form: T::Form) -> Result<T::Form, RowEnd>
     ensures { (next : List Part → Walk T Reply) (w : T) → GoesOn T.parts_of result w next (check (refuse_if (length (T.parts_of form) == 0) (empty_side number)) (next (T.parts_of form)) w) }
 {
@@ -77,7 +78,7 @@ fn filled<T: Tests>(number: u8, form: T::Form) -> Result<T::Form, RowEnd>
     Ok(form)
 }
 
-/// `Limit` exactly where all lots together would keep more than 65,536 parts with those of two forms.
+/// Refuses with `Limit` iff all lots together would keep more than 65,536 parts with those of two forms.
 fn check_room_for_both<T: Tests, K: Keeper<T>>(
     keeper: &K,
     first: &T::Form,
@@ -96,7 +97,7 @@ fn check_room_for_both<T: Tests, K: Keeper<T>>(
     Ok(())
 }
 
-/// The lot `origin` of `layer` ends, and two others are born in its place, with their forms.
+/// Returns the change by which the lot `origin` of `layer` ends and two others are born in its place, with their forms.
 fn in_two<F: Drop>(
     alloc: Global,
     layer: Name,

@@ -19,7 +19,7 @@ use rp_lots::{Change, Keeper, Registry, Replaced, check_room, count_parts, form_
 use rp_tester::{Stopped, Tests};
 use std::alloc::{AllocError, Global};
 
-/// A form is to be kept under `name`, which must be new, and there must be room for both.
+/// Returns the change that keeps a form under `name`, which must be new; there must be room for both.
 pub fn define<T: Tests, K: Registry<T>>(
     keeper: &K,
     name: Name,
@@ -37,7 +37,7 @@ pub fn define<T: Tests, K: Registry<T>>(
     Ok(Change::Named(name, form))
 }
 
-/// The live lot `id` is to end.
+/// Returns the change that ends the live lot `id`.
 pub fn retire<T: Tests, K: Keeper<T>>(
     alloc: Global,
     keeper: &K,
@@ -53,8 +53,8 @@ pub fn retire<T: Tests, K: Keeper<T>>(
     })
 }
 
-/// The live lots of `ids`, all of one layer, are to become the lot `new`, whose parts are theirs, in the order given.
-/// No test is made.
+/// Returns the change that makes the live lots of `ids`, all of one layer, the lot `new`. Its parts are theirs, in the
+/// order given. No test is made.
 pub fn consolidate<T: Tests, K: Keeper<T>>(
     alloc: Global,
     keeper: &K,
@@ -70,7 +70,8 @@ pub fn consolidate<T: Tests, K: Keeper<T>>(
     Ok(consolidated(alloc, layer, new, ids, form)?)
 }
 
-/// The parts of some live lots, in the order given. `Limit` exactly where these are more than 1,024. No test is made.
+/// Returns the parts of some live lots, in the order given. `Limit` exactly where these are more than 1,024. No test is
+/// made.
 fn united<T: Tests, K: Keeper<T>>(
     alloc: Global,
     keeper: &K,
@@ -88,7 +89,7 @@ fn united<T: Tests, K: Keeper<T>>(
     Ok(form)
 }
 
-/// The form of the live lot `id`. `None` exactly where it isn't live.
+/// Returns the form of the live lot `id`. `None` exactly where it isn't live.
 fn form_of<'a, T: Tests, K: Keeper<T>>(keeper: &'a K, id: &Name) -> Option<&'a T::Form>
     ensures { option_map T.parts_of (option_copied result) ≡ parts_of_lot (live_lot id.now (K.state keeper.now).lots) }
 {
@@ -96,7 +97,7 @@ fn form_of<'a, T: Tests, K: Keeper<T>>(keeper: &'a K, id: &Name) -> Option<&'a T
     Some(form_at::<T, K>(keeper, place))
 }
 
-/// The lots of some ids become one in their layer.
+/// Returns the change that makes the lots of some ids one in their layer.
 fn consolidated<F: Drop>(
     alloc: Global,
     layer: Name,

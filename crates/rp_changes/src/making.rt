@@ -25,8 +25,8 @@ use rp_lots::{
 use rp_tester::{Stopped, Tests};
 use std::alloc::{AllocError, Global};
 
-/// A form is to become the lot `id` of `layer`, the present one. As many tests are counted as there are pairs of its
-/// parts and parts of live lots of the layer whose boxes share more than boundary.
+/// Returns the change that makes a form the lot `id` of `layer`, the present one. As many tests are counted as there
+/// are pairs of its parts and parts of live lots of the layer whose boxes share more than boundary.
 pub fn make_lot<T: Tests, K: Overlaps<T>>(
     alloc: Global,
     keeper: &K,
@@ -79,8 +79,8 @@ fn check_alone<T: Tests, K: Overlaps<T>>(
     Ok(())
 }
 
-/// The id of the first of the lots at some places that shares a point with a form. Only pairs of parts are tested whose
-/// boxes share more than boundary, and nothing is counted.
+/// Returns the id of the first of the lots at some places that shares a point with a form. Only pairs of parts are
+/// tested whose boxes share more than boundary, and nothing is counted.
 fn first_overlapped<T: Tests, K: Overlaps<T>>(
     alloc: Global,
     keeper: &K,
@@ -100,7 +100,7 @@ fn first_overlapped<T: Tests, K: Overlaps<T>>(
     Ok(None)
 }
 
-/// A lot that has no origin is born.
+/// Returns the change by which a lot without an origin is born.
 fn registered<F: Drop>(
     alloc: Global,
     layer: Name,

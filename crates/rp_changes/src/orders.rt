@@ -21,7 +21,7 @@ use rp_lots::{Change, Registry, replacing};
 use rp_tester::Tests;
 use std::alloc::Global;
 
-/// `let`: the form of `region`, by `tests`, under the new name `name`.
+/// Returns the change of `let`: the form of `region`, by `tests`, under the new name `name`.
 pub fn definition<T: Tests, K: Registry<T>>(
     alloc: Global,
     keeper: &K,
@@ -36,7 +36,7 @@ pub fn definition<T: Tests, K: Registry<T>>(
     define::<T, K>(keeper, name, form)
 }
 
-/// `register`: the form of `region`, by `tests`, as the new lot `id` of the present layer.
+/// Returns the change of `register`: the form of `region`, by `tests`, as the new lot `id` of the present layer.
 pub fn registration<T: Tests, K: Registry<T>>(
     alloc: Global,
     keeper: &K,
@@ -51,7 +51,8 @@ pub fn registration<T: Tests, K: Registry<T>>(
     replacing(make_lot(alloc, keeper, keeper.layer(), id, form, tests))
 }
 
-/// `cut`: the lot `id` in two, by the form of `region`: `first` has what is in the form, `second` the rest.
+/// Returns the change of `cut`: the lot `id` in two, by the form of `region`: `first` has what is in the form, `second`
+/// the rest.
 pub fn cutting<T: Tests, K: Registry<T>>(
     alloc: Global,
     keeper: &K,
@@ -68,7 +69,7 @@ pub fn cutting<T: Tests, K: Registry<T>>(
     replacing(cut(alloc, keeper, id, &form, first, second, tests))
 }
 
-/// `consolidate`: the lots `ids`, all of one layer, become the lot `new`.
+/// Returns the change of `consolidate`: the lots `ids`, all of one layer, become the lot `new`.
 pub fn consolidation<T: Tests, K: Registry<T>>(
     alloc: Global,
     keeper: &K,
@@ -81,7 +82,7 @@ pub fn consolidation<T: Tests, K: Registry<T>>(
     replacing(consolidate(alloc, keeper, new, ids, tests))
 }
 
-/// `retire`: the lot `id` ends.
+/// Returns the change of `retire`: the lot `id` ends.
 pub fn retirement<T: Tests, K: Registry<T>>(
     alloc: Global,
     keeper: &K,
@@ -92,8 +93,8 @@ pub fn retirement<T: Tests, K: Registry<T>>(
     replacing(retire::<T, K>(alloc, keeper, id))
 }
 
-/// The form of the one expression of a command, behind which its row goes on. `Refused` exactly for the first name or
-/// lot, in reading order, that isn't there; it comes before any test.
+/// Returns the form of the one expression of a command, behind which its row goes on. `Refused` exactly for the first
+/// name or lot, in reading order, that isn't there; it comes before any test.
 fn formed_by<T: Tests, K: Registry<T>>(
     alloc: Global,
     keeper: &K,

@@ -72,7 +72,8 @@ fn follow_bad(alloc: Global, why: Why, trail: &mut Trail<'_>) -> Result<(), Halt
     }
 }
 
-/// The echo that stands next: its number and its text. `None` where the next line is no echo, or where no line is left.
+/// Returns the echo that stands next: its number and its text. `None` where the next line is no echo, or where no line
+/// is left.
 fn next_echo<'a>(trail: &Trail<'a>) -> Option<(u32, Option<&'a [u8]>)>
     ensures { option_map echo_with result ≡ next_echo trail.now.lines }
 {
@@ -83,21 +84,21 @@ fn next_echo<'a>(trail: &Trail<'a>) -> Option<(u32, Option<&'a [u8]>)>
     }
 }
 
-/// Whether all names and lots of an expression are there.
+/// Returns whether all names and lots of an expression are there.
 fn knows(register: &Register, region: &Expr) -> bool
     ensures { result ≡ is_none (first_unknown_among (parts_in register.now) (expression_of region.now ∷ [])) }
 {
     register.first_unknown(region).is_none()
 }
 
-/// Whether all names and lots of two expressions are there.
+/// Returns whether all names and lots of two expressions are there.
 fn knows_both(register: &Register, a: &Expr, b: &Expr) -> bool
     ensures { result ≡ is_none (first_unknown_among (parts_in register.now) (expression_of a.now ∷ expression_of b.now ∷ [])) }
 {
     knows(register, a) && knows(register, b)
 }
 
-/// Whether all names and lots of the children of a subdivision are there.
+/// Returns whether all names and lots of the children of a subdivision are there.
 fn knows_children(register: &Register, entries: &[(Name, Expr)]) -> bool
     ensures { result ≡ is_none (first_unknown_among (parts_in register.now) (map (λ c. c.shape) (map child_of entries.now))) }
 {
@@ -109,8 +110,8 @@ fn knows_children(register: &Register, entries: &[(Name, Expr)]) -> bool
     true
 }
 
-/// Whether the report may tell of a limit in place of the first verdict line of a command: the command can meet one,
-/// and all names and lots of its expressions are there.
+/// Returns whether the report may tell of a limit in place of the first verdict line of a command: the command can meet
+/// one, and all names and lots of its expressions are there.
 fn limit_allowed(register: &Register, command: &Command) -> bool
     ensures { result ≡ limit_allowed register.now (command_of command.now) }
 {

@@ -28,7 +28,8 @@ pub enum Found {
     Wrong(u32),
 }
 
-/// The version of a report, of which nothing was taken yet, by its first line, which is taken where it is the mark.
+/// Returns the version of a report, of which nothing was taken yet, by its first line, which is taken where it is the
+/// mark.
 fn take_mark(trail: &mut Trail<'_>) -> Version
     ensures version { version_of result ≡ version_by report_mark trail.old.lines }
     ensures behind { trail.new ≡ behind_mark (version_of result) trail.old }
@@ -43,11 +44,11 @@ fn take_mark(trail: &mut Trail<'_>) -> Version
     Version::One
 }
 
-/// Whether a report of at most 67,108,864 bytes is accepted, and else which of its lines is the first wrong one.
-/// Nothing is searched for: each certificate that the report shows is checked, and every verdict must be the one that
-/// follows from those that pass. Where the first line is exactly `> 0 rp 2`, it is no answer, and the echoed lines are
-/// read by version 2; else they are read by version 1. What is accepted is true of the regions that the echoed commands
-/// give, whoever wrote it; and the report of every script is accepted.
+/// Returns whether a report of at most 67,108,864 bytes is accepted, and else which of its lines is the first wrong
+/// one. Nothing is searched for: each certificate that the report shows is checked, and every verdict must be the one
+/// that follows from those that pass. Where the first line is exactly `> 0 rp 2`, it is no answer, and the echoed lines
+/// are read by version 2; else they are read by version 1. What is accepted is true of the regions that the echoed
+/// commands give, whoever wrote it; and the report of every script is accepted.
 ///
 /// Answers `AllocError` only for want of memory.
 pub fn check_report(alloc: Global, report: &[u8]) -> Result<Found, AllocError>

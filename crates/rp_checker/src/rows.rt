@@ -15,7 +15,7 @@ use rp_register::{Followed, Register, access, audit, neighbours, section};
 use rp_trail::Trail;
 use std::alloc::Global;
 
-/// The reply to a question.
+/// Returns the reply to a question.
 fn told(asked: Result<Verdicts, RowEnd>) -> Result<Followed, RowEnd>
     ensures { result ≡ followed_told asked }
 {

@@ -16,13 +16,13 @@ use std::{env, io};
 /// answers this.
 const UNREADABLE_WORDS: u8 = 7;
 
-/// The words behind the program's name.
+/// Returns the words behind the program's name.
 fn words_of(rt: &(impl Env + AllocGlobal)) -> io::Result<Vec<String>> {
     let words = env::args(rt)?.skip(1).collect(rt.alloc())?;
     Ok(words)
 }
 
-/// The status where the words could not be read.
+/// Returns the status where the words could not be read.
 fn status_of_error(error: &io::Error) -> u8 {
     match error.kind() {
         io::ErrorKind::OutOfMemory => OUT_OF_MEMORY,
@@ -30,7 +30,7 @@ fn status_of_error(error: &io::Error) -> u8 {
     }
 }
 
-/// What a status says that is no answer.
+/// Returns what a status says that is no answer.
 fn message(status: u8) -> Option<&'static str> {
     match status {
         UNLISTED => Some(
@@ -47,8 +47,8 @@ fn message(status: u8) -> Option<&'static str> {
     }
 }
 
-/// Does what `words` ask for, over standard input and standard output; lots are judged by `threads`. Output is written in pieces
-/// of up to 65,536 bytes. Returns the status: `PUT_FAILED` also if the last piece is not written.
+/// Does what `words` ask for, over standard input and standard output; lots are judged by `threads`. Output is written
+/// in pieces of up to 65,536 bytes. Returns the status: `PUT_FAILED` also if the last piece is not written.
 fn status_of<T: Threads + Sync>(rt: &HostRuntime, threads: &T, words: &[String]) -> u8 {
     let Ok(mut sink) = BufferedSink::new(rt.alloc(), StdSink::new(rt.stdout())) else {
         return OUT_OF_MEMORY;

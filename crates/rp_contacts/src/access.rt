@@ -25,9 +25,10 @@ use rp_rows::Access;
 use rp_tester::{Stopped, Tests};
 use std::alloc::{AllocError, Global};
 
-/// `access` from the lot `from` to the lot `to`, up to the tests of pairs, which are counted in `tests`. Refusals, in
-/// this order: `Unknown(from)` and `Unknown(to)` where one isn't live; `Layers(to)` where the layers differ. `Limit`
-/// where more pairs of parts of lots of the layer have boxes that meet, the boundary included, than may be tested.
+/// Begins `access` from the lot `from` to the lot `to`, up to the tests of pairs, which are counted in `tests`.
+/// Refusals, in this order: `Unknown(from)` and `Unknown(to)` where one isn't live; `Layers(to)` where the layers
+/// differ. `Limit` where more pairs of parts of lots of the layer have boxes that meet, the boundary included, than may
+/// be tested.
 pub fn access_left<T: Tests, K: Keeper<T>>(
     alloc: Global,
     keeper: &K,
@@ -43,7 +44,7 @@ pub fn access_left<T: Tests, K: Keeper<T>>(
     Ok(layer_left::<T, K>(alloc, keeper, layer, from, to, tests)?)
 }
 
-/// `access` from `from` to `to`, as `access_left`, behind the checks on both ids: they are live lots of `layer`.
+/// Begins `access` from `from` to `to`, as `access_left`, behind the checks on both ids: they are live lots of `layer`.
 fn layer_left<T: Tests, K: Keeper<T>>(
     alloc: Global,
     keeper: &K,
@@ -67,7 +68,7 @@ fn layer_left<T: Tests, K: Keeper<T>>(
     Ok(links_left(alloc, lots, &places, near.pairs, from, to)?)
 }
 
-/// What is left where these pairs of lots at some rising places are to be judged.
+/// Returns what is left where these pairs of lots at some rising places are to be judged.
 fn links_left(
     alloc: Global,
     lots: &[LotLine],

@@ -20,8 +20,8 @@ pub struct AuditLeft {
     pub pairs: Vec<Pair>,
 }
 
-/// `audit`, up to the tests of pairs, which are counted in `tests`. `Limit` exactly where more pairs of parts, of two
-/// live lots of one layer, have boxes that share more than boundary than may be tested.
+/// Begins `audit`, up to the tests of pairs, which are counted in `tests`. `Limit` exactly where more pairs of parts,
+/// of two live lots of one layer, have boxes that share more than boundary than may be tested.
 pub fn audit_left<T: Tests, K: Keeper<T>>(
     alloc: Global,
     keeper: &K,

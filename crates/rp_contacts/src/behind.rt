@@ -22,7 +22,8 @@ pub(crate) struct NearPairs {
     pub pairs: Vec<Pair>,
 }
 
-/// The places of the live lots of `history`, in order: of those of `layer`, where one is given, and else of all.
+/// Returns the places of the live lots of `history`, in order: of those of `layer`, where one is given, and else of
+/// all.
 pub(crate) fn live_places(
     alloc: Global,
     history: &History,
@@ -41,7 +42,7 @@ pub(crate) fn live_places(
     Ok(places)
 }
 
-/// Whether a layer is the one that is asked for, if one is.
+/// Returns whether a layer is the one that is asked for, if one is.
 fn is_asked(layer: &Name, asked: &Option<Name>) -> bool
     ensures { result ≡ is_asked asked.now layer.now }
 {
@@ -51,8 +52,8 @@ fn is_asked(layer: &Name, asked: &Option<Name>) -> bool
     }
 }
 
-/// The live lots behind a live one, of its layer, that have a part that may meet one of its own. `Limit` exactly where
-/// there are more pairs of such parts than a command may test.
+/// Returns the live lots behind a live one, of its layer, that have a part that may meet one of its own. `Limit`
+/// exactly where there are more pairs of such parts than a command may test.
 fn later_near<T: Tests, K: Keeper<T>>(
     alloc: Global,
     keeper: &K,
@@ -68,9 +69,9 @@ fn later_near<T: Tests, K: Keeper<T>>(
     lots_near::<T, K>(alloc, keeper, form, &lot.layer, &lot.id, place + 1, reach)
 }
 
-/// The pairs of each lot at `places` with the live lots of its layer behind it that have a part which may meet one of
-/// its own, as `reach` says, in the order of the first and then of the second; and how many pairs of such parts there
-/// are. `Limit` exactly where these are more than a command may test.
+/// Returns the pairs of each lot at `places` with the live lots of its layer behind it that have a part which may meet
+/// one of its own, as `reach` says, in the order of the first and then of the second; and how many pairs of such parts
+/// there are. `Limit` exactly where these are more than a command may test.
 pub(crate) fn later_pairs<T: Tests, K: Keeper<T>>(
     alloc: Global,
     keeper: &K,

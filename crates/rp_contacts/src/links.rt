@@ -45,7 +45,7 @@ pub(crate) fn numbered_pairs(
     Ok(made)
 }
 
-/// The number of a place among rising ones, of which it is one.
+/// Returns the number of a place among rising ones, of which it is one.
 fn number_in(places: &[usize], place: usize) -> usize
     requires rising { AreRising places.now }
     requires there { IsOneOf places.now place }
@@ -58,7 +58,7 @@ fn number_in(places: &[usize], place: usize) -> usize
     }
 }
 
-/// The pairs of numbers for which `met` says yes.
+/// Returns the pairs of numbers for which `met` says yes.
 pub(crate) fn met_pairs(
     alloc: Global,
     pairs: &[Pair],
@@ -77,7 +77,7 @@ pub(crate) fn met_pairs(
     Ok(links)
 }
 
-/// The ids of the lots at some places.
+/// Returns the ids of the lots at some places.
 pub(crate) fn ids_at(alloc: Global, lots: &[LotLine], places: &[usize]) -> Result<Names, AllocError>
     requires { AreWithin lots.now places.now }
     ensures { IfOk result (λ ids. ids.items ≡ ids_of (lots_at (map lot_of lots.now) places.now)) }

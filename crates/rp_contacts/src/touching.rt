@@ -25,9 +25,9 @@ pub struct TouchLeft {
     pub pairs: Vec<Pair>,
 }
 
-/// `neighbours`, up to the tests of pairs: the other live lots of the layer of the lot `id` that have a part which may
-/// touch one of its own. `Unknown(id)` where it isn't live; `Limit` where more pairs of their parts have boxes that
-/// meet, the boundary included, than may be tested.
+/// Begins `neighbours`, up to the tests of pairs: the other live lots of the layer of the lot `id` that have a part
+/// which may touch one of its own. `Unknown(id)` where it isn't live; `Limit` where more pairs of their parts have
+/// boxes that meet, the boundary included, than may be tested.
 pub fn touch_left<T: Tests, K: Keeper<T>>(
     alloc: Global,
     keeper: &K,
@@ -46,8 +46,8 @@ pub fn touch_left<T: Tests, K: Keeper<T>>(
     Ok(contacts_left::<T, K>(alloc, keeper, place, &layer, &id, tests)?)
 }
 
-/// `neighbours` of the lot at `place`, as `touch_left`, behind the check on its id: the live lots of `layer` with
-/// another id than `id` that have a part which may touch one of its own.
+/// Begins `neighbours` of the lot at `place`, as `touch_left`, behind the check on its id: the live lots of `layer`
+/// with another id than `id` that have a part which may touch one of its own.
 fn contacts_left<T: Tests, K: Keeper<T>>(
     alloc: Global,
     keeper: &K,
@@ -77,7 +77,7 @@ fn contacts_left<T: Tests, K: Keeper<T>>(
     })
 }
 
-/// The pairs of a lot with each of some others, by their places.
+/// Returns the pairs of a lot with each of some others, by their places.
 fn pairs_with(alloc: Global, first: usize, others: &[usize]) -> Result<Vec<Pair>, AllocError>
     ensures { IfOk result (λ pairs. pairs.items ≡ map (pair_of first) others.now) }
 {
@@ -91,7 +91,7 @@ fn pairs_with(alloc: Global, first: usize, others: &[usize]) -> Result<Vec<Pair>
     Ok(pairs)
 }
 
-/// The ids of the lots, of `lots`, at those of `places` for which `met` says yes, in order.
+/// Returns the ids of the lots, of `lots`, at those of `places` for which `met` says yes, in order.
 pub fn ids_met(
     alloc: Global,
     lots: &[LotLine],

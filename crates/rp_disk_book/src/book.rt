@@ -10,8 +10,8 @@ use sqlite::{Alter, Connection, Error, ErrorCode};
 use std::alloc::{AllocError, Global};
 use std::marker::Model;
 
-/// A book in a database that is open. The script and its acts stand in memory too. After a failure of the disk it takes no
-/// more lines.
+/// A book in a database that is open. The script and its acts stand in memory too. After a failure of the disk it takes
+/// no more lines.
 #[derive(Drop)]
 pub struct DiskBook<S: Alter> {
     pub(crate) conn: Connection<S>,
@@ -41,7 +41,7 @@ impl<S: Alter> Model for DiskBook<S> {
         × IsBookUntil b.faults (state S.Store b.conn) (map act_of b.contents.acts.items) b.contents.script.items };
 }
 
-/// Why the book failed, from what SQLite says.
+/// Returns why the book failed, from what SQLite says.
 fn fault_of(error: Error) -> BookFault {
     match error {
         Error::SqliteFailure(ErrorCode::OutOfMemory) => BookFault::Memory(AllocError),

@@ -48,7 +48,7 @@ impl Contents {
         }
     }
 
-    /// The number of the entry that comes next.
+    /// Returns the number of the entry that comes next.
     pub fn next_number(&self) -> u32
         requires { IsKept (contents_of self.now) }
         ensures { result ≡ length (contents_of self.now).acts + 1 }
@@ -65,7 +65,7 @@ impl Contents {
         self.acts.reserve(1)
     }
 
-    /// The act of `lines` that are to come under `entry`; there is room for both then.
+    /// Returns the act of `lines` that are to come under `entry`; there is room for both then.
     pub fn prepare(
         &mut self,
         alloc: Global,

@@ -45,7 +45,7 @@ impl From<AllocError> for OpenFault {
     }
 }
 
-/// The lines of an entry.
+/// Returns the lines of an entry.
 fn lines_of(row: &Row) -> Option<&[u8]>
     ensures { IfSome result (λ lines. column row.now 6 ≡ Text lines.now) }
 {
@@ -66,7 +66,7 @@ fn expect_number(row: &Row, place: usize, number: u32) -> Result<(), OpenFault>
     Ok(())
 }
 
-/// The act of an entry with the number, whose lines have these numbers and this end.
+/// Returns the act of an entry with the number, whose lines have these numbers and this end.
 fn act_of(row: &Row, number: u32, first: u32, last: u32, end: usize) -> Result<Act, OpenFault>
     ensures shows { IfOk result (λ act. ShowsAct number row.now (act_of act)) }
     ensures first { IfOk result (λ act. act.first ≡ first) }
@@ -110,7 +110,7 @@ fn push_entry(row: &Row, contents: &mut Contents) -> Result<(), OpenFault>
     Ok(())
 }
 
-/// What a book with these entries has in memory.
+/// Returns what a book with these entries has in memory.
 fn read_entries(alloc: Global, rows: &[Row]) -> Result<Contents, OpenFault>
     ensures kept { IfOk result (λ contents. IsKept (contents_of contents)) }
     ensures read { IfOk result (λ contents. HasRead rows.now [] (contents_of contents)) }
@@ -123,8 +123,8 @@ fn read_entries(alloc: Global, rows: &[Row]) -> Result<Contents, OpenFault>
 }
 
 impl<S: Alter + Drop> DiskBook<S> {
-    /// Makes an empty database a book. As long as the disk returned what was written, the next one who opens the database finds
-    /// a book without lines and no other.
+    /// Makes an empty database a book. As long as the disk returned what was written, the next one who opens the
+    /// database finds a book without lines and no other.
     pub fn create(alloc: Global, mut conn: Connection<S>) -> Result<DiskBook<S>, OpenFault>
         ensures empty { IfOk result (λ book. (book.script ≡ []) × (book.faults ≡ 0)) }
         ensures acts { IfOk result (λ book. book.acts ≡ []) }
@@ -142,9 +142,9 @@ impl<S: Alter + Drop> DiskBook<S> {
         })
     }
 
-    /// Reads the script of a database that is a book. Where the database is one that a crash could leave of a book that was
-    /// open before, the script is one of those that this book said the next open may find. As long as the disk returned what
-    /// was written, the next one who opens the database finds this script and no other.
+    /// Reads the script of a database that is a book. Where the database is one that a crash could leave of a book that
+    /// was open before, the script is one of those that this book said the next open may find. As long as the disk
+    /// returned what was written, the next one who opens the database finds this script and no other.
     pub fn open(alloc: Global, mut conn: Connection<S>) -> Result<DiskBook<S>, OpenFault>
         ensures sound { IfOk result (λ book. book.faults ≡ 0) }
         ensures found { IfOk result (λ book. HasCleanDisk (state S.Store book.conn) → (before : Held S) → HasCleanDisk (state S.Store before)
@@ -165,8 +165,8 @@ impl<S: Alter + Drop> DiskBook<S> {
         })
     }
 
-    /// The script. Until a write failed, and as long as the disk returns what was written, the last commit of the database
-    /// holds it with its acts and nothing else.
+    /// Returns the script. Until a write failed, and as long as the disk returns what was written, the last commit of
+    /// the database holds it with its acts and nothing else.
     pub fn script(&self) -> &[u8]
         ensures value { result.now ≡ self.now.script }
         ensures held { IsBookUntil self.now.faults (state S.Store self.now.conn) self.now.acts self.now.script }
@@ -174,7 +174,7 @@ impl<S: Alter + Drop> DiskBook<S> {
         self.contents.script.as_slice()
     }
 
-    /// The connection, for what no clause speaks of.
+    /// Returns the connection, for what no clause speaks of.
     pub fn into_connection(self) -> Connection<S> {
         let DiskBook {
             conn,
@@ -185,7 +185,7 @@ impl<S: Alter + Drop> DiskBook<S> {
     }
 }
 
-/// What a database is that is no book.
+/// Returns what a database is that is no book.
 fn other_fault<S: Alter>(conn: &Connection<S>) -> OpenFault {
     if has_entries(conn.schema()) {
         OpenFault::Layout

@@ -48,7 +48,7 @@ impl<F: Forms> Model for Ledger<F> {
     ghost invariant = { λ a. IsSoundByParts (state_with a.layer a.names a.lots) };
 }
 
-/// The layer that a script begins with.
+/// Returns the layer that a script begins with.
 fn base_layer() -> Name
     ensures { result ≡ base_layer }
 {
@@ -56,15 +56,15 @@ fn base_layer() -> Name
 }
 
 impl<F: Forms> Ledger<F> {
-    /// Nothing is kept yet, and the layer is the one that a script begins with. Takes no memory.
+    /// Returns a ledger that keeps nothing yet, and the layer is the one that a script begins with. Takes no memory.
     pub fn new(alloc: Global) -> Ledger<F>
         ensures { result ≡ opening }
     {
         Ledger::opened(alloc, VisitCount::uncounted())
     }
 
-    /// Opens the ledger of `new`, which counts the nodes of the index of lots that its questions visit, so that a test can
-    /// tell a search from a walk over all lots. Takes no memory.
+    /// Opens the ledger of `new`, which counts the nodes of the index of lots that its questions visit, so that a test
+    /// can tell a search from a walk over all lots. Takes no memory.
     pub fn counting(alloc: Global) -> Ledger<F>
         ensures { result ≡ opening }
     {
@@ -102,28 +102,28 @@ impl<F: Forms> Ledger<F> {
         self.keep_sound();
     }
 
-    /// The present layer.
+    /// Returns the present layer.
     pub fn layer(&self) -> Name
         ensures { result ≡ self.now.layer }
     {
         self.layer
     }
 
-    /// The form that a name stands for, found without a walk over all names.
+    /// Returns the form that a name stands for, found without a walk over all names.
     pub fn form_named(&self, name: &Name) -> Option<&F::Form>
         ensures { option_map F.parts_of (option_copied result) ≡ (parts_in self.now).of_name name.now }
     {
         self.names.find(name)
     }
 
-    /// The form of a live lot, found without a walk over all lots.
+    /// Returns the form of a live lot, found without a walk over all lots.
     pub fn form_of_lot(&self, id: &Name) -> Option<&F::Form>
         ensures { option_map F.parts_of (option_copied result) ≡ (parts_in self.now).of_lot id.now }
     {
         self.lots.find(id)
     }
 
-    /// The births and ends of all lots, ended ones included.
+    /// Returns the births and ends of all lots, ended ones included.
     pub fn history(&self) -> &History
         ensures value { result.now ≡ map bare_lot self.now.lots }
         ensures few { length self.now.lots ≤ most_kept_parts }
@@ -133,15 +133,15 @@ impl<F: Forms> Ledger<F> {
         self.lots.history()
     }
 
-    /// The forms of all lots, by their places.
+    /// Returns the forms of all lots, by their places.
     pub fn forms(&self) -> &[F::Form]
         ensures { map F.parts_of result.now ≡ lot_parts self.now.lots }
     {
         self.lots.forms()
     }
 
-    /// The places, in rising order, of live lots of `layer`, from the place `from` on, that have another id than `id`:
-    /// of all those that have a part which may meet one of `form`, as `reach` says, and maybe of others.
+    /// Returns the places, in rising order, of live lots of `layer`, from the place `from` on, that have another id
+    /// than `id`: of all those that have a part which may meet one of `form`, as `reach` says, and maybe of others.
     pub fn near(
         &self,
         alloc: Global,
@@ -160,22 +160,22 @@ impl<F: Forms> Ledger<F> {
             .near(alloc, &self.visits, form, layer, id, from, reach)
     }
 
-    /// The first lot of the present layer, of those that are there at `moment`, that has `point`; it is found without a
-    /// walk over all lots. `None` exactly where there is none.
+    /// Returns the first lot of the present layer, of those that are there at `moment`, that has `point`; it is found
+    /// without a walk over all lots. `None` exactly where there is none.
     pub fn owner(&self, moment: Moment, point: &Point) -> Option<Name>
         ensures { owner_verdict result ≡ owner_line (lots_of_layer self.now.layer (filter (is_there moment) self.now.lots)) point.now }
     {
         self.lots.owner(&self.visits, &self.layer, moment, point)
     }
 
-    /// Whether one more name may stand for the form.
+    /// Returns whether one more name may stand for the form.
     pub fn have_room_for_name(&self, form: &F::Form) -> bool
         ensures { result ≡ (nat_le (length self.now.names + 1) most_names && nat_le (parts_under_names self.now.names + length (F.parts_of form.now)) most_kept_parts) }
     {
         self.names.have_room_for(form)
     }
 
-    /// Whether all lots together may keep so many more parts.
+    /// Returns whether all lots together may keep so many more parts.
     pub fn have_room_for(&self, parts: usize) -> bool
         ensures { result ≡ nat_le (parts_under_lots self.now.lots + parts) most_kept_parts }
     {

@@ -12,7 +12,7 @@ use rp_space::Point;
 use rp_tester::Tests;
 use std::alloc::Global;
 
-/// `at`: the live lot of the present layer that has the point.
+/// Answers `at`: the live lot of the present layer that has the point.
 pub(crate) fn owner<T: Tests, K: Registry<T>>(
     alloc: Global,
     keeper: &K,
@@ -24,7 +24,7 @@ pub(crate) fn owner<T: Tests, K: Registry<T>>(
     Ok(one_line(alloc, owner_verdict(owner))?)
 }
 
-/// `asof`: the lot of the present layer that had the point after a line.
+/// Answers `asof`: the lot of the present layer that had the point after a line.
 pub(crate) fn owner_then<T: Tests, K: Registry<T>>(
     alloc: Global,
     keeper: &K,
@@ -37,7 +37,7 @@ pub(crate) fn owner_then<T: Tests, K: Registry<T>>(
     Ok(one_line(alloc, owner_verdict(owner))?)
 }
 
-/// `list`: the live lots.
+/// Answers `list`: the live lots.
 pub(crate) fn live_list<T: Tests, K: Registry<T>>(
     alloc: Global,
     keeper: &K,
@@ -47,7 +47,7 @@ pub(crate) fn live_list<T: Tests, K: Registry<T>>(
     Ok(list(alloc, keeper.history())?)
 }
 
-/// `history`: the lot and all lots that it was made from.
+/// Answers `history`: the lot and all lots that it was made from.
 pub(crate) fn origins<T: Tests, K: Registry<T>>(
     alloc: Global,
     keeper: &K,

@@ -20,14 +20,14 @@ use rp_subdivide::subdivision;
 use rp_tester::Tests;
 use std::alloc::Global;
 
-/// The row of a question that is answered.
+/// Returns the row of a question that is answered.
 fn told<F: Drop>(asked: Result<Verdicts, RowEnd>) -> Result<Row<F>, RowEnd>
     ensures { result ≡ row_told asked }
 {
     Ok(Row::Replied(Reply::Told(asked?)))
 }
 
-/// The row of a command that changes something.
+/// Returns the row of a command that changes something.
 fn changed<F: Drop>(change: Result<Change<F>, RowEnd>) -> Result<Row<F>, RowEnd>
     ensures { result ≡ row_changed change }
 {
@@ -35,7 +35,8 @@ fn changed<F: Drop>(change: Result<Change<F>, RowEnd>) -> Result<Row<F>, RowEnd>
 }
 
 /// Makes the checks of `command` and its tests, by `tests`, in order, up to its reply; nothing is changed in `keeper`
-/// yet. Where pairs of lots are to be judged, or slices to be told, the question is left; of `section` the form is made.
+/// yet. Where pairs of lots are to be judged, or slices to be told, the question is left; of `section` the form is
+/// made.
 pub fn carry_out<T: Tests, K: Registry<T>>(
     alloc: Global,
     keeper: &K,
@@ -83,7 +84,7 @@ pub fn carry_out<T: Tests, K: Registry<T>>(
     }
 }
 
-/// `section`: the form of the expression, whose slices at the height are to be told.
+/// Begins `section`: returns the form of the expression, whose slices at the height are to be told.
 fn formed<T: Tests, K: Registry<T>>(
     alloc: Global,
     keeper: &K,

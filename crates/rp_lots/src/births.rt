@@ -9,8 +9,8 @@ use rp_history::Birth;
 use rp_lists::{Listed, Name, Names};
 use std::alloc::{AllocError, Global};
 
-/// Puts the birth of the lot `id` of `layer`, whose one origin is the lot `origin`, behind `births`, and its `form` behind
-/// `forms`. After `AllocError` neither is used further.
+/// Puts the birth of the lot `id` of `layer`, whose one origin is the lot `origin`, behind `births`, and its `form`
+/// behind `forms`. After `AllocError` neither is used further.
 pub fn add_born<F: Drop>(
     alloc: Global,
     layer: Name,
@@ -28,7 +28,7 @@ pub fn add_born<F: Drop>(
     Ok(())
 }
 
-/// The birth of a lot with one origin.
+/// Returns the birth of a lot with one origin.
 fn born_of(alloc: Global, layer: Name, origin: Name, id: Name) -> Result<Birth, AllocError>
     ensures { IfOk result (λ birth. (birth.id ≡ id) × (birth.layer ≡ layer) × (birth.origins.items ≡ origin ∷ [])) }
 {
@@ -36,7 +36,7 @@ fn born_of(alloc: Global, layer: Name, origin: Name, id: Name) -> Result<Birth, 
     Ok(Birth { id, layer, origins })
 }
 
-/// The change of `row`, which lets lots end and others be born.
+/// Returns the change of `row`, which lets lots end and others be born.
 pub fn replacing<F: Drop>(row: Result<Replaced<F>, RowEnd>) -> Result<Change<F>, RowEnd>
     ensures { result ≡ replacing row }
 {

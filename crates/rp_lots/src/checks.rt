@@ -7,14 +7,14 @@ ghost use Rattle.rp_tester.specs.Comes.{Comes};
 use crate::keeper::Keeper;
 use rp_tester::{Stopped, Tests};
 
-/// How many parts `form` has.
+/// Returns how many parts `form` has.
 pub fn count_parts<T: Tests>(form: &T::Form) -> usize
     ensures { result ≡ length (T.parts_of form.now) }
 {
     T::parts(form).len()
 }
 
-/// `Limit` exactly where all lots of `keeper` together would keep more than 65,536 parts with `parts` more.
+/// Refuses with `Limit` iff all lots of `keeper` together would keep more than 65,536 parts with `parts` more.
 pub fn check_room<T: Tests, K: Keeper<T>>(keeper: &K, parts: usize) -> Result<(), Stopped>
     ensures { (w : T) → Comes (λ x. x) result w (check_size (parts_under_lots (K.state keeper.now).lots + parts) most_kept_parts w) }
 {

@@ -25,22 +25,22 @@ pub trait Keeper<T: Tests> {
     fn keep_limit(&self)
         ensures { (n : ℕ) (w : T) → most_tests < n → T.tester.count n w ≡ stopped limit_met w };
 
-    /// The box of a part.
+    /// Returns the box of a part.
     fn bounds(part: &T::Part) -> &IntBox
         ensures { integer_box result.now ≡ (T.seen part.now).bounds };
 
-    /// The births and ends of all lots. They are few, and each has few parts.
+    /// Returns the births and ends of all lots. They are few, and each has few parts.
     fn history(&self) -> &History
         ensures value { result.now ≡ map bare_lot (state self.now).lots }
         ensures few { length (state self.now).lots ≤ most_kept_parts }
         ensures short { AllByRecursion (λ l. length l.parts ≤ most_parts) (state self.now).lots };
 
-    /// The forms of all lots, by their places.
+    /// Returns the forms of all lots, by their places.
     fn forms(&self) -> &[T::Form]
         ensures { map T.parts_of result.now ≡ lot_parts (state self.now).lots };
 
-    /// The places, in rising order, of live lots of `layer` from the place `from` on, that have another id than `id`:
-    /// of all those that have a part which may meet one of `form`'s, and maybe of others.
+    /// Returns the places, in rising order, of live lots of `layer` from the place `from` on, that have another id than
+    /// `id`: of all those that have a part which may meet one of `form`'s, and maybe of others.
     fn near(
         &self,
         alloc: Global,
@@ -55,7 +55,7 @@ pub trait Keeper<T: Tests> {
         ensures within { IfOk result (λ places. AreWithin (state self.now).lots places.items) }
         ensures few { IfOk result (λ places. length places.items ≤ most_kept_parts) };
 
-    /// Whether all lots together may keep so many more parts.
+    /// Returns whether all lots together may keep so many more parts.
     fn have_room_for(&self, parts: usize) -> bool
         ensures { result ≡ nat_le (parts_under_lots (state self.now).lots + parts) most_kept_parts };
 }

@@ -23,7 +23,7 @@ pub struct Near {
     pub places: Listed<usize>,
 }
 
-/// How many pairs of a part of `form` and one of `other` may meet.
+/// Returns how many pairs of a part of `form` and one of `other` may meet.
 pub fn count_pairs<T: Tests, K: Keeper<T>>(form: &T::Form, other: &T::Form, reach: Reach) -> u64
     requires first { length (T.parts_of form.now) ≤ most_parts }
     requires second { length (T.parts_of other.now) ≤ most_parts }
@@ -33,7 +33,7 @@ pub fn count_pairs<T: Tests, K: Keeper<T>>(form: &T::Form, other: &T::Form, reac
     count_among::<T, K>(T::parts(form), T::parts(other), reach)
 }
 
-/// How many pairs of a part of `parts` and one of `others` may meet.
+/// Returns how many pairs of a part of `parts` and one of `others` may meet.
 fn count_among<T: Tests, K: Keeper<T>>(parts: &[T::Part], others: &[T::Part], reach: Reach) -> u64
     requires first { length parts.now ≤ most_parts }
     requires second { length others.now ≤ most_parts }
@@ -47,7 +47,7 @@ fn count_among<T: Tests, K: Keeper<T>>(parts: &[T::Part], others: &[T::Part], re
     count
 }
 
-/// How many of `others` may meet `part`.
+/// Returns how many of `others` may meet `part`.
 fn count_with_part<T: Tests, K: Keeper<T>>(part: &T::Part, others: &[T::Part], reach: Reach) -> u64
     requires { length others.now ≤ most_parts }
     ensures value { result ≡ count_by (λ q. may_meet reach (T.seen part.now) q) (map T.seen others.now) }
@@ -62,16 +62,16 @@ fn count_with_part<T: Tests, K: Keeper<T>>(part: &T::Part, others: &[T::Part], r
     count
 }
 
-/// Whether the boxes of two parts let them meet.
+/// Returns whether the boxes of two parts let them meet.
 fn may_meet<T: Tests, K: Keeper<T>>(first: &T::Part, second: &T::Part, reach: Reach) -> bool
     ensures { result ≡ may_meet reach (T.seen first.now) (T.seen second.now) }
 {
     do_boxes_meet(K::bounds(first), K::bounds(second), reach)
 }
 
-/// The live lots of `layer`, from the place `from` on, that have another id than `id` and a part that may meet one of
-/// `form`'s, in the order of registration. `Limit` exactly where there are more pairs of such parts than a command may
-/// test.
+/// Returns the live lots of `layer`, from the place `from` on, that have another id than `id` and a part that may meet
+/// one of `form`'s, in the order of registration. `Limit` exactly where there are more pairs of such parts than a
+/// command may test.
 pub fn lots_near<T: Tests, K: Keeper<T>>(
     alloc: Global,
     keeper: &K,
@@ -127,7 +127,7 @@ fn count_at<T: Tests, K: Keeper<T>>(
     Ok(near)
 }
 
-/// Whether two boxes let parts within them meet.
+/// Returns whether two boxes let parts within them meet.
 fn do_boxes_meet(first: &IntBox, second: &IntBox, reach: Reach) -> bool
     ensures { result ≡ boxes_let reach (integer_box first.now) (integer_box second.now) }
 {
@@ -137,7 +137,7 @@ fn do_boxes_meet(first: &IntBox, second: &IntBox, reach: Reach) -> bool
     }
 }
 
-/// The form of the lot at a place, ended or not.
+/// Returns the form of the lot at a place, ended or not.
 pub fn form_at<T: Tests, K: Keeper<T>>(keeper: &K, place: usize) -> &T::Form
     requires { place < length (K.state keeper.now).lots }
     ensures { option_map (λ l. l.parts) (slice_get (K.state keeper.now).lots place) ≡ Some (T.parts_of result.now) }

@@ -15,8 +15,8 @@ use std::alloc::Global;
 
 /// What keeps lots and finds whether forms overlap.
 pub trait Overlaps<T: Tests>: Keeper<T> {
-    /// Whether `form` and `other` share a point: only those pairs of parts are tested whose boxes share more than
-    /// boundary, up to the first that does, and nothing is counted.
+    /// Returns whether `form` and `other` share a point: only those pairs of parts are tested whose boxes share more
+    /// than boundary, up to the first that does, and nothing is counted.
     fn overlap(
         alloc: Global,
         form: &T::Form,
@@ -32,16 +32,16 @@ pub trait Registry<T: Tests>: Overlaps<T> + Named<T> {
     fn keep_meaning(&self)
         ensures { Self.meaning self.now ≡ parts_in (Self.state self.now) };
 
-    /// The present layer.
+    /// Returns the present layer.
     fn layer(&self) -> Name
         ensures { result ≡ (Self.state self.now).layer };
 
-    /// The first lot of the present layer, of those that are there at `moment`, that has `point`. `None` exactly where
-    /// there is none.
+    /// Returns the first lot of the present layer, of those that are there at `moment`, that has `point`. `None`
+    /// exactly where there is none.
     fn owner(&self, moment: Moment, point: &Point) -> Option<Name>
         ensures { owner_verdict result ≡ owner_line (lots_of_layer (Self.state self.now).layer (filter (is_there moment) (Self.state self.now).lots)) point.now };
 
-    /// Whether one more name may stand for the form.
+    /// Returns whether one more name may stand for the form.
     fn have_room_for_name(&self, form: &T::Form) -> bool
         ensures { result ≡ (nat_le (length (Self.state self.now).names + 1) most_names && nat_le (parts_under_names (Self.state self.now).names + length (T.parts_of form.now)) most_kept_parts) };
 }

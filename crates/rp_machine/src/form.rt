@@ -19,7 +19,7 @@ use rp_region::{Region, Work};
 use std::alloc::Global;
 
 impl State {
-    /// The form of an expression: its parts, made test by test in reading order, with the parts kept for names.
+    /// Returns the form of an expression: its parts, made test by test in reading order, with the parts kept for names.
     /// The members of the parts are those of the expression, in which each name stands for its region.
     ///
     /// Every number of the expression keeps the bounds of half-spaces and boxes, as those of a line that was read do.

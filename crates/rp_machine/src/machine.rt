@@ -46,7 +46,7 @@ impl Model for Machine {
 }
 
 impl Machine {
-    /// The machine for a script of a version, in its opening state.
+    /// Returns the machine for a script of a version, in its opening state.
     pub fn new(alloc: Global, version: Version) -> Result<Machine, AllocError>
         ensures { IfOk result (λ m. m ≡ record { version = version_of version; state = opening }) }
     {
@@ -56,8 +56,8 @@ impl Machine {
         })
     }
 
-    /// The machine for a script of `version`, in its opening state. It counts the nodes of the index of lots that its
-    /// lines visit, so that a test can tell a search from a walk over all lots. Takes no memory.
+    /// Returns the machine for a script of `version`, in its opening state. It counts the nodes of the index of lots
+    /// that its lines visit, so that a test can tell a search from a walk over all lots. Takes no memory.
     pub fn counting(alloc: Global, version: Version) -> Machine
         ensures { result ≡ record { version = version_of version; state = opening } }
     {
@@ -72,8 +72,8 @@ impl Machine {
         self.state.ledger().visits()
     }
 
-    /// The form of `region`: its parts, made test by test of `work` in reading order, with the parts kept for names.
-    /// The members of the parts are those of the expression, in which each name stands for its region.
+    /// Returns the form of `region`: its parts, made test by test of `work` in reading order, with the parts kept for
+    /// names. The members of the parts are those of the expression, in which each name stands for its region.
     ///
     /// Every number of `region` keeps the bounds of half-spaces, boxes and prisms, as those of a line that was read do.
     /// `Unknown` exactly for the first name or lot, in reading order, that isn't there; it comes before any test.
@@ -88,17 +88,17 @@ impl Machine {
         self.state.form(alloc, region, work)
     }
 
-    /// How many lots of all layers are live.
+    /// Returns how many lots of all layers are live.
     pub fn count_live(&self) -> u32
         ensures { result ≡ length (live_lots self.now.state.lots) }
     {
         self.state.count_live()
     }
 
-    /// The answer to the line with the number `n`, which is above every birth and every end of a lot, and what it
-    /// changes. The line is read by the version. A blank line has an answer without echo and verdicts. A line that is
-    /// refused changes nothing. After `AllocError` the machine is as it was. The next number is above every birth and
-    /// every end again.
+    /// Returns the answer to the line with the number `n`, which is above every birth and every end of a lot, and what
+    /// it changes. The line is read by the version. A blank line has an answer without echo and verdicts. A line that
+    /// is refused changes nothing. After `AllocError` the machine is as it was. The next number is above every birth
+    /// and every end again.
     pub fn step<R: Threads + Sync>(
         &mut self,
         rt: &R,
@@ -119,7 +119,7 @@ impl Machine {
         }
     }
 
-    /// The answer to a line that reads as the command, and what it changes.
+    /// Returns the answer to a line that reads as the command, and what it changes.
     fn answer<R: Threads + Sync>(
         &mut self,
         rt: &R,

@@ -30,14 +30,14 @@ use std::thread::Threads;
 /// A run of at most so many pairs of lots is not split.
 const GRAIN: usize = 16;
 
-/// The reply to a question.
+/// Returns the reply to a question.
 fn told(asked: Result<Verdicts, RowEnd>) -> Result<Reply<Region>, RowEnd>
     ensures { result ≡ reply_told asked }
 {
     Ok(Reply::Told(asked?))
 }
 
-/// The slices of the parts of a form at a height.
+/// Returns the slices of the parts of a form at a height.
 fn slices(alloc: Global, form: &Region, z: i32) -> Result<Verdicts, RowEnd>
     requires few { length form.now ≤ most_parts }
     requires height { IsHeight z }
@@ -70,7 +70,7 @@ impl State {
         }
     }
 
-    /// The other live lots of the lot's layer in contact with it.
+    /// Returns the other live lots of the lot's layer in contact with it.
     fn neighbours<R: Threads + Sync>(
         &self,
         rt: &R,
@@ -84,7 +84,7 @@ impl State {
         Ok(neighbour_lines(alloc, ids.items())?)
     }
 
-    /// How many live lots there are, of which no two of one layer share a point.
+    /// Returns how many live lots there are, of which no two of one layer share a point.
     fn audit<R: Threads + Sync>(
         &self,
         rt: &R,
@@ -98,8 +98,8 @@ impl State {
         Ok(one_line(alloc, Verdict::Clear(live))?)
     }
 
-    /// A shortest chain of live lots of one layer from one to another, each in contact with the next, and the level of
-    /// each lot of the layer that has one.
+    /// Returns a shortest chain of live lots of one layer from one to another, each in contact with the next, and the
+    /// level of each lot of the layer that has one.
     fn access<R: Threads + Sync>(
         &self,
         rt: &R,

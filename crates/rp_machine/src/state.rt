@@ -37,7 +37,7 @@ impl Model for State {
 }
 
 impl State {
-    /// The opening state. Takes no memory.
+    /// Returns the opening state. Takes no memory.
     pub(crate) fn new(alloc: Global) -> State
         ensures { result ≡ opening }
     {
@@ -47,7 +47,7 @@ impl State {
         }
     }
 
-    /// The opening state, which counts the nodes of the index of lots that its lines visit. Takes no memory.
+    /// Returns the opening state, which counts the nodes of the index of lots that its lines visit. Takes no memory.
     pub(crate) fn counting(alloc: Global) -> State
         ensures { result ≡ opening }
     {
@@ -65,7 +65,7 @@ impl State {
         let _ = &self.ledger;
     }
 
-    /// What is kept.
+    /// Returns what is kept.
     pub(crate) fn ledger(&self) -> &Ledger<Regions>
         ensures { result.now ≡ self.now }
     {
@@ -86,7 +86,7 @@ impl State {
         self.room = room;
     }
 
-    /// How many lots of all layers are live.
+    /// Returns how many lots of all layers are live.
     pub(crate) fn count_live(&self) -> u32
         ensures { result ≡ length (live_lots self.now.lots) }
     {

@@ -25,7 +25,7 @@ use rp_tester::Stopped;
 use std::alloc::{AllocError, Global};
 use std::thread::Threads;
 
-/// The bytes of a line that is no command, as they are echoed: none of a line that is too long.
+/// Returns the bytes of a line that is no command, as they are echoed: none of a line that is too long.
 fn echoed(line: &[u8], why: Why) -> &[u8]
     ensures { result.now ≡ echoed (fault_of why) line.now }
 {
@@ -35,7 +35,7 @@ fn echoed(line: &[u8], why: Why) -> &[u8]
     }
 }
 
-/// The answer to a line that is no command.
+/// Returns the answer to a line that is no command.
 pub(crate) fn bad_line(alloc: Global, n: u32, line: &[u8], why: Why) -> Result<Answer, AllocError>
     ensures { IfOk result (λ a. answer_of a ≡ bad_answer n line.now (fault_of why)) }
 {
@@ -43,7 +43,7 @@ pub(crate) fn bad_line(alloc: Global, n: u32, line: &[u8], why: Why) -> Result<A
     Answer::with_verdict(alloc, n, echoed(line, why), Proofs::new(alloc), verdict)
 }
 
-/// An empty list with room for one verdict line.
+/// Returns an empty list with room for one verdict line.
 fn room_for_one(alloc: Global) -> Result<Verdicts, AllocError>
     ensures empty { IfOk result (λ lines. lines.items ≡ []) }
     ensures room { IfOk result (λ lines. 0 < lines.spare) }
@@ -53,7 +53,7 @@ fn room_for_one(alloc: Global) -> Result<Verdicts, AllocError>
     Ok(lines)
 }
 
-/// The list with one more verdict line, for which there is room. Takes no memory.
+/// Returns the list with one more verdict line, for which there is room. Takes no memory.
 fn with_line(mut lines: Verdicts, verdict: Verdict) -> Verdicts
     requires { 0 < lines.spare }
     ensures { result.items ≡ lines.items ++ verdict ∷ [] }
@@ -62,8 +62,8 @@ fn with_line(mut lines: Verdicts, verdict: Verdict) -> Verdicts
     lines
 }
 
-/// The verdict lines of a row that has no reply: the one line of a refusal or of a limit, for which there is room. Takes
-/// no memory. Answers `AllocError` only where the row does.
+/// Returns the verdict lines of a row that has no reply: the one line of a refusal or of a limit, for which there is
+/// room. Takes no memory. Answers `AllocError` only where the row does.
 fn end_lines(end: RowEnd, room: Verdicts) -> Result<Verdicts, AllocError>
     requires empty { room.items ≡ [] }
     requires room { 0 < room.spare }
@@ -80,7 +80,7 @@ fn end_lines(end: RowEnd, room: Verdicts) -> Result<Verdicts, AllocError>
     }
 }
 
-/// The proof lines of a row, which has done this work: none where it is stopped. Takes no memory.
+/// Returns the proof lines of a row, which has done this work: none where it is stopped. Takes no memory.
 fn row_proofs(alloc: Global, row: &Result<Reply<Region>, RowEnd>, work: Work) -> Proofs
     ensures { map line_of result.items ≡ proofs_of_row row.now work.proofs }
 {
@@ -91,8 +91,8 @@ fn row_proofs(alloc: Global, row: &Result<Reply<Region>, RowEnd>, work: Work) ->
 }
 
 impl State {
-    /// The verdict lines of a row, whose change, if it has one, is made; there is room for one line. Takes memory for
-    /// the change alone. After `AllocError` all is as before.
+    /// Returns the verdict lines of a row, whose change, if it has one, is made; there is room for one line. Takes
+    /// memory for the change alone. After `AllocError` all is as before.
     fn follow(
         &mut self,
         alloc: Global,
@@ -119,8 +119,8 @@ impl State {
         }
     }
 
-    /// The answer to a line that reads as the command, and what it changes. The memory of the answer is taken before
-    /// anything changes.
+    /// Returns the answer to a line that reads as the command, and what it changes. The memory of the answer is taken
+    /// before anything changes.
     pub(crate) fn answer<R: Threads + Sync>(
         &mut self,
         rt: &R,

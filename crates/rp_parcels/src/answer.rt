@@ -15,8 +15,8 @@ use rp_region::Work;
 use rp_space::Inside;
 use rp_tester::Stopped;
 
-/// What a row has come to (`came`) on `walked`, a work that was begun fresh, is taken over by `work` and answered. A
-/// refusal carries the points of the last proof line, where it is shown by points.
+/// Returns what a row has come to (`came`) on `walked`, a work that was begun fresh, is taken over by `work` and
+/// answered. A refusal carries the points of the last proof line, where it is shown by points.
 pub(crate) fn answered<A: Drop>(
     work: &mut Work,
     walked: Work,
@@ -32,7 +32,7 @@ pub(crate) fn answered<A: Drop>(
     }
 }
 
-/// What a row has come to, of which a refusal is no stop.
+/// Returns what a row has come to, of which a refusal is no stop.
 fn settled<A: Drop>(came: Result<A, RowEnd>) -> Result<Result<A, Refusal>, Stopped>
     ensures { result ≡ settled came }
 {
@@ -43,7 +43,7 @@ fn settled<A: Drop>(came: Result<A, RowEnd>) -> Result<Result<A, Refusal>, Stopp
     }
 }
 
-/// The fault of a refusal, with the points of the last proof line where they show it.
+/// Returns the fault of a refusal, with the points of the last proof line where they show it.
 fn fault_of(refusal: Refusal, work: &Work) -> ParcelFault
     requires { IsShown work.now.proofs (refusal_of refusal) }
     ensures cause { cause_of result ≡ refuses (refusal_of refusal) }
@@ -71,7 +71,7 @@ fn fault_of(refusal: Refusal, work: &Work) -> ParcelFault
     }
 }
 
-/// The points of the last proof line.
+/// Returns the points of the last proof line.
 fn last_points(work: &Work) -> Inside
     requires { EndsInside work.now.proofs }
     ensures { IsLast (in_line result) work.now.proofs }

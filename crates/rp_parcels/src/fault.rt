@@ -44,7 +44,7 @@ pub enum ParcelFault {
 }
 
 impl ParcelFault {
-    /// The fault in words, without the numbers that it carries.
+    /// Returns the fault in words, without the numbers that it carries.
     fn words(&self) -> &'static str {
         match self {
             ParcelFault::Known(_) => "an id was registered before",

@@ -51,7 +51,7 @@ impl Parcels {
         })
     }
 
-    /// The births and ends of all parcels, ended ones included.
+    /// Returns the births and ends of all parcels, ended ones included.
     pub fn history(&self) -> &History
         ensures value { result.now ≡ map bare_lot self.now }
         ensures few { length self.now ≤ most_kept_parts }
@@ -60,14 +60,15 @@ impl Parcels {
         self.lots.history()
     }
 
-    /// The region of a live parcel, found without a walk over all parcels. `None` exactly where the id isn't live.
+    /// Returns the region of a live parcel, found without a walk over all parcels. `None` exactly where the id isn't
+    /// live.
     pub fn region(&self, id: Name) -> Option<&Region>
         ensures { option_copied result ≡ parts_of_lot (live_lot id self.now) }
     {
         self.lots.find(&id)
     }
 
-    /// The parcels as they are kept.
+    /// Returns the parcels as they are kept.
     pub(crate) fn lots(&self) -> &Lots<Regions>
         ensures value { result.now ≡ self.now }
         ensures sound { AreSound self.now }
@@ -75,7 +76,7 @@ impl Parcels {
         &self.lots
     }
 
-    /// The parcels as what keeps lots. `visits` counts the nodes of their index that are visited.
+    /// Returns the parcels as what keeps lots. `visits` counts the nodes of their index that are visited.
     pub(crate) fn keeper<'a>(&'a self, visits: &'a VisitCount) -> ParcelKeeper<'a>
         ensures value { result.parcels.now ≡ self.now }
         ensures sound { AreSound self.now }

@@ -13,7 +13,7 @@ use rp_lotindex::Moment;
 use rp_space::Point;
 
 impl Parcels {
-    /// The one live parcel of `layer` that has `p`. `None` exactly where there is none. Takes no memory.
+    /// Returns the one live parcel of `layer` that has `p`. `None` exactly where there is none. Takes no memory.
     pub fn at(&self, layer: Name, p: &Point) -> Option<Name>
         ensures row { owner_verdict result ≡ owner_line (lots_of_layer layer (live_lots self.now)) p.now }
         ensures only { IsOnlyOwner (lots_of_layer layer (live_lots self.now)) p.now result }
@@ -21,16 +21,16 @@ impl Parcels {
         self.owner(&layer, Moment::Now, p)
     }
 
-    /// The first parcel of `layer` that is alive after `line` and has `p`. `None` exactly where there is none. Takes no
-    /// memory.
+    /// Returns the first parcel of `layer` that is alive after `line` and has `p`. `None` exactly where there is none.
+    /// Takes no memory.
     pub fn at_line(&self, layer: Name, line: u32, p: &Point) -> Option<Name>
         ensures { owner_verdict result ≡ owner_line (lots_of_layer layer (alive_after line self.now)) p.now }
     {
         self.owner(&layer, Moment::After(line), p)
     }
 
-    /// The first parcel of the layer that is there at a moment and has the point; it is found without a walk over all
-    /// parcels.
+    /// Returns the first parcel of the layer that is there at a moment and has the point; it is found without a walk
+    /// over all parcels.
     fn owner(&self, layer: &Name, moment: Moment, p: &Point) -> Option<Name>
         ensures sound { AreSound self.now }
         ensures row { owner_verdict result ≡ owner_line (lots_of_layer layer.now (filter (is_there moment) self.now)) p.now }

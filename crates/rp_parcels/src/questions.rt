@@ -24,9 +24,9 @@ use std::alloc::Global;
 use std::thread::Threads;
 
 impl Parcels {
-    /// The other live parcels of the parcel's layer in contact with it, in the order of registration. Refusals, in this
-    /// order: `Unknown(id)` where it isn't live; `Limit` where too many pairs of their parts have boxes that meet, the
-    /// boundary included.
+    /// Returns the other live parcels of the parcel's layer in contact with it, in the order of registration. Refusals,
+    /// in this order: `Unknown(id)` where it isn't live; `Limit` where too many pairs of their parts have boxes that
+    /// meet, the boundary included.
     ///
     /// The items are the other live parcels of the layer that have such a pair with it. They are judged in halves, and
     /// a run of at most `grain` is not split; the answer and the proof lines are the same for every grain.
@@ -50,10 +50,10 @@ impl Parcels {
         answered(work, walked, came)
     }
 
-    /// A shortest chain of live parcels of one layer from one to another, each in contact with the next, and the level
-    /// of each parcel of the layer that has one: how many steps the shortest chain from it has. Refusals, in this
-    /// order: `Unknown(from)` and `Unknown(to)` where one isn't live; `Layers(to)` where the layers differ; `Limit`
-    /// where too many pairs of parts of parcels of the layer have boxes that meet, the boundary included.
+    /// Returns a shortest chain of live parcels of one layer from one to another, each in contact with the next, and
+    /// the level of each parcel of the layer that has one: how many steps the shortest chain from it has. Refusals, in
+    /// this order: `Unknown(from)` and `Unknown(to)` where one isn't live; `Layers(to)` where the layers differ;
+    /// `Limit` where too many pairs of parts of parcels of the layer have boxes that meet, the boundary included.
     ///
     /// The items are the pairs of live parcels of the layer that have such a pair of parts. They are judged in halves,
     /// and a run of at most `grain` is not split; the answer and the proof lines are the same for every grain.
@@ -78,8 +78,9 @@ impl Parcels {
         answered(work, walked, came)
     }
 
-    /// The number of live parcels of all layers, with a proof line in `work` for each pair of parts whose boxes meet,
-    /// of two live parcels of one layer: they share no point. `Limit` exactly where there are too many of these pairs.
+    /// Returns the number of live parcels of all layers, with a proof line in `work` for each pair of parts whose boxes
+    /// meet, of two live parcels of one layer: they share no point. `Limit` exactly where there are too many of these
+    /// pairs.
     ///
     /// The items are the pairs of parcels that have such a pair of parts. They are judged in halves, and a run of at
     /// most `grain` is not split; the answer and the proof lines are the same for every grain.
@@ -102,7 +103,7 @@ impl Parcels {
         answered(work, walked, came)
     }
 
-    /// How many parcels of all layers are live.
+    /// Returns how many parcels of all layers are live.
     pub fn count_live(&self) -> u32
         ensures { result ≡ length (live_lots self.now) }
     {

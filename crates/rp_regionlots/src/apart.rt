@@ -18,9 +18,9 @@ use rp_region::Work;
 use std::alloc::Global;
 use std::thread::Threads;
 
-/// `audit`: how many live lots there are, with a proof line in `work` for each pair of parts whose boxes share more than
-/// boundary, of two live lots of one layer: they share no point. `Limit` exactly where there are more of these pairs
-/// than may be tested. The state is sound, so no two live lots of one layer share a point.
+/// Answers `audit`: how many live lots there are, with a proof line in `work` for each pair of parts whose boxes share
+/// more than boundary, of two live lots of one layer: they share no point. `Limit` exactly where there are more of
+/// these pairs than may be tested. The state is sound, so no two live lots of one layer share a point.
 ///
 /// The pairs of lots that have such a pair of parts are judged in halves, of which one of at most `grain` is not split;
 /// `watch` is told of each as its tests begin.

@@ -21,12 +21,12 @@ use rp_rows::Access;
 use std::alloc::Global;
 use std::thread::Threads;
 
-/// `neighbours`: the other live lots of the layer of the lot `id` in contact with it, in the order of registration.
-/// `Unknown(id)` where it isn't live; `Limit` where more pairs of their parts have boxes that meet, the boundary
-/// included, than may be tested.
+/// Answers `neighbours`: the other live lots of the layer of the lot `id` in contact with it, in the order of
+/// registration. `Unknown(id)` where it isn't live; `Limit` where more pairs of their parts have boxes that meet, the
+/// boundary included, than may be tested.
 ///
-/// The other live lots that have such a pair with it are judged in halves, of which one of at most `grain` is not split;
-/// `watch` is told of each as its tests begin.
+/// The other live lots that have such a pair with it are judged in halves, of which one of at most `grain` is not
+/// split; `watch` is told of each as its tests begin.
 pub fn neighbours<R: Threads + Sync, W: Watch, K: Keeper<Work>>(
     rt: &R,
     alloc: Global,
@@ -55,10 +55,10 @@ pub fn neighbours<R: Threads + Sync, W: Watch, K: Keeper<Work>>(
     Ok(ids_met(alloc, lots, left.places.items(), &met)?)
 }
 
-/// `access`: a shortest chain of live lots of one layer from the lot `from` to the lot `to`, each in contact with the
-/// next, and the level of each lot of the layer that has one. Refusals, in this order: `Unknown(from)` and `Unknown(to)`
-/// where one isn't live; `Layers(to)` where the layers differ. `Limit` where more pairs of parts of lots of the layer
-/// have boxes that meet, the boundary included, than may be tested.
+/// Answers `access`: a shortest chain of live lots of one layer from the lot `from` to the lot `to`, each in contact
+/// with the next, and the level of each lot of the layer that has one. Refusals, in this order: `Unknown(from)` and
+/// `Unknown(to)` where one isn't live; `Layers(to)` where the layers differ. `Limit` where more pairs of parts of lots
+/// of the layer have boxes that meet, the boundary included, than may be tested.
 ///
 /// The pairs of live lots of the layer that have such a pair of parts are judged in halves, of which one of at most
 /// `grain` is not split; `watch` is told of each as its tests begin.

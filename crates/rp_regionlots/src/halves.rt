@@ -79,7 +79,7 @@ pub fn meet_in_halves<R: Threads + Sync, W: Watch>(
     Ok(met)
 }
 
-/// What the tests of each pair show, in order.
+/// Returns what the tests of each pair show, in order.
 fn judge_pairs<R: Threads + Sync, W: Watch>(
     rt: &R,
     alloc: Global,
@@ -102,7 +102,7 @@ fn judge_pairs<R: Threads + Sync, W: Watch>(
     judge_all(rt, alloc, grain, &judging)
 }
 
-/// What the tests of a pair show.
+/// Returns what the tests of a pair show.
 fn judge_pair(
     alloc: Global,
     forms: &[Region],
@@ -126,7 +126,8 @@ fn judge_pair(
     }
 }
 
-/// Whether two regions meet. Only those pairs of their parts are tested whose boxes let them; nothing is counted.
+/// Returns whether two regions meet. Only those pairs of their parts are tested whose boxes let them; nothing is
+/// counted.
 fn do_meet(
     alloc: Global,
     first: &Region,

@@ -22,7 +22,8 @@ use rp_rows::{access_lines, neighbour_lines};
 use rp_trail::Trail;
 use std::alloc::{AllocError, Global};
 
-/// `neighbours`: the other live lots in contact with the lot `id`, of its layer, as the next lines of `trail` show.
+/// Answers `neighbours`: the other live lots in contact with the lot `id`, of its layer, as the next lines of `trail`
+/// show.
 pub fn neighbours(
     alloc: Global,
     register: &Register,
@@ -37,8 +38,8 @@ pub fn neighbours(
     Ok(neighbour_lines(alloc, ids.items())?)
 }
 
-/// `access`: a shortest chain of live lots of one layer from `from` to `to`, each in contact with the next, and the
-/// level of each lot of the layer that has one, as the next lines of `trail` show.
+/// Answers `access`: a shortest chain of live lots of one layer from `from` to `to`, each in contact with the next, and
+/// the level of each lot of the layer that has one, as the next lines of `trail` show.
 pub fn access(
     alloc: Global,
     register: &Register,
@@ -53,7 +54,7 @@ pub fn access(
     Ok(access_answer(alloc, &left, &met)?)
 }
 
-/// The verdict lines of `access`, as `left` has it, where those of its pairs meet for which `met` says yes.
+/// Returns the verdict lines of `access`, as `left` has it, where those of its pairs meet for which `met` says yes.
 fn access_answer(alloc: Global, left: &AccessLeft, met: &[bool]) -> Result<Verdicts, AllocError>
     requires ready { IsReady left.now }
     requires each { length met.now ≡ length left.now.pairs.items }
@@ -63,8 +64,8 @@ fn access_answer(alloc: Global, left: &AccessLeft, met: &[bool]) -> Result<Verdi
     access_lines(alloc, &access)
 }
 
-/// `audit`: how many live lots `register` has, of which no two of one layer share a point, as the next lines of `trail`
-/// show. `TakenWrong` where a line shows that two do.
+/// Answers `audit`: how many live lots `register` has, of which no two of one layer share a point, as the next lines of
+/// `trail` show. `TakenWrong` where a line shows that two do.
 pub fn audit(alloc: Global, register: &Register, trail: &mut Trail<'_>) -> Result<Verdicts, RowEnd>
     ensures { Tells result trail.new (row_audit line_tester register.now trail.old) }
 {

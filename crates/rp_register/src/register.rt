@@ -36,7 +36,7 @@ impl Model for Register {
 }
 
 impl Register {
-    /// Nothing is kept yet, and the layer is the one that a script begins with. Takes no memory.
+    /// Returns a register that keeps nothing yet, and the layer is the one that a script begins with. Takes no memory.
     pub fn new(alloc: Global) -> Register
         ensures { result ≡ opening }
     {
@@ -45,8 +45,8 @@ impl Register {
         }
     }
 
-    /// The register of `new`, which counts the nodes of the index of lots that its questions visit, so that a test can
-    /// tell a search from a walk over all lots. Takes no memory.
+    /// Returns the register of `new`, which counts the nodes of the index of lots that its questions visit, so that a
+    /// test can tell a search from a walk over all lots. Takes no memory.
     pub fn counting(alloc: Global) -> Register
         ensures { result ≡ opening }
     {
@@ -67,14 +67,14 @@ impl Register {
         self.ledger.keep_sound();
     }
 
-    /// What is kept.
+    /// Returns what is kept.
     pub(crate) fn ledger(&self) -> &Ledger<Shown>
         ensures { result.now ≡ self.now }
     {
         &self.ledger
     }
 
-    /// The first name or lot of `region`, in reading order, that isn't there.
+    /// Returns the first name or lot of `region`, in reading order, that isn't there.
     pub fn first_unknown(&self, region: &Expr) -> Option<Name>
         ensures { result ≡ first_unknown (parts_in self.now) (expression_of region.now) }
     {

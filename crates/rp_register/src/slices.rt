@@ -21,9 +21,9 @@ use rp_text::write_verdict;
 use rp_trail::{Form, Slices, Trail, slices};
 use std::alloc::Global;
 
-/// `section`: the slices of the parts of `form` at the height `z`. Which these are the next lines of `trail` say, behind
-/// the one that tells how many there are; none of them is taken. `Unshown` where one of them is missing, or shows no
-/// slice that passes.
+/// Answers `section`: the slices of the parts of `form` at the height `z`. Which these are the next lines of `trail`
+/// say, behind the one that tells how many there are; none of them is taken. `Unshown` where one of them is missing, or
+/// shows no slice that passes.
 pub fn section(alloc: Global, form: &Form, z: i32, trail: &Trail<'_>) -> Result<Followed, RowEnd>
     requires few { length form.now.items ≤ most_parts }
     requires height { IsHeight z }
@@ -37,7 +37,7 @@ pub fn section(alloc: Global, form: &Form, z: i32, trail: &Trail<'_>) -> Result<
     }
 }
 
-/// The slices of the parts of a form, on the lines behind the next one, which tells how many there are.
+/// Returns the slices of the parts of a form, on the lines behind the next one, which tells how many there are.
 fn follow_slices(
     alloc: Global,
     form: &Form,

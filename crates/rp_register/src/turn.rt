@@ -35,8 +35,8 @@ pub(crate) fn meet_in_turn(
     Ok(met)
 }
 
-/// The two lots of each of `pairs`, in order, whose forms stand in `forms` at its places, are shown to share no point, on
-/// the next lines of `trail`. Only those pairs of parts are tested whose boxes share more than boundary; nothing is
+/// The two lots of each of `pairs`, in order, whose forms stand in `forms` at its places, are shown to share no point,
+/// on the next lines of `trail`. Only those pairs of parts are tested whose boxes share more than boundary; nothing is
 /// counted. `TakenWrong` at the first line that shows a common point.
 pub(crate) fn show_apart_in_turn(
     forms: &[Form],
@@ -63,8 +63,8 @@ fn put(met: &mut Vec<bool>, meets: bool) -> Result<(), AllocError>
     Ok(())
 }
 
-/// Whether two forms meet, on the next lines. Only those pairs of parts are tested whose boxes let them; nothing is
-/// counted.
+/// Returns whether two forms meet, on the next lines. Only those pairs of parts are tested whose boxes let them;
+/// nothing is counted.
 fn do_meet(
     first: &Form,
     second: &Form,

@@ -27,7 +27,7 @@ pub fn end_lines(mut lines: Vec<u8>) -> Result<Vec<u8>, AllocError>
     Ok(lines)
 }
 
-/// Why lines that are to stand behind a script of so many bytes were not read.
+/// Returns why lines that are to stand behind a script of so many bytes were not read.
 fn intake_stop(fault: IntakeFault, script: usize) -> Stop
     requires { script ≤ most_script_bytes }
     ensures { result ≡ stop_of_intake script fault }
@@ -39,8 +39,8 @@ fn intake_stop(fault: IntakeFault, script: usize) -> Stop
     }
 }
 
-/// Reads the lines of `source` to its end, which are to be added to `script`. If `layer` is named, a line that chooses it is put
-/// before them.
+/// Reads the lines of `source` to its end, which are to be added to `script`. If `layer` is named, a line that chooses
+/// it is put before them.
 ///
 /// # Errors
 ///

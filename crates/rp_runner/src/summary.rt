@@ -83,7 +83,7 @@ fn count_script<R: Threads + Sync>(
     Ok(counts)
 }
 
-/// The summary of the report of a building's script, by a machine that answered no line yet.
+/// Returns the summary of the report of a building's script, by a machine that answered no line yet.
 fn summary_by<R: Threads + Sync>(
     rt: &R,
     alloc: Global,
@@ -98,7 +98,7 @@ fn summary_by<R: Threads + Sync>(
     Ok(Summary { counts, live })
 }
 
-/// The summary of the report of the script of `building`, which is of version 1.
+/// Returns the summary of the report of the script of `building`, which is of version 1.
 pub fn summary_of<R: Threads + Sync>(
     rt: &R,
     alloc: Global,

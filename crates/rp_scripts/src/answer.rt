@@ -45,7 +45,7 @@ pub fn put_answer<K: Sink>(
     Ok(has_refusal(answer))
 }
 
-/// The proof lines that a report tells: none where it is brief.
+/// Returns the proof lines that a report tells: none where it is brief.
 fn told_proofs(answer: &Answer, brief: bool) -> &[Proof]
     ensures { lines_text (λ p. proof_text (line_of p)) result.now ≡ text_of_lines (proof_texts brief (answer_of answer.now).proofs) }
 {

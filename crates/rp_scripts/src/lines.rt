@@ -6,14 +6,14 @@ ghost use Rattle.rp_scripts.specs.Lines.{first_line, behind_first_line, is_line_
 
 use memchr::memchr;
 
-/// The place of the first line end.
+/// Returns the place of the first line end.
 fn line_end(text: &[u8]) -> Option<usize>
     ensures { result ≡ position is_line_end text.now }
 {
     memchr(b'\n', text)
 }
 
-/// A line without the one carriage return at its end.
+/// Returns a line without the one carriage return at its end.
 fn strip_return(line: &[u8]) -> &[u8]
     ensures { result.now ≡ without_return line.now }
 {
@@ -23,7 +23,7 @@ fn strip_return(line: &[u8]) -> &[u8]
     }
 }
 
-/// The next line of a script, without its ending, and what stands behind it.
+/// Returns the next line of a script, without its ending, and what stands behind it.
 pub fn next_line(script: &[u8]) -> Option<(&[u8], &[u8])>
     ensures end { IfNone result (script_lines script.now ≡ []) }
     ensures next { IfSome result (λ found. script_lines script.now ≡ found.0.now ∷ script_lines found.1.now) }
@@ -38,7 +38,7 @@ pub fn next_line(script: &[u8]) -> Option<(&[u8], &[u8])>
     }
 }
 
-/// The first line of a text, with its line end, and what stands behind it.
+/// Returns the first line of a text, with its line end, and what stands behind it.
 pub fn split_line(text: &[u8]) -> (&[u8], &[u8])
     ensures line { result.0.now ≡ first_line text.now }
     ensures behind { result.1.now ≡ behind_first_line text.now }

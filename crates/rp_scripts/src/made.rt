@@ -63,14 +63,14 @@ impl Model for MadeScript {
     ghost invariant = { λ s. s.storey + begun s.stage + s.to_come < 2 ^ 32 };
 }
 
-/// The state of the numbers after a draw.
+/// Returns the state of the numbers after a draw.
 fn next_seed(seed: u64) -> u64
     ensures { result ≡ next_seed seed }
 {
     seed.wrapping_mul(6364136223846793005).wrapping_add(1)
 }
 
-/// A number from 1 to 9 that a state draws.
+/// Returns a number from 1 to 9 that a state draws.
 fn drawn_slope(seed: u64) -> u32
     ensures { result ≡ drawn seed 9 + 1 }
 {
@@ -78,7 +78,7 @@ fn drawn_slope(seed: u64) -> u32
 }
 
 impl MadeScript {
-    /// The whole script of a building.
+    /// Returns the whole script of a building.
     pub fn new(building: Building) -> MadeScript
         ensures { result ≡ made_script building.storeys building.seed }
     {
@@ -90,7 +90,7 @@ impl MadeScript {
         }
     }
 
-    /// The next line, or `None` where none is left.
+    /// Returns the next line, or `None` where none is left.
     pub fn next_line(&mut self) -> Option<MadeLine>
         ensures end { IfNone result (self.old ≡ []) }
         ensures next { IfSome result (λ line. self.old ≡ made_line line ∷ self.new) }

@@ -11,8 +11,8 @@ use rp_command::Version;
 use rp_io::{Failed, Sink};
 use rp_text::SCRIPT_MARK;
 
-/// The version of a script, and what stands behind the line that marks it: a script whose first line is `rp 2` is of
-/// version 2, and every other one of version 1.
+/// Returns the version of a script, and what stands behind the line that marks it: a script whose first line is `rp 2`
+/// is of version 2, and every other one of version 1.
 pub fn split_mark(script: &[u8]) -> (Version, &[u8])
     ensures version { version_of result.0 ≡ script_version script.now }
     ensures body { script_lines result.1.now ≡ script_body script.now }

@@ -4,8 +4,8 @@ ghost use Rattle.rp_reports.specs.Output.{number_between};
 
 use rp_command::spelled;
 
-/// The number that `word`, a word of a command line, spells as in a script, where it is from `least` to `greatest`;
-/// else `None`.
+/// Returns the number that `word`, a word of a command line, spells as in a script, where it is from `least` to
+/// `greatest`; else `None`.
 pub fn number_between(least: u64, greatest: u64, word: &[u8]) -> Option<u64>
     ensures value { result ≡ number_between least greatest word.now }
     ensures within { IfSome result (λ n. (least ≤ n) × (n ≤ greatest)) }

@@ -40,7 +40,7 @@ pub enum MadeTask {
     Try,
 }
 
-/// The task of the words, if they are listed.
+/// Returns the task of the words, if they are listed.
 pub fn listed_task(words: &[String]) -> Option<Task>
     ensures { option_map meaning_of result ≡ task_of (map string_bytes words.now) }
 {
@@ -52,7 +52,7 @@ pub fn listed_task(words: &[String]) -> Option<Task>
     }
 }
 
-/// The task of one word.
+/// Returns the task of one word.
 fn task_of_one(word: &str) -> Option<Task>
     ensures { option_map meaning_of result ≡ task_of_one word.now }
 {
@@ -69,7 +69,7 @@ fn task_of_one(word: &str) -> Option<Task>
     }
 }
 
-/// The task of two words.
+/// Returns the task of two words.
 fn task_of_two(word: &str, next: &str) -> Option<Task>
     ensures { option_map meaning_of result ≡ task_of_two word.now next.now }
 {
@@ -80,7 +80,7 @@ fn task_of_two(word: &str, next: &str) -> Option<Task>
     }
 }
 
-/// The task of a word and two numbers.
+/// Returns the task of a word and two numbers.
 fn task_of_three(word: &str, storeys: &str, seed: &str) -> Option<Task>
     ensures { option_map meaning_of result
         ≡ task_of_three word.now (number_between 1 1000 storeys.now) (number_between 0 18446744073709551615 seed.now) }
@@ -94,7 +94,7 @@ fn task_of_three(word: &str, storeys: &str, seed: &str) -> Option<Task>
     }
 }
 
-/// The building of two words, if both spell numbers within their bounds.
+/// Returns the building of two words, if both spell numbers within their bounds.
 fn building_of(storeys: &str, seed: &str) -> Option<Building>
     ensures { (task : ℕ → ℕ → ModelTask) → option_map (λ b. task b.storeys b.seed) result
         ≡ with_numbers task (number_between 1 1000 storeys.now) (number_between 0 18446744073709551615 seed.now) }

@@ -14,7 +14,7 @@ use rp_spelling::write_command;
 use rp_syntax::read_line;
 use std::alloc::{AllocError, Global};
 
-/// Whether a line is neither blank nor a command.
+/// Returns whether a line is neither blank nor a command.
 fn is_bad(read: &Line) -> bool
     ensures { result ≡ is_bad_reading (line_of read.now) }
 {

@@ -20,15 +20,15 @@ pub trait Forms: Sized {
 
     ghost parts_of: { Self.Form → List Part };
 
-    /// The parts in order.
+    /// Returns the parts in order.
     fn parts(form: &Self::Form) -> &[Self::Part]
         ensures { map seen result.now ≡ parts_of form.now };
 
-    /// The box of a part.
+    /// Returns the box of a part.
     fn bounds(part: &Self::Part) -> &IntBox
         ensures { integer_box result.now ≡ (seen part.now).bounds };
 
-    /// Whether a point lies in the cube and in one of the parts.
+    /// Returns whether a point lies in the cube and in one of the parts.
     fn holds(form: &Self::Form, point: &Point) -> bool
         ensures { result ≡ is_in_parts (parts_of form.now) point.now };
 }

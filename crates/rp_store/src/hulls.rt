@@ -6,7 +6,7 @@ ghost use Rattle.rp_lotindex.specs.Indexed.{hull_of_parts, joined};
 use crate::forms::Forms;
 use rp_space::IntBox;
 
-/// The least box around the boxes of a form's parts; around none it is that of the cube.
+/// Returns the least box around the boxes of a form's parts; around none it is that of the cube.
 pub(crate) fn hull_of<F: Forms>(form: &F::Form) -> IntBox
     ensures { integer_box result ≡ hull_of_parts (F.parts_of form.now) }
 {
@@ -16,7 +16,7 @@ pub(crate) fn hull_of<F: Forms>(form: &F::Form) -> IntBox
     }
 }
 
-/// The least box around the boxes of a part and of further ones.
+/// Returns the least box around the boxes of a part and of further ones.
 fn joined<F: Forms>(first: &F::Part, rest: &[F::Part]) -> IntBox
     ensures { integer_box result ≡ joined (F.seen first.now).bounds (map (λ p. (F.seen p).bounds) rest.now) }
 {

@@ -70,7 +70,7 @@ impl<F: Forms> Lots<F> {
         }
     }
 
-    /// The births and ends of all lots, ended ones included.
+    /// Returns the births and ends of all lots, ended ones included.
     pub fn history(&self) -> &History
         ensures value { result.now ≡ map bare_lot self.now }
         ensures few { length self.now ≤ most_kept_parts }
@@ -81,7 +81,7 @@ impl<F: Forms> Lots<F> {
         &self.history
     }
 
-    /// How many lots there are, ended ones included.
+    /// Returns how many lots there are, ended ones included.
     pub fn count(&self) -> usize
         ensures value { result ≡ length self.now }
         ensures few { result ≤ most_kept_parts }
@@ -89,7 +89,7 @@ impl<F: Forms> Lots<F> {
         self.forms.items().len()
     }
 
-    /// The form of a live lot, found without a walk over all lots. `None` exactly where the id isn't live.
+    /// Returns the form of a live lot, found without a walk over all lots. `None` exactly where the id isn't live.
     pub fn find(&self, id: &Name) -> Option<&F::Form>
         ensures { option_map F.parts_of (option_copied result) ≡ parts_of_lot (live_lot id.now self.now) }
     {
@@ -97,7 +97,7 @@ impl<F: Forms> Lots<F> {
         Some(self.form_at(place))
     }
 
-    /// The form of the lot at a place, ended or not.
+    /// Returns the form of the lot at a place, ended or not.
     pub fn form_at(&self, place: usize) -> &F::Form
         requires { place < length self.now }
         ensures { option_map (λ l. l.parts) (slice_get self.now place) ≡ Some (F.parts_of result.now) }
@@ -105,7 +105,7 @@ impl<F: Forms> Lots<F> {
         &self.forms.items()[place]
     }
 
-    /// The forms of all lots, by their places.
+    /// Returns the forms of all lots, by their places.
     pub fn forms(&self) -> &[F::Form]
         ensures { map F.parts_of result.now ≡ lot_parts self.now }
     {
@@ -133,9 +133,9 @@ impl<F: Forms> Lots<F> {
         self.boxes.near(alloc, watch, &self.history, &boxes, layer, id, from, reach)
     }
 
-    /// The first lot of `layer`, of those that are there at `moment`, that has `point`; it is found without a walk over
-    /// all lots. The box of each part has to hold its members. `None` exactly where there is none. Takes no memory.
-    /// `watch` is told of each node that is visited.
+    /// Returns the first lot of `layer`, of those that are there at `moment`, that has `point`; it is found without a
+    /// walk over all lots. The box of each part has to hold its members. `None` exactly where there is none. Takes no
+    /// memory. `watch` is told of each node that is visited.
     pub fn owner<W: Watch>(
         &self,
         watch: &W,
@@ -154,7 +154,7 @@ impl<F: Forms> Lots<F> {
             .owner(watch, &self.history, layer, moment, point, &holder)
     }
 
-    /// Whether all lots together may keep so many more parts.
+    /// Returns whether all lots together may keep so many more parts.
     pub fn have_room_for(&self, parts: usize) -> bool
         ensures { result ≡ nat_le (parts_under_lots self.now + parts) most_kept_parts }
     {
@@ -260,7 +260,7 @@ fn take_in<F: Forms>(
     Ok(())
 }
 
-/// How many parts the forms have together.
+/// Returns how many parts the forms have together.
 fn count_parts<F: Forms>(forms: &[F::Form]) -> usize
     requires { sum_by (λ f. length (F.parts_of f)) forms.now ≤ most_kept_parts }
     ensures { result ≡ sum_by (λ f. length (F.parts_of f)) forms.now }

@@ -49,14 +49,14 @@ impl<F: Forms> NamedForms<F> {
         }
     }
 
-    /// The form that a name stands for, found without a walk over all names.
+    /// Returns the form that a name stands for, found without a walk over all names.
     pub fn find(&self, name: &Name) -> Option<&F::Form>
         ensures { option_map F.parts_of (option_copied result) ≡ parts_of_kept (kept_named name.now self.now) }
     {
         self.forms.get(name)
     }
 
-    /// Whether one more name may stand for the form.
+    /// Returns whether one more name may stand for the form.
     pub fn have_room_for(&self, form: &F::Form) -> bool
         ensures { result ≡ (nat_le (length self.now + 1) most_names && nat_le (parts_under_names self.now + length (F.parts_of form.now)) most_kept_parts) }
     {

@@ -22,7 +22,7 @@ use rp_queries::{is_empty, within};
 use rp_tester::{Stopped, Tests};
 use std::alloc::{AllocError, Global};
 
-/// The ids of children, in order.
+/// Returns the ids of children, in order.
 pub(crate) fn child_ids<T: Tests>(
     alloc: Global,
     children: &[Child<T::Form>],
@@ -36,7 +36,7 @@ pub(crate) fn child_ids<T: Tests>(
     Ok(ids)
 }
 
-/// The number of the first child that has no part.
+/// Returns the number of the first child that has no part.
 pub(crate) fn first_empty<T: Tests>(children: &[Child<T::Form>]) -> Option<u32>
     requires { length children.now ≤ 1024 }
     ensures { option_map empty_child result ≡ first_empty_child 1 (map (formed_child T.parts_of) children.now) }
@@ -51,7 +51,7 @@ pub(crate) fn first_empty<T: Tests>(children: &[Child<T::Form>]) -> Option<u32>
     None
 }
 
-/// How many parts children have together.
+/// Returns how many parts children have together.
 pub(crate) fn count_all<T: Tests>(children: &[Child<T::Form>]) -> usize
     requires few { length children.now ≤ 1024 }
     requires short { AllByRecursion (IsShort T.parts_of) children.now }
@@ -80,7 +80,7 @@ pub(crate) fn check_inside<T: Tests>(
     }
 }
 
-/// The number of the first child that has a point outside a form.
+/// Returns the number of the first child that has a point outside a form.
 fn first_outside<T: Tests>(
     alloc: Global,
     whole: &T::Form,
@@ -117,7 +117,7 @@ pub(crate) fn check_apart<T: Tests, K: Overlaps<T>>(
     }
 }
 
-/// How many pairs of parts of two children have boxes that share more than boundary.
+/// Returns how many pairs of parts of two children have boxes that share more than boundary.
 fn count_near<T: Tests, K: Keeper<T>>(children: &[Child<T::Form>]) -> u64
     requires few { length children.now ≤ 1024 }
     requires short { AllByRecursion (IsShort T.parts_of) children.now }
@@ -130,7 +130,7 @@ fn count_near<T: Tests, K: Keeper<T>>(children: &[Child<T::Form>]) -> u64
     pairs
 }
 
-/// How many pairs of a part of a child and one of some others have boxes that share more than boundary.
+/// Returns how many pairs of a part of a child and one of some others have boxes that share more than boundary.
 fn count_near_with<T: Tests, K: Keeper<T>>(child: &Child<T::Form>, others: &[Child<T::Form>]) -> u64
     requires one { IsShort T.parts_of child.now }
     requires few { length others.now ≤ 1024 }
@@ -145,8 +145,8 @@ fn count_near_with<T: Tests, K: Keeper<T>>(child: &Child<T::Form>, others: &[Chi
     pairs
 }
 
-/// The numbers of the first two children that share a point. Only pairs of parts are tested whose boxes share more than
-/// boundary, and nothing is counted.
+/// Returns the numbers of the first two children that share a point. Only pairs of parts are tested whose boxes share
+/// more than boundary, and nothing is counted.
 fn first_overlapping<T: Tests, K: Overlaps<T>>(
     alloc: Global,
     children: &[Child<T::Form>],
@@ -167,7 +167,7 @@ fn first_overlapping<T: Tests, K: Overlaps<T>>(
     Ok(None)
 }
 
-/// The number of the first of the children behind one, of this number, that shares a point with it.
+/// Returns the number of the first of the children behind one, of this number, that shares a point with it.
 fn first_overlapping_with<T: Tests, K: Overlaps<T>>(
     alloc: Global,
     first: u32,
@@ -203,7 +203,7 @@ pub(crate) fn check_covered<T: Tests>(
     Ok(())
 }
 
-/// Whether a form has a point that no child has: the children are taken away one after the other.
+/// Returns whether a form has a point that no child has: the children are taken away one after the other.
 fn has_gap<T: Tests>(
     alloc: Global,
     whole: &T::Form,
@@ -216,7 +216,7 @@ fn has_gap<T: Tests>(
     Ok(!is_empty(alloc, &left, tests)?)
 }
 
-/// What is left of a form outside all children.
+/// Returns what is left of a form outside all children.
 fn left_of<T: Tests>(
     alloc: Global,
     whole: &T::Form,

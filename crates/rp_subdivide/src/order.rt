@@ -20,8 +20,8 @@ use rp_queries::first_unknown;
 use rp_tester::{Stopped, Tests};
 use std::alloc::Global;
 
-/// `subdivide`: the lot `id` into a lot for each of `entries`, which have the new ids and the expressions of their
-/// forms.
+/// Returns the change of `subdivide`: the lot `id` into a lot for each of `entries`, which have the new ids and the
+/// expressions of their forms.
 pub fn subdivision<T: Tests, K: Registry<T>>(
     alloc: Global,
     keeper: &K,
@@ -40,7 +40,7 @@ pub fn subdivision<T: Tests, K: Registry<T>>(
     replacing(subdivide(alloc, keeper, id, children, tests))
 }
 
-/// The first name or lot of the expressions, in reading order, that isn't there.
+/// Returns the first name or lot of the expressions, in reading order, that isn't there.
 fn first_unknown_shape<T: Tests, K: Registry<T>>(
     keeper: &K,
     entries: &[(Name, Expr)],
@@ -57,7 +57,7 @@ fn first_unknown_shape<T: Tests, K: Registry<T>>(
     None
 }
 
-/// The children of some ids and expressions, all of whose names are there: the forms are made in order.
+/// Returns the children of some ids and expressions, all of whose names are there: the forms are made in order.
 fn children<T: Tests, K: Registry<T>>(
     alloc: Global,
     keeper: &K,

@@ -24,8 +24,8 @@ use rp_lots::{Keeper, Overlaps, Replaced, add_born, check_room, form_at};
 use rp_tester::Tests;
 use std::alloc::{AllocError, Global};
 
-/// The live lot `id` is to be divided into children, which lie in it, share no point and leave no gap. As many tests
-/// are counted as there are pairs of parts of two children whose boxes share more than boundary.
+/// Returns the change that divides the live lot `id` into children, which lie in it, share no point and leave no gap.
+/// As many tests are counted as there are pairs of parts of two children whose boxes share more than boundary.
 pub fn subdivide<T: Tests, K: Overlaps<T>>(
     alloc: Global,
     keeper: &K,
@@ -45,8 +45,8 @@ pub fn subdivide<T: Tests, K: Overlaps<T>>(
     Ok(children_born(alloc, layer, id, children)?)
 }
 
-/// The checks of a subdivision that make no test: names, a part in each child, and room for their parts. Answers the
-/// place of the lot.
+/// Makes the checks of a subdivision that need no test: names, a part in each child, and room for their parts.
+/// Answers the place of the lot.
 fn check_children<T: Tests, K: Keeper<T>>(
     alloc: Global,
     keeper: &K,

@@ -10,7 +10,7 @@ use rp_io::Sink;
 use rp_scripts::{OutputFault, write_count};
 use std::alloc::{AllocError, Global};
 
-/// Whether what was found refuses the report.
+/// Returns whether what was found refuses the report.
 fn is_wrong(found: Found) -> bool
     ensures { result ≡ is_wrong found }
 {

@@ -172,7 +172,7 @@ fn put_made<R: Threads + Sync, K: Sink>(
     }
 }
 
-/// The status of an output.
+/// Returns the status of an output.
 fn output_status(outcome: Result<bool, OutputFault>) -> u8
     ensures { result ≡ status_of_output outcome }
 {
@@ -183,7 +183,7 @@ fn output_status(outcome: Result<bool, OutputFault>) -> u8
     }
 }
 
-/// The status of an output in which nothing can be refused.
+/// Returns the status of an output in which nothing can be refused.
 fn made_status(outcome: Result<(), OutputFault>) -> u8
     ensures { result ≡ status_of_made outcome }
 {
@@ -193,7 +193,7 @@ fn made_status(outcome: Result<(), OutputFault>) -> u8
     }
 }
 
-/// The status where an output was not put whole.
+/// Returns the status where an output was not put whole.
 fn fault_status(fault: OutputFault) -> u8
     ensures { result ≡ status_of_fault fault }
 {
@@ -203,7 +203,7 @@ fn fault_status(fault: OutputFault) -> u8
     }
 }
 
-/// The status where the input was not read whole.
+/// Returns the status where the input was not read whole.
 fn intake_status(fault: IntakeFault) -> u8
     ensures { result ≡ status_of_intake fault }
 {

@@ -137,7 +137,7 @@ impl<'a> Tests for Trail<'a> {
     }
 }
 
-/// The whole cube as a part, which has no half-space. Takes no memory.
+/// Returns the whole cube as a part, which has no half-space. Takes no memory.
 fn whole_part(alloc: Global) -> Kept
     ensures { result ≡ whole_part }
 {

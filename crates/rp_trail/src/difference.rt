@@ -16,7 +16,7 @@ use rp_space::{Half, joined};
 use rp_tester::{MAX_PARTS, Stopped};
 use std::alloc::Global;
 
-/// The parts of a list without those of a second list, one after the other.
+/// Returns the parts of a list without those of a second list, one after the other.
 pub(crate) fn subtract(
     alloc: Global,
     parts: Form,
@@ -35,7 +35,7 @@ pub(crate) fn subtract(
     Ok(current)
 }
 
-/// The parts of a list without one part.
+/// Returns the parts of a list without one part.
 fn subtract_part(
     alloc: Global,
     parts: Form,

@@ -35,7 +35,8 @@ pub(crate) fn follow_drops<const N: usize>(
     next
 }
 
-/// The half-space that a line drops: it is kept, and the multiples show that none of the others' members is outside it.
+/// Returns the half-space that a line drops: it is kept, and the multiples show that none of the others' members is
+/// outside it.
 fn dropped(kept: &[Half], next: &Option<Proof>) -> Option<Half>
     requires { length kept.now ≤ 64 }
     ensures { result ≡ dropped_by kept.now (option_map line_of next.now) }
@@ -52,7 +53,8 @@ fn dropped(kept: &[Half], next: &Option<Proof>) -> Option<Half>
     Some(*half)
 }
 
-/// Returns whether the multiples `terms` show that no point is in all of `halves` except the first `half`, and outside `half`.
+/// Returns whether the multiples `terms` show that no point is in all of `halves` except the first `half`, and outside
+/// `half`.
 fn is_shown(half: &Half, halves: &[Half], terms: &[Term]) -> bool
     requires { length halves.now ≤ 64 }
     ensures { result ≡ is_outside_certificate true (without half.now halves.now ++ complement half.now ∷ []) terms.now }
@@ -87,14 +89,14 @@ fn remove<const N: usize>(halves: &mut ArrayVec<Half, N>, half: &Half)
     }
 }
 
-/// The first place of a half-space in a list.
+/// Returns the first place of a half-space in a list.
 fn place_of(half: &Half, halves: &[Half]) -> Option<usize>
     ensures { result ≡ position (half_space_eq half.now) halves.now }
 {
     halves.iter().position(|other| half == other)
 }
 
-/// Whether a half-space stands in a list.
+/// Returns whether a half-space stands in a list.
 pub(crate) fn is_listed(half: &Half, halves: &[Half]) -> bool
     ensures { result ≡ is_listed half.now halves.now }
 {

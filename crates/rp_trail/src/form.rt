@@ -23,10 +23,10 @@ use std::alloc::{AllocError, Global};
 /// A list of parts. Its members are those of any part.
 pub type Form = Listed<Kept>;
 
-/// The join of `a` and `b`, on the next lines of `trail`: a part test of each part of `a` with each part of `b`. As
-/// many tests are counted as there are pairs. `Limit` exactly where too many tests are counted, where a part would have
-/// more than 32 half-spaces or where more than 1,024 parts are made. `Told` and `Wrong` come where a line that is due
-/// doesn't stand there.
+/// Returns the join of `a` and `b`, on the next lines of `trail`: a part test of each part of `a` with each part of
+/// `b`. As many tests are counted as there are pairs. `Limit` exactly where too many tests are counted, where a part
+/// would have more than 32 half-spaces or where more than 1,024 parts are made. `Told` and `Wrong` come where a line
+/// that is due doesn't stand there.
 pub fn joined(alloc: Global, a: &Form, b: &Form, trail: &mut Trail<'_>) -> Result<Form, Stopped>
     ensures comes { Comes (λ form. form.items) result trail.new (join line_tester a.now.items b.now.items trail.old) }
     ensures members { length a.now.items ≤ most_parts → length b.now.items ≤ most_parts →
@@ -40,9 +40,9 @@ pub fn joined(alloc: Global, a: &Form, b: &Form, trail: &mut Trail<'_>) -> Resul
     Ok(form)
 }
 
-/// The difference of `a` and `b`, on the next lines of `trail`: each part of `b` is taken away from `a` in turn.
-/// `Limit` exactly where too many tests are counted, where a part would have more than 32 half-spaces, or where more
-/// than 1,024 parts are left behind a part of `b`. `Told` and `Wrong` come where a line that is due doesn't stand
+/// Returns the difference of `a` and `b`, on the next lines of `trail`: each part of `b` is taken away from `a` in
+/// turn. `Limit` exactly where too many tests are counted, where a part would have more than 32 half-spaces, or where
+/// more than 1,024 parts are left behind a part of `b`. `Told` and `Wrong` come where a line that is due doesn't stand
 /// there.
 pub fn differed(alloc: Global, a: &Form, b: &Form, trail: &mut Trail<'_>) -> Result<Form, Stopped>
     ensures comes { Comes (λ form. form.items) result trail.new (subtract line_tester a.now.items b.now.items trail.old) }
@@ -55,10 +55,11 @@ pub fn differed(alloc: Global, a: &Form, b: &Form, trail: &mut Trail<'_>) -> Res
     subtract(alloc, first, b.items(), trail)
 }
 
-/// Whether two lists of parts share a member, on the next lines: a strict test of each part of the first with each part
-/// of the second, up to the first pair that is found. With `near` only the pairs are tested whose boxes share more than
-/// boundary, and nothing is counted; else as many tests are counted as there are pairs, and `Limit` comes exactly where
-/// these are too many. `Told` and `Wrong` come where a line that is due doesn't stand there; `Memory` never comes.
+/// Returns whether two lists of parts share a member, on the next lines: a strict test of each part of the first with
+/// each part of the second, up to the first pair that is found. With `near` only the pairs are tested whose boxes share
+/// more than boundary, and nothing is counted; else as many tests are counted as there are pairs, and `Limit` comes
+/// exactly where these are too many. `Told` and `Wrong` come where a line that is due doesn't stand there; `Memory`
+/// never comes.
 pub fn common(a: &Form, b: &Form, near: bool, trail: &mut Trail<'_>) -> Result<bool, Stopped>
     ensures comes { Comes (λ found. found) result trail.new (common_by near a.now.items b.now.items trail.old) }
     ensures right { length a.now.items ≤ most_parts → length b.now.items ≤ most_parts →
@@ -70,11 +71,11 @@ pub fn common(a: &Form, b: &Form, near: bool, trail: &mut Trail<'_>) -> Result<b
     meet(Meeting::Common, a, b, near, trail)
 }
 
-/// Whether two lists of parts are in contact, on the next lines: a weak test of each part of the first with each part
-/// of the second, up to the first pair that is found. With `near` only the pairs are tested whose boxes share a point,
-/// the boundary included, and nothing is counted; else as many tests are counted as there are pairs, and `Limit` comes
-/// exactly where these are too many. `Told` and `Wrong` come where a line that is due doesn't stand there; `Memory`
-/// never comes.
+/// Returns whether two lists of parts are in contact, on the next lines: a weak test of each part of the first with
+/// each part of the second, up to the first pair that is found. With `near` only the pairs are tested whose boxes share
+/// a point, the boundary included, and nothing is counted; else as many tests are counted as there are pairs, and
+/// `Limit` comes exactly where these are too many. `Told` and `Wrong` come where a line that is due doesn't stand
+/// there; `Memory` never comes.
 pub fn touching(a: &Form, b: &Form, near: bool, trail: &mut Trail<'_>) -> Result<bool, Stopped>
     ensures comes { Comes (λ found. found) result trail.new (touch_by near a.now.items b.now.items trail.old) }
     ensures right { length a.now.items ≤ most_parts → length b.now.items ≤ most_parts →
@@ -86,7 +87,7 @@ pub fn touching(a: &Form, b: &Form, near: bool, trail: &mut Trail<'_>) -> Result
     meet(Meeting::Touch, a, b, near, trail)
 }
 
-/// Whether parts of two lists meet.
+/// Returns whether parts of two lists meet.
 fn meet(
     meeting: Meeting,
     a: &Form,
@@ -125,7 +126,7 @@ pub(crate) fn put(form: &mut Form, part: Option<Kept>) -> Result<(), AllocError>
     }
 }
 
-/// A copy of `form`: the same parts in the same order.
+/// Returns a copy of `form`: the same parts in the same order.
 pub fn copy(alloc: Global, form: &Form) -> Result<Form, AllocError>
     ensures { IfOk result (λ copied. copied.items ≡ form.now.items) }
 {

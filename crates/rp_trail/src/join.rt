@@ -26,7 +26,7 @@ pub(crate) fn join_each(
     Ok(())
 }
 
-/// One part with each part of a list.
+/// Joins one part with each part of a list.
 fn join_with_part(
     alloc: Global,
     form: &mut Form,
@@ -42,7 +42,7 @@ fn join_with_part(
     Ok(())
 }
 
-/// One part test of two parts together.
+/// Takes one part test of two parts together.
 fn join_pair(
     alloc: Global,
     form: &mut Form,

@@ -31,7 +31,7 @@ impl Model for Kept {
 }
 
 impl Kept {
-    /// A copy: the same half-spaces and the same box.
+    /// Returns a copy: the same half-spaces and the same box.
     pub fn copy(&self, alloc: Global) -> Result<Kept, AllocError>
         ensures { IfOk result (λ part. part ≡ self.now) }
     {
@@ -41,7 +41,7 @@ impl Kept {
         })
     }
 
-    /// The half-spaces.
+    /// Returns the half-spaces.
     pub(crate) fn cell(&self) -> &[Half]
         ensures value { result.now ≡ self.now.cell }
         ensures few { length result.now ≤ most_half_spaces }

@@ -18,7 +18,7 @@ pub(crate) enum Meeting {
 }
 
 impl Meeting {
-    /// Whether the boxes of two parts let them meet.
+    /// Returns whether the boxes of two parts let them meet.
     pub(crate) fn may_be(self, first: &Kept, second: &Kept) -> bool
         ensures { result ≡ may_meet_by self first.now second.now }
     {
@@ -28,7 +28,7 @@ impl Meeting {
         }
     }
 
-    /// The test of two parts together, on the next line.
+    /// Takes the test of two parts together, from the next line.
     pub(crate) fn test(
         self,
         first: &Kept,

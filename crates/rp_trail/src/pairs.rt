@@ -30,7 +30,7 @@ pub(crate) fn first_pair(
     Ok(false)
 }
 
-/// One part with each part of a list, up to the first that it meets.
+/// Tests one part with each part of a list, up to the first that it meets.
 fn first_with_part(
     meeting: Meeting,
     part: &Kept,
@@ -49,7 +49,7 @@ fn first_with_part(
     Ok(false)
 }
 
-/// One test of two parts, if the pair is to be tested at all.
+/// Takes one test of two parts, if the pair is to be tested at all.
 fn test_pair(
     meeting: Meeting,
     part: &Kept,

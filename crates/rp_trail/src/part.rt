@@ -16,11 +16,11 @@ use rp_space::{Half, Halves, joined};
 use rp_tester::{MAX_HALVES, Stopped};
 use std::alloc::Global;
 
-/// A part test of `cell`, of at most 64 half-spaces, on the next lines of `trail`: the part that they make of it, and
-/// `None` where the strict test shows that the cell has no point. Lines may drop half-spaces that add nothing; then a
-/// line gives a box, and further ones show those of its sides that are neither kept nor the cube's. `Limit` exactly
-/// where more than 32 half-spaces are kept and the next line drops none. `Told` and `Wrong` come where a line that is
-/// due doesn't stand there.
+/// Takes a part test of `cell`, of at most 64 half-spaces, on the next lines of `trail`: the part that they make of
+/// it, and `None` where the strict test shows that the cell has no point. Lines may drop half-spaces that add nothing;
+/// then a line gives a box, and further ones show those of its sides that are neither kept nor the cube's. `Limit`
+/// exactly where more than 32 half-spaces are kept and the next line drops none. `Told` and `Wrong` come where a line
+/// that is due doesn't stand there.
 pub fn made(alloc: Global, cell: &[Half], trail: &mut Trail<'_>) -> Result<Option<Kept>, Stopped>
     requires { length cell.now ≤ 64 }
     ensures comes { Comes (λ part. part) result trail.new (follow_part cell.now trail.old) }
@@ -54,7 +54,7 @@ pub(crate) fn made_of_both(
     made(alloc, cell.as_slice(), trail)
 }
 
-/// The part of a cell of which a strict test has just shown that it has a point.
+/// Returns the part of a cell of which a strict test has just shown that it has a point.
 fn made_inside(alloc: Global, cell: &[Half], trail: &mut Trail<'_>) -> Result<Kept, Stopped>
     requires few { length cell.now ≤ 64 }
     requires shown { IsShown cell.now trail.old }
@@ -68,8 +68,8 @@ fn made_inside(alloc: Global, cell: &[Half], trail: &mut Trail<'_>) -> Result<Ke
     made_from(alloc, cell, &mut kept, trail)
 }
 
-/// Returns the part of `cell`, of which a strict test has just shown that it has a point. `kept` has the half-spaces of `cell`; the
-/// half-spaces that lines drop are removed from it.
+/// Returns the part of `cell`, of which a strict test has just shown that it has a point. `kept` has the half-spaces of
+/// `cell`; the half-spaces that lines drop are removed from it.
 fn made_from<const N: usize>(
     alloc: Global,
     cell: &[Half],

@@ -16,11 +16,11 @@ use rp_space::{Corner, Half};
 use rp_tester::{MAX_PARTS, Stopped};
 use std::alloc::Global;
 
-/// The form of the polygon over `corners` raised from `z1` to below `z2`, on the next lines of `trail`: a part test of
-/// the trapezoid of each edge whose ends have two x, and the two differences that exchange its part with the parts so
-/// far. The part tests aren't counted, those of the differences are. There are from 1 to 256 corners, and all numbers
-/// are within their bounds. `Limit` exactly where too many tests are counted, where a part would have more than 32
-/// half-spaces, or where more than 1,024 parts are left behind an edge or in the course of a difference. `Told` and
+/// Returns the form of the polygon over `corners` raised from `z1` to below `z2`, on the next lines of `trail`: a part
+/// test of the trapezoid of each edge whose ends have two x, and the two differences that exchange its part with the
+/// parts so far. The part tests aren't counted, those of the differences are. There are from 1 to 256 corners, and all
+/// numbers are within their bounds. `Limit` exactly where too many tests are counted, where a part would have more than
+/// 32 half-spaces, or where more than 1,024 parts are left behind an edge or in the course of a difference. `Told` and
 /// `Wrong` come where a line that is due doesn't stand there.
 pub fn prismed(
     alloc: Global,
@@ -61,8 +61,8 @@ fn exchange_cell(
     exchange(alloc, &current, &new, trail)
 }
 
-/// What is in one of two lists of parts and not in the other: what is left of the first outside the second, and then
-/// what is left of the second outside the first.
+/// Returns what is in one of two lists of parts and not in the other: what is left of the first outside the second, and
+/// then what is left of the second outside the first.
 fn exchange(
     alloc: Global,
     current: &Form,

@@ -19,9 +19,9 @@ use std::alloc::Global;
 /// Slices, one for each part of a form.
 pub type Slices = Listed<Slice>;
 
-/// The slices of the parts of `form` at `z`, a height of the cube, on the next lines of `trail`: one line for each
-/// part, in order, which shows a ring or a flat certificate that passes for its cell. `Wrong` comes exactly where a
-/// line shows none that passes, or is missing; `Memory` for want of memory alone, and `Told` and `Limit` never.
+/// Returns the slices of the parts of `form` at `z`, a height of the cube, on the next lines of `trail`: one line for
+/// each part, in order, which shows a ring or a flat certificate that passes for its cell. `Wrong` comes exactly where
+/// a line shows none that passes, or is missing; `Memory` for want of memory alone, and `Told` and `Limit` never.
 pub fn slices(alloc: Global, form: &Form, z: i32, trail: &mut Trail<'_>) -> Result<Slices, Stopped>
     requires { IsHeight z }
     ensures comes { Comes (λ _. tt) result trail.new (follow_slice_lines z form.now.items trail.old) }
@@ -36,7 +36,7 @@ pub fn slices(alloc: Global, form: &Form, z: i32, trail: &mut Trail<'_>) -> Resu
     Ok(slices)
 }
 
-/// The slice of a part at a height, on the next line.
+/// Returns the slice of a part at a height, on the next line.
 fn follow_slice(part: &Kept, z: i32, trail: &mut Trail<'_>) -> Result<Slice, Stopped>
     requires { IsHeight z }
     ensures comes { Comes (λ _. tt) result trail.new (follow_slice_line z part.now trail.old) }

@@ -15,7 +15,7 @@ use rp_cert::{Proof, check_outside};
 use rp_space::{Half, IntBox, Term, box_halves, cube, joined};
 use rp_tester::Stopped;
 
-/// The box that the next line gives, of which is known what it says.
+/// Returns the box that the next line gives, of which is known what it says.
 pub(crate) fn follow_box(next: Option<Proof>, trail: &mut Trail<'_>) -> Result<IntBox, Stopped>
     requires { option_map line_of next ≡ next_proof trail.old.lines }
     ensures comes { Comes integer_box result trail.new (box_by_line (next_proof trail.old.lines) trail.old) }
@@ -27,7 +27,7 @@ pub(crate) fn follow_box(next: Option<Proof>, trail: &mut Trail<'_>) -> Result<I
     }
 }
 
-/// Whether the lower corner of a box is below the upper one on each axis.
+/// Returns whether the lower corner of a box is below the upper one on each axis.
 fn is_proper(bounds: &IntBox) -> bool
     ensures { result ≡ is_proper_box (integer_box bounds.now) }
 {

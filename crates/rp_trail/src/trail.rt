@@ -54,8 +54,8 @@ impl<'a> Model for Trail<'a> {
 }
 
 impl<'a> Trail<'a> {
-    /// The lines of a report of at most 67,108,864 bytes, from the first, with no tests. They are cut at each line
-    /// feed, and no carriage return is taken away; the last line may lack its line feed.
+    /// Returns a trail over the lines of a report of at most 67,108,864 bytes, from the first, with no tests. They are
+    /// cut at each line feed, and no carriage return is taken away; the last line may lack its line feed.
     pub fn new(report: &'a [u8]) -> Trail<'a>
         requires { length report.now ≤ most_report_bytes }
         ensures { result ≡ record { lines = report_lines report.now; number = 1; tests = 0 } }
@@ -69,7 +69,7 @@ impl<'a> Trail<'a> {
         }
     }
 
-    /// A second trail from this place on, to look at the lines behind the next one.
+    /// Returns a second trail from this place on, to look at the lines behind the next one.
     pub fn ahead(&self) -> Trail<'a>
         ensures { result ≡ self.now }
     {
@@ -81,7 +81,7 @@ impl<'a> Trail<'a> {
         }
     }
 
-    /// The next line, without its line feed. `None` exactly where none is left.
+    /// Returns the next line, without its line feed. `None` exactly where none is left.
     pub fn peek(&self) -> Option<&'a [u8]>
         ensures { option_map (λ line. line.now) result ≡ next_line self.now.lines }
     {
@@ -99,7 +99,7 @@ impl<'a> Trail<'a> {
         self.number += 1;
     }
 
-    /// The number of the next line, from 1. Where none is left it is the number of lines plus 1.
+    /// Returns the number of the next line, from 1. Where none is left it is the number of lines plus 1.
     pub fn number(&self) -> u32
         ensures { result ≡ self.now.number }
     {
@@ -125,10 +125,10 @@ impl<'a> Trail<'a> {
         true
     }
 
-    /// A strict test of the cell of `first` followed by `second`, at most 64 half-spaces together: whether the cell has
-    /// a point. The next line must show it: it has points that pass as an inside certificate of the cell, or multiples
-    /// that pass as a strict outside one. `Told` where it tells of a limit, `Wrong` where it is any other line; never
-    /// `Limit` or `Memory`. Then no line is taken. The test isn't counted.
+    /// Takes a strict test of the cell of `first` followed by `second`, at most 64 half-spaces together: whether the
+    /// cell has a point. The next line must show it: it has points that pass as an inside certificate of the cell, or
+    /// multiples that pass as a strict outside one. `Told` where it tells of a limit, `Wrong` where it is any other
+    /// line; never `Limit` or `Memory`. Then no line is taken. The test isn't counted.
     pub fn strict(&mut self, first: &[Half], second: &[Half]) -> Result<bool, Stopped>
         requires { length first.now + length second.now ≤ 64 }
         ensures comes { Comes (λ found. found) result self.new (follow_strict (first.now ++ second.now) self.old) }
@@ -144,10 +144,10 @@ impl<'a> Trail<'a> {
         self.strict_test(cell.as_slice())
     }
 
-    /// A weak test of the cell of `first` followed by `second`, at most 64 half-spaces together: whether its weak
-    /// system has a point. The next line must show it: it has a point of the weak system, or multiples that pass as a
-    /// weak outside certificate. `Told` where it tells of a limit, `Wrong` where it is any other line; never `Limit` or
-    /// `Memory`. Then no line is taken. The test isn't counted.
+    /// Takes a weak test of the cell of `first` followed by `second`, at most 64 half-spaces together: whether its
+    /// weak system has a point. The next line must show it: it has a point of the weak system, or multiples that pass
+    /// as a weak outside certificate. `Told` where it tells of a limit, `Wrong` where it is any other line; never
+    /// `Limit` or `Memory`. Then no line is taken. The test isn't counted.
     pub fn weak(&mut self, first: &[Half], second: &[Half]) -> Result<bool, Stopped>
         requires { length first.now + length second.now ≤ 64 }
         ensures comes { Comes (λ found. found) result self.new (follow_weak (first.now ++ second.now) self.old) }
@@ -163,7 +163,7 @@ impl<'a> Trail<'a> {
         self.weak_test(cell.as_slice())
     }
 
-    /// A strict test of a cell.
+    /// Takes a strict test of a cell.
     pub(crate) fn strict_test(&mut self, cell: &[Half]) -> Result<bool, Stopped>
         ensures comes { Comes (λ found. found) result self.new (follow_strict cell.now self.old) }
         ensures right { IfOk result (λ found. IsTrue found ↔ IsNonempty (shape_of_cell cell.now)) }
@@ -180,7 +180,7 @@ impl<'a> Trail<'a> {
         }
     }
 
-    /// A weak test of a cell.
+    /// Takes a weak test of a cell.
     pub(crate) fn weak_test(&mut self, cell: &[Half]) -> Result<bool, Stopped>
         ensures comes { Comes (λ found. found) result self.new (follow_weak cell.now self.old) }
         ensures right { IfOk result (λ found. IsTrue found ↔ ((p : RationalPoint) × IsSolution false cell.now p)) }
@@ -197,14 +197,14 @@ impl<'a> Trail<'a> {
         }
     }
 
-    /// The next line as a proof line. `None` where it is none, or where no line is left.
+    /// Returns the next line as a proof line. `None` where it is none, or where no line is left.
     pub(crate) fn next_proof(&self) -> Option<Proof>
         ensures { option_map line_of result ≡ next_proof self.now.lines }
     {
         read_proof(self.peek()?)
     }
 
-    /// The slice that the next line shows. `None` where it shows none, or where no line is left.
+    /// Returns the slice that the next line shows. `None` where it shows none, or where no line is left.
     pub(crate) fn next_slice(&self) -> Option<Slice>
         ensures { option_map slice_shown result ≡ next_slice self.now.lines }
     {
@@ -236,7 +236,7 @@ impl<'a> Trail<'a> {
         }
     }
 
-    /// Whether the next line tells of a limit: it is `= refused limit`.
+    /// Returns whether the next line tells of a limit: it is `= refused limit`.
     pub fn tells_limit(&self) -> bool
         ensures { result ≡ tells_limit self.now.lines }
     {
