@@ -154,7 +154,7 @@ def known(case: Case) -> Reason:
 
 def limit(case: Case) -> Reason:
     why = f": {case.met}" if case.met else ", in making its parts, in the tests that it needs or in what is kept"
-    return Reason(f"a limit of the store is met{why}; docs/language.md has them under Limits, with ways round each")
+    return Reason(f"a limit of the store is met{why}; docs/limits.md has them, with ways round each")
 
 
 def overlaps(case: Case) -> Reason:

@@ -1,4 +1,4 @@
-"""The limits of the store (docs/language.md, Limits), and which of them a refused line met.
+"""The limits of the store (docs/limits.md), and which of them a refused line met.
 
 A refusal says `limit` and not which. So a copy of the script has questions `show` after each such line, for its expressions, then for
 the operands of the first one that is refused, and so on; and for each lot and each name, whose parts the store counts.

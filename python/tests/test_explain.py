@@ -137,7 +137,7 @@ REFUSED = [
     ("rcc all none", "Line 1: the question `rcc` was not answered, because its second region has no point."),
     ("let a = or not box 0 0 0 1 1 1 not box 0 0 0 1 1 1\n" + "".join(f"let {b} = or name {a} name {a}\n" for a, b in zip("abcdef", "bcdefg")) + "let h = or name g name g",
      "Line 8: the name h was not given, because a limit of the store is met, in making its parts, in the tests that it needs or in what is kept; "
-     "docs/language.md has them under Limits, with ways round each."),
+     "docs/limits.md has them, with ways round each."),
     # The average of the points that the report shows: for x of 9, 9, 9 and 10 that is 9.25.
     ("register a box 0 0 0 10 10 10\nregister b box 9 0 0 20 10 10",
      "Line 2: b was not registered, because it overlaps the lot a, which is there since line 1. A point of both is x 0.00925, y 0.0025, z 0.0025 m; "

@@ -91,7 +91,7 @@ def test_which_limit(before, line, said, store):
 def test_what_explain_says(store):
     script = f"rp 2\nlet h = {'or all ' * 511}all\nlet f = or name h name h\nlet g = or name f all\n".encode()
     said = ("Line 3 (in an editor 4): the name g was not given, because a limit of the store is met: `or name f all` has 1,025 parts in its 2 operands, and a "
-            "form has at most 1,024; docs/language.md has them under Limits, with ways round each.\n")
+            "form has at most 1,024; docs/limits.md has them, with ways round each.\n")
     assert ran(["explain"], script) == (1, said.encode(), "") == ran(["explain"], store(script.decode()))
     unknown = ran(["explain", "--unchecked"], store(script.decode(), "run", "brief"))[1].decode()
     assert "a limit of the store is met, in making its parts, in the tests that it needs or in what is kept;" in unknown
