@@ -14,7 +14,6 @@ pub record Told : Type 0 where
   pub who : Option (List ℕ)
   pub deed : Option (List ℕ)
 
--- what an act in memory tells, its texts as bytes
 abbrev pub act_of : Act → Told
 act_of a = record { first = a.first; last = a.last; end = a.end; added = string_bytes a.added; who = option_map string_bytes a.who; deed = option_map string_bytes a.deed }
 

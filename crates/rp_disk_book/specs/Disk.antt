@@ -83,7 +83,6 @@ told_code =
     (coded× coded_ℕ (coded× coded_ℕ (coded× coded_ℕ (coded× (coded_list coded_ℕ) (coded× (coded_option (coded_list coded_ℕ)) (coded_option (coded_list coded_ℕ)))))))
     (λ t. (t.first, (t.last, (t.end, (t.added, (t.who, t.deed)))))) (λ p. record { first = p.0; last = p.1.0; end = p.1.1.0; added = p.1.1.1.0; who = p.1.1.1.1.0; deed = p.1.1.1.1.1 }) (λ _. refl)
 
--- the code of an opened book, by that of what it was opened from
 abbrev pub opened_code : {S : Type 0} → Coded S → Coded (Opened S)
 opened_code {S} store =
     code_by (Held S × (List ℕ × (List Told × ℕ))) (coded× (held_code store) (coded× (coded_list coded_ℕ) (coded× (coded_list told_code) coded_ℕ)))

@@ -11,7 +11,6 @@ pub record Kept : Type 0 where
   pub acts : List Told
   pub lines : ℕ
 
--- what contents in memory hold: a script, its acts and the number of its lines
 abbrev pub contents_of : Contents → Kept
 contents_of c = record { script = c.script.items; acts = map act_of c.acts.items; lines = c.lines }
 
