@@ -125,7 +125,7 @@ def test_documents_and_examples_teach_the_note_that_is_written():
             found.append(path.name)
             where = place.place_of(note.encode(), Namespace(origin=None, epsg=None))
             assert note == where.note(), path
-    assert {"book.rp", "gis.md", "plans.md", "qgis.md", "register.md", "solids.md", "survey.md"} == {*found}
+    assert {"book.rp", "gis.md", "gis-reference.md", "plans.md", "qgis.md", "register.md", "solids.md", "survey.md"} == {*found}
 
 
 def test_the_book_lies_where_its_note_says(root, seen):
