@@ -120,7 +120,7 @@ def test_what_is_written_is_read():
 def test_documents_and_examples_teach_the_note_that_is_written():
     """Each note with an origin is spelled as `plan` spells it, but for what follows it."""
     found = []
-    for path in [ROOT / "README.md", *ROOT.glob("docs/*.md"), *ROOT.glob("examples/*.rp")]:
+    for path in [ROOT / "README.md", *ROOT.glob("docs/**/*.md"), *ROOT.glob("examples/*.rp")]:
         for note in re.findall(r"# [^#\n`\\]*[Oo]rigin: E [^\n`\\]*", path.read_text()):
             found.append(path.name)
             where = place.place_of(note.encode(), Namespace(origin=None, epsg=None))

@@ -56,7 +56,7 @@ def test_a_report_may_be_too_long(monkeypatch):
 
 def test_all_reports_of_the_examples_and_documents(root):
     texts = [path.read_text() for path in sorted(root.glob("examples/*.report"))]
-    for page in [root / "README.md", *sorted(root.glob("docs/*.md"))]:
+    for page in [root / "README.md", *sorted(root.glob("docs/**/*.md"))]:
         texts += re.findall(r"^```report\n(.*?)^```$", page.read_text(), re.M | re.S)
     assert len(texts) > 60
     for text in texts:
