@@ -8,13 +8,13 @@ use Rattle.rp_geometry.specs.sets.Shape.{Part}
 use Rattle.rp_geometry.specs.parts.Parts.{most_parts}
 use Rattle.rp_geometry.specs.parts.PartTest.{whole_part}
 use Rattle.rp_geometry.specs.parts.Trapezoid.{trapezoid}
-use Rattle.rp_language.specs.Expression.{Expression, half_space, box, prism, everything, nothing, named, lot, intersection, union, difference, opposite, Meaning}
-use Rattle.rp_walks.specs.Walk.{Outcome, done, stopped, limit_met, Walk, Tester, pass, stop, after_first, ◌>>=◌}
-use Rattle.rp_walks.specs.Form.{made_part, if_at_most, parts_or_none, join_pair, join_with_part, join_each, join, subtract_part, subtract, parts_of_cell, subtract_from_whole, exchange_lists, exchange, exchange_edge, exchange_edges, form}
-use Rattle.rp_walks.specs.FormLaws.{IfDone}
-use Rattle.rp_tester.specs.declared.stopped.Stopped.{Stopped}
-use Rattle.rp_tester.specs.Comes.{Comes}
-use Rattle.rp_tester.specs.Short.{StandShort}
+use Rattle.rp_language.specs.Expression.{Expression, half_space, box, prism, everything, nothing, named, lot, intersection, union, difference, complement, Meaning}
+use Rattle.rp_semantics.specs.Walk.{Outcome, done, stopped, limit_met, Walk, Tester, pass, stop, after_first, ◌>>=◌}
+use Rattle.rp_semantics.specs.Form.{made_part, if_at_most, parts_or_none, join_pair, join_with_part, join_each, join, subtract_part, subtract, parts_of_cell, subtract_from_whole, exchange_lists, exchange, exchange_edge, exchange_edges, form}
+use Rattle.rp_semantics.specs.FormLaws.{IfDone}
+use Rattle.rp_oracle.specs.declared.stopped.Stopped.{Stopped}
+use Rattle.rp_oracle.specs.Refines.{Refines}
+use Rattle.rp_oracle.specs.Short.{StandShort}
 
 -- the list has at most 1,024 parts
 abbrev IsShort : List Part → Type 0
@@ -117,9 +117,9 @@ module _ {W : Type 0} (t : Tester W) where
     form_short (union e f) w = both_short (form t m e) (form t m f) (λ ps qs. if_at_most most_parts (ps ++ qs)) w (form_short e w) (λ v. form_short f v) (λ ps qs v _. at_most_short (ps ++ qs) v)
     form_short (intersection e f) w = both_short (form t m e) (form t m f) (λ ps qs. join t ps qs) w (form_short e w) (λ v. form_short f v) (λ ps qs v _. join_short ps qs v)
     form_short (difference e f) w = both_short (form t m e) (form t m f) (λ ps qs. subtract t ps qs) w (form_short e w) (λ v. form_short f v) (λ ps qs v h. subtract_short ps qs v h)
-    form_short (opposite e) w = then_short (form t m e w) (λ ps. subtract_from_whole t ps) (form_short e w) (λ ps v _. subtract_short (whole_part ∷ []) ps v (omega arith))
+    form_short (complement e) w = then_short (form t m e w) (λ ps. subtract_from_whole t ps) (form_short e w) (λ ps v _. subtract_short (whole_part ∷ []) ps v (omega arith))
 
     -- so is one that was made
-    pub made_form_is_short : {F : Type 0} (view : F → List Part) (e : Expression) (r : Result F Stopped) (w u : W) → Comes view r u (form t m e w) → IfOk r (λ f. length (view f) ≤ most_parts)
+    pub made_form_is_short : {F : Type 0} (view : F → List Part) (e : Expression) (r : Result F Stopped) (w u : W) → Refines view r u (form t m e w) → IfOk r (λ f. length (view f) ≤ most_parts)
     made_form_is_short view e (Ok f) w u h = subst (λ (o : Outcome W (List Part)). IfDone o IsShort) h (form_short e w)
     made_form_is_short view e (Err lost) w u h = tt

@@ -2,8 +2,8 @@
 use Rattle.std.specs.Prelude.{◌≡◌, List, [], ◌∷◌, map, Result, Ok, Err, option_map}
 use Rattle.rp_geometry.specs.sets.Shape.{Part}
 use Rattle.rp_language.specs.Expression.{Expression, Meaning, first_unknown_among}
-use Rattle.rp_walks.specs.Walk.{Outcome, done, Walk, Tester, ◌>>=◌}
-use Rattle.rp_walks.specs.Form.{form}
+use Rattle.rp_semantics.specs.Walk.{Outcome, done, Walk, Tester, ◌>>=◌}
+use Rattle.rp_semantics.specs.Form.{form}
 use Rattle.rp_model.specs.commands.Verdict.{unknown}
 use Rattle.rp_model.specs.commands.Reply.{Reply, reply_lines, refusal, check}
 use Rattle.rp_model.specs.commands.Definition.{with_forms}
@@ -13,8 +13,8 @@ use Rattle.rp_history.specs.declared.fault.NameFault.TheVariants.{Known as NameK
 use Rattle.rp_answer.specs.declared.answer.Refusal.TheVariants.{Known, Unknown, Repeated, Layers, Same, Few}
 use Rattle.rp_answer.specs.declared.answer.Verdict.{Verdict as CodeVerdict}
 use Rattle.rp_answer.specs.Views.{refusal_of, verdict_of}
-use Rattle.rp_tester.specs.declared.stopped.Stopped.TheVariants.{Memory}
-use Rattle.rp_tester.specs.Comes.{StopsBy}
+use Rattle.rp_oracle.specs.declared.stopped.Stopped.TheVariants.{Memory}
+use Rattle.rp_oracle.specs.Refines.{StopsBy}
 use Rattle.rp_answer.specs.declared.reply.RowEnd.{RowEnd}
 use Rattle.rp_answer.specs.declared.reply.RowEnd.TheVariants.{Refused, Stopped as StoppedEnd}
 

@@ -1,7 +1,7 @@
 -- Answers of the code as those of the model.
 use Rattle.std.specs.Prelude.{map}
 use Rattle.rp_geometry.specs.sets.Relation.{Relation}
-use Rattle.rp_model.specs.commands.Verdict.{Refusal as ModelRefusal, bad, unknown, known, repeated, layers, same_name, too_few, empty_region, limit, overlaps, empty_side, empty_child, outside_lot, children_overlap, gap, empty_operand, Verdict as ModelVerdict, says_yes, says_no, says_ok, relation, pieces, piece, parts, part, parcel, nobody, neighbours, clear, parcels, lots, lot, sections, slice, access, no_access, level, refused, entry_of}
+use Rattle.rp_model.specs.commands.Verdict.{Refusal as ModelRefusal, bad, unknown, known, repeated, layers, same_name, too_few, empty, limit, overlaps, empty_side, empty_child, outside_lot, children_overlap, gap, empty_region, Verdict as ModelVerdict, says_yes, says_no, says_ok, relation, pieces, piece, parts, part, parcel, nobody, neighbours, clear, parcels, lots, lot, sections, slice, access, no_access, level, refused, entry_of}
 use Rattle.rp_reports.specs.Text.{Answer as ModelAnswer}
 use Rattle.rp_history.specs.Lots.{lot_of}
 use Rattle.rp_command.specs.Views.{fault_of}
@@ -22,7 +22,7 @@ refusal_of (Repeated x) = repeated x
 refusal_of (Layers x) = layers x
 refusal_of Same = same_name
 refusal_of Few = too_few
-refusal_of Empty = empty_region
+refusal_of Empty = empty
 refusal_of Limit = limit
 refusal_of (Overlaps x) = overlaps x
 refusal_of (EmptySide k) = empty_side k
@@ -30,7 +30,7 @@ refusal_of (EmptyChild k) = empty_child k
 refusal_of (Outside k) = outside_lot k
 refusal_of (ChildrenOverlap m n) = children_overlap m n
 refusal_of Gap = gap
-refusal_of (EmptyRegion k) = empty_operand k
+refusal_of (EmptyRegion k) = empty_region k
 
 -- the verdict of the model
 abbrev pub verdict_of : Verdict → ModelVerdict

@@ -4,30 +4,30 @@ ghost use Rattle.rp_command.specs.Views.{expression_of};
 ghost use Rattle.rp_geometry.specs.sets.Shape.{Part};
 ghost use Rattle.rp_geometry.specs.parts.Parts.{most_parts};
 ghost use Rattle.rp_language.specs.Expression.{IsKeptExpression};
-ghost use Rattle.rp_walks.specs.Walk.{Walk};
-ghost use Rattle.rp_walks.specs.Form.{form};
+ghost use Rattle.rp_semantics.specs.Walk.{Walk};
+ghost use Rattle.rp_semantics.specs.Form.{form};
 ghost use Rattle.rp_model.specs.commands.Reply.{Reply};
-ghost use Rattle.rp_tester.specs.Comes.{Comes};
+ghost use Rattle.rp_oracle.specs.Refines.{Refines};
 ghost use Rattle.rp_answer.specs.Replies.{GoesOn, row_of_form};
 
 use crate::answer::Refusal;
 use crate::reply::RowEnd;
 use rp_command::Expr;
-use rp_queries::{first_unknown, formed};
-use rp_tester::{Named, Stopped, Tests};
+use rp_eval::{first_unknown, formed};
+use rp_oracle::{Named, Stopped, Oracle};
 use std::alloc::Global;
 
 /// The form of `region`, with what `named` knows of names and lots: its parts, at most 1,024, made by `tests` in
 /// reading order, with the parts kept for names. A name or lot that is not there stands for no part. `Limit` exactly
 /// where the operations on forms say so.
-pub fn short_form<T: Tests, N: Named<T>>(
+pub fn short_form<T: Oracle, N: Named<T>>(
     alloc: Global,
     named: &N,
     region: &Expr,
     tests: &mut T,
 ) -> Result<T::Form, Stopped>
     requires { IsKeptExpression (expression_of region.now) }
-    ensures comes { Comes T.parts_of result tests.new (form T.tester (N.meaning named.now) (expression_of region.now) tests.old) }
+    ensures comes { Refines T.parts_of result tests.new (form T.tester (N.meaning named.now) (expression_of region.now) tests.old) }
     ensures few { IfOk result (λ form. length (T.parts_of form) ≤ most_parts) }
 {
     named.keep_short();
@@ -37,7 +37,7 @@ pub fn short_form<T: Tests, N: Named<T>>(
 /// The form of `region`, the one expression of a command, behind which its row goes on; `tests` make it. `Refused`
 /// exactly for the first name or lot of `region`, in reading order, that `named` does not know; it comes before any
 /// test.
-pub fn row_form<T: Tests, N: Named<T>>(
+pub fn row_form<T: Oracle, N: Named<T>>(
     alloc: Global,
     named: &N,
     region: &Expr,

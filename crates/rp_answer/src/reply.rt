@@ -5,7 +5,7 @@ ghost use Rattle.rp_answer.specs.Views.{verdict_of};
 
 use crate::answer::{Refusal, Verdict, Verdicts};
 use rp_history::NameFault;
-use rp_tester::Stopped;
+use rp_oracle::Stopped;
 use std::alloc::{AllocError, Global};
 use std::fmt;
 use thiserror::Error;
@@ -41,7 +41,7 @@ impl From<Stopped> for RowEnd {
 impl From<AllocError> for RowEnd {
     ghost use Rattle.std.specs.Prelude.{◌≡◌};
     ghost use Rattle.rp_answer.specs.declared.reply.RowEnd.TheVariants.{Stopped as StoppedEnd};
-    ghost use Rattle.rp_tester.specs.declared.stopped.Stopped.TheVariants.{Memory};
+    ghost use Rattle.rp_oracle.specs.declared.stopped.Stopped.TheVariants.{Memory};
 
     ghost from_gives = { λ x e. e ≡ StoppedEnd (Memory x) };
 

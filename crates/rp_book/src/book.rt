@@ -2,7 +2,7 @@ ghost use Rattle.std.specs.Prelude.{◌≡◌, ◌+◌, ◌≤◌, ℕ, length, 
 ghost use Rattle.rp_io.specs.Bytes.{Appends};
 ghost use Rattle.rp_reports.specs.Output.{most_script_bytes};
 ghost use Rattle.rp_book.specs.Act.{GainsAct, HasActs, Told, act_of, added_act};
-ghost use Rattle.rp_book.specs.Kept.{Finds, FindsAllOrNone, FindsNoOther, FindsOnly, HasBookCause, MayFind, Stays};
+ghost use Rattle.rp_book.specs.Kept.{Recoverable, IsCrashAtomic, RecoversNoOther, RecoversOnly, HasBookCause, MayRecover, Stays};
 ghost use Rattle.rp_book.specs.Lines.{HasEnd, IsEnded};
 
 use super::act::{Act, Entry};
@@ -21,7 +21,7 @@ pub trait Book {
 
     ghost acts: { Self → Option (List Told) };
 
-    ghost finds: { Self → Finds };
+    ghost recoverable: { Self → Recoverable };
 
     ghost has_honest_disk: { Self → Type 0 };
 
@@ -52,8 +52,8 @@ pub trait Book {
         ensures gained { OnOk result (IfSome (script self.old) (λ kept. GainsAct (acts self.old) (acts self.new) (added_act kept lines.now entry.entry))) }
         ensures kept { OnErr result (Stays (acts self.old) (acts self.new)) }
         ensures cause { IfErr result (HasBookCause (faults self.old) (faults self.new)) }
-        ensures crash { FindsAllOrNone (finds self.old) (finds self.new) (script self.old) lines.now }
-        ensures only { OnOk result (FindsOnly (finds self.new) (script self.new)) }
-        ensures found { OnOk result (has_honest_disk self.new → MayFind (finds self.new) (script self.new)) }
-        ensures spared { faults self.new ≡ faults self.old → OnErr result (FindsNoOther (finds self.old) (finds self.new)) };
+        ensures crash { IsCrashAtomic (finds self.old) (finds self.new) (script self.old) lines.now }
+        ensures only { OnOk result (RecoversOnly (finds self.new) (script self.new)) }
+        ensures found { OnOk result (has_honest_disk self.new → MayRecover (finds self.new) (script self.new)) }
+        ensures spared { faults self.new ≡ faults self.old → OnErr result (RecoversNoOther (finds self.old) (finds self.new)) };
 }

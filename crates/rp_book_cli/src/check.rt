@@ -3,7 +3,7 @@
 use crate::fault::Fault;
 use crate::seal_fault::{SealFault, Text};
 use crate::seal_text::{found_text, read_text, seal_in};
-use rp_registrar::Stop;
+use rp_book_service::Stop;
 use rp_seal_text::{read_act_proof, read_link};
 use rp_sealed_book::{check_act, check_link};
 

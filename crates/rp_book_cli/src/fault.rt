@@ -5,7 +5,7 @@ use crate::limits::MOST_SCRIPT_BYTES;
 use crate::path::PathFault;
 use crate::seal_fault::{SealFault, seal_message, seal_status};
 use rp_book::BookFault;
-use rp_registrar::{Length, Stop};
+use rp_book_service::{Length, Stop};
 use std::fmt;
 
 /// Why nothing was done. The book is as it was.

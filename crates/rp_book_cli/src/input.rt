@@ -6,7 +6,7 @@ use crate::limits::MOST_SCRIPT_BYTES;
 use crate::seal_fault::Text;
 use crate::seal_text::{read_acts_text, read_text};
 use rp_io::{IntakeFault, StdSource, read_whole};
-use rp_registrar::{Length, Stop};
+use rp_book_service::{Length, Stop};
 
 /// Returns why standard input was not read.
 fn stop_of(fault: IntakeFault) -> Stop {

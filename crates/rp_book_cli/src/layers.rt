@@ -3,8 +3,8 @@
 use crate::fault::Fault;
 use rp_book::{Act, Book};
 use rp_lists::Name;
-use rp_registrar::history::act_of_line;
-use rp_registrar::{Addition, Choice, Inherited, last_choice};
+use rp_book_service::history::act_of_line;
+use rp_book_service::{Addition, Choice, Inherited, last_choice};
 use rp_scripts::next_line;
 use std::{fmt, io, str};
 

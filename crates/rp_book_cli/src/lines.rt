@@ -7,8 +7,8 @@ use crate::version::{are_of_other, unmarked, version_after};
 use rp_book::{Book, Entry};
 use rp_command::Version;
 use rp_io::{QuietSource, StdSink};
-use rp_registrar::Stop;
-use rp_registrar::add::{Outcome, add};
+use rp_book_service::Stop;
+use rp_book_service::add::{Outcome, add};
 use std::io;
 use std::thread::Threads;
 

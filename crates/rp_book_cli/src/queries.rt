@@ -8,9 +8,9 @@ use crate::seals::{write_acts, write_link, write_proof, write_seal, write_verifi
 use crate::size::write_size;
 use rp_book::Book;
 use rp_io::{BufferedSink, StdSink};
-use rp_registrar::date::{as_of, last_line_by};
-use rp_registrar::history::history;
-use rp_registrar::{Stop, put_report, put_script};
+use rp_book_service::date::{as_of, last_line_by};
+use rp_book_service::history::history;
+use rp_book_service::{Stop, put_report, put_script};
 use std::thread::Threads;
 
 /// Says on standard error on which day `book` begins, if that is after `date`.

@@ -5,7 +5,7 @@ use crate::seal_fault::SealFault;
 use crate::seal_text::seal_in;
 use rp_book::Book;
 use rp_io::StdSink;
-use rp_registrar::Stop;
+use rp_book_service::Stop;
 use rp_seal_text::Checkpoint;
 use rp_sealed_book::{SealVerdict, link, prove, put_acts, seal, verify};
 

@@ -4,7 +4,7 @@ use crate::fault::Fault;
 use crate::seal_fault::{SealFault, Text};
 use crate::seal_text::found_text;
 use rp_book::Book;
-use rp_registrar::replay::{Replayed, replay};
+use rp_book_service::replay::{Replayed, replay};
 use rp_seal_text::read_acts;
 use std::thread::Threads;
 

@@ -55,15 +55,15 @@ pub fn decide_strict(cell: &[Half]) -> Strict
     ensures decides { DecidesStrict cell.now result }
     ensures line { line_of_strict result ≡ strict_line cell.now }
 {
-    match strict_soon(cell) {
+    match try_decide_strict(cell) {
         Some(found) => found,
-        None => hold_strict(cell),
+        None => decide_by_vertices(cell),
     }
 }
 
 /// Whether a cell has a point, as `decide_strict` answers, where that is found without its vertices; with `None` it is
 /// left open. A cell has at most 64 half-spaces. Takes no memory.
-pub fn strict_soon(cell: &[Half]) -> Option<Strict>
+pub fn try_decide_strict(cell: &[Half]) -> Option<Strict>
     requires { length cell.now ≤ 64 }
     ensures decides { IfSome result (λ found. DecidesStrict cell.now found) }
     ensures line { IfSome result (λ found. line_of_strict found ≡ strict_line cell.now) }
@@ -110,7 +110,7 @@ fn try_strict(cell: &[Half]) -> Option<Strict>
 }
 
 /// The strict decision of `cell`, over vertices. It is apart so that nobody else makes room for them.
-pub fn hold_strict(cell: &[Half]) -> Strict
+pub fn decide_by_vertices(cell: &[Half]) -> Strict
     requires { length cell.now ≤ 64 }
     ensures decides { DecidesStrict cell.now result }
     ensures line { line_of_strict result ≡ strict_line cell.now }

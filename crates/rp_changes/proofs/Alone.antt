@@ -3,8 +3,8 @@ use Rattle.std.proofs.Common.{◌≡◌, ℕ, Bool, true, false, List, filter, O
 use Rattle.std.specs.Prelude.{option_map}
 use Rattle.rp_geometry.specs.sets.Shape.{Part}
 use Rattle.rp_language.specs.Name.{Label, is_among}
-use Rattle.rp_walks.specs.Walk.{done, Walk, Tester, after_first, ◌>>=◌}
-use Rattle.rp_walks.specs.Form.{near_pair}
+use Rattle.rp_semantics.specs.Walk.{done, Walk, Tester, after_first, ◌>>=◌}
+use Rattle.rp_semantics.specs.Form.{near_pair}
 use Rattle.rp_model.specs.states.State.{Lot, PlainState, live_lots, lots_of_layer, ids_of}
 use Rattle.rp_model.specs.commands.Verdict.{known, overlaps}
 use Rattle.rp_model.specs.commands.Checks.{refuse_if, check_new}
@@ -14,9 +14,9 @@ use Rattle.rp_model.specs.commands.Register.{first_overlapped}
 use Rattle.rp_lotindex.specs.declared.near.Reach.TheVariants.{Overlap}
 use Rattle.rp_lotindex.specs.Near.{others_in, is_near, pairs_with}
 use Rattle.rp_lotindex.proofs.Skipped.{search_near, others_all}
-use Rattle.rp_tester.specs.declared.stopped.Stopped.{Stopped}
-use Rattle.rp_tester.specs.Comes.{StopsBy}
-use Rattle.rp_tester.proofs.Left.{stops_on}
+use Rattle.rp_oracle.specs.declared.stopped.Stopped.{Stopped}
+use Rattle.rp_oracle.specs.Refines.{StopsBy}
+use Rattle.rp_oracle.proofs.Left.{stops_on}
 use Rattle.rp_changes.specs.Steps.{lots_tested}
 
 -- an id that may be given is that of no lot

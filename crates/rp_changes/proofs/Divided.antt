@@ -2,8 +2,8 @@
 use Rattle.std.proofs.Common.{◌≡◌, ℕ, ◌+◌, List, [], ◌∷◌, length, map, None, sym, ap, ◌∙◌, arith}
 use Rattle.rp_geometry.specs.sets.Shape.{Part}
 use Rattle.rp_language.specs.Name.{Label}
-use Rattle.rp_walks.specs.Walk.{Walk, Tester, pass, ◌>>◌}
-use Rattle.rp_walks.specs.Form.{join, subtract}
+use Rattle.rp_semantics.specs.Walk.{Walk, Tester, pass, ◌>>◌}
+use Rattle.rp_semantics.specs.Form.{join, subtract}
 use Rattle.rp_model.specs.states.State.{NewLot, PlainState, layer_with_id, parts_under_lots, lots_replaced, most_kept_parts}
 use Rattle.rp_model.specs.commands.Checks.{check_cut}
 use Rattle.rp_model.specs.commands.Reply.{Reply, accepted, check, check_size}

@@ -2,11 +2,11 @@
 use Rattle.std.proofs.Common.{◌≡◌, ℕ, ◌+◌, ◌<◌, Bool, List, length, drop, get_or, Option, Some, slice_get, ap}
 use Rattle.rp_geometry.specs.sets.Shape.{Part}
 use Rattle.rp_language.specs.Name.{Label}
-use Rattle.rp_walks.specs.Walk.{done, Walk, Tester, ◌>>=◌}
-use Rattle.rp_walks.specs.Form.{common_nearby}
+use Rattle.rp_semantics.specs.Walk.{done, Walk, Tester, ◌>>=◌}
+use Rattle.rp_semantics.specs.Form.{common_nearby}
 use Rattle.rp_model.specs.states.State.{Lot}
 use Rattle.rp_model.specs.commands.Register.{first_overlapped}
-use Rattle.rp_tester.proofs.Left.{IsLeft, left_as, next_left}
+use Rattle.rp_oracle.proofs.Left.{IsLeft, left_as, next_left}
 use Rattle.rp_lotindex.specs.Near.{lots_at}
 use Rattle.rp_lotindex.proofs.Places.{lots_left}
 use Rattle.rp_lotindex.proofs.Skipped.{search_on}

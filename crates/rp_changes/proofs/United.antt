@@ -5,16 +5,16 @@ use Rattle.rp_algebra.proofs.Lists.{drop_item}
 use Rattle.rp_geometry.specs.sets.Shape.{Part}
 use Rattle.rp_geometry.specs.parts.Parts.{most_parts}
 use Rattle.rp_language.specs.Name.{Label}
-use Rattle.rp_walks.specs.Walk.{Stop, Outcome, done, stopped, limit_met, Walk, pass, stop, ◌>>◌}
-use Rattle.rp_walks.specs.Form.{if_at_most}
+use Rattle.rp_semantics.specs.Walk.{Stop, Outcome, done, stopped, limit_met, Walk, pass, stop, ◌>>◌}
+use Rattle.rp_semantics.specs.Form.{if_at_most}
 use Rattle.rp_model.specs.states.State.{PlainState, parts_under_lots, layer_of_first, lots_replaced, most_kept_parts}
 use Rattle.rp_model.specs.commands.Checks.{check_consolidate}
 use Rattle.rp_model.specs.commands.Reply.{Reply, accepted, check, check_size}
 use Rattle.rp_model.specs.commands.Parts.{new_lot, parts_with_id, joined_parts}
 use Rattle.rp_model.specs.commands.Consolidate.{row_consolidate}
-use Rattle.rp_tester.specs.declared.stopped.Stopped.{Stopped}
-use Rattle.rp_tester.specs.Comes.{stop_of, StopsBy}
-use Rattle.rp_tester.proofs.Left.{IsLeft, all_left, left_as, next_left, stops_on, stop_left}
+use Rattle.rp_oracle.specs.declared.stopped.Stopped.{Stopped}
+use Rattle.rp_oracle.specs.Refines.{stop_of, StopsBy}
+use Rattle.rp_oracle.proofs.Left.{IsLeft, all_left, left_as, next_left, stops_on, stop_left}
 
 -- ---- a list that is not too long
 

@@ -2,10 +2,10 @@
 use Rattle.std.specs.Prelude.{ℕ, ◌+◌, ◌==◌, List, length, option_map}
 use Rattle.rp_geometry.specs.sets.Shape.{Part}
 use Rattle.rp_language.specs.Name.{Label}
-use Rattle.rp_walks.specs.Walk.{Walk, Tester, ◌>>=◌, ◌>>◌}
-use Rattle.rp_walks.specs.Form.{near_pair}
+use Rattle.rp_semantics.specs.Walk.{Walk, Tester, ◌>>=◌, ◌>>◌}
+use Rattle.rp_semantics.specs.Form.{near_pair}
 use Rattle.rp_model.specs.states.State.{Lot, PlainState, parts_under_lots, most_kept_parts}
-use Rattle.rp_model.specs.commands.Verdict.{empty_region, empty_side, overlaps}
+use Rattle.rp_model.specs.commands.Verdict.{empty, empty_side, overlaps}
 use Rattle.rp_model.specs.commands.Checks.{refuse_if, and_then, check_new}
 use Rattle.rp_model.specs.commands.Reply.{Reply, check, check_size}
 use Rattle.rp_model.specs.commands.Parts.{lot_parts, count_with_each}
@@ -13,7 +13,7 @@ use Rattle.rp_model.specs.commands.Register.{first_overlapped}
 
 -- its checks: a new id, a part, and room
 abbrev pub lot_checked : {W : Type 0} → PlainState → Label → List Part → Walk W Reply → Walk W Reply
-lot_checked s x ps rest = check (and_then (check_new s x) (refuse_if (length ps == 0) empty_region)) (check_size (parts_under_lots s.lots + length ps) most_kept_parts >> rest)
+lot_checked s x ps rest = check (and_then (check_new s x) (refuse_if (length ps == 0) empty)) (check_size (parts_under_lots s.lots + length ps) most_kept_parts >> rest)
 
 -- its pairs with some lots are counted, and none of these shares a member with it
 abbrev pub lots_tested : {W : Type 0} → Tester W → List Part → List (Lot (Unit {0})) → Walk W Reply → Walk W Reply

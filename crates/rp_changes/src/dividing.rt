@@ -7,23 +7,23 @@ ghost use Rattle.rp_model.specs.commands.Checks.{refuse_if};
 ghost use Rattle.rp_model.specs.commands.Reply.{Reply, check, check_size};
 ghost use Rattle.rp_model.specs.commands.Parts.{new_lot};
 ghost use Rattle.rp_model.specs.commands.Cut.{row_cut};
-ghost use Rattle.rp_walks.specs.Walk.{Walk};
-ghost use Rattle.rp_walks.specs.Form.{join, subtract};
+ghost use Rattle.rp_semantics.specs.Walk.{Walk};
+ghost use Rattle.rp_semantics.specs.Form.{join, subtract};
 ghost use Rattle.rp_answer.specs.Replies.{GoesOn};
 ghost use Rattle.rp_changes.specs.Steps.{with_side};
-ghost use Rattle.rp_tester.specs.Comes.{Comes};
+ghost use Rattle.rp_oracle.specs.Refines.{Refines};
 ghost use Rattle.rp_lots.specs.Changes.{Changes, replaced_of};
 
 use rp_answer::{Refusal, RowEnd};
 use rp_lists::{Listed, Name, Names};
 use rp_lots::{Keeper, Replaced, add_born, count_parts, form_at};
 use rp_store::MAX_KEPT_PARTS;
-use rp_tester::{Stopped, Tests};
+use rp_oracle::{Stopped, Oracle};
 use std::alloc::{AllocError, Global};
 
 /// Returns the change that cuts the live lot `id` in two: `first` gets its points in the form `by`, `second` the
 /// others.
-pub fn cut<T: Tests, K: Keeper<T>>(
+pub fn cut<T: Oracle, K: Keeper<T>>(
     alloc: Global,
     keeper: &K,
     id: Name,
@@ -45,7 +45,7 @@ pub fn cut<T: Tests, K: Keeper<T>>(
 }
 
 /// Returns what a form has inside the form `by`, refused where that is no part.
-fn inner_side<T: Tests>(
+fn inner_side<T: Oracle>(
     alloc: Global,
     whole: &T::Form,
     by: &T::Form,
@@ -57,7 +57,7 @@ fn inner_side<T: Tests>(
 }
 
 /// Returns what a form has outside the form `by`, refused where that is no part.
-fn outer_side<T: Tests>(
+fn outer_side<T: Oracle>(
     alloc: Global,
     whole: &T::Form,
     by: &T::Form,
@@ -69,7 +69,7 @@ fn outer_side<T: Tests>(
 }
 
 /// Returns a side of a cut, refused by its number where it has no part.
-fn filled<T: Tests>(number: u8, form: T::Form) -> Result<T::Form, RowEnd>
+fn filled<T: Oracle>(number: u8, form: T::Form) -> Result<T::Form, RowEnd>
     ensures { (next : List Part → Walk T Reply) (w : T) → GoesOn T.parts_of result w next (check (refuse_if (length (T.parts_of form) == 0) (empty_side number)) (next (T.parts_of form)) w) }
 {
     if count_parts::<T>(&form) == 0 {
@@ -79,12 +79,12 @@ fn filled<T: Tests>(number: u8, form: T::Form) -> Result<T::Form, RowEnd>
 }
 
 /// Refuses with `Limit` iff all lots together would keep more than 65,536 parts with those of two forms.
-fn check_room_for_both<T: Tests, K: Keeper<T>>(
+fn check_room_for_both<T: Oracle, K: Keeper<T>>(
     keeper: &K,
     first: &T::Form,
     second: &T::Form,
 ) -> Result<(), Stopped>
-    ensures { (w : T) → Comes (λ x. x) result w (check_size (parts_under_lots (K.state keeper.now).lots + (length (T.parts_of first.now) + length (T.parts_of second.now))) most_kept_parts w) }
+    ensures { (w : T) → Refines (λ x. x) result w (check_size (parts_under_lots (K.state keeper.now).lots + (length (T.parts_of first.now) + length (T.parts_of second.now))) most_kept_parts w) }
 {
     let first = count_parts::<T>(first);
     let second = count_parts::<T>(second);

@@ -2,13 +2,13 @@
 ghost use Rattle.std.specs.Prelude.{◌≡◌, ◌∷◌, [], List, IfOk, map, option_copied, option_map};
 ghost use Rattle.rp_geometry.specs.sets.Shape.{Part};
 ghost use Rattle.rp_geometry.specs.parts.Parts.{most_parts};
-ghost use Rattle.rp_walks.specs.Form.{if_at_most};
+ghost use Rattle.rp_semantics.specs.Form.{if_at_most};
 ghost use Rattle.rp_model.specs.states.State.{live_lot, lots_replaced, parts_of_lot};
 ghost use Rattle.rp_model.specs.commands.Parts.{joined_parts, new_lot, parts_with_id};
 ghost use Rattle.rp_model.specs.commands.Consolidate.{row_consolidate};
 ghost use Rattle.rp_model.specs.commands.Let.{row_define};
 ghost use Rattle.rp_model.specs.commands.Retire.{row_retire};
-ghost use Rattle.rp_tester.specs.Comes.{Comes};
+ghost use Rattle.rp_oracle.specs.Refines.{Refines};
 ghost use Rattle.rp_lots.specs.Changes.{Changes, change_of, replaced_of};
 
 use crate::making::one_born;
@@ -16,11 +16,11 @@ use rp_answer::{Refusal, RowEnd};
 use rp_history::Birth;
 use rp_lists::{Listed, Name, Names};
 use rp_lots::{Change, Keeper, Registry, Replaced, check_room, count_parts, form_at};
-use rp_tester::{Stopped, Tests};
+use rp_oracle::{Stopped, Oracle};
 use std::alloc::{AllocError, Global};
 
 /// Returns the change that keeps a form under `name`, which must be new; there must be room for both.
-pub fn define<T: Tests, K: Registry<T>>(
+pub fn define<T: Oracle, K: Registry<T>>(
     keeper: &K,
     name: Name,
     form: T::Form,
@@ -38,7 +38,7 @@ pub fn define<T: Tests, K: Registry<T>>(
 }
 
 /// Returns the change that ends the live lot `id`.
-pub fn retire<T: Tests, K: Keeper<T>>(
+pub fn retire<T: Oracle, K: Keeper<T>>(
     alloc: Global,
     keeper: &K,
     id: Name,
@@ -55,7 +55,7 @@ pub fn retire<T: Tests, K: Keeper<T>>(
 
 /// Returns the change that makes the live lots of `ids`, all of one layer, the lot `new`. Its parts are theirs, in the
 /// order given. No test is made.
-pub fn consolidate<T: Tests, K: Keeper<T>>(
+pub fn consolidate<T: Oracle, K: Keeper<T>>(
     alloc: Global,
     keeper: &K,
     new: Name,
@@ -72,13 +72,13 @@ pub fn consolidate<T: Tests, K: Keeper<T>>(
 
 /// Returns the parts of some live lots, in the order given. `Limit` exactly where these are more than 1,024. No test is
 /// made.
-fn united<T: Tests, K: Keeper<T>>(
+fn united<T: Oracle, K: Keeper<T>>(
     alloc: Global,
     keeper: &K,
     ids: &[Name],
     tests: &mut T,
 ) -> Result<T::Form, Stopped>
-    ensures { Comes T.parts_of result tests.new (if_at_most most_parts (joined_parts (map (λ x. parts_with_id (K.state keeper.now) x) ids.now)) tests.old) }
+    ensures { Refines T.parts_of result tests.new (if_at_most most_parts (joined_parts (map (λ x. parts_with_id (K.state keeper.now) x) ids.now)) tests.old) }
 {
     let mut form = T::none(alloc);
     for id in ids {
@@ -90,7 +90,7 @@ fn united<T: Tests, K: Keeper<T>>(
 }
 
 /// Returns the form of the live lot `id`. `None` exactly where it isn't live.
-fn form_of<'a, T: Tests, K: Keeper<T>>(keeper: &'a K, id: &Name) -> Option<&'a T::Form>
+fn form_of<'a, T: Oracle, K: Keeper<T>>(keeper: &'a K, id: &Name) -> Option<&'a T::Form>
     ensures { option_map T.parts_of (option_copied result) ≡ parts_of_lot (live_lot id.now (K.state keeper.now).lots) }
 {
     let place = keeper.history().live_place(id)?;

@@ -3,7 +3,7 @@ ghost use Rattle.std.specs.Prelude.{◌≡◌, ◌≤◌, ◌∷◌, [], List, I
 ghost use Rattle.rp_geometry.specs.sets.Shape.{Part};
 ghost use Rattle.rp_geometry.specs.parts.Parts.{most_parts};
 ghost use Rattle.rp_language.specs.Name.{is_among};
-ghost use Rattle.rp_walks.specs.Walk.{Walk};
+ghost use Rattle.rp_semantics.specs.Walk.{Walk};
 ghost use Rattle.rp_model.specs.states.State.{ids_of, lots_replaced, present_lots};
 ghost use Rattle.rp_model.specs.commands.Reply.{Reply};
 ghost use Rattle.rp_model.specs.commands.Register.{first_overlapped, row_register};
@@ -11,7 +11,7 @@ ghost use Rattle.rp_model.specs.commands.Parts.{new_lot};
 ghost use Rattle.rp_answer.specs.Replies.{GoesOn};
 ghost use Rattle.rp_history.specs.Lots.{lots_in};
 ghost use Rattle.rp_lotindex.specs.Near.{lots_at, AreWithin};
-ghost use Rattle.rp_tester.specs.Comes.{Comes};
+ghost use Rattle.rp_oracle.specs.Refines.{Refines};
 ghost use Rattle.rp_lots.specs.Changes.{Changes, replaced_of};
 ghost use Rattle.rp_changes.specs.Steps.{lot_checked, lots_tested};
 
@@ -22,12 +22,12 @@ use rp_lotindex::Reach;
 use rp_lots::{
     Keeper, Overlaps, Replaced, check_room, count_parts, count_tests, form_at, lots_near,
 };
-use rp_tester::{Stopped, Tests};
+use rp_oracle::{Stopped, Oracle};
 use std::alloc::{AllocError, Global};
 
 /// Returns the change that makes a form the lot `id` of `layer`, the present one. As many tests are counted as there
 /// are pairs of its parts and parts of live lots of the layer whose boxes share more than boundary.
-pub fn make_lot<T: Tests, K: Overlaps<T>>(
+pub fn make_lot<T: Oracle, K: Overlaps<T>>(
     alloc: Global,
     keeper: &K,
     layer: Name,
@@ -44,7 +44,7 @@ pub fn make_lot<T: Tests, K: Overlaps<T>>(
 }
 
 /// The checks of a registration, in order: a new id, a form with a part, and room for its parts.
-fn check_lot<T: Tests, K: Keeper<T>>(keeper: &K, id: Name, form: &T::Form) -> Result<(), RowEnd>
+fn check_lot<T: Oracle, K: Keeper<T>>(keeper: &K, id: Name, form: &T::Form) -> Result<(), RowEnd>
     ensures row { (w : T) (rest : Walk T Reply) → GoesOn (λ x. x) result w (λ _. rest) (lot_checked (K.state keeper.now) id (T.parts_of form.now) rest w) }
     ensures new { IfOk result (λ _. is_among id (ids_of (K.state keeper.now).lots) ≡ false) }
 {
@@ -58,7 +58,7 @@ fn check_lot<T: Tests, K: Keeper<T>>(keeper: &K, id: Name, form: &T::Form) -> Re
 
 /// No live lot of `layer` shares a point with the form, which is to be the lot `id`. Their pairs of parts whose boxes
 /// share more than boundary are counted first.
-fn check_alone<T: Tests, K: Overlaps<T>>(
+fn check_alone<T: Oracle, K: Overlaps<T>>(
     alloc: Global,
     keeper: &K,
     layer: &Name,
@@ -81,7 +81,7 @@ fn check_alone<T: Tests, K: Overlaps<T>>(
 
 /// Returns the id of the first of the lots at some places that shares a point with a form. Only pairs of parts are
 /// tested whose boxes share more than boundary, and nothing is counted.
-fn first_overlapped<T: Tests, K: Overlaps<T>>(
+fn first_overlapped<T: Oracle, K: Overlaps<T>>(
     alloc: Global,
     keeper: &K,
     form: &T::Form,
@@ -89,7 +89,7 @@ fn first_overlapped<T: Tests, K: Overlaps<T>>(
     tests: &mut T,
 ) -> Result<Option<Name>, Stopped>
     requires { AreWithin (K.state keeper.now).lots places.now }
-    ensures { Comes (λ id. id) result tests.new (first_overlapped T.tester (T.parts_of form.now) (lots_at (K.state keeper.now).lots places.now) tests.old) }
+    ensures { Refines (λ id. id) result tests.new (first_overlapped T.tester (T.parts_of form.now) (lots_at (K.state keeper.now).lots places.now) tests.old) }
 {
     for place in places {
         let other = form_at::<T, K>(keeper, *place);

@@ -4,7 +4,7 @@ ghost use Rattle.rp_command.specs.Views.{expression_of};
 ghost use Rattle.rp_geometry.specs.sets.Shape.{Part};
 ghost use Rattle.rp_geometry.specs.parts.Parts.{most_parts};
 ghost use Rattle.rp_language.specs.Expression.{IsKeptExpression, define, register as register_lot, cut, consolidate, retire};
-ghost use Rattle.rp_walks.specs.Walk.{Walk};
+ghost use Rattle.rp_semantics.specs.Walk.{Walk};
 ghost use Rattle.rp_model.specs.states.State.{parts_in};
 ghost use Rattle.rp_model.specs.commands.Reply.{Reply};
 ghost use Rattle.rp_model.specs.commands.Row.{row};
@@ -18,11 +18,11 @@ use rp_answer::{RowEnd, row_form};
 use rp_command::Expr;
 use rp_lists::Name;
 use rp_lots::{Change, Registry, replacing};
-use rp_tester::Tests;
+use rp_oracle::Oracle;
 use std::alloc::Global;
 
 /// Returns the change of `let`: the form of `region`, by `tests`, under the new name `name`.
-pub fn definition<T: Tests, K: Registry<T>>(
+pub fn definition<T: Oracle, K: Registry<T>>(
     alloc: Global,
     keeper: &K,
     name: Name,
@@ -37,7 +37,7 @@ pub fn definition<T: Tests, K: Registry<T>>(
 }
 
 /// Returns the change of `register`: the form of `region`, by `tests`, as the new lot `id` of the present layer.
-pub fn registration<T: Tests, K: Registry<T>>(
+pub fn registration<T: Oracle, K: Registry<T>>(
     alloc: Global,
     keeper: &K,
     id: Name,
@@ -53,7 +53,7 @@ pub fn registration<T: Tests, K: Registry<T>>(
 
 /// Returns the change of `cut`: the lot `id` in two, by the form of `region`: `first` has what is in the form, `second`
 /// the rest.
-pub fn cutting<T: Tests, K: Registry<T>>(
+pub fn cutting<T: Oracle, K: Registry<T>>(
     alloc: Global,
     keeper: &K,
     id: Name,
@@ -70,7 +70,7 @@ pub fn cutting<T: Tests, K: Registry<T>>(
 }
 
 /// Returns the change of `consolidate`: the lots `ids`, all of one layer, become the lot `new`.
-pub fn consolidation<T: Tests, K: Registry<T>>(
+pub fn consolidation<T: Oracle, K: Registry<T>>(
     alloc: Global,
     keeper: &K,
     new: Name,
@@ -83,7 +83,7 @@ pub fn consolidation<T: Tests, K: Registry<T>>(
 }
 
 /// Returns the change of `retire`: the lot `id` ends.
-pub fn retirement<T: Tests, K: Registry<T>>(
+pub fn retirement<T: Oracle, K: Registry<T>>(
     alloc: Global,
     keeper: &K,
     id: Name,
@@ -95,7 +95,7 @@ pub fn retirement<T: Tests, K: Registry<T>>(
 
 /// Returns the form of the one expression of a command, behind which its row goes on. `Refused` exactly for the first
 /// name or lot, in reading order, that isn't there; it comes before any test.
-fn formed_by<T: Tests, K: Registry<T>>(
+fn formed_by<T: Oracle, K: Registry<T>>(
     alloc: Global,
     keeper: &K,
     region: &Expr,

@@ -2,7 +2,7 @@
 
 use rp_checker::{Found, check_report_in};
 use rp_io::QuietSink;
-use rp_register::Register;
+use rp_check_state::Register;
 use rp_runner::run::run;
 use std::alloc::Global;
 use std::process::Abort;

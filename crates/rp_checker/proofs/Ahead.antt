@@ -2,12 +2,12 @@
 use Rattle.std.proofs.Common.{◌≡◌, ℕ, ◌+◌, ◌<◌, ◌≤◌, List, ◌∷◌, map, length, drop, get_or, refl, ap, subst}
 use Rattle.std.proofs.lemmas.List.{drop_all}
 use Rattle.rp_algebra.proofs.Lists.{drop_item}
-use Rattle.rp_walks.specs.Walk.{Outcome, done, Walk, after_first}
+use Rattle.rp_semantics.specs.Walk.{Outcome, done, Walk, after_first}
 use Rattle.rp_reports.specs.Check.{Trail, follow_line, follow_lines}
 use Rattle.rp_reports.specs.Text.{verdict_text}
 use Rattle.rp_answer.specs.Views.{verdict_of}
 use Rattle.rp_answer.specs.declared.answer.Verdict.{Verdict as CodeVerdict}
-use Rattle.rp_tester.proofs.Left.{IsLeft, left_as, next_left, end_left}
+use Rattle.rp_oracle.proofs.Left.{IsLeft, left_as, next_left, end_left}
 use Rattle.rp_checker.specs.declared.halt.Halt.{Halt}
 use Rattle.rp_checker.specs.declared.halt.Halt.TheVariants.{Wrong, Memory}
 use Rattle.rp_checker.specs.Answers.{HaltsBy}

@@ -1,7 +1,7 @@
 -- An answer by its echo: the number and the text.
 use Rattle.std.proofs.Common.{◌≡◌, ℕ, ◌<◌, ◌≤◌, Bool, true, false, nat_lt, Option, Some, None, sym, ap, ◌∙◌, subst, arith}
 use Rattle.rp_language.specs.Grammar.{Version}
-use Rattle.rp_walks.specs.Walk.{done, line_wrong, Walk, after_first, pass, stop}
+use Rattle.rp_semantics.specs.Walk.{done, line_wrong, Walk, after_first, pass, stop}
 use Rattle.rp_model.specs.states.State.{PlainState}
 use Rattle.rp_reports.specs.ProofText.{Echo}
 use Rattle.rp_reports.specs.Check.{Trail, Progress, with_no_tests, follow_echo, follow_numbered, next_echo, follow_answer}

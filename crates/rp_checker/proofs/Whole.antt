@@ -3,7 +3,7 @@ use Rattle.std.proofs.Common.{◌≡◌, ℕ, zero, suc, ◌+◌, ◌<◌, ◌�
 use Rattle.std.specs.Prelude.{is_some, option_map}
 use denote.Ref.{Bor}
 use Rattle.rp_language.specs.Grammar.{Version, one, two}
-use Rattle.rp_walks.specs.Walk.{Outcome, done}
+use Rattle.rp_semantics.specs.Walk.{Outcome, done}
 use Rattle.rp_model.specs.states.State.{State, PlainState, opening, state_of_parts}
 use Rattle.rp_model.specs.states.Sound.{IsLaterThan}
 use Rattle.rp_reports.specs.Check.{Trail, Progress, follow_answer, Finding, all_accepted, wrong_at, find_wrong, first_line_number, finding_by, finding, is_accepting}
@@ -11,20 +11,20 @@ use Rattle.rp_reports.specs.Output.{most_script_bytes, report_lines}
 use Rattle.rp_reports.specs.Report.{IsReport, report_mark, version_by, body_of}
 use Rattle.rp_reports.specs.Text.{text_of_lines}
 use Rattle.rp_reports.specs.laws.CheckLaws.{WrittenReportIsAccepted}
-use Rattle.rp_run_laws.proofs.Rows.{followed_row_tells_truth_spec}
-use Rattle.rp_accepted.proofs.FirstWrong.{finds_first_wrong_spec}
-use Rattle.rp_accepted.proofs.GoneWrong.{found_after, find_next, DonePast, answer_past}
-use Rattle.rp_accepted.proofs.ReportTaken.{body_few}
-use Rattle.rp_run_laws.proofs.Accepted.{accepted_is_true_spec, opening_agrees}
-use Rattle.rp_run_laws.proofs.Answered.{Agrees, TellsNext, answer_told}
-use Rattle.rp_run_laws.proofs.Followed.{Comes}
+use Rattle.rp_correctness.proofs.Rows.{followed_row_tells_truth_spec}
+use Rattle.rp_checker_completeness.proofs.FirstWrong.{finds_first_wrong_spec}
+use Rattle.rp_checker_completeness.proofs.GoneWrong.{found_after, find_next, DonePast, answer_past}
+use Rattle.rp_checker_completeness.proofs.ReportTaken.{body_few}
+use Rattle.rp_correctness.proofs.Accepted.{accepted_is_true_spec, opening_agrees}
+use Rattle.rp_correctness.proofs.Answered.{Agrees, TellsNext, answer_told}
+use Rattle.rp_correctness.proofs.Followed.{Reaches}
 use Rattle.rp_trail.specs.Lines.{next_line}
 use Rattle.rp_checker.specs.Answers.{IsWrongAt}
 use Rattle.rp_checker.specs.Found.{found_of, TellsRight}
 use Rattle.rp_checker.specs.Marks.{behind_mark}
 use Rattle.rp_checker.specs.declared.report.Found.{Found}
 use Rattle.rp_checker.specs.declared.report.Found.TheVariants.{Accepted, Wrong}
-use Rattle.rp_ledger.proofs.States.{later_by_parts}
+use Rattle.rp_register_state.proofs.States.{later_by_parts}
 
 -- the number of the last answer, and what is kept after it
 abbrev pub progress : ℕ → PlainState → Progress
@@ -77,7 +77,7 @@ found_behind lines v last p t line rest e g =
 
 -- the sets behind an answer
 sets_behind : (v : Version) (s : State) (q r : Progress) (t u : Trail) → Agrees s q → follow_answer v q t ≡ done r u → (a : State) × Agrees a r
-sets_behind v s q r t u agrees e = by (subst (λ (o : Outcome Trail Progress). Comes o (TellsNext v q.last s t)) e (answer_told v followed_row_tells_truth_spec s q agrees t))
+sets_behind v s q r t u agrees e = by (subst (λ (o : Outcome Trail Progress). Reaches o (TellsNext v q.last s t)) e (answer_told v followed_row_tells_truth_spec s q agrees t))
   where
     by : TellsNext v q.last s t r u → (a : State) × Agrees a r
     by h = (h.after, h.agrees)

@@ -1,7 +1,7 @@
 -- What a walk over whole answers of a report has come to.
 use Rattle.std.specs.Prelude.{◌≡◌, ℕ, List, Result, Ok, Err, Option, option_map}
 use Rattle.rp_language.specs.Grammar.{Version, Reading, reading}
-use Rattle.rp_walks.specs.Walk.{Outcome, done, stopped, line_wrong}
+use Rattle.rp_semantics.specs.Walk.{Outcome, done, stopped, line_wrong}
 use Rattle.rp_reports.specs.Check.{Trail}
 use Rattle.rp_reports.specs.ProofText.{Echo}
 use denote.Ref.{Bor}

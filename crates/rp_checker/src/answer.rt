@@ -11,23 +11,23 @@ ghost use Rattle.rp_model.specs.commands.Reply.{Reply as ModelReply, accepted};
 ghost use Rattle.rp_model.specs.states.State.{PlainState, changed, parts_in, state_of_parts};
 ghost use Rattle.rp_model.specs.states.Sound.{IsLaterThan};
 ghost use Rattle.rp_reports.specs.Check.{Trail as ModelTrail, limit_allowed, follow_walk, follow_reply, follow_command, follow_fault, follow_text, follow_echo, next_echo, follow_answer};
-ghost use Rattle.rp_walks.specs.Walk.{Outcome};
-ghost use Rattle.rp_tester.specs.Comes.{StopsBy};
+ghost use Rattle.rp_semantics.specs.Walk.{Outcome};
+ghost use Rattle.rp_oracle.specs.Refines.{StopsBy};
 ghost use Rattle.rp_checker.specs.Answers.{Answers, IsRead, echo_with};
-ghost use Rattle.rp_ledger.specs.Taken.{IsTaken};
-ghost use Rattle.rp_register.specs.Followed.{change_followed, shown_change, IsFollowed};
+ghost use Rattle.rp_register_state.specs.Taken.{IsTaken};
+ghost use Rattle.rp_check_state.specs.Followed.{change_followed, shown_change, IsFollowed};
 
 use crate::halt::Halt;
 use crate::lines::{follow_limit, follow_verdict, follow_verdicts};
 use crate::rows::carried_out;
 use rp_answer::{Refusal, RowEnd, Verdict, one_line};
 use rp_command::{Command, Expr, Line, Version, Why};
-use rp_ledger::Reply;
+use rp_register_state::Reply;
 use rp_lists::Name;
 use rp_lots::Change;
-use rp_register::{Followed, Register};
+use rp_check_state::{Followed, Register};
 use rp_syntax::read_line;
-use rp_tester::Stopped;
+use rp_oracle::Stopped;
 use rp_text::read_echo;
 use rp_trail::{Form, Trail};
 use std::alloc::Global;
@@ -40,7 +40,7 @@ fn follow_stopped(allowed: bool, stopped: Stopped, trail: &mut Trail<'_>) -> Res
     match stopped {
         Stopped::Wrong => Err(Halt::Wrong(trail.number())),
         Stopped::TakenWrong => Err(Halt::Wrong(trail.number().saturating_sub(1))),
-        Stopped::Told | Stopped::Limit => {
+        Stopped::LimitReported | Stopped::Limit => {
             if allowed {
                 return follow_limit(trail);
             }

@@ -6,12 +6,12 @@ ghost use Rattle.rp_geometry.specs.sections.Trace.{IsHeight};
 ghost use Rattle.rp_language.specs.Expression.{IsKeptExpression, expressions_of, heights_of, HasFewChildren};
 ghost use Rattle.rp_model.specs.commands.Row.{row};
 ghost use Rattle.rp_reports.specs.Check.{line_tester};
-ghost use Rattle.rp_register.specs.Followed.{IsFollowed, followed_told};
+ghost use Rattle.rp_check_state.specs.Followed.{IsFollowed, followed_told};
 
 use rp_answer::{RowEnd, Verdicts};
 use rp_command::Command;
-use rp_ledger::{Reply, Row, carry_out};
-use rp_register::{Followed, Register, access, audit, neighbours, section};
+use rp_register_state::{Reply, Row, carry_out};
+use rp_check_state::{Followed, Register, access, audit, neighbours, section};
 use rp_trail::Trail;
 use std::alloc::Global;
 

@@ -26,7 +26,7 @@ expression_of (Lot x) = Expression.lot x
 expression_of (And' p e q f) = Expression.intersection (expression_of e) (expression_of f)
 expression_of (Or' p e q f) = Expression.union (expression_of e) (expression_of f)
 expression_of (Minus' p e q f) = Expression.difference (expression_of e) (expression_of f)
-expression_of (Not' p e) = Expression.opposite (expression_of e)
+expression_of (Not' p e) = Expression.complement (expression_of e)
 
 -- the child of the model
 abbrev pub child_of : List ℕ × Expr → Child

@@ -4,8 +4,8 @@ use Rattle.std.specs.List.{AllByRecursion}
 use Rattle.std.specs.Prelude.{IsTrue}
 use Rattle.rp_geometry.specs.sets.Shape.{Part}
 use Rattle.rp_language.specs.Name.{Label}
-use Rattle.rp_walks.specs.Walk.{Outcome, done, stopped, Walk, Tester, pass, after_first, ◌>>=◌, ◌>>◌}
-use Rattle.rp_walks.specs.Form.{touching_pair}
+use Rattle.rp_semantics.specs.Walk.{Outcome, done, stopped, Walk, Tester, pass, after_first, ◌>>=◌, ◌>>◌}
+use Rattle.rp_semantics.specs.Form.{touching_pair}
 use Rattle.rp_model.specs.states.State.{Lot, PlainState, live_lots, lots_of_layer, layer_with_id, layer_lots, ids_of, place_among}
 use Rattle.rp_model.specs.states.Sound.{are_distinct}
 use Rattle.rp_model.specs.commands.Verdict.{Refusal}
@@ -15,10 +15,10 @@ use Rattle.rp_model.specs.commands.Parts.{lot_parts, numbered_lists, count_among
 use Rattle.rp_model.specs.commands.Access.{links_among_lists, access_by_links, row_access}
 use Rattle.rp_lotindex.specs.declared.near.Reach.TheVariants.{Touch}
 use Rattle.rp_lotindex.specs.Near.{lots_at}
-use Rattle.rp_verdicts.proofs.Access.{places_below}
-use Rattle.rp_tester.specs.declared.stopped.Stopped.{Stopped}
-use Rattle.rp_tester.specs.Comes.{StopsBy}
-use Rattle.rp_tester.proofs.Left.{IsLeft, next_left, stop_left}
+use Rattle.rp_row_soundness.proofs.Access.{places_below}
+use Rattle.rp_oracle.specs.declared.stopped.Stopped.{Stopped}
+use Rattle.rp_oracle.specs.Refines.{StopsBy}
+use Rattle.rp_oracle.proofs.Left.{IsLeft, next_left, stop_left}
 use Rattle.rp_contacts.specs.declared.pair.Pair.{Pair}
 use Rattle.rp_contacts.specs.Meets.{meet_each}
 use Rattle.rp_contacts.specs.Numbers.{lists_at, places_among, AreBelow, placed, links_met}

@@ -2,16 +2,16 @@
 use Rattle.std.proofs.Common.{◌≡◌, ℕ, ◌+◌, Bool, true, false, ◌&&◌, cond, List, [], ◌∷◌, ◌++◌, map, filter, length, drop, get_or, None, refl, sym, ap, ap₂, ◌∙◌}
 use Rattle.rp_algebra.proofs.Lists.{get_some}
 use Rattle.rp_geometry.specs.sets.Shape.{Part}
-use Rattle.rp_walks.specs.Walk.{taken_wrong, Outcome, done, stopped, Walk, Tester, pass, stop, after_first, ◌>>◌}
-use Rattle.rp_walks.specs.Form.{near_pair, common_nearby}
+use Rattle.rp_semantics.specs.Walk.{taken_wrong, Outcome, done, stopped, Walk, Tester, pass, stop, after_first, ◌>>◌}
+use Rattle.rp_semantics.specs.Form.{near_pair, common_nearby}
 use Rattle.rp_model.specs.states.State.{Lot, PlainState, is_live, live_lots, lots_of_layer}
 use Rattle.rp_model.specs.commands.Verdict.{clear}
 use Rattle.rp_model.specs.commands.Reply.{Reply, reply}
 use Rattle.rp_model.specs.commands.Parts.{lot_parts}
 use Rattle.rp_model.specs.commands.Audit.{count_in_layers, all_apart, all_apart_from, row_audit}
-use Rattle.rp_tester.specs.declared.stopped.Stopped.{Stopped}
-use Rattle.rp_tester.specs.Comes.{StopsBy}
-use Rattle.rp_tester.proofs.Left.{IsLeft, next_left, stop_left}
+use Rattle.rp_oracle.specs.declared.stopped.Stopped.{Stopped}
+use Rattle.rp_oracle.specs.Refines.{StopsBy}
+use Rattle.rp_oracle.proofs.Left.{IsLeft, next_left, stop_left}
 use Rattle.rp_lotindex.specs.declared.near.Reach.TheVariants.{Overlap}
 use Rattle.rp_lotindex.specs.Near.{pairs_with, is_near, lots_at, AreWithin}
 use Rattle.rp_lotindex.proofs.Skipped.{apart_on, apart_near}

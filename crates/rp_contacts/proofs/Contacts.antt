@@ -4,7 +4,7 @@ use Rattle.std.specs.Prelude.{option_map}
 use Rattle.std.proofs.lemmas.Option.{get_or_from_slice_get, slice_get-map}
 use Rattle.rp_geometry.specs.sets.Shape.{Part}
 use Rattle.rp_language.specs.Name.{Label}
-use Rattle.rp_walks.specs.Walk.{Outcome, done, stopped, Walk, Tester, pass, after_first, ◌>>=◌, ◌>>◌}
+use Rattle.rp_semantics.specs.Walk.{Outcome, done, stopped, Walk, Tester, pass, after_first, ◌>>=◌, ◌>>◌}
 use Rattle.rp_model.specs.states.State.{Lot, PlainState, layer_with_id, bare_lot}
 use Rattle.rp_model.specs.commands.Verdict.{Refusal, neighbour_lines}
 use Rattle.rp_model.specs.commands.Checks.{check_live}
@@ -14,11 +14,11 @@ use Rattle.rp_model.specs.commands.Neighbours.{touched_lots, row_neighbours}
 use Rattle.rp_lotindex.specs.declared.near.Reach.TheVariants.{Touch}
 use Rattle.rp_lotindex.specs.Near.{others_in, is_near, pairs_with, lots_at, AreWithin}
 use Rattle.rp_lotindex.proofs.Skipped.{touch_near}
-use Rattle.rp_tester.specs.declared.stopped.Stopped.{Stopped}
-use Rattle.rp_tester.specs.Comes.{StopsBy}
-use Rattle.rp_tester.proofs.Left.{IsLeft, all_left, left_as, next_left, stop_left}
+use Rattle.rp_oracle.specs.declared.stopped.Stopped.{Stopped}
+use Rattle.rp_oracle.specs.Refines.{StopsBy}
+use Rattle.rp_oracle.proofs.Left.{IsLeft, all_left, left_as, next_left, stop_left}
 use Rattle.rp_contacts.specs.Asked.{touch_counted}
-use Rattle.rp_contacts.specs.Meets.{pair_of, meet_each, id_at, ids_met}
+use Rattle.rp_contacts.specs.Meets.{pair_of, meet_each, id_at, contact_ids}
 use Rattle.rp_contacts.proofs.Meeting.{from_none, touched_met}
 
 -- ---- the lot of an id
@@ -36,7 +36,7 @@ bare_id lots k = ap (λ (o : Option (Lot (Unit {0}))). elim o as (λ _. Label) [
     by (Some l) = refl
 
 -- and so do those that meet
-pub bare_met : (lots : List (Lot (Unit {0}))) (ks : List ℕ) (met : List Bool) → ids_met (map bare_lot lots) ks met ≡ ids_met lots ks met
+pub bare_met : (lots : List (Lot (Unit {0}))) (ks : List ℕ) (met : List Bool) → contact_ids (map bare_lot lots) ks met ≡ contact_ids lots ks met
 bare_met lots [] met = refl
 bare_met lots (k ∷ ks) [] = refl
 bare_met lots (k ∷ ks) (b ∷ met) = λ i. cond b (bare_id lots k i ∷ bare_met lots ks met i) (bare_met lots ks met i)
@@ -64,15 +64,15 @@ module _ {W : Type 0} (tester : Tester W) (s : PlainState) (k n : ℕ) (ps : Lis
     touching = next_left (tester.count n) (λ _. touched_lots tester [] ps others) counting made
 
     -- they are those of the pairs with the near ones
-    all_met : touched_lots tester [] ps others u ≡ after_first (λ met. pass (ids_met s.lots places met)) (meet_each tester Touch (lot_parts s.lots) [] (map (pair_of k) places) u)
+    all_met : touched_lots tester [] ps others u ≡ after_first (λ met. pass (contact_ids s.lots places met)) (meet_each tester Touch (lot_parts s.lots) [] (map (pair_of k) places) u)
     all_met =
         sym (touch_near tester [] ps others u)
         ∙ ap (λ (ls : List (Lot (Unit {0}))). touched_lots tester [] ps ls u) (sym found)
         ∙ touched_met tester s.lots k ps own places within [] u
-        ∙ ap (after_first (λ met. pass (ids_met s.lots places met))) (sym (from_none tester Touch (lot_parts s.lots) (map (pair_of k) places) u))
+        ∙ ap (after_first (λ met. pass (contact_ids s.lots places met))) (sym (from_none tester Touch (lot_parts s.lots) (map (pair_of k) places) u))
 
     -- so they are what is left
-    pub pairs_left : looking w ≡ after_first (λ met. pass (ids_met s.lots places met)) (meet_each tester Touch (lot_parts s.lots) [] (map (pair_of k) places) u)
+    pub pairs_left : looking w ≡ after_first (λ met. pass (contact_ids s.lots places met)) (meet_each tester Touch (lot_parts s.lots) [] (map (pair_of k) places) u)
     pairs_left = sym touching.same ∙ all_met
 
 -- ---- the row

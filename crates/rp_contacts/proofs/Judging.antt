@@ -3,12 +3,12 @@ use Rattle.std.proofs.Common.{◌≡◌, ℕ, ◌<◌, Bool, List, [], map, leng
 use Rattle.std.specs.List.{AllByRecursion}
 use Rattle.std.proofs.lemmas.List.{length-map}
 use Rattle.rp_geometry.specs.sets.Shape.{Part}
-use Rattle.rp_walks.specs.Walk.{Outcome, done, Walk, Tester, pass, after_first}
+use Rattle.rp_semantics.specs.Walk.{Outcome, done, Walk, Tester, pass, after_first}
 use Rattle.rp_model.specs.states.State.{Lot, bare_lot}
 use Rattle.rp_model.specs.commands.Parts.{lot_parts}
-use Rattle.rp_tester.specs.declared.stopped.Stopped.{Stopped}
-use Rattle.rp_tester.specs.Comes.{StopsBy}
-use Rattle.rp_tester.proofs.Left.{stops_on}
+use Rattle.rp_oracle.specs.declared.stopped.Stopped.{Stopped}
+use Rattle.rp_oracle.specs.Refines.{StopsBy}
+use Rattle.rp_oracle.proofs.Left.{stops_on}
 use Rattle.rp_history.specs.declared.lot.LotLine.{LotLine}
 use Rattle.rp_history.specs.Lots.{lot_of}
 use Rattle.rp_lotindex.specs.declared.near.Reach.{Reach}

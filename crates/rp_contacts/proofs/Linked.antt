@@ -6,8 +6,8 @@ use Rattle.std.proofs.lemmas.List.{length-map, map-append}
 use Rattle.rp_algebra.proofs.Listed.{all_append}
 use Rattle.rp_algebra.proofs.Lists.{get_some}
 use Rattle.rp_geometry.specs.sets.Shape.{Part}
-use Rattle.rp_walks.specs.Walk.{Outcome, done, stopped, Walk, Tester, pass, after_first, ◌>>=◌}
-use Rattle.rp_walks.specs.Form.{touch_nearby, touching_pair}
+use Rattle.rp_semantics.specs.Walk.{Outcome, done, stopped, Walk, Tester, pass, after_first, ◌>>=◌}
+use Rattle.rp_semantics.specs.Form.{touch_nearby, touching_pair}
 use Rattle.rp_model.specs.states.State.{Lot, ids_of}
 use Rattle.rp_model.specs.commands.Parts.{count_pairs, lot_parts, numbered_lists}
 use Rattle.rp_model.specs.commands.Access.{links_with_list, links_among_lists}

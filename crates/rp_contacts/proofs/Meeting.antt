@@ -7,8 +7,8 @@ use Rattle.std.proofs.lemmas.Option.{slice_get-map, slice_get_read}
 use Rattle.rp_algebra.proofs.Lists.{get_some, drop_item}
 use Rattle.rp_geometry.specs.sets.Shape.{Part}
 use Rattle.rp_language.specs.Name.{Label}
-use Rattle.rp_walks.specs.Walk.{Outcome, done, stopped, Walk, Tester, pass, after_first, ◌>>=◌}
-use Rattle.rp_walks.specs.Form.{touch_nearby}
+use Rattle.rp_semantics.specs.Walk.{Outcome, done, stopped, Walk, Tester, pass, after_first, ◌>>=◌}
+use Rattle.rp_semantics.specs.Form.{touch_nearby}
 use Rattle.rp_model.specs.states.State.{Lot}
 use Rattle.rp_model.specs.commands.Parts.{lot_parts}
 use Rattle.rp_model.specs.commands.Neighbours.{touched_lots}
@@ -20,7 +20,7 @@ use Rattle.rp_lotindex.specs.Near.{lots_at, AreWithin}
 use Rattle.rp_lotindex.proofs.Skipped.{touched_by}
 use Rattle.rp_contacts.specs.declared.pair.Pair.{Pair}
 use Rattle.rp_contacts.proofs.Items.{parts_there, id_there, first_there}
-use Rattle.rp_contacts.specs.Meets.{pair_of, pair_test, meet_each, id_at, ids_met, IsPairWithin}
+use Rattle.rp_contacts.specs.Meets.{pair_of, pair_test, meet_each, id_at, contact_ids, IsPairWithin}
 
 -- ---- the answers behind those so far
 
@@ -70,26 +70,26 @@ module _ {W : Type 0} (tester : Tester W) (lots : List (Lot (Unit {0}))) (j : �
   test_there k l at w = ap (λ (qs : List Part). touch_nearby tester qs (get_or (lot_parts lots) k []) w) own ∙ ap (λ (qs : List Part). touch_nearby tester ps qs w) (parts_there lots k l at)
 
   -- the walk over them finds the ids of those that meet
-  pub touched_met : (ks : List ℕ) → AreWithin lots ks → (found : List Label) (w : W) → touched_lots tester found ps (lots_at lots ks) w ≡ after_first (λ met. pass (found ++ ids_met lots ks met)) (answers_with ks w)
+  pub touched_met : (ks : List ℕ) → AreWithin lots ks → (found : List Label) (w : W) → touched_lots tester found ps (lots_at lots ks) w ≡ after_first (λ met. pass (found ++ contact_ids lots ks met)) (answers_with ks w)
   touched_met [] h found w = ap (λ (ids : List Label). done ids w) (sym (append-nil found))
   touched_met (k ∷ ks) h found w =
       let item = get_some lots k h.0 in
       let l = item.0 in
       ap (λ (ls : List (Lot (Unit {0}))). touched_lots tester found ps ls w) (first_there lots k l item.1 ks)
       ∙ by l.id (id_there lots k l item.1) (touch_nearby tester ps l.parts w) (touched_met ks h.1)
-      ∙ ap (after_first (λ met. pass (found ++ ids_met lots (k ∷ ks) met))) (ap (after_first (λ b. answers_with ks >>= (λ more. pass (b ∷ more)))) (sym (test_there k l item.1 w)))
+      ∙ ap (after_first (λ met. pass (found ++ contact_ids lots (k ∷ ks) met))) (ap (after_first (λ b. answers_with ks >>= (λ more. pass (b ∷ more)))) (sym (test_there k l item.1 w)))
     where
       one : (x : Label) → id_at lots k ≡ x → (b : Bool) (o : Outcome W (List Bool)) →
-          after_first (λ met. pass ((elim b as (λ _. List Label) [ true ↦ found ++ x ∷ [] | false ↦ found ]) ++ ids_met lots ks met)) o ≡ after_first (λ met. pass (found ++ ids_met lots (k ∷ ks) met)) (after_first (λ more. pass (b ∷ more)) o)
-      one x e true (done more v) = ap (λ (ids : List Label). done ids v) (append_assoc found (x ∷ []) (ids_met lots ks more) ∙ ap (λ (y : Label). found ++ y ∷ ids_met lots ks more) (sym e))
+          after_first (λ met. pass ((elim b as (λ _. List Label) [ true ↦ found ++ x ∷ [] | false ↦ found ]) ++ contact_ids lots ks met)) o ≡ after_first (λ met. pass (found ++ contact_ids lots (k ∷ ks) met)) (after_first (λ more. pass (b ∷ more)) o)
+      one x e true (done more v) = ap (λ (ids : List Label). done ids v) (append_assoc found (x ∷ []) (contact_ids lots ks more) ∙ ap (λ (y : Label). found ++ y ∷ contact_ids lots ks more) (sym e))
       one x e false (done more v) = refl
       one x e b (stopped s v) = refl
 
       Later : Type 0
-      Later = (found : List Label) (v : W) → touched_lots tester found ps (lots_at lots ks) v ≡ after_first (λ met. pass (found ++ ids_met lots ks met)) (answers_with ks v)
+      Later = (found : List Label) (v : W) → touched_lots tester found ps (lots_at lots ks) v ≡ after_first (λ met. pass (found ++ contact_ids lots ks met)) (answers_with ks v)
 
       by : (x : Label) → id_at lots k ≡ x → (o : Outcome W Bool) → Later →
-          after_first (λ more. touched_lots tester more ps (lots_at lots ks)) (after_first (touched_by found x) o) ≡ after_first (λ met. pass (found ++ ids_met lots (k ∷ ks) met)) (after_first (λ b. answers_with ks >>= (λ more. pass (b ∷ more))) o)
+          after_first (λ more. touched_lots tester more ps (lots_at lots ks)) (after_first (touched_by found x) o) ≡ after_first (λ met. pass (found ++ contact_ids lots (k ∷ ks) met)) (after_first (λ b. answers_with ks >>= (λ more. pass (b ∷ more))) o)
       by x e (done b v) later = later (elim b as (λ _. List Label) [ true ↦ found ++ x ∷ [] | false ↦ found ]) v ∙ one x e b (answers_with ks v)
       by x e (stopped s v) later = refl
 
@@ -106,11 +106,11 @@ pairs_within {A = A} xs ys j ks pairs many own others is = subst (AllByRecursion
 module _ (lines : List LotLine) (places : List ℕ) (met : List Bool) (i k d : ℕ) (e : Bool) (here : i < length places) (there : i < length met) (is : k ≡ get_or places i d) where
   -- the rest
   abbrev rest : List Label
-  rest = ids_met (map lot_of lines) (drop (i + 1) places) (drop (i + 1) met)
+  rest = contact_ids (map lot_of lines) (drop (i + 1) places) (drop (i + 1) met)
 
   -- the next one and the rest are left
-  ids_left : (b : Bool) → get_or met i e ≡ b → ids_met (map lot_of lines) (drop i places) (drop i met) ≡ cond b (id_at (map lot_of lines) k ∷ rest) rest
-  ids_left b f = λ j. ids_met (map lot_of lines) (drop_item places i k here (is ∙ get_or_default places i d k here) j) (drop_item met i b there (sym f ∙ get_or_default met i e b there) j)
+  ids_left : (b : Bool) → get_or met i e ≡ b → contact_ids (map lot_of lines) (drop i places) (drop i met) ≡ cond b (id_at (map lot_of lines) k ∷ rest) rest
+  ids_left b f = λ j. contact_ids (map lot_of lines) (drop_item places i k here (is ∙ get_or_default places i d k here) j) (drop_item met i b there (sym f ∙ get_or_default met i e b there) j)
 
   -- the id of a line
   line_id : (line : LotLine) → k < length lines → line ≡ get_or lines k line → id_at (map lot_of lines) k ≡ line.id
@@ -118,7 +118,7 @@ module _ (lines : List LotLine) (places : List ℕ) (met : List Bool) (i k d : �
       ap (λ (o : Option (Lot (Unit {0}))). elim o as (λ _. Label) [ None ↦ [] | Some l ↦ l.id ]) (slice_get-map lot_of lines k ∙ ap (option_map lot_of) (slice_get_read lines (length lines) k line refl within at))
 
   -- it is taken
-  pub id_taken : (line : LotLine) (ids new all : List Label) → get_or met i e ≡ true → k < length lines → line ≡ get_or lines k line → new ≡ ids ++ line.id ∷ [] → ids ++ ids_met (map lot_of lines) (drop i places) (drop i met) ≡ all → new ++ rest ≡ all
+  pub id_taken : (line : LotLine) (ids new all : List Label) → get_or met i e ≡ true → k < length lines → line ≡ get_or lines k line → new ≡ ids ++ line.id ∷ [] → ids ++ contact_ids (map lot_of lines) (drop i places) (drop i met) ≡ all → new ++ rest ≡ all
   id_taken line ids new all f within at more h =
       ap (λ (xs : List Label). xs ++ rest) more
       ∙ append_assoc ids (line.id ∷ []) rest
@@ -127,5 +127,5 @@ module _ (lines : List LotLine) (places : List ℕ) (met : List Bool) (i k d : �
       ∙ h
 
   -- it is passed over
-  pub id_passed : (ids new all : List Label) → get_or met i e ≡ false → new ≡ ids → ids ++ ids_met (map lot_of lines) (drop i places) (drop i met) ≡ all → new ++ rest ≡ all
+  pub id_passed : (ids new all : List Label) → get_or met i e ≡ false → new ≡ ids → ids ++ contact_ids (map lot_of lines) (drop i places) (drop i met) ≡ all → new ++ rest ≡ all
   id_passed ids new all f same h = ap (λ (xs : List Label). xs ++ rest) same ∙ sym (ap (λ (xs : List Label). ids ++ xs) (ids_left false f)) ∙ h

@@ -8,7 +8,7 @@ use Rattle.rp_algebra.proofs.Listed.{all_append}
 use Rattle.rp_algebra.proofs.Lists.{get_some, all_filter}
 use Rattle.rp_geometry.specs.sets.Shape.{Part}
 use Rattle.rp_language.specs.Name.{Label, label_eq}
-use Rattle.rp_walks.specs.Form.{touching_pair}
+use Rattle.rp_semantics.specs.Form.{touching_pair}
 use Rattle.rp_model.specs.states.State.{Lot, bare_lot, is_live, live_lots, lots_of_layer, ids_of}
 use Rattle.rp_model.specs.states.Sound.{are_distinct}
 use Rattle.rp_model.specs.commands.Parts.{count_with_each, count_among, lot_parts}
@@ -19,7 +19,7 @@ use Rattle.rp_history.proofs.Bare.{line_at, history_ids}
 use Rattle.rp_history.proofs.Found.{there, one_place}
 use Rattle.rp_history.proofs.Places.{left_further, places_below}
 use Rattle.rp_history.specs.Places.{is_asked, is_live_in, live_places}
-use Rattle.rp_tester.specs.declared.stopped.Stopped.{Stopped}
+use Rattle.rp_oracle.specs.declared.stopped.Stopped.{Stopped}
 use Rattle.rp_lotindex.specs.declared.near.Reach.{Reach}
 use Rattle.rp_lotindex.specs.declared.near.Reach.TheVariants.{Touch}
 use Rattle.rp_lotindex.specs.Near.{others_in, pairs_with, is_near, lots_at, AreWithin}

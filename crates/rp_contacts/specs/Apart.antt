@@ -1,14 +1,14 @@
 -- Pairs of lots that are shown to be apart, test by test.
 use Rattle.std.specs.Prelude.{◌≡◌, true, false, List, [], ◌∷◌, get_or, Result, Ok, Err}
 use Rattle.rp_geometry.specs.sets.Shape.{Part}
-use Rattle.rp_walks.specs.Walk.{taken_wrong, Outcome, Walk, Tester, pass, stop, after_first, ◌>>=◌}
-use Rattle.rp_walks.specs.Form.{common_nearby}
+use Rattle.rp_semantics.specs.Walk.{taken_wrong, Outcome, Walk, Tester, pass, stop, after_first, ◌>>=◌}
+use Rattle.rp_semantics.specs.Form.{common_nearby}
 use Rattle.rp_model.specs.states.State.{Lot}
 use Rattle.rp_model.specs.commands.Verdict.{clear}
 use Rattle.rp_model.specs.commands.Reply.{Reply, reply}
 use Rattle.rp_model.specs.commands.Parts.{lot_parts}
-use Rattle.rp_tester.specs.declared.stopped.Stopped.{Stopped}
-use Rattle.rp_tester.specs.Comes.{StopsBy}
+use Rattle.rp_oracle.specs.declared.stopped.Stopped.{Stopped}
+use Rattle.rp_oracle.specs.Refines.{StopsBy}
 use Rattle.rp_contacts.specs.declared.pair.Pair.{Pair}
 use Rattle.rp_contacts.specs.declared.audit.AuditLeft.{AuditLeft}
 

@@ -3,7 +3,7 @@ use Rattle.std.specs.Prelude.{◌≡◌, ◌<◌, ◌≤◌, Bool, List, [], len
 use Rattle.std.specs.List.{AllByRecursion}
 use Rattle.rp_geometry.specs.sets.Shape.{Part}
 use Rattle.rp_language.specs.Name.{Label}
-use Rattle.rp_walks.specs.Walk.{Outcome, done, Walk, Tester, pass, after_first, ◌>>◌}
+use Rattle.rp_semantics.specs.Walk.{Outcome, done, Walk, Tester, pass, after_first, ◌>>◌}
 use Rattle.rp_model.specs.states.State.{Lot, place_among, most_kept_parts}
 use Rattle.rp_model.specs.commands.Verdict.{neighbour_lines}
 use Rattle.rp_model.specs.commands.Reply.{Reply, reply_lines}
@@ -14,11 +14,11 @@ use Rattle.rp_lotindex.specs.declared.near.Reach.TheVariants.{Touch}
 use Rattle.rp_lotindex.specs.Near.{pairs_with}
 use Rattle.rp_answer.specs.declared.reply.RowEnd.{RowEnd}
 use Rattle.rp_answer.specs.Replies.{EndsBy}
-use Rattle.rp_tester.specs.declared.stopped.Stopped.{Stopped}
-use Rattle.rp_tester.specs.Comes.{StopsBy}
+use Rattle.rp_oracle.specs.declared.stopped.Stopped.{Stopped}
+use Rattle.rp_oracle.specs.Refines.{StopsBy}
 use Rattle.rp_contacts.specs.declared.links.AccessLeft.{AccessLeft}
 use Rattle.rp_contacts.specs.declared.touching.TouchLeft.{TouchLeft}
-use Rattle.rp_contacts.specs.Meets.{meet_each, ids_met}
+use Rattle.rp_contacts.specs.Meets.{meet_each, contact_ids}
 use Rattle.rp_contacts.specs.Numbers.{AreBelow, links_met}
 
 -- the row comes to the reply, as the model sees the result, or ends so, and the work is this
@@ -34,12 +34,12 @@ touch_counted tester ps lots = do
 
 -- the tests of some pairs are left of a walk that looks for the lots in contact; or it stops
 abbrev pub LeavesPairs : {W S : Type 0} → Result TouchLeft Stopped → List (Lot S) → Tester W → W → Outcome W (List Label) → Type 0
-LeavesPairs (Ok left) lots tester w o = o ≡ after_first (λ met. pass (ids_met lots left.places.items met)) (meet_each tester Touch (lot_parts lots) [] left.pairs.items w)
+LeavesPairs (Ok left) lots tester w o = o ≡ after_first (λ met. pass (contact_ids lots left.places.items met)) (meet_each tester Touch (lot_parts lots) [] left.pairs.items w)
 LeavesPairs (Err e) lots tester w o = StopsBy e w o
 
 -- the reply that tells the ids of those lots at some places that meet
 abbrev pub contacts_reply : {S : Type 0} → List (Lot S) → TouchLeft → List Bool → Reply
-contacts_reply lots left met = reply_lines (neighbour_lines (ids_met lots left.places.items met))
+contacts_reply lots left met = reply_lines (neighbour_lines (contact_ids lots left.places.items met))
 
 -- the tests of some pairs are left of the row of neighbours, and the reply tells the lots that meet; or it ends
 abbrev pub LeavesContacts : {W S : Type 0} → Result TouchLeft RowEnd → List (Lot S) → Tester W → W → Outcome W Reply → Type 0

@@ -2,8 +2,8 @@
 use Rattle.std.specs.Prelude.{ℕ, ◌<◌, Bool, List, [], ◌∷◌, ◌++◌, length, get_or, Some, None, slice_get, cond}
 use Rattle.rp_geometry.specs.sets.Shape.{Part}
 use Rattle.rp_language.specs.Name.{Label}
-use Rattle.rp_walks.specs.Walk.{Walk, Tester, pass, ◌>>=◌}
-use Rattle.rp_walks.specs.Form.{common_nearby, touch_nearby}
+use Rattle.rp_semantics.specs.Walk.{Walk, Tester, pass, ◌>>=◌}
+use Rattle.rp_semantics.specs.Form.{common_nearby, touch_nearby}
 use Rattle.rp_model.specs.states.State.{Lot}
 use Rattle.rp_model.specs.commands.Parts.{lot_parts}
 use Rattle.rp_lotindex.specs.declared.near.Reach.{Reach}
@@ -45,7 +45,7 @@ abbrev pub id_at : {S : Type 0} → List (Lot S) → ℕ → Label
 id_at lots k = elim (slice_get lots k) [ None ↦ [] | Some l ↦ l.id ]
 
 -- the ids of those of the lots at some places that meet
-abbrev pub ids_met : {S : Type 0} → List (Lot S) → List ℕ → List Bool → List Label
-ids_met lots [] met = []
-ids_met lots (k ∷ ks) [] = []
-ids_met lots (k ∷ ks) (b ∷ met) = cond b (id_at lots k ∷ ids_met lots ks met) (ids_met lots ks met)
+abbrev pub contact_ids : {S : Type 0} → List (Lot S) → List ℕ → List Bool → List Label
+contact_ids lots [] met = []
+contact_ids lots (k ∷ ks) [] = []
+contact_ids lots (k ∷ ks) (b ∷ met) = cond b (id_at lots k ∷ contact_ids lots ks met) (contact_ids lots ks met)

@@ -1,7 +1,7 @@
 -- Pairs of some lots, by their places and by the numbers of their places.
 use Rattle.std.specs.Prelude.{ℕ, ◌<◌, Bool, not, ◌==◌, List, [], ◌∷◌, ◌++◌, map, get_or, cond}
 use Rattle.rp_geometry.specs.sets.Shape.{Part}
-use Rattle.rp_walks.specs.Form.{touching_pair}
+use Rattle.rp_semantics.specs.Form.{touching_pair}
 use Rattle.rp_model.specs.states.State.{Lot}
 use Rattle.rp_model.specs.commands.Parts.{count_pairs}
 use Rattle.rp_history.specs.Places.{IsOneOf}

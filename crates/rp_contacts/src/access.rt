@@ -22,14 +22,14 @@ use rp_lists::{Name, Names};
 use rp_lotindex::Reach;
 use rp_lots::{Keeper, count_tests};
 use rp_rows::Access;
-use rp_tester::{Stopped, Tests};
+use rp_oracle::{Stopped, Oracle};
 use std::alloc::{AllocError, Global};
 
 /// Begins `access` from the lot `from` to the lot `to`, up to the tests of pairs, which are counted in `tests`.
 /// Refusals, in this order: `Unknown(from)` and `Unknown(to)` where one isn't live; `Layers(to)` where the layers
 /// differ. `Limit` where more pairs of parts of lots of the layer have boxes that meet, the boundary included, than may
 /// be tested.
-pub fn access_left<T: Tests, K: Keeper<T>>(
+pub fn access_left<T: Oracle, K: Keeper<T>>(
     alloc: Global,
     keeper: &K,
     from: Name,
@@ -45,7 +45,7 @@ pub fn access_left<T: Tests, K: Keeper<T>>(
 }
 
 /// Begins `access` from `from` to `to`, as `access_left`, behind the checks on both ids: they are live lots of `layer`.
-fn layer_left<T: Tests, K: Keeper<T>>(
+fn layer_left<T: Oracle, K: Keeper<T>>(
     alloc: Global,
     keeper: &K,
     layer: Name,

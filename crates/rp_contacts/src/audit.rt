@@ -9,7 +9,7 @@ use crate::behind::{later_pairs, live_places};
 use crate::pair::Pair;
 use rp_lotindex::Reach;
 use rp_lots::{Keeper, count_tests};
-use rp_tester::{Stopped, Tests};
+use rp_oracle::{Stopped, Oracle};
 use std::alloc::Global;
 
 /// What is left of `audit` once its tests are counted: how many lots are live, and the pairs of those of one layer that
@@ -22,7 +22,7 @@ pub struct AuditLeft {
 
 /// Begins `audit`, up to the tests of pairs, which are counted in `tests`. `Limit` exactly where more pairs of parts,
 /// of two live lots of one layer, have boxes that share more than boundary than may be tested.
-pub fn audit_left<T: Tests, K: Keeper<T>>(
+pub fn audit_left<T: Oracle, K: Keeper<T>>(
     alloc: Global,
     keeper: &K,
     tests: &mut T,

@@ -12,7 +12,7 @@ use rp_history::History;
 use rp_lists::Name;
 use rp_lotindex::Reach;
 use rp_lots::{Keeper, Near, form_at, lots_near};
-use rp_tester::{MAX_TESTS, Stopped, Tests};
+use rp_oracle::{MAX_TESTS, Stopped, Oracle};
 use std::alloc::{AllocError, Global};
 
 /// Pairs of lots, by their places, and how many pairs of their parts may meet.
@@ -54,7 +54,7 @@ fn is_asked(layer: &Name, asked: &Option<Name>) -> bool
 
 /// Returns the live lots behind a live one, of its layer, that have a part that may meet one of its own. `Limit`
 /// exactly where there are more pairs of such parts than a command may test.
-fn later_near<T: Tests, K: Keeper<T>>(
+fn later_near<T: Oracle, K: Keeper<T>>(
     alloc: Global,
     keeper: &K,
     place: usize,
@@ -72,7 +72,7 @@ fn later_near<T: Tests, K: Keeper<T>>(
 /// Returns the pairs of each lot at `places` with the live lots of its layer behind it that have a part which may meet
 /// one of its own, as `reach` says, in the order of the first and then of the second; and how many pairs of such parts
 /// there are. `Limit` exactly where these are more than a command may test.
-pub(crate) fn later_pairs<T: Tests, K: Keeper<T>>(
+pub(crate) fn later_pairs<T: Oracle, K: Keeper<T>>(
     alloc: Global,
     keeper: &K,
     places: &[usize],

@@ -17,4 +17,4 @@ pub use access::{access_left, access_told};
 pub use audit::{AuditLeft, audit_left};
 pub use links::AccessLeft;
 pub use pair::Pair;
-pub use touching::{TouchLeft, ids_met, touch_left};
+pub use touching::{TouchLeft, contact_ids, pending_contacts};

@@ -6,7 +6,7 @@ ghost use Rattle.rp_model.specs.commands.Neighbours.{row_neighbours};
 ghost use Rattle.rp_history.specs.Lots.{lot_of};
 ghost use Rattle.rp_lotindex.specs.Near.{others_in, AreWithin};
 ghost use Rattle.rp_contacts.specs.Asked.{LeavesContacts, touch_counted, LeavesPairs};
-ghost use Rattle.rp_contacts.specs.Meets.{pair_of, parts_at, ids_met, IsPairWithin};
+ghost use Rattle.rp_contacts.specs.Meets.{pair_of, parts_at, contact_ids, IsPairWithin};
 
 use crate::pair::Pair;
 use rp_answer::RowEnd;
@@ -14,11 +14,11 @@ use rp_history::LotLine;
 use rp_lists::{Listed, Name, Names};
 use rp_lotindex::Reach;
 use rp_lots::{Keeper, count_tests, form_at, lots_near};
-use rp_tester::{Stopped, Tests};
+use rp_oracle::{Stopped, Oracle};
 use std::alloc::{AllocError, Global};
 
 /// What is left of `neighbours` once its tests are counted: the places of the lots that may touch the one that is asked
-/// for, and its pairs with them, in order, which are to be judged. [`ids_met`] tells the neighbours by the answers.
+/// for, and its pairs with them, in order, which are to be judged. [`contact_ids`] tells the neighbours by the answers.
 #[derive(Drop)]
 pub struct TouchLeft {
     pub places: Listed<usize>,
@@ -28,7 +28,7 @@ pub struct TouchLeft {
 /// Begins `neighbours`, up to the tests of pairs: the other live lots of the layer of the lot `id` that have a part
 /// which may touch one of its own. `Unknown(id)` where it isn't live; `Limit` where more pairs of their parts have
 /// boxes that meet, the boundary included, than may be tested.
-pub fn touch_left<T: Tests, K: Keeper<T>>(
+pub fn pending_contacts<T: Oracle, K: Keeper<T>>(
     alloc: Global,
     keeper: &K,
     id: Name,
@@ -46,9 +46,9 @@ pub fn touch_left<T: Tests, K: Keeper<T>>(
     Ok(contacts_left::<T, K>(alloc, keeper, place, &layer, &id, tests)?)
 }
 
-/// Begins `neighbours` of the lot at `place`, as `touch_left`, behind the check on its id: the live lots of `layer`
+/// Begins `neighbours` of the lot at `place`, as `pending_contacts`, behind the check on its id: the live lots of `layer`
 /// with another id than `id` that have a part which may touch one of its own.
-fn contacts_left<T: Tests, K: Keeper<T>>(
+fn contacts_left<T: Oracle, K: Keeper<T>>(
     alloc: Global,
     keeper: &K,
     place: usize,
@@ -92,7 +92,7 @@ fn pairs_with(alloc: Global, first: usize, others: &[usize]) -> Result<Vec<Pair>
 }
 
 /// Returns the ids of the lots, of `lots`, at those of `places` for which `met` says yes, in order.
-pub fn ids_met(
+pub fn contact_ids(
     alloc: Global,
     lots: &[LotLine],
     places: &[usize],
@@ -100,7 +100,7 @@ pub fn ids_met(
 ) -> Result<Names, AllocError>
     requires within { AreWithin lots.now places.now }
     requires each { length met.now ≡ length places.now }
-    ensures ids { IfOk result (λ ids. ids.items ≡ ids_met (map lot_of lots.now) places.now met.now) }
+    ensures ids { IfOk result (λ ids. ids.items ≡ contact_ids (map lot_of lots.now) places.now met.now) }
     ensures few { IfOk result (λ ids. length ids.items ≤ length places.now) }
 {
     let mut ids = Names::new(alloc);

@@ -11,9 +11,9 @@ use Rattle.sqlite_trees.specs.View.{doubt}
 use Rattle.sqlite.specs.State.{State, HasCleanDisk, IsUnchanged, Survives}
 use Rattle.rp_book.specs.Act.{Told, HasNumbers}
 use Rattle.rp_book.specs.Lines.{HasEnd}
-use Rattle.rp_entries.specs.Entry.{AddsEntry, Fields, GainsEntry, ListsEntries, MakesTable, book_schema, entries_in, entry_values, fields_of, shown_entry}
+use Rattle.rp_book_schema.specs.Entry.{AddsEntry, Fields, GainsEntry, ListsEntries, MakesTable, book_schema, entries_in, entry_values, fields_of, shown_entry}
 use Rattle.rp_disk_book.specs.Kept.{Kept}
-use Rattle.rp_disk_book.specs.Disk.{AreEntries, GainsRow, HasRead, HoldsScript, IsBook, IsEntry, FindsInDatabase}
+use Rattle.rp_disk_book.specs.Disk.{AreEntries, GainsRow, HasRead, HoldsScript, IsBook, IsEntry, RecoverableFromDatabase}
 use Rattle.rp_disk_book.proofs.EntryLemmas.{AreEntries-push}
 
 -- a row with a free number comes to the others
@@ -101,7 +101,7 @@ module _ (old new : State) (acts : List Told) (act : Told) (script lines : List 
 
   -- what a crash leaves is what it left before, or has all the lines
   pub finds_more : (old.now.schema ≡ book_schema → Survives old new (λ db. GainsEntry (entries_in old.now.trees) (entries_in db) (fields_at (length acts + 1) act lines)))
-      → (test : List ℕ → Bool) → FindsInDatabase old test → IsTrue (test (script ++ lines)) → FindsInDatabase new test
+      → (test : List ℕ → Bool) → RecoverableFromDatabase old test → IsTrue (test (script ++ lines)) → RecoverableFromDatabase new test
   finds_more survives test finds passes = λ now db may.
       let before = was_clean now in
       let it = b before in

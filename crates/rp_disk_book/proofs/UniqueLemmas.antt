@@ -8,8 +8,8 @@ use Rattle.sqlite.specs.Order.{Row}
 use Rattle.sqlite.specs.Tree.{Trees, rowid}
 use Rattle.sqlite.specs.State.{State, HasCleanDisk}
 use Rattle.rp_book.specs.Act.{Told}
-use Rattle.rp_entries.specs.Entry.{entries_in, shown_entry}
-use Rattle.rp_disk_book.specs.Disk.{AreEntries, HoldsScript, IsBook, FindsInDatabase}
+use Rattle.rp_book_schema.specs.Entry.{entries_in, shown_entry}
+use Rattle.rp_disk_book.specs.Disk.{AreEntries, HoldsScript, IsBook, RecoverableFromDatabase}
 use Rattle.rp_disk_book.proofs.EntryLemmas.{entries_script, shown_lines}
 
 -- each row has the number behind that of the row before it
@@ -73,7 +73,7 @@ one_script rows acts more one other h k =
 
 -- a book that is opened has a script that a book before promised an open to find
 pub is_found : (before s : State) (acts : List Told) (script : List ℕ) (db : Trees) → IsBook s acts script → s.committed.trees ≡ db
-    → HasCleanDisk before → before.may_leave db → (test : List ℕ → Bool) → FindsInDatabase before test → IsTrue (test script)
+    → HasCleanDisk before → before.may_leave db → (test : List ℕ → Bool) → RecoverableFromDatabase before test → IsTrue (test script)
 is_found before s acts script db book same clean may test finds =
     let found = finds clean db may in
     let holds : HoldsScript (entries_in db) acts script = subst (λ (d : Trees). HoldsScript (entries_in d) acts script) same book.holds in

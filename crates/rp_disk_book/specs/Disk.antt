@@ -9,7 +9,7 @@ use Rattle.sqlite.specs.State.{State, HasCleanDisk}
 use Rattle.sqlite.specs.Held.{Held, held_code}
 use Rattle.rp_book.specs.Act.{Told, HasNumbers}
 use Rattle.rp_book.specs.Lines.{HasEnd}
-use Rattle.rp_entries.specs.Entry.{book_schema, entries_in, shown_entry, told}
+use Rattle.rp_book_schema.specs.Entry.{book_schema, entries_in, shown_entry, told}
 use Rattle.rp_disk_book.specs.Kept.{Kept, with_act}
 
 -- a row that a query shows is the entry with the number, of this act
@@ -67,8 +67,8 @@ abbrev pub IsBookUntil : ℕ → State → List Told → List ℕ → Type 0
 IsBookUntil faults s acts script = faults ≡ 0 → HasCleanDisk s → IsBook s acts script
 
 -- each database that a crash may leave holds a script that passes the test
-abbrev pub FindsInDatabase : State → (List ℕ → Bool) → Type 0
-FindsInDatabase s test = HasCleanDisk s → (db : Trees) → s.may_leave db → (acts : List Told) × (script : List ℕ) × HoldsScript (entries_in db) acts script × IsTrue (test script)
+abbrev pub RecoverableFromDatabase : State → (List ℕ → Bool) → Type 0
+RecoverableFromDatabase s test = HasCleanDisk s → (db : Trees) → s.may_leave db → (acts : List Told) × (script : List ℕ) × HoldsScript (entries_in db) acts script × IsTrue (test script)
 
 -- a book as contracts see it
 pub record Opened (S : Type 0) : Type 0 where

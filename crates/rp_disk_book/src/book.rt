@@ -1,11 +1,11 @@
 ghost use Rattle.std.specs.Prelude.{◌≡◌, ◌≤◌, Some};
 ghost use Rattle.sqlite.specs.Held.{state};
 ghost use Rattle.sqlite.specs.State.{HasCleanDisk};
-ghost use Rattle.rp_disk_book.specs.Disk.{FindsInDatabase};
+ghost use Rattle.rp_disk_book.specs.Disk.{RecoverableFromDatabase};
 
 use crate::contents::Contents;
 use rp_book::{Act, Book, BookFault, Entry};
-use rp_entries::insert;
+use rp_book_schema::insert;
 use sqlite::{Alter, Connection, Error, ErrorCode};
 use std::alloc::{AllocError, Global};
 use std::marker::Model;
@@ -55,7 +55,7 @@ impl<S: Alter> Book for DiskBook<S> {
 
     ghost acts = { λ b. Some b.acts };
 
-    ghost finds = { λ b. FindsInDatabase (state S.Store b.conn) };
+    ghost recoverable = { λ b. RecoverableFromDatabase (state S.Store b.conn) };
 
     ghost has_honest_disk = { λ b. HasCleanDisk (state S.Store b.conn) };
 

@@ -5,14 +5,14 @@ ghost use Rattle.sqlite.specs.Order.{column};
 ghost use Rattle.sqlite.specs.State.{HasCleanDisk};
 ghost use Rattle.sqlite.specs.Held.{Held, state};
 ghost use Rattle.rp_book.specs.Act.{act_of};
-ghost use Rattle.rp_book.specs.Kept.{FindsOnly, MayFind};
+ghost use Rattle.rp_book.specs.Kept.{RecoversOnly, MayRecover};
 ghost use Rattle.rp_disk_book.specs.Kept.{IsKept, contents_of};
-ghost use Rattle.rp_disk_book.specs.Disk.{FindsInDatabase, HasRead, IsBookUntil, GainsRow, ShowsAct};
+ghost use Rattle.rp_disk_book.specs.Disk.{RecoverableFromDatabase, HasRead, IsBookUntil, GainsRow, ShowsAct};
 
 use crate::book::DiskBook;
 use crate::contents::{Contents, MOST_BYTES};
 use rp_book::{Act, has_end, line_numbers};
-use rp_entries::{create, has_entries, is_book, is_empty, select};
+use rp_book_schema::{create, has_entries, is_book, is_empty, select};
 use sqlite::types::ValueRef;
 use sqlite::{Alter, Connection, Error, Row};
 use std::alloc::{AllocError, Global};
@@ -128,8 +128,8 @@ impl<S: Alter + Drop> DiskBook<S> {
     pub fn create(alloc: Global, mut conn: Connection<S>) -> Result<DiskBook<S>, OpenFault>
         ensures empty { IfOk result (λ book. (book.script ≡ []) × (book.faults ≡ 0)) }
         ensures acts { IfOk result (λ book. book.acts ≡ []) }
-        ensures only { IfOk result (λ book. FindsOnly (FindsInDatabase (state S.Store book.conn)) (Some book.script)) }
-        ensures leaves { IfOk result (λ book. HasCleanDisk (state S.Store book.conn) → MayFind (FindsInDatabase (state S.Store book.conn)) (Some book.script)) }
+        ensures only { IfOk result (λ book. RecoversOnly (RecoverableFromDatabase (state S.Store book.conn)) (Some book.script)) }
+        ensures leaves { IfOk result (λ book. HasCleanDisk (state S.Store book.conn) → MayRecover (RecoverableFromDatabase (state S.Store book.conn)) (Some book.script)) }
     {
         if !is_empty(conn.schema()) || !conn.is_autocommit() {
             return Err(OpenFault::Taken);
@@ -149,9 +149,9 @@ impl<S: Alter + Drop> DiskBook<S> {
         ensures sound { IfOk result (λ book. book.faults ≡ 0) }
         ensures found { IfOk result (λ book. HasCleanDisk (state S.Store book.conn) → (before : Held S) → HasCleanDisk (state S.Store before)
             → (state S.Store before).may_leave (state S.Store conn).committed.trees
-            → (test : List ℕ → Bool) → FindsInDatabase (state S.Store before) test → IsTrue (test book.script)) }
-        ensures only { IfOk result (λ book. FindsOnly (FindsInDatabase (state S.Store book.conn)) (Some book.script)) }
-        ensures leaves { IfOk result (λ book. HasCleanDisk (state S.Store book.conn) → MayFind (FindsInDatabase (state S.Store book.conn)) (Some book.script)) }
+            → (test : List ℕ → Bool) → RecoverableFromDatabase (state S.Store before) test → IsTrue (test book.script)) }
+        ensures only { IfOk result (λ book. RecoversOnly (RecoverableFromDatabase (state S.Store book.conn)) (Some book.script)) }
+        ensures leaves { IfOk result (λ book. HasCleanDisk (state S.Store book.conn) → MayRecover (RecoverableFromDatabase (state S.Store book.conn)) (Some book.script)) }
     {
         if !is_book(conn.schema()) || !conn.is_autocommit() {
             return Err(other_fault(&conn));

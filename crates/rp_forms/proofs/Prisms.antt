@@ -7,10 +7,10 @@ use Rattle.rp_geometry.specs.sets.Prism.{Edge, edges_of, is_upright, Prism, IsPr
 use Rattle.rp_geometry.specs.sets.Shape.{Shape, Part, passes, shape_of_cell, shape_of_parts}
 use Rattle.rp_geometry.specs.parts.Parts.{most_parts, AreParts, AreOf}
 use Rattle.rp_geometry.specs.parts.Trapezoid.{trapezoid}
-use Rattle.rp_walks.specs.Walk.{Tester}
-use Rattle.rp_walks.specs.Form.{subtract, exchange, exchange_edge, exchange_edges, prism_form}
-use Rattle.rp_walks.specs.FormLaws.{IfDone, IsMadeOf, AnswersRightly, PrismIsRight}
-use Rattle.rp_walks.proofs.Outcomes.{weaker_done, then_done}
+use Rattle.rp_semantics.specs.Walk.{Tester}
+use Rattle.rp_semantics.specs.Form.{subtract, exchange, exchange_edge, exchange_edges, prism_form}
+use Rattle.rp_semantics.specs.FormLaws.{IfDone, IsMadeOf, AnswersRightly, PrismIsRight}
+use Rattle.rp_semantics.proofs.Outcomes.{weaker_done, then_done}
 use Rattle.rp_algebra.proofs.Listed.{all_append}
 use Rattle.rp_geometry.proofs.Members.{cell_passes_as}
 use Rattle.rp_parts.proofs.Parity.{differ, differ_false, parity}

@@ -5,8 +5,8 @@ use Rattle.std.proofs.lemmas.List.Sums.{sum_by-cons}
 use Rattle.rp_geometry.specs.Geometry.{HalfSpace}
 use Rattle.rp_geometry.specs.sets.Shape.{Part}
 use Rattle.rp_language.specs.Name.{Label, label_eq, is_among}
-use Rattle.rp_walks.specs.Walk.{Outcome, done, stopped, stop, taken_wrong, Walk, pass, after_first, Tester}
-use Rattle.rp_walks.specs.Form.{near_pair, touching_pair, test_pair_if, first_with_part, first_pair, common_nearby}
+use Rattle.rp_semantics.specs.Walk.{Outcome, done, stopped, stop, taken_wrong, Walk, pass, after_first, Tester}
+use Rattle.rp_semantics.specs.Form.{near_pair, touching_pair, test_pair_if, first_with_part, first_pair, common_nearby}
 use Rattle.rp_model.specs.states.State.{Lot, is_live, live_lots, lots_of_layer, other_lots, ids_of}
 use Rattle.rp_model.specs.commands.Parts.{count_pairs, lot_parts}
 use Rattle.rp_model.specs.commands.Register.{first_overlapped}

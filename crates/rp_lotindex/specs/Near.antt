@@ -5,7 +5,7 @@ use Rattle.std.specs.Option.{option_to_list}
 use Rattle.rp_geometry.specs.Geometry.{IntegerBox}
 use Rattle.rp_geometry.specs.sets.Shape.{Part}
 use Rattle.rp_language.specs.Name.{Label, label_eq}
-use Rattle.rp_walks.specs.Form.{near_pair, touching_pair}
+use Rattle.rp_semantics.specs.Form.{near_pair, touching_pair}
 use Rattle.rp_model.specs.states.State.{Lot, is_live, live_lots, lots_of_layer, other_lots}
 use Rattle.rp_model.specs.commands.Parts.{count_pairs, count_with_each, lot_parts}
 use Rattle.rp_boxindex.specs.Boxes.{Boxes}

@@ -1,7 +1,7 @@
 -- Changes that let lots end and others be born.
 use Rattle.std.proofs.Common.{◌≡◌, List, [], ◌∷◌, ◌++◌, length, Result, Ok, Err, refl, ap, sym, subst}
 use Rattle.rp_geometry.specs.sets.Shape.{Part}
-use Rattle.rp_walks.specs.Walk.{Outcome}
+use Rattle.rp_semantics.specs.Walk.{Outcome}
 use Rattle.rp_model.specs.states.State.{NewLot}
 use Rattle.rp_model.specs.commands.Reply.{Reply}
 use Rattle.rp_model.specs.commands.Parts.{new_lot}

@@ -5,8 +5,8 @@ use Rattle.std.proofs.lemmas.Option.{get_or_from_slice_get, slice_get-map}
 use Rattle.rp_algebra.proofs.Lists.{get_some}
 use Rattle.rp_geometry.specs.sets.Shape.{Part}
 use Rattle.rp_language.specs.Name.{Label}
-use Rattle.rp_walks.specs.Walk.{Walk}
-use Rattle.rp_walks.specs.Form.{parts_or_none}
+use Rattle.rp_semantics.specs.Walk.{Walk}
+use Rattle.rp_semantics.specs.Form.{parts_or_none}
 use Rattle.rp_model.specs.states.State.{Lot, PlainState, live_lot, parts_of_lot}
 use Rattle.rp_model.specs.commands.Verdict.{Refusal}
 use Rattle.rp_model.specs.commands.Reply.{Reply, check}

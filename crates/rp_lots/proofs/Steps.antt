@@ -1,13 +1,13 @@
 -- What the checks of a registration and of a subdivision come to, before any test.
 use Rattle.std.proofs.Common.{◌≡◌, ◌+◌, ℕ, Option, Some, None, ap, ap₂, sym, ◌∙◌, subst}
-use Rattle.rp_walks.specs.Walk.{done, Walk, after_first, ◌>>◌}
+use Rattle.rp_semantics.specs.Walk.{done, Walk, after_first, ◌>>◌}
 use Rattle.rp_model.specs.states.State.{most_kept_parts}
 use Rattle.rp_model.specs.commands.Verdict.{Refusal}
 use Rattle.rp_model.specs.commands.Checks.{and_then}
 use Rattle.rp_model.specs.commands.Reply.{Reply, refusal, check, check_size}
-use Rattle.rp_tester.specs.declared.stopped.Stopped.{Stopped}
-use Rattle.rp_tester.specs.Comes.{StopsBy}
-use Rattle.rp_tester.proofs.Left.{stops_on}
+use Rattle.rp_oracle.specs.declared.stopped.Stopped.{Stopped}
+use Rattle.rp_oracle.specs.Refines.{StopsBy}
+use Rattle.rp_oracle.proofs.Left.{stops_on}
 
 module _ {W : Type 0} (rest : Walk W Reply) (w : W) where
   -- two checks are passed, and the size is looked at

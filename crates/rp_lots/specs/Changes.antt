@@ -1,7 +1,7 @@
 -- What the row of a command that changes something comes to.
 use Rattle.std.specs.Prelude.{◌≡◌, List, map, Result, Ok, Err}
 use Rattle.rp_geometry.specs.sets.Shape.{Part}
-use Rattle.rp_walks.specs.Walk.{Outcome, done}
+use Rattle.rp_semantics.specs.Walk.{Outcome, done}
 use Rattle.rp_model.specs.states.State.{Change as ModelChange, name_added, lots_replaced, layer_changed}
 use Rattle.rp_model.specs.commands.Reply.{Reply, accepted}
 use Rattle.rp_history.specs.Parts.{new_lots}

@@ -3,7 +3,7 @@ ghost use Rattle.std.specs.Prelude.{◌≡◌, ◌<◌, ◌≤◌, ◌+◌, ℕ,
 ghost use Rattle.std.specs.List.{AllByRecursion};
 ghost use Rattle.rp_geometry.specs.parts.Parts.{most_parts};
 ghost use Rattle.rp_space.specs.Boxes.{integer_box};
-ghost use Rattle.rp_walks.specs.Walk.{stopped, limit_met, most_tests};
+ghost use Rattle.rp_semantics.specs.Walk.{stopped, limit_met, most_tests};
 ghost use Rattle.rp_model.specs.states.State.{PlainState, bare_lot, parts_under_lots, most_kept_parts};
 ghost use Rattle.rp_model.specs.commands.Parts.{lot_parts};
 ghost use Rattle.rp_lotindex.specs.Near.{others_in, is_near, lots_at, AreWithin};
@@ -12,13 +12,13 @@ use rp_history::History;
 use rp_lists::{Listed, Name};
 use rp_lotindex::Reach;
 use rp_space::IntBox;
-use rp_tester::Tests;
+use rp_oracle::Oracle;
 use std::alloc::{AllocError, Global};
 
 /// What keeps all lots that were ever registered, in the order of registration, with their forms.
 ///
 /// A contract sees in `state` the state as the model has it.
-pub trait Keeper<T: Tests> {
+pub trait Keeper<T: Oracle> {
     ghost state: { Self → PlainState };
 
     /// Does nothing: more tests than a command may make are never counted, and this makes it known.

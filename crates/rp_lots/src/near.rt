@@ -5,7 +5,7 @@ ghost use Rattle.rp_geometry.specs.parts.Parts.{most_parts};
 ghost use Rattle.rp_model.specs.commands.Parts.{count_pairs};
 ghost use Rattle.rp_lotindex.specs.Near.{may_meet, others_in, pairs_with, is_near, lots_at, AreWithin};
 ghost use Rattle.rp_space.specs.Boxes.{integer_box};
-ghost use Rattle.rp_tester.specs.Comes.{Comes};
+ghost use Rattle.rp_oracle.specs.Refines.{Refines};
 ghost use Rattle.rp_lots.specs.Boxes.{boxes_let};
 ghost use Rattle.rp_lots.specs.Counted.{CountsUpTo};
 
@@ -13,7 +13,7 @@ use crate::keeper::Keeper;
 use rp_lists::{Listed, Name};
 use rp_lotindex::Reach;
 use rp_space::IntBox;
-use rp_tester::{MAX_TESTS, Stopped, Tests};
+use rp_oracle::{MAX_TESTS, Stopped, Oracle};
 use std::alloc::Global;
 
 /// The lots that may meet a form: their places among all lots, and how many pairs of parts may meet.
@@ -24,7 +24,7 @@ pub struct Near {
 }
 
 /// Returns how many pairs of a part of `form` and one of `other` may meet.
-pub fn count_pairs<T: Tests, K: Keeper<T>>(form: &T::Form, other: &T::Form, reach: Reach) -> u64
+pub fn count_pairs<T: Oracle, K: Keeper<T>>(form: &T::Form, other: &T::Form, reach: Reach) -> u64
     requires first { length (T.parts_of form.now) ≤ most_parts }
     requires second { length (T.parts_of other.now) ≤ most_parts }
     ensures value { result ≡ count_pairs (may_meet reach) (T.parts_of form.now) (T.parts_of other.now) }
@@ -34,7 +34,7 @@ pub fn count_pairs<T: Tests, K: Keeper<T>>(form: &T::Form, other: &T::Form, reac
 }
 
 /// Returns how many pairs of a part of `parts` and one of `others` may meet.
-fn count_among<T: Tests, K: Keeper<T>>(parts: &[T::Part], others: &[T::Part], reach: Reach) -> u64
+fn count_among<T: Oracle, K: Keeper<T>>(parts: &[T::Part], others: &[T::Part], reach: Reach) -> u64
     requires first { length parts.now ≤ most_parts }
     requires second { length others.now ≤ most_parts }
     ensures value { result ≡ count_pairs (may_meet reach) (map T.seen parts.now) (map T.seen others.now) }
@@ -48,7 +48,7 @@ fn count_among<T: Tests, K: Keeper<T>>(parts: &[T::Part], others: &[T::Part], re
 }
 
 /// Returns how many of `others` may meet `part`.
-fn count_with_part<T: Tests, K: Keeper<T>>(part: &T::Part, others: &[T::Part], reach: Reach) -> u64
+fn count_with_part<T: Oracle, K: Keeper<T>>(part: &T::Part, others: &[T::Part], reach: Reach) -> u64
     requires { length others.now ≤ most_parts }
     ensures value { result ≡ count_by (λ q. may_meet reach (T.seen part.now) q) (map T.seen others.now) }
     ensures few { result ≤ length others.now }
@@ -63,7 +63,7 @@ fn count_with_part<T: Tests, K: Keeper<T>>(part: &T::Part, others: &[T::Part], r
 }
 
 /// Returns whether the boxes of two parts let them meet.
-fn may_meet<T: Tests, K: Keeper<T>>(first: &T::Part, second: &T::Part, reach: Reach) -> bool
+fn may_meet<T: Oracle, K: Keeper<T>>(first: &T::Part, second: &T::Part, reach: Reach) -> bool
     ensures { result ≡ may_meet reach (T.seen first.now) (T.seen second.now) }
 {
     do_boxes_meet(K::bounds(first), K::bounds(second), reach)
@@ -72,7 +72,7 @@ fn may_meet<T: Tests, K: Keeper<T>>(first: &T::Part, second: &T::Part, reach: Re
 /// Returns the live lots of `layer`, from the place `from` on, that have another id than `id` and a part that may meet
 /// one of `form`'s, in the order of registration. `Limit` exactly where there are more pairs of such parts than a
 /// command may test.
-pub fn lots_near<T: Tests, K: Keeper<T>>(
+pub fn lots_near<T: Oracle, K: Keeper<T>>(
     alloc: Global,
     keeper: &K,
     form: &T::Form,
@@ -94,7 +94,7 @@ pub fn lots_near<T: Tests, K: Keeper<T>>(
 
 /// Those of some places whose lots have a part that may meet one of `form`'s, in order, and how many pairs of such
 /// parts there are. `Limit` exactly where these are more than a command may test.
-fn count_at<T: Tests, K: Keeper<T>>(
+fn count_at<T: Oracle, K: Keeper<T>>(
     alloc: Global,
     keeper: &K,
     form: &T::Form,
@@ -138,7 +138,7 @@ fn do_boxes_meet(first: &IntBox, second: &IntBox, reach: Reach) -> bool
 }
 
 /// Returns the form of the lot at a place, ended or not.
-pub fn form_at<T: Tests, K: Keeper<T>>(keeper: &K, place: usize) -> &T::Form
+pub fn form_at<T: Oracle, K: Keeper<T>>(keeper: &K, place: usize) -> &T::Form
     requires { place < length (K.state keeper.now).lots }
     ensures { option_map (λ l. l.parts) (slice_get (K.state keeper.now).lots place) ≡ Some (T.parts_of result.now) }
 {
@@ -146,8 +146,8 @@ pub fn form_at<T: Tests, K: Keeper<T>>(keeper: &K, place: usize) -> &T::Form
 }
 
 /// Counts so many tests. `Limit` exactly where these are too many.
-pub fn count_tests<T: Tests>(tests: &mut T, n: u64) -> Result<(), Stopped>
-    ensures { Comes (λ x. x) result tests.new (T.tester.count n tests.old) }
+pub fn count_tests<T: Oracle>(tests: &mut T, n: u64) -> Result<(), Stopped>
+    ensures { Refines (λ x. x) result tests.new (T.tester.count n tests.old) }
 {
     if !tests.count(n) {
         return Err(Stopped::Limit);

@@ -1,20 +1,20 @@
 //! What keeps a register, for the rows that change it.
 ghost use Rattle.std.specs.Prelude.{◌≡◌, ◌+◌, ◌&&◌, filter, length, nat_le};
-ghost use Rattle.rp_walks.specs.Form.{common_nearby};
+ghost use Rattle.rp_semantics.specs.Form.{common_nearby};
 ghost use Rattle.rp_model.specs.states.State.{lots_of_layer, parts_in, parts_under_names, most_names, most_kept_parts};
 ghost use Rattle.rp_model.specs.commands.At.{owner_line};
 ghost use Rattle.rp_lotindex.specs.Owner.{is_there, owner_verdict};
-ghost use Rattle.rp_tester.specs.Comes.{Comes};
+ghost use Rattle.rp_oracle.specs.Refines.{Refines};
 
 use crate::keeper::Keeper;
 use rp_lists::Name;
 use rp_lotindex::Moment;
 use rp_space::Point;
-use rp_tester::{Named, Stopped, Tests};
+use rp_oracle::{Named, Stopped, Oracle};
 use std::alloc::Global;
 
 /// What keeps lots and finds whether forms overlap.
-pub trait Overlaps<T: Tests>: Keeper<T> {
+pub trait Overlaps<T: Oracle>: Keeper<T> {
     /// Returns whether `form` and `other` share a point: only those pairs of parts are tested whose boxes share more
     /// than boundary, up to the first that does, and nothing is counted.
     fn overlap(
@@ -23,11 +23,11 @@ pub trait Overlaps<T: Tests>: Keeper<T> {
         other: &T::Form,
         tests: &mut T,
     ) -> Result<bool, Stopped>
-        ensures { Comes (λ found. found) result tests.new (common_nearby T.tester (T.parts_of form.now) (T.parts_of other.now) tests.old) };
+        ensures { Refines (λ found. found) result tests.new (common_nearby T.tester (T.parts_of form.now) (T.parts_of other.now) tests.old) };
 }
 
 /// What keeps a whole register: lots, names and the present layer.
-pub trait Registry<T: Tests>: Overlaps<T> + Named<T> {
+pub trait Registry<T: Oracle>: Overlaps<T> + Named<T> {
     /// Does nothing: names and live lots stand for the parts that the state has, and this makes it known.
     fn keep_meaning(&self)
         ensures { Self.meaning self.now ≡ parts_in (Self.state self.now) };

@@ -7,7 +7,7 @@ use Rattle.rp_algebra.proofs.Lists.{all_filter}
 use Rattle.rp_geometry.specs.sets.Shape.{Shape, Part, shape_of_parts}
 use Rattle.rp_geometry.specs.parts.Parts.{IsPart, IsRegion, AreOf}
 use Rattle.rp_language.specs.Name.{Label, label_eq}
-use Rattle.rp_walks.specs.FormLaws.{Agree, MeaningsAgree}
+use Rattle.rp_semantics.specs.FormLaws.{Agree, MeaningsAgree}
 use Rattle.rp_model.specs.states.State.{Kept, Lot, PlainState, kept_of_parts, lot_of_parts, state_of_parts, parts_in, is_live, live_lots, live_lot, lot_with_id, kept_named, parts_of_kept, parts_of_lot}
 use Rattle.rp_model.specs.states.Sound.{IsSound}
 use Rattle.rp_model.specs.commands.Parts.{shapes_of_parts}

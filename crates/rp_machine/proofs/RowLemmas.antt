@@ -1,7 +1,7 @@
 -- What the rows of commands come to.
 use Rattle.std.proofs.Common.{◌≡◌, ℤ, List, refl}
 use Rattle.rp_geometry.specs.sets.Shape.{Part}
-use Rattle.rp_walks.specs.Walk.{Work, done, slices_found, first_tester}
+use Rattle.rp_semantics.specs.Walk.{Work, done, slices_found, first_tester}
 use Rattle.rp_model.specs.commands.Verdict.{section_lines}
 use Rattle.rp_model.specs.commands.Reply.{reply_lines}
 use Rattle.rp_model.specs.commands.Section.{row_section}

@@ -4,20 +4,20 @@ use Rattle.std.specs.Prelude.{IfSome, IsNone, OnOk}
 use Rattle.rp_geometry.specs.sets.Shape.{Part}
 use Rattle.rp_language.specs.Expression.{Command}
 use Rattle.rp_language.specs.Grammar.{Version, Reading, command, reading}
-use Rattle.rp_walks.specs.Walk.{Stop, Outcome, stopped, Work, no_work, first_tester}
+use Rattle.rp_semantics.specs.Walk.{Stop, Outcome, stopped, Work, no_work, first_tester}
 use Rattle.rp_model.specs.states.State.{PlainState, changed}
 use Rattle.rp_model.specs.commands.Reply.{Reply}
 use Rattle.rp_model.specs.commands.Row.{row}
 use Rattle.rp_model.specs.commands.Rule.{walked, proofs_walked}
 use Rattle.rp_reports.specs.Text.{Answer}
 use Rattle.rp_reports.specs.Machine.{verdicts_walked, change_walked, answer_read, state_read, step_answer, step_state, Running, after_line}
-use Rattle.rp_tester.specs.declared.stopped.Stopped.{Stopped}
-use Rattle.rp_tester.specs.Comes.{stop_of, StopsBy}
+use Rattle.rp_oracle.specs.declared.stopped.Stopped.{Stopped}
+use Rattle.rp_oracle.specs.Refines.{stop_of, StopsBy}
 use Rattle.rp_answer.specs.declared.reply.RowEnd.{RowEnd}
 use Rattle.rp_answer.specs.declared.reply.RowEnd.TheVariants.{Refused, Stopped as StoppedEnd}
-use Rattle.rp_ledger.specs.declared.reply.Reply.{Reply as CodeReply}
-use Rattle.rp_ledger.specs.declared.reply.Reply.TheVariants.{Told, Changed}
-use Rattle.rp_ledger.specs.Rows.{Replies}
+use Rattle.rp_register_state.specs.declared.reply.Reply.{Reply as CodeReply}
+use Rattle.rp_register_state.specs.declared.reply.Reply.TheVariants.{Told, Changed}
+use Rattle.rp_register_state.specs.Rows.{Replies}
 use Rattle.rp_machine.specs.Replies.{made_by_row, IsWant, verdicts_of_row, proofs_of_row}
 
 -- ---- a line as it is read

@@ -1,6 +1,6 @@
 -- What a call that makes the form of an expression has made of it.
 use Rattle.std.specs.Prelude.{◌≡◌, Result, Ok, Err}
-use Rattle.rp_walks.specs.Walk.{done, stopped, limit_met, Walk, Work}
+use Rattle.rp_semantics.specs.Walk.{done, stopped, limit_met, Walk, Work}
 use Rattle.rp_region.specs.declared.fault.OpFault.{OpFault}
 use Rattle.rp_region.specs.declared.fault.OpFault.TheVariants.{Limit as OpLimit, Memory as OpMemory}
 use Rattle.rp_region.specs.Makes.{IsCutShort}

@@ -5,14 +5,14 @@ use Rattle.rp_geometry.specs.sets.Shape.{Part}
 use Rattle.rp_model.specs.states.State.{Change as ModelChange, nothing_changes}
 use Rattle.rp_model.specs.commands.Verdict.{Verdict, says_ok, refused, limit}
 use Rattle.rp_answer.specs.Views.{refusal_of, verdict_of}
-use Rattle.rp_tester.specs.Comes.{stop_of}
+use Rattle.rp_oracle.specs.Refines.{stop_of}
 use Rattle.rp_lots.specs.declared.change.Change.{Change}
 use Rattle.rp_lots.specs.Changes.{change_of}
 use Rattle.rp_answer.specs.declared.reply.RowEnd.{RowEnd}
 use Rattle.rp_answer.specs.declared.reply.RowEnd.TheVariants.{Refused, Stopped as StoppedEnd}
-use Rattle.rp_ledger.specs.declared.reply.Reply.{Reply as CodeReply}
-use Rattle.rp_ledger.specs.declared.reply.Reply.TheVariants.{Told, Changed}
-use Rattle.rp_ledger.specs.Rows.{change_in}
+use Rattle.rp_register_state.specs.declared.reply.Reply.{Reply as CodeReply}
+use Rattle.rp_register_state.specs.declared.reply.Reply.TheVariants.{Told, Changed}
+use Rattle.rp_register_state.specs.Rows.{change_in}
 
 -- ---- changes
 

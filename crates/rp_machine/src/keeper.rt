@@ -2,9 +2,9 @@
 ghost use Rattle.std.specs.Prelude.{◌≡◌, ◌<◌, ◌≤◌, ℕ, ◌+◌, ◌&&◌, IfOk, length, map, filter, drop, nat_le};
 ghost use Rattle.std.specs.List.{AllByRecursion};
 ghost use Rattle.rp_geometry.specs.parts.Parts.{most_parts};
-ghost use Rattle.rp_walks.specs.Walk.{Work as ModelWork, stopped, limit_met, most_tests, count_tests, first_tester};
-ghost use Rattle.rp_walks.specs.Form.{common_nearby};
-ghost use Rattle.rp_tester.specs.Comes.{Comes};
+ghost use Rattle.rp_semantics.specs.Walk.{Work as ModelWork, stopped, limit_met, most_tests, count_tests, first_tester};
+ghost use Rattle.rp_semantics.specs.Form.{common_nearby};
+ghost use Rattle.rp_oracle.specs.Refines.{Refines};
 ghost use Rattle.rp_model.specs.states.State.{bare_lot, lots_of_layer, parts_in, parts_under_names, parts_under_lots, most_names, most_kept_parts};
 ghost use Rattle.rp_model.specs.commands.Parts.{lot_parts};
 ghost use Rattle.rp_model.specs.commands.At.{owner_line};
@@ -18,22 +18,22 @@ use rp_lotindex::{Moment, Reach};
 use rp_lots::{Keeper, Overlaps, Registry};
 use rp_region::{Part, Region, Work};
 use rp_space::{IntBox, Point};
-use rp_tester::{Named, Stopped};
+use rp_oracle::{Named, Stopped};
 use std::alloc::{AllocError, Global};
 
 impl Named<Work> for State {
     ghost meaning = { parts_in };
 
     fn keep_short(&self) {
-        self.ledger().keep_short();
+        self.register_state().keep_short();
     }
 
     fn form_named(&self, name: &Name) -> Option<&Region> {
-        self.ledger().form_named(name)
+        self.register_state().form_named(name)
     }
 
     fn form_of_lot(&self, lot: &Name) -> Option<&Region> {
-        self.ledger().form_of_lot(lot)
+        self.register_state().form_of_lot(lot)
     }
 }
 
@@ -53,13 +53,13 @@ impl Keeper<Work> for State {
         ensures few { length self.now.lots ≤ most_kept_parts }
         ensures short { AllByRecursion (λ l. length l.parts ≤ most_parts) self.now.lots }
     {
-        self.ledger().history()
+        self.register_state().history()
     }
 
     fn forms(&self) -> &[Region]
         ensures { result.now ≡ lot_parts self.now.lots }
     {
-        self.ledger().forms()
+        self.register_state().forms()
     }
 
     fn near(
@@ -76,13 +76,13 @@ impl Keeper<Work> for State {
         ensures within { IfOk result (λ places. AreWithin self.now.lots places.items) }
         ensures few { IfOk result (λ places. length places.items ≤ most_kept_parts) }
     {
-        self.ledger().near(alloc, form, layer, id, from, reach)
+        self.register_state().near(alloc, form, layer, id, from, reach)
     }
 
     fn have_room_for(&self, parts: usize) -> bool
         ensures { result ≡ nat_le (parts_under_lots self.now.lots + parts) most_kept_parts }
     {
-        self.ledger().have_room_for(parts)
+        self.register_state().have_room_for(parts)
     }
 }
 
@@ -93,7 +93,7 @@ impl Overlaps<Work> for State {
         other: &Region,
         tests: &mut Work,
     ) -> Result<bool, Stopped>
-        ensures { Comes (λ found. found) result tests.new (common_nearby first_tester form.now other.now tests.old) }
+        ensures { Refines (λ found. found) result tests.new (common_nearby first_tester form.now other.now tests.old) }
     {
         Ok(form.first_common(alloc, other, true, tests)?.is_some())
     }
@@ -107,18 +107,18 @@ impl Registry<Work> for State {
     fn layer(&self) -> Name
         ensures { result ≡ self.now.layer }
     {
-        self.ledger().layer()
+        self.register_state().layer()
     }
 
     fn owner(&self, moment: Moment, point: &Point) -> Option<Name>
         ensures { owner_verdict result ≡ owner_line (lots_of_layer self.now.layer (filter (is_there moment) self.now.lots)) point.now }
     {
-        self.ledger().owner(moment, point)
+        self.register_state().owner(moment, point)
     }
 
     fn have_room_for_name(&self, form: &Region) -> bool
         ensures { result ≡ (nat_le (length self.now.names + 1) most_names && nat_le (parts_under_names self.now.names + length form.now) most_kept_parts) }
     {
-        self.ledger().have_room_for_name(form)
+        self.register_state().have_room_for_name(form)
     }
 }

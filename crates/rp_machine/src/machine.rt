@@ -6,10 +6,10 @@ ghost use Rattle.rp_geometry.specs.sets.Shape.{shape_of_parts};
 ghost use Rattle.rp_geometry.specs.sets.Sets.{SameMembers};
 ghost use Rattle.std.specs.List.{AllByRecursion};
 ghost use Rattle.rp_geometry.specs.sections.Trace.{IsHeight};
-ghost use Rattle.rp_language.specs.Expression.{IsKeptExpression, expressions_of, heights_of, closed, first_unknown, HasFewChildren};
+ghost use Rattle.rp_language.specs.Expression.{IsKeptExpression, expressions_of, heights_of, resolve_names, first_unknown, HasFewChildren};
 ghost use Rattle.rp_language.specs.Grammar.{command};
-ghost use Rattle.rp_walks.specs.Walk.{first_tester};
-ghost use Rattle.rp_walks.specs.Form.{form};
+ghost use Rattle.rp_semantics.specs.Walk.{first_tester};
+ghost use Rattle.rp_semantics.specs.Form.{form};
 ghost use Rattle.rp_model.specs.states.State.{opening, live_lots, parts_in, state_of_parts};
 ghost use Rattle.rp_model.specs.states.Sound.{IsSound, IsLaterThan};
 ghost use Rattle.rp_model.specs.commands.Parts.{shapes_of_parts};
@@ -69,7 +69,7 @@ impl Machine {
 
     /// Returns how many nodes of the index of lots all lines have visited: 0 for a machine that does not count.
     pub fn visits(&self) -> u64 {
-        self.state.ledger().visits()
+        self.state.register_state().visits()
     }
 
     /// Returns the form of `region`: its parts, made test by test of `work` in reading order, with the parts kept for
@@ -82,7 +82,7 @@ impl Machine {
         requires { IsKeptExpression (expression_of region.now) }
         ensures unknown { IfSome (first_unknown (parts_in self.now.state) (expression_of region.now)) (λ x. (result ≡ Err (FormFault.Unknown x)) × (work.new ≡ work.old)) }
         ensures makes { IsNone (first_unknown (parts_in self.now.state) (expression_of region.now)) → MakesForm (λ form. form) result work.old work.new (form first_tester (parts_in self.now.state) (expression_of region.now)) }
-        ensures members { IfOk result (λ form. SameMembers (shape_of_parts form) (closed (shapes_of_parts (parts_in self.now.state)) (expression_of region.now))) }
+        ensures members { IfOk result (λ form. SameMembers (shape_of_parts form) (resolve_names (shapes_of_parts (parts_in self.now.state)) (expression_of region.now))) }
         ensures sound { IsSound (state_of_parts self.now.state) }
     {
         self.state.form(alloc, region, work)

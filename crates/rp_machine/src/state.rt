@@ -1,16 +1,16 @@
 //! What a machine keeps between the lines of a script.
 ghost use Rattle.std.specs.Prelude.{◌≡◌, OnOk, OnErr, length};
 ghost use Rattle.rp_geometry.specs.parts.Parts.{IsPart};
-ghost use Rattle.rp_walks.specs.FormLaws.{MeaningsAgree};
+ghost use Rattle.rp_semantics.specs.FormLaws.{MeaningsAgree};
 ghost use Rattle.rp_model.specs.states.State.{opening, parts_in, state_of_parts, live_lots, changed};
 ghost use Rattle.rp_model.specs.states.Sound.{IsSound, IsLaterThan};
 ghost use Rattle.rp_model.specs.commands.Parts.{shapes_of_parts};
-ghost use Rattle.rp_ledger.specs.Taken.{IsTaken};
+ghost use Rattle.rp_register_state.specs.Taken.{IsTaken};
 ghost use Rattle.rp_machine.specs.Replies.{made};
 
-use rp_ledger::Ledger;
+use rp_register_state::RegisterState;
 use rp_lots::Change;
-use rp_region::{Region, Room};
+use rp_region::{Region, Scratch};
 use rp_regionlots::Regions;
 use std::alloc::{AllocError, Global};
 use std::marker::Model;
@@ -20,9 +20,9 @@ use std::marker::Model;
 /// share no point, and the limits of numbers and of parts are kept.
 #[derive(Drop)]
 pub(crate) struct State {
-    ledger: Ledger<Regions>,
+    register_state: RegisterState<Regions>,
     /// Room for the tests of the next line.
-    room: Room,
+    room: Scratch,
 }
 
 impl Model for State {
@@ -31,9 +31,9 @@ impl Model for State {
 
     ghost Value = { PlainState };
 
-    ghost view = { λ a. a.ledger };
+    ghost view = { λ a. a.register_state };
 
-    ghost invariant = { λ a. IsSound (state_of_parts a.ledger) };
+    ghost invariant = { λ a. IsSound (state_of_parts a.register_state) };
 }
 
 impl State {
@@ -42,8 +42,8 @@ impl State {
         ensures { result ≡ opening }
     {
         State {
-            ledger: Ledger::new(alloc),
-            room: Room::new(),
+            register_state: RegisterState::new(alloc),
+            room: Scratch::new(),
         }
     }
 
@@ -52,8 +52,8 @@ impl State {
         ensures { result ≡ opening }
     {
         State {
-            ledger: Ledger::counting(alloc),
-            room: Room::new(),
+            register_state: RegisterState::counting(alloc),
+            room: Scratch::new(),
         }
     }
 
@@ -62,25 +62,25 @@ impl State {
         ensures sound { IsSound (state_of_parts self.now) }
         ensures regions { MeaningsAgree IsPart (parts_in self.now) (shapes_of_parts (parts_in self.now)) }
     {
-        let _ = &self.ledger;
+        let _ = &self.register_state;
     }
 
     /// Returns what is kept.
-    pub(crate) fn ledger(&self) -> &Ledger<Regions>
+    pub(crate) fn register_state(&self) -> &RegisterState<Regions>
         ensures { result.now ≡ self.now }
     {
-        &self.ledger
+        &self.register_state
     }
 
     /// Lends the room for the tests of a line. All stays as it is.
-    pub(crate) fn lend_room(&mut self) -> Room
+    pub(crate) fn lend_room(&mut self) -> Scratch
         ensures { self.new ≡ self.old }
     {
         self.room.take()
     }
 
     /// Keeps the room for the tests of further lines. All stays as it is.
-    pub(crate) fn keep_room(&mut self, room: Room)
+    pub(crate) fn keep_room(&mut self, room: Scratch)
         ensures { self.new ≡ self.old }
     {
         self.room = room;
@@ -90,7 +90,7 @@ impl State {
     pub(crate) fn count_live(&self) -> u32
         ensures { result ≡ length (live_lots self.now.lots) }
     {
-        self.ledger.history().live_count() as u32
+        self.register_state.history().live_count() as u32
     }
 
     /// Makes `change` at line `n`, which is above every birth and every end; a sound state comes of it. After
@@ -106,6 +106,6 @@ impl State {
         ensures ok { OnOk result (self.new ≡ changed n self.old (made change)) }
         ensures err { OnErr result (self.new ≡ self.old) }
     {
-        self.ledger.apply(alloc, n, change)
+        self.register_state.apply(alloc, n, change)
     }
 }

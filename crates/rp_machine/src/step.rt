@@ -12,16 +12,16 @@ ghost use Rattle.rp_reports.specs.Report.{echoed, bad_answer};
 ghost use Rattle.rp_reports.specs.Machine.{answer_read, state_read};
 ghost use Rattle.rp_cert.specs.Lines.{line_of};
 ghost use Rattle.rp_answer.specs.Views.{answer_of, verdict_of};
-ghost use Rattle.rp_ledger.specs.Taken.{IsTaken};
+ghost use Rattle.rp_register_state.specs.Taken.{IsTaken};
 ghost use Rattle.rp_machine.specs.Replies.{made_by, made_by_row, verdicts_of_row, proofs_of_row, IsWant};
 
 use crate::state::State;
 use rp_answer::{Answer, Echo, Refusal, RowEnd, Verdict, Verdicts};
 use rp_cert::Proofs;
 use rp_command::{Command, Why};
-use rp_ledger::Reply;
+use rp_register_state::Reply;
 use rp_region::{Region, Work};
-use rp_tester::Stopped;
+use rp_oracle::Stopped;
 use std::alloc::{AllocError, Global};
 use std::thread::Threads;
 
@@ -74,7 +74,7 @@ fn end_lines(end: RowEnd, room: Verdicts) -> Result<Verdicts, AllocError>
     match end {
         RowEnd::Refused(refusal) => Ok(with_line(room, Verdict::Refused(refusal))),
         RowEnd::Stopped(Stopped::Memory(fault)) => Err(fault),
-        RowEnd::Stopped(Stopped::Wrong | Stopped::TakenWrong | Stopped::Told | Stopped::Limit) => {
+        RowEnd::Stopped(Stopped::Wrong | Stopped::TakenWrong | Stopped::LimitReported | Stopped::Limit) => {
             Ok(with_line(room, Verdict::Refused(Refusal::Limit)))
         }
     }

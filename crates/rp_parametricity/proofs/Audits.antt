@@ -7,9 +7,9 @@ use Rattle.rp_geometry.specs.sections.Slice.{Slice}
 use Rattle.rp_geometry.specs.sets.Shape.{Part}
 use Rattle.rp_language.specs.Name.{Label}
 use Rattle.rp_language.specs.Expression.{Expression, Command, ask_audit, ask_section, first_unknown_among, expressions_of}
-use Rattle.rp_walks.specs.Walk.{Stop, taken_wrong, Outcome, done, stopped, Walk, stop, pass, after_first, ◌>>=◌, Tester}
-use Rattle.rp_walks.specs.Form.{common_nearby, near_pair}
-use Rattle.rp_walks.specs.FormLaws.{IfDone}
+use Rattle.rp_semantics.specs.Walk.{Stop, taken_wrong, Outcome, done, stopped, Walk, stop, pass, after_first, ◌>>=◌, Tester}
+use Rattle.rp_semantics.specs.Form.{common_nearby, near_pair}
+use Rattle.rp_semantics.specs.FormLaws.{IfDone}
 use Rattle.rp_model.specs.states.State.{Lot, StateOf, live_lots, lots_of_layer, parts_in}
 use Rattle.rp_model.specs.commands.Verdict.{Verdict, section_lines, unknown}
 use Rattle.rp_model.specs.commands.Reply.{Reply, reply, reply_lines, check}

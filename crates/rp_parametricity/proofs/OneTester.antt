@@ -2,10 +2,10 @@
 use Rattle.std.proofs.Common.{◌≡◌, ℕ, ℤ, Bool, List, Option, refl}
 use Rattle.rp_geometry.specs.Geometry.{HalfSpace}
 use Rattle.rp_geometry.specs.sets.Shape.{Part}
-use Rattle.rp_walks.specs.Walk.{Stop, limit_met, Outcome, done, stopped, Walk, after_first, Tester}
-use Rattle.rp_walks.specs.Form.{join, subtract}
-use Rattle.rp_walks.specs.Compare.{is_covered}
-use Rattle.rp_walks.specs.FormLaws.{IfDone}
+use Rattle.rp_semantics.specs.Walk.{Stop, limit_met, Outcome, done, stopped, Walk, after_first, Tester}
+use Rattle.rp_semantics.specs.Form.{join, subtract}
+use Rattle.rp_semantics.specs.Compare.{is_covered}
+use Rattle.rp_semantics.specs.FormLaws.{IfDone}
 use Rattle.rp_language.specs.Expression.{Command}
 use Rattle.rp_model.specs.states.State.{StateOf}
 use Rattle.rp_model.specs.commands.Reply.{Reply}

@@ -2,9 +2,9 @@
 use Rattle.std.proofs.Common.{◌≡◌, ℕ, List, refl}
 use Rattle.rp_geometry.specs.Geometry.{HalfSpace}
 use Rattle.rp_geometry.specs.sets.Shape.{Part}
-use Rattle.rp_walks.specs.Walk.{limit_met, Outcome, done, stopped, Tester}
-use Rattle.rp_walks.specs.Form.{join}
-use Rattle.rp_walks.specs.Compare.{is_covered}
+use Rattle.rp_semantics.specs.Walk.{limit_met, Outcome, done, stopped, Tester}
+use Rattle.rp_semantics.specs.Form.{join}
+use Rattle.rp_semantics.specs.Compare.{is_covered}
 use Rattle.rp_language.specs.Expression.{Command}
 use Rattle.rp_model.specs.states.State.{StateOf}
 use Rattle.rp_model.specs.commands.Row.{row}

@@ -6,7 +6,7 @@ use Rattle.rp_geometry.specs.sets.Prism.{Prism, Edge, edges_of}
 use Rattle.rp_geometry.specs.sets.Shape.{Part}
 use Rattle.rp_geometry.specs.parts.Trapezoid.{trapezoid}
 use Rattle.rp_language.specs.Name.{Label}
-use Rattle.rp_language.specs.Expression.{Expression, half_space, box, prism, everything, nothing, named, lot, intersection, union, difference, opposite, Command, expressions_of}
+use Rattle.rp_language.specs.Expression.{Expression, half_space, box, prism, everything, nothing, named, lot, intersection, union, difference, complement, Command, expressions_of}
 use Rattle.rp_model.specs.states.State.{Kept, Lot, StateOf}
 use Rattle.rp_parametricity.proofs.Likeness.{PartsHave, EdgesHave, ExpressionHas}
 use Rattle.rp_parametricity.proofs.Kept.{EntryHas, LotHas, StateHas, CommandHas, labels_of}
@@ -53,7 +53,7 @@ any_expression (lot x) = tt
 any_expression (intersection e f) = (any_expression e, any_expression f)
 any_expression (union e f) = (any_expression e, any_expression f)
 any_expression (difference e f) = (any_expression e, any_expression f)
-any_expression (opposite e) = any_expression e
+any_expression (complement e) = any_expression e
 
 -- nothing is asked of several expressions
 pub any_expressions : (es : List Expression) → AllByRecursion (ExpressionHas Any AnyLabel) es

@@ -13,7 +13,7 @@ use Rattle.rp_model.specs.states.Sound.{Pairwise}
 use Rattle.rp_model.specs.commands.Verdict.{Verdict}
 use Rattle.rp_model.specs.commands.At.{owner_line}
 use Rattle.rp_model.specs.commands.Parts.{is_in_parts}
-use Rattle.rp_verdicts.proofs.Points.{in_parts_is_member}
+use Rattle.rp_row_soundness.proofs.Points.{in_parts_is_member}
 use Rattle.rp_states.proofs.Labels.{label_is, label_same}
 use Rattle.rp_states.proofs.Listing.{all_passed, all_true, pairs_kept, pairs_unmapped}
 use Rattle.rp_states.proofs.Plain.{kept_images}

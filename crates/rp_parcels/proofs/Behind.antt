@@ -7,10 +7,10 @@ use Rattle.rp_geometry.specs.sets.Shape.{Part, shape_of_parts}
 use Rattle.rp_geometry.specs.sets.Sets.{Overlaps}
 use Rattle.rp_geometry.specs.parts.Parts.{IsRegion}
 use Rattle.rp_language.specs.Name.{Label, label_eq}
-use Rattle.rp_walks.specs.Walk.{Outcome, done, stopped, Walk, Work, first_tester}
-use Rattle.rp_walks.specs.Form.{near_pair, common_nearby}
-use Rattle.rp_walks.specs.FormLaws.{IfDone}
-use Rattle.rp_walks.proofs.Outcomes.{weaker_done}
+use Rattle.rp_semantics.specs.Walk.{Outcome, done, stopped, Walk, Work, first_tester}
+use Rattle.rp_semantics.specs.Form.{near_pair, common_nearby}
+use Rattle.rp_semantics.specs.FormLaws.{IfDone}
+use Rattle.rp_semantics.proofs.Outcomes.{weaker_done}
 use Rattle.rp_model.specs.states.State.{Lot, PlainState, live_lots, lots_of_layer}
 use Rattle.rp_model.specs.states.Sound.{Pairwise}
 use Rattle.rp_model.specs.commands.Verdict.{clear}
@@ -23,17 +23,17 @@ use Rattle.rp_model.specs.commands.Cut.{row_cut}
 use Rattle.rp_model.specs.commands.Consolidate.{row_consolidate}
 use Rattle.rp_model.specs.commands.Neighbours.{row_neighbours}
 use Rattle.rp_model.specs.commands.Access.{row_access}
-use Rattle.rp_verdicts.proofs.Right.{first_walks_are_right}
+use Rattle.rp_row_soundness.proofs.Right.{first_walks_are_right}
 use Rattle.rp_states.proofs.Labels.{label_is}
 use Rattle.rp_history.specs.Lots.{lots_in}
 use Rattle.rp_lotindex.proofs.Skipped.{apart_on}
 use Rattle.rp_region.proofs.Behind.{ComesBehind}
 use Rattle.rp_parametricity.proofs.Kept.{FormedHave, ReplyHas}
-use Rattle.rp_accepted.proofs.Commands.{Any, AnyLabel, any_parts, any_labels, any_state}
+use Rattle.rp_checker_completeness.proofs.Commands.{Any, AnyLabel, any_parts, any_labels, any_state}
 use Rattle.rp_parametricity.proofs.Rows.{register_alike, cut_alike, subdivide_alike, consolidate_alike, neighbours_alike, access_alike}
 use Rattle.rp_parametricity.proofs.Likeness.{Anything}
 use Rattle.rp_parametricity.proofs.Forms.{after, common_nearby_alike}
-use Rattle.rp_queries.proofs.Appended.{behind, Again, Appended, appended, binds_appended, related_appended, ends_behind, stops_behind}
+use Rattle.rp_eval.proofs.Appended.{behind, Again, Appended, appended, binds_appended, related_appended, ends_behind, stops_behind}
 use Rattle.rp_parcels.specs.Kept.{AreSound}
 use Rattle.rp_parcels.proofs.Alone.{ApartLots, live_apart}
 use Rattle.rp_parcels.proofs.Sizes.{live_regions}

@@ -10,13 +10,13 @@ use Rattle.rp_geometry.specs.parts.Parts.{IsPart, IsRegion, AreOf, most_parts}
 use Rattle.rp_geometry.specs.searches.ProofLine.{ProofLine, in_line, out_line, strict_line, outside_terms}
 use Rattle.rp_geometry.specs.searches.Vertex.{first_inside}
 use Rattle.rp_language.specs.Name.{Label, is_among, label_eq}
-use Rattle.rp_walks.specs.Walk.{Outcome, done, stopped, Walk, Work, pass, after_first, strict_test, first_tester}
-use Rattle.rp_walks.specs.Form.{near_pair, test_pair_if, first_with_part, common_nearby, join, subtract}
-use Rattle.rp_walks.specs.Compare.{show_then_no, is_covered}
-use Rattle.rp_walks.specs.FormLaws.{IfDone}
-use Rattle.rp_model.specs.states.State.{Lot, StateOf, present_lots, live_lots, layer_of_first, layer_lots, near_lots, ids_of, place_among, most_kept_parts, parts_under_lots}
+use Rattle.rp_semantics.specs.Walk.{Outcome, done, stopped, Walk, Work, pass, after_first, strict_test, first_tester}
+use Rattle.rp_semantics.specs.Form.{near_pair, test_pair_if, first_with_part, common_nearby, join, subtract}
+use Rattle.rp_semantics.specs.Compare.{show_then_no, is_covered}
+use Rattle.rp_semantics.specs.FormLaws.{IfDone}
+use Rattle.rp_model.specs.states.State.{Lot, StateOf, present_lots, live_lots, layer_of_first, layer_lots, other_live_lots_of_layer, ids_of, place_among, most_kept_parts, parts_under_lots}
 use Rattle.rp_geometry.specs.parts.Levels.{levels_along, chain_along}
-use Rattle.rp_model.specs.commands.Verdict.{Refusal, Verdict, access_lines, neighbour_lines, clear, refused, known, unknown, repeated, layers, same_name, too_few, empty_region, overlaps, empty_side, empty_child, outside_lot, children_overlap, gap}
+use Rattle.rp_model.specs.commands.Verdict.{Refusal, Verdict, access_lines, neighbour_lines, clear, refused, known, unknown, repeated, layers, same_name, too_few, empty, overlaps, empty_side, empty_child, outside_lot, children_overlap, gap}
 use Rattle.rp_model.specs.commands.Checks.{refuse_if, and_then, check_new, check_live, check_each, check_repeated, check_layer, check_cut, check_subdivide, check_consolidate, check_access}
 use Rattle.rp_model.specs.commands.Reply.{Reply, reply, reply_lines, check, check_size}
 use Rattle.rp_model.specs.commands.Access.{access_by_links, links_among_lists, row_access}
@@ -27,8 +27,8 @@ use Rattle.rp_model.specs.commands.Subdivide.{FormedChild, child_parts, first_em
 use Rattle.rp_model.specs.commands.Register.{first_overlapped, row_register}
 use Rattle.rp_model.specs.commands.Cut.{row_cut}
 use Rattle.rp_model.specs.commands.Consolidate.{row_consolidate}
-use Rattle.rp_verdicts.proofs.Parts.{difference_done}
-use Rattle.rp_verdicts.proofs.Right.{first_walks_are_right}
+use Rattle.rp_row_soundness.proofs.Parts.{difference_done}
+use Rattle.rp_row_soundness.proofs.Right.{first_walks_are_right}
 use Rattle.rp_parcels.specs.Shown.{EndsInside, by_none, kind_of, IsShownBy, IsShown}
 
 -- ---- what a walk comes to, beside its lines
@@ -258,7 +258,7 @@ module _ {S : Type 0} (s : StateOf S) where
   -- a registration
   pub register_ends : (x : Label) (ps : List Part) (w : Work) → Ends RowShown (row_register first_tester s x ps w)
   register_ends x ps w =
-      names_ends _ _ w (then_none _ _ (new_none s x) (if_none (length ps == 0) empty_region refl))
+      names_ends _ _ w (then_none _ _ (new_none s x) (if_none (length ps == 0) empty refl))
       (after_ends RowShown (check_size (parts_under_lots s.lots + length ps) most_kept_parts w) _ λ _ v.
       after_ends RowShown (first_tester.count _ v) _ λ _ u.
       then_ends LotShown RowShown (first_overlapped first_tester ps (present_lots s) u) _ (overlapped_ends ps (present_lots s) u) λ found z h. check_ends (option_map overlaps found) _ z (found_shown found z.proofs h) tt)
@@ -295,7 +295,7 @@ module _ {S : Type 0} (s : StateOf S) where
   pub neighbours_ends : (x : Label) (w : Work) → Ends RowShown (row_neighbours first_tester s x w)
   neighbours_ends x w =
       names_ends _ _ w (live_none s x) (after_ends RowShown (first_tester.count _ w) _ λ _ v.
-      after_ends RowShown (touched_lots first_tester [] (parts_with_id s x) (near_lots s x) v) (λ found. pass (reply_lines (neighbour_lines found))) λ found u. tt)
+      after_ends RowShown (touched_lots first_tester [] (parts_with_id s x) (other_live_lots_of_layer s x) v) (λ found. pass (reply_lines (neighbour_lines found))) λ found u. tt)
 
   -- access
   pub access_ends : (x y : Label) (w : Work) → Ends RowShown (row_access first_tester s x y w)

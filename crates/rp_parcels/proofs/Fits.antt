@@ -8,8 +8,8 @@ use Rattle.rp_geometry.specs.parts.Parts.{IsPart, IsRegion}
 use Rattle.rp_geometry.proofs.Kept.{part_is_checked}
 use Rattle.rp_language.specs.Name.{Label}
 use Rattle.rp_language.specs.Expression.{Command, IsKeptExpression, expressions_of, named, register, cut, subdivide, consolidate, retire}
-use Rattle.rp_walks.specs.Walk.{Outcome, done, limit_met, Walk, Work, no_work, pass, stop, after_first, first_tester}
-use Rattle.rp_walks.specs.FormLaws.{IfDone}
+use Rattle.rp_semantics.specs.Walk.{Outcome, done, limit_met, Walk, Work, no_work, pass, stop, after_first, first_tester}
+use Rattle.rp_semantics.specs.FormLaws.{IfDone}
 use Rattle.rp_model.specs.states.State.{Lot, NewLot, PlainState, state_of_parts, parts_in, parts_under_lots, Change, lots_replaced, changed, most_kept_parts}
 use Rattle.rp_model.specs.states.Sound.{are_distinct, IsSound, IsLaterThan}
 use Rattle.rp_model.specs.commands.Verdict.{Refusal, too_few, unknown}
@@ -23,15 +23,15 @@ use Rattle.rp_model.specs.commands.Consolidate.{row_consolidate}
 use Rattle.rp_model.specs.commands.Retire.{row_retire}
 use Rattle.rp_model.specs.commands.Row.{row}
 use Rattle.rp_model.proofs.Refusals.{neither}
-use Rattle.rp_run_laws.proofs.Rows.{first_rows}
+use Rattle.rp_correctness.proofs.Rows.{first_rows}
 use Rattle.rp_states.proofs.Accepted.{not_repeated}
 use Rattle.rp_history.specs.declared.fault.NameFault.{NameFault}
 use Rattle.rp_history.specs.declared.fault.NameFault.TheVariants.{Unknown}
 use Rattle.rp_history.specs.Checks.{FailsNames}
 use Rattle.rp_history.specs.Lots.{lots_in}
-use Rattle.rp_ledger.specs.Taken.{IsTaken}
-use Rattle.rp_ledger.proofs.Applied.{lots_are_new}
-use Rattle.rp_ledger.proofs.States.{row_taken, taken_where_checked}
+use Rattle.rp_register_state.specs.Taken.{IsTaken}
+use Rattle.rp_register_state.proofs.Applied.{lots_are_new}
+use Rattle.rp_register_state.proofs.States.{row_taken, taken_where_checked}
 use Rattle.rp_parcels.specs.Kept.{AreSound}
 use Rattle.rp_parcels.specs.Register.{IsLater, IsFitChange}
 use Rattle.rp_parcels.proofs.Named.{child_line, named_parts, AreNamed, named_sound, found_each, row_named, row_named_each}

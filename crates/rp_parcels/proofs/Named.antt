@@ -11,8 +11,8 @@ use Rattle.rp_geometry.specs.sets.Shape.{Shape, Part}
 use Rattle.rp_geometry.specs.parts.Parts.{IsPart, IsRegion, AreOf}
 use Rattle.rp_language.specs.Name.{Label, label_eq, is_among}
 use Rattle.rp_language.specs.Expression.{Child as ChildLine, Meaning, named, first_of_two, if_missing, first_unknown_among}
-use Rattle.rp_walks.specs.Walk.{done, Walk, Work, after_first, first_tester}
-use Rattle.rp_walks.specs.Form.{parts_or_none}
+use Rattle.rp_semantics.specs.Walk.{done, Walk, Work, after_first, first_tester}
+use Rattle.rp_semantics.specs.Form.{parts_or_none}
 use Rattle.rp_model.specs.states.State.{Kept, Lot, PlainState, names_of, kept_named, parts_of_kept, kept_of_parts, state_of_parts, parts_in, parts_under_names, most_kept_parts}
 use Rattle.rp_model.specs.states.Sound.{are_distinct, IsSound}
 use Rattle.rp_model.specs.commands.Verdict.{unknown}

@@ -7,7 +7,7 @@ use Rattle.rp_geometry.specs.parts.Parts.{AreOf, IsPart, IsRegion, most_parts}
 use Rattle.rp_algebra.proofs.Listed.{all_map}
 use Rattle.rp_algebra.proofs.Lists.{all_filter}
 use Rattle.rp_language.specs.Name.{Label, label_eq}
-use Rattle.rp_walks.specs.Form.{parts_or_none}
+use Rattle.rp_semantics.specs.Form.{parts_or_none}
 use Rattle.rp_model.specs.states.State.{Lot, lot_of_parts, bare_lot, is_live, live_lots, lot_with_id, parts_of_lot, state_of_parts}
 use Rattle.rp_model.specs.commands.Subdivide.{FormedChild}
 use Rattle.rp_model.specs.commands.Parts.{parts_with_id}
@@ -20,8 +20,8 @@ use Rattle.rp_subdivide.specs.declared.child.Child.{Child as MadeChild}
 use Rattle.rp_subdivide.specs.Children.{formed_child, formed_children, IsShort}
 use Rattle.rp_store.specs.Kept.{AreFew}
 use Rattle.rp_parcels.specs.Kept.{AreSound}
-use Rattle.rp_ledger.proofs.Applied.{sound_are_few}
-use Rattle.rp_ledger.proofs.States.{sound_where_checked}
+use Rattle.rp_register_state.proofs.Applied.{sound_are_few}
+use Rattle.rp_register_state.proofs.States.{sound_where_checked}
 
 -- sound lots can be kept
 pub sound_few : (lots : List (Lot (Unit {0}))) → AreSound lots → AreFew lots

@@ -3,11 +3,11 @@ use Rattle.std.proofs.Common.{◌≡◌, ℕ, List, [], ◌∷◌, map, ◌++◌
 use Rattle.std.specs.Prelude.{IsOk}
 use Rattle.rp_geometry.specs.searches.ProofLine.{ProofLine, in_line}
 use Rattle.rp_geometry.specs.sets.Shape.{Part}
-use Rattle.rp_walks.specs.Walk.{Outcome, done, Walk, Work}
+use Rattle.rp_semantics.specs.Walk.{Outcome, done, Walk, Work}
 use Rattle.rp_model.specs.states.State.{Lot}
 use Rattle.rp_model.specs.commands.Verdict.{Refusal as ModelRefusal}
 use Rattle.rp_model.specs.commands.Reply.{Reply, refusal, accepted}
-use Rattle.rp_tester.specs.Comes.{Comes}
+use Rattle.rp_oracle.specs.Refines.{Refines}
 use Rattle.rp_region.specs.declared.fault.OpFault.{OpFault}
 use Rattle.rp_region.specs.declared.fault.OpFault.TheVariants.{Limit as OpLimit}
 use Rattle.std.proofs.lemmas.List.{map-id}
@@ -38,7 +38,7 @@ settled_view view (Ok x) = view x
 settled_view view (Err r) = refusal (refusal_of r)
 
 -- the row comes to what it has come to
-settled_comes : {A : Type 0} (view : A → Reply) (came : Result A RowEnd) (w : Work) (o : Outcome Work Reply) → RowAnswers view came w o → Comes (settled_view view) (settled came) w o
+settled_comes : {A : Type 0} (view : A → Reply) (came : Result A RowEnd) (w : Work) (o : Outcome Work Reply) → RowAnswers view came w o → Refines (settled_view view) (settled came) w o
 settled_comes view (Ok x) w o h = h
 settled_comes view (Err (Refused r)) w o h = h
 settled_comes view (Err (StoppedEnd e)) w o h = h
@@ -72,7 +72,7 @@ end_shown view (Err (StoppedEnd s)) w o h e = tt
 module _ {A : Type 0} (view : A → Reply) (row : Walk Work Reply) (law : ComesBehind row) (old begun walked new : Work) (is_fresh : begun ≡ fresh old) (came : Result A RowEnd) (comes : RowAnswers view came walked (row begun)) where
   -- it is made of the work that took it over
   row_made : (r : Result (Result A Refusal) OpFault) → TakesOver (settled came) walked r old new → Makes (settled_view view) r old new row
-  row_made r t = makes_behind (settled_view view) (settled came) r row old walked new law (subst (λ w. Comes (settled_view view) (settled came) walked (row w)) is_fresh (settled_comes view came walked (row begun) comes)) t
+  row_made r t = makes_behind (settled_view view) (settled came) r row old walked new law (subst (λ w. Refines (settled_view view) (settled came) walked (row w)) is_fresh (settled_comes view came walked (row begun) comes)) t
 
   -- where memory was wanting behind it, it was given up at its end
   row_given_up : IsOk came → new ≡ behind old.proofs walked → IsCutShort old new (row old)

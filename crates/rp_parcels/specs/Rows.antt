@@ -1,10 +1,10 @@
 -- What a call of the register has come to, said by the row of its command.
 use Rattle.std.specs.Prelude.{◌≡◌, ℕ, List, Option, Some, None, IfSome, Result, Ok, Err}
 use Rattle.rp_geometry.specs.searches.ProofLine.{ProofLine, in_line}
-use Rattle.rp_walks.specs.Walk.{Outcome, done, stopped, limit_met, Walk, Work}
+use Rattle.rp_semantics.specs.Walk.{Outcome, done, stopped, limit_met, Walk, Work}
 use Rattle.rp_language.specs.Name.{Label}
 use Rattle.rp_model.specs.states.State.{Lot, NewLot, lots_replaced}
-use Rattle.rp_model.specs.commands.Verdict.{Refusal, known, unknown, repeated, layers, same_name, too_few, empty_region, overlaps, empty_side, empty_child, outside_lot, children_overlap, gap}
+use Rattle.rp_model.specs.commands.Verdict.{Refusal, known, unknown, repeated, layers, same_name, too_few, empty, overlaps, empty_side, empty_child, outside_lot, children_overlap, gap}
 use Rattle.rp_model.specs.commands.Reply.{Reply, refusal, accepted}
 use Rattle.rp_region.specs.Makes.{IsCutShort}
 use Rattle.rp_region.specs.Pairs.{IsLast}
@@ -25,7 +25,7 @@ cause_of (Repeated x) = refuses (repeated x)
 cause_of (Layers x) = refuses (layers x)
 cause_of Same = refuses same_name
 cause_of Few = refuses too_few
-cause_of Empty = refuses empty_region
+cause_of Empty = refuses empty
 cause_of Limit = limited
 cause_of (Overlaps x points) = refuses (overlaps x)
 cause_of (EmptySide k) = refuses (empty_side k)

@@ -2,7 +2,7 @@
 use Rattle.std.specs.Prelude.{List, Result, Ok, Err}
 use Rattle.rp_geometry.specs.Geometry.{RationalPoint}
 use Rattle.rp_geometry.specs.searches.ProofLine.{ProofLine, in_line}
-use Rattle.rp_model.specs.commands.Verdict.{Refusal, overlaps, outside_lot, children_overlap, gap, bad, limit, empty_operand}
+use Rattle.rp_model.specs.commands.Verdict.{Refusal, overlaps, outside_lot, children_overlap, gap, bad, limit, empty_region}
 use Rattle.rp_region.specs.Pairs.{IsLast}
 use Rattle.rp_answer.specs.declared.reply.RowEnd.{RowEnd}
 use Rattle.rp_answer.specs.declared.reply.RowEnd.TheVariants.{Refused, Stopped}
@@ -25,7 +25,7 @@ kind_of (children_overlap m n) = by_points
 kind_of gap = by_points
 kind_of (bad f) = never
 kind_of limit = never
-kind_of (empty_operand k) = never
+kind_of (empty_region k) = never
 kind_of _ = by_none
 
 -- lines show what is shown so

@@ -1,9 +1,9 @@
 -- What a row has come to on a work that was begun fresh, as the answer of a call whose work takes it over.
 use Rattle.std.specs.Prelude.{◌≡◌, ◌⊎◌, ℕ, List, Result, Ok, Err, IfOk, IsOk}
 use Rattle.rp_geometry.specs.sets.Shape.{Part}
-use Rattle.rp_walks.specs.Walk.{Work}
+use Rattle.rp_semantics.specs.Walk.{Work}
 use Rattle.rp_model.specs.states.State.{Lot}
-use Rattle.rp_tester.specs.declared.stopped.Stopped.{Stopped}
+use Rattle.rp_oracle.specs.declared.stopped.Stopped.{Stopped}
 use Rattle.rp_region.specs.declared.fault.OpFault.TheVariants.{Limit as OpLimit}
 use Rattle.rp_region.specs.Stops.{behind, TakesOver}
 use Rattle.rp_answer.specs.declared.reply.RowEnd.{RowEnd}

@@ -2,7 +2,7 @@
 ghost use Rattle.std.specs.Prelude.{◌≡◌, ◌+◌, ◌≤◌, [], length, map, IfOk, IfErr, OnOk};
 ghost use Rattle.std.specs.List.{AllByRecursion};
 ghost use Rattle.rp_geometry.specs.parts.Parts.{IsRegion};
-ghost use Rattle.rp_walks.specs.Walk.{first_tester};
+ghost use Rattle.rp_semantics.specs.Walk.{first_tester};
 ghost use Rattle.rp_model.specs.states.State.{lots_replaced};
 ghost use Rattle.rp_model.specs.commands.Register.{row_register};
 ghost use Rattle.rp_model.specs.commands.Cut.{row_cut};

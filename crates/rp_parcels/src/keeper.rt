@@ -2,10 +2,10 @@
 ghost use Rattle.std.specs.Prelude.{◌≡◌, ◌<◌, ◌≤◌, ℕ, ◌+◌, [], IfOk, length, map, filter, drop, nat_le};
 ghost use Rattle.std.specs.List.{AllByRecursion};
 ghost use Rattle.rp_geometry.specs.parts.Parts.{most_parts};
-ghost use Rattle.rp_walks.specs.Walk.{Work as ModelWork, stopped, limit_met, most_tests, count_tests, first_tester};
-ghost use Rattle.rp_walks.specs.Form.{common_nearby};
+ghost use Rattle.rp_semantics.specs.Walk.{Work as ModelWork, stopped, limit_met, most_tests, count_tests, first_tester};
+ghost use Rattle.rp_semantics.specs.Form.{common_nearby};
 ghost use Rattle.rp_space.specs.Boxes.{integer_box};
-ghost use Rattle.rp_tester.specs.Comes.{Comes};
+ghost use Rattle.rp_oracle.specs.Refines.{Refines};
 ghost use Rattle.rp_model.specs.states.State.{bare_lot, parts_under_lots, most_kept_parts};
 ghost use Rattle.rp_model.specs.commands.Parts.{lot_parts};
 ghost use Rattle.rp_history.specs.Lots.{lots_in};
@@ -19,7 +19,7 @@ use rp_lotindex::Reach;
 use rp_lots::{Keeper, Overlaps};
 use rp_region::{Part, Region, Work};
 use rp_space::IntBox;
-use rp_tester::Stopped;
+use rp_oracle::Stopped;
 use std::alloc::{AllocError, Global};
 
 /// The parcels, and where it is counted how many nodes of their index are visited.
@@ -88,7 +88,7 @@ impl Overlaps<Work> for ParcelKeeper<'_> {
         other: &Region,
         tests: &mut Work,
     ) -> Result<bool, Stopped>
-        ensures { Comes (λ found. found) result tests.new (common_nearby first_tester form.now other.now tests.old) }
+        ensures { Refines (λ found. found) result tests.new (common_nearby first_tester form.now other.now tests.old) }
     {
         Ok(form.first_common(alloc, other, true, tests)?.is_some())
     }

@@ -1,6 +1,6 @@
 //! The register of parcels: what it keeps, and how it changes.
 ghost use Rattle.std.specs.Prelude.{◌≡◌, ◌+◌, ◌≤◌, [], length, map, option_copied, IfOk, IfErr, OnOk, OnErr};
-ghost use Rattle.rp_walks.specs.Walk.{no_work};
+ghost use Rattle.rp_semantics.specs.Walk.{no_work};
 ghost use Rattle.rp_model.specs.states.State.{live_lot, parts_of_lot, bare_lot, lots_replaced, most_kept_parts};
 ghost use Rattle.rp_model.specs.commands.Retire.{row_retire};
 ghost use Rattle.rp_history.specs.Lots.{lots_in, lots_after};

@@ -1,7 +1,7 @@
 //! Which parcels are in contact, how one gets from one to another, and that all are apart: by the rows that are written
 //! once.
 ghost use Rattle.std.specs.Prelude.{◌≡◌, ◌≤◌, [], length};
-ghost use Rattle.rp_walks.specs.Walk.{first_tester};
+ghost use Rattle.rp_semantics.specs.Walk.{first_tester};
 ghost use Rattle.rp_model.specs.states.State.{live_lots};
 ghost use Rattle.rp_model.specs.commands.Verdict.{clear, neighbour_lines};
 ghost use Rattle.rp_model.specs.commands.Reply.{reply, reply_lines};

@@ -5,7 +5,7 @@ use Rattle.rp_algebra.proofs.Listed.{all_append}
 use Rattle.rp_algebra.proofs.Tests.{or_false}
 use Rattle.rp_geometry.specs.Geometry.{RationalPoint, HalfSpace, IsPoint, IsHalfSpace, complement, holds, box_half_spaces}
 use Rattle.rp_geometry.specs.sets.Prism.{Edge, edges_of, is_upright, Prism, IsPrism}
-use Rattle.rp_geometry.specs.sets.Shape.{Shape, half_space, box, prism, everything, nothing, intersection, union, difference, opposite, Part, passes, shape_of_cell, shape_of_cells, shape_of_parts}
+use Rattle.rp_geometry.specs.sets.Shape.{Shape, half_space, box, prism, everything, nothing, intersection, union, difference, Part, passes, shape_of_cell, shape_of_cells, shape_of_parts}
 use Rattle.rp_geometry.specs.sets.Contact.{IsBoundedRegion}
 use Rattle.rp_geometry.specs.parts.Trapezoid.{trapezoid}
 use Rattle.rp_geometry.specs.laws.CellLaws.{AreHalfSpaces}
@@ -228,8 +228,8 @@ cells_where (union s t) true = cells_where s true ++ cells_where t true
 cells_where (union s t) false = all_joins (cells_where s false) (cells_where t false)
 cells_where (difference s t) true = all_joins (cells_where s true) (cells_where t false)
 cells_where (difference s t) false = cells_where s false ++ cells_where t true
-cells_where (opposite s) true = cells_where s false
-cells_where (opposite s) false = cells_where s true
+cells_where (Shape.complement s) true = cells_where s false
+cells_where (Shape.complement s) false = cells_where s true
 
 -- the points of these cells are those that pass, or do not pass
 pub where_passes : (s : Shape) → IsBoundedShape s → (b : Bool) (p : RationalPoint) → IsPoint p → passes (shape_of_cells (cells_where s b)) p ≡ agrees b (passes s p)
@@ -248,8 +248,8 @@ where_passes (union s t) k true p w = cells_append (cells_where s true) (cells_w
 where_passes (union s t) k false p w = all_joins_passes (cells_where s false) (cells_where t false) p ∙ (λ i. where_passes s k.0 false p w i && where_passes t k.1 false p w i) ∙ not_or (passes s p) (passes t p)
 where_passes (difference s t) k true p w = all_joins_passes (cells_where s true) (cells_where t false) p ∙ (λ i. where_passes s k.0 true p w i && where_passes t k.1 false p w i)
 where_passes (difference s t) k false p w = cells_append (cells_where s false) (cells_where t true) p ∙ (λ i. where_passes s k.0 false p w i || where_passes t k.1 true p w i) ∙ not_but (passes s p) (passes t p)
-where_passes (opposite s) k true p w = where_passes s k false p w
-where_passes (opposite s) k false p w = where_passes s k true p w ∙ twice_not (passes s p)
+where_passes (Shape.complement s) k true p w = where_passes s k false p w
+where_passes (Shape.complement s) k false p w = where_passes s k true p w ∙ twice_not (passes s p)
 
 -- and they keep the bounds
 pub where_bounded : (s : Shape) → IsBoundedShape s → (b : Bool) → IsBoundedRegion (cells_where s b)
@@ -268,8 +268,8 @@ where_bounded (union s t) k true = all_append AreHalfSpaces (cells_where s true)
 where_bounded (union s t) k false = all_joins_bounded (cells_where s false) (cells_where t false) (where_bounded s k.0 false) (where_bounded t k.1 false)
 where_bounded (difference s t) k true = all_joins_bounded (cells_where s true) (cells_where t false) (where_bounded s k.0 true) (where_bounded t k.1 false)
 where_bounded (difference s t) k false = all_append AreHalfSpaces (cells_where s false) (cells_where t true) (where_bounded s k.0 false) (where_bounded t k.1 true)
-where_bounded (opposite s) k true = where_bounded s k false
-where_bounded (opposite s) k false = where_bounded s k true
+where_bounded (Shape.complement s) k true = where_bounded s k false
+where_bounded (Shape.complement s) k false = where_bounded s k true
 
 -- the law
 pub shape_is_region_spec : ShapeIsRegion

@@ -50,7 +50,7 @@ contact_answer s t ks kt =
 -- whether one shape is within another: whether it shares no member with the outside of the other
 pub within_answer : (s t : Shape) → IsBoundedShape s → IsBoundedShape t → Answer (IsWithin s t)
 within_answer s t ks kt =
-    let outside = overlap_answer s (Shape.opposite t) ks kt in
+    let outside = overlap_answer s (Shape.complement t) ks kt in
     record {
       test = not outside.test;
       says = (
@@ -71,7 +71,7 @@ IsTouchingPart s t = IsWithin s t × HasCommonNeighbour s t
 pub touching_answer : (s t : Shape) → IsBoundedShape s → IsBoundedShape t → Answer (IsTouchingPart s t)
 touching_answer s t ks kt =
     let within = within_answer s t ks kt in
-    let touch = contact_answer s (Shape.opposite t) ks kt in
+    let touch = contact_answer s (Shape.complement t) ks kt in
     record {
       test = within.test && touch.test;
       says = (

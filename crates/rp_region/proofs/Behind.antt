@@ -3,9 +3,9 @@ use Rattle.std.proofs.Common.{◌≡◌, List, Option, Some, None, Result, Ok, E
 use Rattle.std.specs.Prelude.{IsErrAnd, IsSome}
 use Rattle.std.proofs.lemmas.List.{append-nil}
 use Rattle.rp_geometry.specs.searches.ProofLine.{ProofLine}
-use Rattle.rp_walks.specs.Walk.{Stop, Outcome, done, stopped, limit_met, Walk, Work}
-use Rattle.rp_tester.specs.declared.stopped.Stopped.{Stopped}
-use Rattle.rp_tester.specs.Comes.{stop_of as why_of, Comes}
+use Rattle.rp_semantics.specs.Walk.{Stop, Outcome, done, stopped, limit_met, Walk, Work}
+use Rattle.rp_oracle.specs.declared.stopped.Stopped.{Stopped}
+use Rattle.rp_oracle.specs.Refines.{stop_of as why_of, Refines}
 use Rattle.rp_region.specs.declared.fault.OpFault.{OpFault}
 use Rattle.rp_region.specs.declared.fault.OpFault.TheVariants.{Limit, Memory}
 use Rattle.rp_region.specs.Makes.{work_after, TellsMore, OnlyTells, Makes}
@@ -33,7 +33,7 @@ behind_tells {A = A} walk law = record { tells = λ w. by_outcome w (walk (fresh
     by_outcome w (stopped s v) e = lines_after w v (stopped s (behind w.proofs v)) refl (from_fresh walk w ∙ (law.stops w.proofs (fresh w) v s e).0)
 
 -- what stops a walk is a limit, behind the lines of a work too
-stops_at_limit : {A B : Type 0} (view : A → B) (came : Result A Stopped) (walk : Walk Work B) (w v : Work) → ComesBehind walk → IsErrAnd came (λ e. IsSome (why_of e)) → Comes view came v (walk (fresh w)) → walk w ≡ stopped limit_met (behind w.proofs v)
+stops_at_limit : {A B : Type 0} (view : A → B) (came : Result A Stopped) (walk : Walk Work B) (w v : Work) → ComesBehind walk → IsErrAnd came (λ e. IsSome (why_of e)) → Refines view came v (walk (fresh w)) → walk w ≡ stopped limit_met (behind w.proofs v)
 stops_at_limit view (Ok x) walk w v law n h = absurd n
 stops_at_limit view (Err e) walk w v law n h = by_why (why_of e) n h
   where
@@ -45,9 +45,9 @@ stops_at_limit view (Err e) walk w v law n h = by_why (why_of e) n h
 
 -- what a row has come to on a work begun fresh, taken over, is what it makes of the work
 pub makes_behind : {A B : Type 0} (view : A → B) (came : Result A Stopped) (r : Result A OpFault) (walk : Walk Work B) (old walked new : Work)
-    → ComesBehind walk → Comes view came walked (walk (fresh old)) → TakesOver came walked r old new → Makes view r old new walk
+    → ComesBehind walk → Refines view came walked (walk (fresh old)) → TakesOver came walked r old new → Makes view r old new walk
 makes_behind view came (Ok x) walk old walked new law h t =
-    let made : walk (fresh old) ≡ done (view x) walked = subst (λ c. Comes view c walked (walk (fresh old))) t.0 h in
+    let made : walk (fresh old) ≡ done (view x) walked = subst (λ c. Refines view c walked (walk (fresh old))) t.0 h in
     from_fresh walk old ∙ law.ends old.proofs (fresh old) walked (view x) made ∙ ap (done (view x)) (sym t.1)
 makes_behind view came (Err Limit) walk old walked new law h t = stops_at_limit view came walk old walked law t.0 h ∙ ap (stopped limit_met) (sym t.1)
 makes_behind view came (Err (Memory e)) walk old walked new law h t = not_begun walk old new (behind_tells walk law) t

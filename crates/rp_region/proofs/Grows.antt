@@ -8,8 +8,8 @@ use Rattle.rp_geometry.specs.sets.Shape.{Part}
 use Rattle.rp_geometry.specs.searches.ProofLine.{strict_line}
 use Rattle.rp_geometry.specs.parts.PartTest.{has_member, slimmed, part_lines, part_of}
 use Rattle.rp_geometry.specs.parts.Parts.{most_half_spaces, most_parts}
-use Rattle.rp_walks.specs.Walk.{Outcome, done, stopped, limit_met, Walk, pass, stop, after_first, ◌>>=◌, ◌>>◌, Work, with_lines, most_tests, count_tests, strict_test, part_test, first_tester}
-use Rattle.rp_walks.specs.Form.{made_part, if_at_most, join_pair, join_with_part, join_each, carve_one, carve, carve_or_keep, subtract_pair, subtract_part, subtract, exchange, exchange_edge, exchange_edges, exchange_lists, exchange_cell}
+use Rattle.rp_semantics.specs.Walk.{Outcome, done, stopped, limit_met, Walk, pass, stop, after_first, ◌>>=◌, ◌>>◌, Work, with_lines, most_tests, count_tests, strict_test, part_test, first_tester}
+use Rattle.rp_semantics.specs.Form.{made_part, if_at_most, join_pair, join_with_part, join_each, carve_one, carve, carve_or_keep, subtract_pair, subtract_part, subtract, exchange, exchange_edge, exchange_edges, exchange_lists, exchange_cell}
 use Rattle.rp_footprint.specs.Cells.{trapezoid_by}
 use Rattle.rp_region.specs.Makes.{work_after, TellsMore, OnlyTells}
 use Rattle.rp_region.specs.Tells.{strict_tells}

@@ -1,6 +1,6 @@
 -- What is left of a walk while it is made step by step.
 use Rattle.std.proofs.Common.{◌≡◌, Result, Ok, Err, refl, sym, ap, ◌∙◌, subst}
-use Rattle.rp_walks.specs.Walk.{Outcome, done, Walk, after_first, ◌>>=◌, Work}
+use Rattle.rp_semantics.specs.Walk.{Outcome, done, Walk, after_first, ◌>>=◌, Work}
 use Rattle.rp_region.specs.declared.fault.OpFault.{OpFault}
 use Rattle.rp_region.specs.declared.fault.OpFault.TheVariants.{Limit, Memory}
 use Rattle.rp_region.specs.Makes.{work_after, TellsMore, IsCutShort, IsFaultOf, Makes, OnlyTells}

@@ -6,9 +6,9 @@ use Rattle.rp_geometry.specs.sets.Shape.{Shape, Part, shape_of_parts}
 use Rattle.rp_geometry.specs.parts.Parts.{IsPart, IsRegion, AreOf}
 use Rattle.rp_geometry.specs.sets.Sets.{Overlaps}
 use Rattle.rp_geometry.specs.sets.Contact.{IsInContact}
-use Rattle.rp_walks.specs.Walk.{Outcome, Walk, done, after_first, Work, count_tests, strict_test, weak_test, first_tester}
-use Rattle.rp_walks.specs.Form.{near_pair, touching_pair, made_part, join_each, join, subtract}
-use Rattle.rp_walks.specs.FormLaws.{IfDone, IsMadeOf}
+use Rattle.rp_semantics.specs.Walk.{Outcome, Walk, done, after_first, Work, count_tests, strict_test, weak_test, first_tester}
+use Rattle.rp_semantics.specs.Form.{near_pair, touching_pair, made_part, join_each, join, subtract}
+use Rattle.rp_semantics.specs.FormLaws.{IfDone, IsMadeOf}
 use Rattle.rp_forms.proofs.Common.{common_is_right_spec}
 use Rattle.rp_forms.proofs.Touch.{touch_is_right_spec}
 use Rattle.rp_forms.proofs.Difference.{difference_is_right_spec}

@@ -10,9 +10,9 @@ use Rattle.rp_geometry.specs.searches.ProofLine.{ProofLine, in_line, box_line, s
 use Rattle.rp_geometry.specs.parts.LeastBox.{least_box}
 use Rattle.rp_geometry.specs.parts.Parts.{most_half_spaces, IsPart}
 use Rattle.rp_geometry.specs.parts.PartTest.{has_member, slimmed, part_lines, part_of, side_lines}
-use Rattle.rp_walks.specs.Walk.{Outcome, done, stopped, limit_met, Walk, pass, ◌>>=◌, Work, with_lines, part_test}
+use Rattle.rp_semantics.specs.Walk.{Outcome, done, stopped, limit_met, Walk, pass, ◌>>=◌, Work, with_lines, part_test}
 use Rattle.rp_geometry.proofs.SameMembers.{same_next}
-use Rattle.rp_walks.specs.FormLaws.{IsMadeOf}
+use Rattle.rp_semantics.specs.FormLaws.{IsMadeOf}
 use Rattle.rp_forms.proofs.Alike.{same_of_alike, one_part}
 use Rattle.rp_region.specs.Makes.{IsCutShort, telling, OnlyTells}
 use Rattle.rp_region.proofs.Grows.{pass_tells, then_tells}

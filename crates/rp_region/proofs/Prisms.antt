@@ -8,8 +8,8 @@ use Rattle.rp_geometry.specs.sets.Prism.{edge_of, edges_of, is_upright, Prism, I
 use Rattle.rp_geometry.specs.sets.Shape.{Shape, Part, shape_of_parts}
 use Rattle.rp_geometry.specs.sets.Sets.{SameMembers}
 use Rattle.rp_geometry.specs.parts.Parts.{IsPart, AreOf, most_parts}
-use Rattle.rp_walks.specs.Walk.{done, Walk, ◌>>=◌, Work, part_test, first_tester}
-use Rattle.rp_walks.specs.Form.{if_at_most, subtract, exchange, exchange_edges, prism_form, exchange_lists, exchange_cell}
+use Rattle.rp_semantics.specs.Walk.{done, Walk, ◌>>=◌, Work, part_test, first_tester}
+use Rattle.rp_semantics.specs.Form.{if_at_most, subtract, exchange, exchange_edges, prism_form, exchange_lists, exchange_cell}
 use Rattle.rp_footprint.specs.Cells.{no_corner, edge_at, trapezoid_at}
 use Rattle.rp_forms.proofs.First.{first_tester_is_right_spec}
 use Rattle.rp_forms.proofs.Prisms.{prism_is_right_spec}

@@ -4,8 +4,8 @@ use Rattle.std.proofs.Math.ListN.{drop_of_length-le}
 use Rattle.rp_algebra.proofs.Lists.{drop_item}
 use Rattle.rp_geometry.specs.Geometry.{HalfSpace}
 use Rattle.rp_geometry.specs.sets.Shape.{Part}
-use Rattle.rp_walks.specs.Walk.{done, Walk, pass, ◌>>=◌, Work}
-use Rattle.rp_walks.specs.Form.{test_pair_if, first_with_part, first_pair}
+use Rattle.rp_semantics.specs.Walk.{done, Walk, pass, ◌>>=◌, Work}
+use Rattle.rp_semantics.specs.Form.{test_pair_if, first_with_part, first_pair}
 use Rattle.rp_region.specs.declared.fault.OpFault.{OpFault}
 use Rattle.rp_region.specs.Makes.{OnlyTells, IsFaultOf}
 use Rattle.rp_region.proofs.Grows.{then_tells, pass_tells}

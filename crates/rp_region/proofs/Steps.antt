@@ -4,8 +4,8 @@ use Rattle.std.specs.Prelude.{nat_le, Option}
 use Rattle.rp_geometry.specs.Geometry.{HalfSpace, complement}
 use Rattle.rp_geometry.specs.sets.Shape.{Part}
 use Rattle.rp_geometry.specs.parts.Parts.{most_parts}
-use Rattle.rp_walks.specs.Walk.{Outcome, done, stopped, limit_met, Walk, after_first, pass, stop, ◌>>=◌, ◌>>◌, Work, count_tests, strict_test, part_test, first_tester}
-use Rattle.rp_walks.specs.Form.{near_pair, made_part, if_at_most, join_pair, carve_one, carve_or_keep, subtract_pair}
+use Rattle.rp_semantics.specs.Walk.{Outcome, done, stopped, limit_met, Walk, after_first, pass, stop, ◌>>=◌, ◌>>◌, Work, count_tests, strict_test, part_test, first_tester}
+use Rattle.rp_semantics.specs.Form.{near_pair, made_part, if_at_most, join_pair, carve_one, carve_or_keep, subtract_pair}
 use Rattle.rp_region.specs.declared.fault.OpFault.{OpFault}
 use Rattle.rp_region.specs.Makes.{IsFaultOf, OnlyTells}
 use Rattle.rp_region.specs.Pairs.{meet_if_near}

@@ -12,7 +12,7 @@ use Rattle.rp_geometry.specs.parts.Parts.{most_half_spaces}
 use Rattle.rp_region.specs.Makes.{op_result, Makes}
 use Rattle.rp_region.specs.Tells.{strict_tells, weak_tells}
 use Rattle.rp_region.proofs.Left.{not_begun}
-use Rattle.rp_walks.specs.Walk.{Outcome, done, stopped, limit_met, Work, with_lines, strict_test, weak_test, part_test}
+use Rattle.rp_semantics.specs.Walk.{Outcome, done, stopped, limit_met, Work, with_lines, strict_test, weak_test, part_test}
 
 -- the work with one line in other words
 one_line : (w v : Work) (told line : ProofLine) → told ≡ line → v ≡ with_lines w (told ∷ []) → with_lines w (line ∷ []) ≡ v

@@ -2,7 +2,7 @@
 use Rattle.std.specs.Prelude.{◌≡◌, Bool, true, false, List, ◌++◌, Result, Ok, Err}
 use Rattle.std.specs.declared.alloc.AllocError.{AllocError}
 use Rattle.rp_geometry.specs.searches.ProofLine.{ProofLine}
-use Rattle.rp_walks.specs.Walk.{Outcome, done, stopped, limit_met, Walk, Work, with_lines}
+use Rattle.rp_semantics.specs.Walk.{Outcome, done, stopped, limit_met, Walk, Work, with_lines}
 use Rattle.rp_region.specs.declared.fault.OpFault.{OpFault}
 use Rattle.rp_region.specs.declared.fault.OpFault.TheVariants.{Limit, Memory}
 

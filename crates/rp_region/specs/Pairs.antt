@@ -3,8 +3,8 @@ use Rattle.std.specs.Prelude.{◌≡◌, ◌*◌, Bool, true, false, List, [], �
 use Rattle.rp_geometry.specs.Geometry.{HalfSpace}
 use Rattle.rp_geometry.specs.sets.Shape.{Part}
 use Rattle.rp_geometry.specs.searches.ProofLine.{ProofLine}
-use Rattle.rp_walks.specs.Walk.{Walk, Work, pass, count_tests, strict_test, first_tester, ◌>>◌}
-use Rattle.rp_walks.specs.Form.{every_pair, near_pair, first_pair, common_in_full, common_nearby, touch_in_full, touch_nearby}
+use Rattle.rp_semantics.specs.Walk.{Walk, Work, pass, count_tests, strict_test, first_tester, ◌>>◌}
+use Rattle.rp_semantics.specs.Form.{every_pair, near_pair, first_pair, common_in_full, common_nearby, touch_in_full, touch_nearby}
 
 -- the pairs that are tested: those that may meet alone, or every pair
 abbrev pub chosen_pair : Bool → (Part → Part → Bool) → Part → Part → Bool

@@ -1,10 +1,10 @@
 -- How a row is stopped on a work, and how what it has come to there is taken over by another.
 use Rattle.std.specs.Prelude.{◌≡◌, List, [], ◌++◌, Result, Ok, Err, IsErrAnd, IsSome}
 use Rattle.rp_geometry.specs.searches.ProofLine.{ProofLine}
-use Rattle.rp_walks.specs.Walk.{Work}
-use Rattle.rp_tester.specs.declared.stopped.Stopped.{Stopped}
-use Rattle.rp_tester.specs.declared.stopped.Stopped.TheVariants.{Limit as StopLimit, Memory as StopMemory}
-use Rattle.rp_tester.specs.Comes.{stop_of as why_of}
+use Rattle.rp_semantics.specs.Walk.{Work}
+use Rattle.rp_oracle.specs.declared.stopped.Stopped.{Stopped}
+use Rattle.rp_oracle.specs.declared.stopped.Stopped.TheVariants.{Limit as StopLimit, Memory as StopMemory}
+use Rattle.rp_oracle.specs.Refines.{stop_of as why_of}
 use Rattle.rp_region.specs.declared.fault.OpFault.{OpFault}
 use Rattle.rp_region.specs.declared.fault.OpFault.TheVariants.{Limit, Memory}
 

@@ -2,7 +2,7 @@
 use Rattle.std.specs.Prelude.{List, [], ◌∷◌, refl}
 use Rattle.rp_geometry.specs.Geometry.{HalfSpace}
 use Rattle.rp_geometry.specs.searches.ProofLine.{strict_line, weak_line}
-use Rattle.rp_walks.specs.Walk.{strict_test, weak_test}
+use Rattle.rp_semantics.specs.Walk.{strict_test, weak_test}
 use Rattle.rp_region.specs.Makes.{OnlyTells}
 
 -- a strict test

@@ -1,12 +1,12 @@
 //! How a search answers the tests of a row.
-ghost use Rattle.rp_walks.specs.Walk.{first_tester};
+ghost use Rattle.rp_semantics.specs.Walk.{first_tester};
 
 use crate::fault::OpFault;
 use crate::part::Part;
 use crate::region::Region;
 use crate::work::Work;
 use rp_space::{Corner, Half, Halves, Point};
-use rp_tester::{Stopped, Tests};
+use rp_oracle::{Stopped, Oracle};
 use std::alloc::{AllocError, Global};
 
 impl From<OpFault> for Stopped {
@@ -23,7 +23,7 @@ impl From<OpFault> for Stopped {
     }
 }
 
-impl Tests for Work {
+impl Oracle for Work {
     type Part = Part;
 
     type Form = Region;

@@ -1,7 +1,7 @@
 //! How many pairs of parts of two regions may meet.
 ghost use Rattle.std.specs.Prelude.{◌≡◌, ◌≤◌, ◌*◌, length, sum_by, count_by};
 ghost use Rattle.rp_geometry.specs.parts.Parts.{most_parts};
-ghost use Rattle.rp_walks.specs.Form.{near_pair, touching_pair};
+ghost use Rattle.rp_semantics.specs.Form.{near_pair, touching_pair};
 
 use crate::part::Part;
 use crate::region::Region;

@@ -2,8 +2,8 @@
 ghost use Rattle.std.specs.Prelude.{◌≡◌, ◌≤◌, ◌<◌, [], ◌++◌, true, length, List, IfOk};
 ghost use Rattle.rp_geometry.specs.Geometry.{HalfSpace};
 ghost use Rattle.rp_geometry.specs.parts.Parts.{most_half_spaces};
-ghost use Rattle.rp_walks.specs.Walk.{count_tests, first_tester};
-ghost use Rattle.rp_walks.specs.Form.{carve_one, carve, carve_or_keep, subtract_pair, subtract_part, subtract};
+ghost use Rattle.rp_semantics.specs.Walk.{count_tests, first_tester};
+ghost use Rattle.rp_semantics.specs.Form.{carve_one, carve, carve_or_keep, subtract_pair, subtract_part, subtract};
 ghost use Rattle.rp_region.specs.Makes.{Makes};
 ghost use Rattle.rp_region.specs.Pairs.{meet_if_near};
 
@@ -13,7 +13,7 @@ use crate::part::Part;
 use crate::work::Work;
 use rp_lists::Listed;
 use rp_space::Half;
-use rp_tester::MAX_PARTS;
+use rp_oracle::MAX_PARTS;
 use std::alloc::Global;
 
 /// The parts of a list without those of a second list, one after the other.

@@ -1,8 +1,8 @@
 //! A cell that stays while others are made of it.
 ghost use Rattle.std.specs.Prelude.{◌≡◌, ◌+◌, ◌<◌, ◌≤◌, [], ◌∷◌, ◌++◌, true, length, IfOk};
 ghost use Rattle.rp_geometry.specs.parts.Parts.{IsPart};
-ghost use Rattle.rp_walks.specs.FormLaws.{IsMadeOf};
-ghost use Rattle.rp_walks.specs.Walk.{strict_test, part_test};
+ghost use Rattle.rp_semantics.specs.FormLaws.{IsMadeOf};
+ghost use Rattle.rp_semantics.specs.Walk.{strict_test, part_test};
 ghost use Rattle.rp_geometry.specs.searches.ProofLine.{strict_line, weak_line};
 ghost use Rattle.rp_cell.specs.Decisions.{line_of_strict, line_of_weak, DecidesStrict, DecidesWeak};
 ghost use Rattle.rp_region.specs.Makes.{op_result, Makes};

@@ -2,8 +2,8 @@
 ghost use Rattle.std.specs.Prelude.{◌≡◌, ◌≤◌, length};
 ghost use Rattle.rp_geometry.specs.sets.Shape.{Part as ModelPart};
 ghost use Rattle.rp_geometry.specs.parts.Parts.{most_half_spaces};
-ghost use Rattle.rp_walks.specs.Walk.{first_tester};
-ghost use Rattle.rp_walks.specs.Form.{join_pair, join_with_part, join_each};
+ghost use Rattle.rp_semantics.specs.Walk.{first_tester};
+ghost use Rattle.rp_semantics.specs.Form.{join_pair, join_with_part, join_each};
 ghost use Rattle.rp_region.specs.Makes.{Makes};
 
 use crate::fault::OpFault;
@@ -11,7 +11,7 @@ use crate::front::Front;
 use crate::part::Part;
 use crate::work::Work;
 use rp_lists::Listed;
-use rp_tester::MAX_PARTS;
+use rp_oracle::MAX_PARTS;
 use std::alloc::Global;
 
 /// Each part of a list with each part of a second list: what they have in common comes behind the parts made already.

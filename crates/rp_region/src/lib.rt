@@ -18,12 +18,12 @@ mod pairs;
 mod part;
 mod prism;
 mod region;
-mod room;
+mod scratch;
 mod witness;
 mod work;
 
 pub use fault::OpFault;
 pub use part::Part;
 pub use region::Region;
-pub use room::Room;
+pub use scratch::Scratch;
 pub use work::Work;

@@ -1,6 +1,6 @@
 //! The first pair of parts of two lists that meet, test by test.
 ghost use Rattle.std.specs.Prelude.{is_some, IfOk, IfSome};
-ghost use Rattle.rp_walks.specs.Form.{test_pair_if, first_with_part, first_pair};
+ghost use Rattle.rp_semantics.specs.Form.{test_pair_if, first_with_part, first_pair};
 ghost use Rattle.rp_region.specs.Makes.{Makes};
 ghost use Rattle.rp_region.specs.Pairs.{chosen_pair, IsLast};
 

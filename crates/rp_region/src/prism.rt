@@ -3,8 +3,8 @@ ghost use Rattle.std.specs.Prelude.{◌≡◌, ◌∷◌, [], IfOk};
 ghost use Rattle.rp_geometry.specs.sets.Prism.{IsPrism};
 ghost use Rattle.rp_geometry.specs.sets.Shape.{Shape, shape_of_parts};
 ghost use Rattle.rp_geometry.specs.sets.Sets.{SameMembers};
-ghost use Rattle.rp_walks.specs.Walk.{first_tester};
-ghost use Rattle.rp_walks.specs.Form.{prism_form, exchange_cell, exchange_lists};
+ghost use Rattle.rp_semantics.specs.Walk.{first_tester};
+ghost use Rattle.rp_semantics.specs.Form.{prism_form, exchange_cell, exchange_lists};
 ghost use Rattle.rp_space.specs.Corners.{prism_of};
 ghost use Rattle.rp_region.specs.Makes.{Makes};
 

@@ -8,8 +8,8 @@ ghost use Rattle.rp_geometry.specs.sets.Contact.{IsInContact};
 ghost use Rattle.rp_geometry.specs.searches.ProofLine.{in_line, at_line};
 ghost use Rattle.rp_geometry.specs.parts.PartTest.{whole_part};
 ghost use Rattle.rp_geometry.specs.parts.Parts.{IsRegion, most_parts};
-ghost use Rattle.rp_walks.specs.Walk.{first_tester};
-ghost use Rattle.rp_walks.specs.Form.{if_at_most, join, subtract, subtract_from_whole, parts_of_cell};
+ghost use Rattle.rp_semantics.specs.Walk.{first_tester};
+ghost use Rattle.rp_semantics.specs.Form.{if_at_most, join, subtract, subtract_from_whole, parts_of_cell};
 ghost use Rattle.rp_region.specs.Makes.{Makes};
 ghost use Rattle.rp_region.specs.Pairs.{common_by, touch_by, first_pair_by, IsLast};
 
@@ -22,7 +22,7 @@ use crate::witness::Witness;
 use crate::work::Work;
 use rp_lists::Listed;
 use rp_space::{Half, Inside, Point};
-use rp_tester::MAX_PARTS;
+use rp_oracle::MAX_PARTS;
 use std::alloc::{AllocError, Global};
 use std::marker::Model;
 
@@ -160,7 +160,7 @@ impl Region {
     /// What is left of the cube outside the region, by tests of `work`. `Limit` as for `minus`.
     pub fn outside(&self, alloc: Global, work: &mut Work) -> Result<Region, OpFault>
         ensures makes { Makes (λ region. region) result work.old work.new (subtract_from_whole first_tester self.now) }
-        ensures members { IfOk result (λ region. SameMembers (shape_of_parts region) (Shape.opposite (shape_of_parts self.now))) }
+        ensures members { IfOk result (λ region. SameMembers (shape_of_parts region) (Shape.complement (shape_of_parts self.now))) }
     {
         let whole = Region::all(alloc)?;
         whole.into_minus(alloc, self, work)

@@ -8,8 +8,8 @@ ghost use Rattle.rp_geometry.specs.searches.Vertex.{first_inside, first_weak_poi
 ghost use Rattle.rp_geometry.specs.laws.CellLaws.{IsSolution};
 ghost use Rattle.rp_geometry.specs.parts.Parts.{IsPart, most_half_spaces};
 ghost use Rattle.rp_geometry.specs.parts.PartTest.{part_of, slimmed};
-ghost use Rattle.rp_walks.specs.FormLaws.{IsMadeOf};
-ghost use Rattle.rp_walks.specs.Walk.{most_tests, no_work, with_lines, count_tests, strict_test, weak_test, part_test};
+ghost use Rattle.rp_semantics.specs.FormLaws.{IsMadeOf};
+ghost use Rattle.rp_semantics.specs.Walk.{most_tests, no_work, with_lines, count_tests, strict_test, weak_test, part_test};
 ghost use Rattle.rp_space.specs.Boxes.{integer_box};
 ghost use Rattle.rp_cert.specs.Lines.{line_of};
 ghost use Rattle.rp_cell.specs.Decisions.{line_of_strict, line_of_weak, DecidesStrict, DecidesWeak};
@@ -21,15 +21,15 @@ ghost use Rattle.rp_region.specs.Stops.{TakesOver};
 use crate::fault::OpFault;
 use crate::front::Front;
 use crate::part::Part;
-use crate::room::Room;
+use crate::scratch::Scratch;
 use rp_cell::{
-    Cell, DroppedHalf, Drops, Held, SideProofs, Sides, Slimmed, Strict, Weak, hold_strict,
-    hold_weak, refute_strict, refute_weak, strict_soon, weak_soon,
+    Cell, DroppedHalf, Drops, Held, SideProofs, Sides, Slimmed, Strict, Weak, decide_by_vertices,
+    hold_weak, refute_strict, refute_weak, try_decide_strict, weak_soon,
 };
 use rp_cert::{Proof, Proofs};
 use rp_lists::Copied;
 use rp_space::{Half, Inside, IntBox, Point, joined};
-use rp_tester::{MAX_HALVES, MAX_TESTS, Stopped};
+use rp_oracle::{MAX_HALVES, MAX_TESTS, Stopped};
 use std::alloc::{AllocError, Global};
 use std::marker::Model;
 
@@ -40,13 +40,13 @@ pub struct Work {
     tests: u32,
     proofs: Proofs,
     /// Room for cells with their vertices.
-    room: Room,
+    room: Scratch,
     alloc: Global,
 }
 
 impl Model for Work {
     ghost use Rattle.std.specs.Prelude.{◌≤◌, map};
-    ghost use Rattle.rp_walks.specs.Walk.{Work, most_tests};
+    ghost use Rattle.rp_semantics.specs.Walk.{Work, most_tests};
     ghost use Rattle.rp_cert.specs.Lines.{line_of};
 
     ghost Value = { Work };
@@ -61,11 +61,11 @@ impl Work {
     pub fn new(alloc: Global) -> Work
         ensures { result ≡ no_work }
     {
-        Work::over(alloc, Room::new())
+        Work::over(alloc, Scratch::new())
     }
 
     /// Nothing done yet. Its tests are made over `room`, which another work has handed on. Takes no memory.
-    pub fn over(alloc: Global, room: Room) -> Work
+    pub fn over(alloc: Global, room: Scratch) -> Work
         ensures { result ≡ no_work }
     {
         Work {
@@ -77,7 +77,7 @@ impl Work {
     }
 
     /// Hands the room of its tests on to another work. In any case all is as before.
-    pub fn hand_on_room(&mut self) -> Room
+    pub fn hand_on_room(&mut self) -> Scratch
         ensures { self.new ≡ self.old }
     {
         self.room.take()
@@ -151,7 +151,7 @@ impl Work {
         Work {
             tests: self.tests,
             proofs: Proofs::new(alloc),
-            room: Room::new(),
+            room: Scratch::new(),
             alloc,
         }
     }
@@ -393,11 +393,11 @@ impl Work {
         ensures decides { DecidesStrict cell.now result }
         ensures line { line_of_strict result ≡ strict_line cell.now }
     {
-        if let Some(found) = strict_soon(cell) {
+        if let Some(found) = try_decide_strict(cell) {
             return found;
         }
         let Some(mut room) = self.room.lend() else {
-            return hold_strict(cell);
+            return decide_by_vertices(cell);
         };
         let found = room.decide_strict(cell);
         self.keep_room(room);

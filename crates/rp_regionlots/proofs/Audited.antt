@@ -2,7 +2,7 @@
 use Rattle.std.proofs.Common.{◌≡◌, ℕ, Bool, List, [], refl, sym, ap, ◌∙◌, subst}
 use Rattle.rp_geometry.specs.parts.Parts.{IsPart}
 use Rattle.rp_language.specs.Expression.{ask_audit}
-use Rattle.rp_walks.specs.Walk.{limit_met, taken_wrong, Outcome, done, stopped, Walk, Work, pass, after_first, first_tester}
+use Rattle.rp_semantics.specs.Walk.{limit_met, taken_wrong, Outcome, done, stopped, Walk, Work, pass, after_first, first_tester}
 use Rattle.rp_model.specs.states.State.{Lot, PlainState, state_of_parts}
 use Rattle.rp_model.specs.states.Sound.{IsSound}
 use Rattle.rp_model.specs.commands.Verdict.{clear}
@@ -11,9 +11,9 @@ use Rattle.rp_model.specs.commands.Parts.{lot_parts}
 use Rattle.rp_model.specs.commands.Audit.{row_audit}
 use Rattle.rp_states.proofs.Parted.{same_lots}
 use Rattle.rp_states.proofs.PlainRows.{row_same}
-use Rattle.rp_verdicts.proofs.Right.{first_walks_are_right}
-use Rattle.rp_verdicts.proofs.RowStops.{row_stops, first_only_limits}
-use Rattle.rp_verdicts.proofs.Stops.{StopsAtLimit}
+use Rattle.rp_row_soundness.proofs.Right.{first_walks_are_right}
+use Rattle.rp_row_soundness.proofs.RowStops.{row_stops, first_only_limits}
+use Rattle.rp_row_soundness.proofs.Stops.{StopsAtLimit}
 use Rattle.rp_lotindex.specs.declared.near.Reach.TheVariants.{Overlap}
 use Rattle.rp_contacts.specs.declared.pair.Pair.{Pair}
 use Rattle.rp_contacts.specs.Apart.{apart_each}

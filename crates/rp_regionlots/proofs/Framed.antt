@@ -4,8 +4,8 @@ use Rattle.rp_geometry.specs.Geometry.{HalfSpace}
 use Rattle.rp_geometry.specs.sets.Shape.{Part}
 use Rattle.rp_geometry.specs.searches.ProofLine.{ProofLine, strict_line, weak_line}
 use Rattle.rp_geometry.specs.parts.PartTest.{has_member, has_weak_point}
-use Rattle.rp_walks.specs.Walk.{Outcome, done, Walk, Work, no_work, with_lines, pass, after_first, ◌>>=◌, strict_test, weak_test}
-use Rattle.rp_walks.specs.Form.{near_pair, touching_pair, test_pair_if, first_with_part, first_pair}
+use Rattle.rp_semantics.specs.Walk.{Outcome, done, Walk, Work, no_work, with_lines, pass, after_first, ◌>>=◌, strict_test, weak_test}
+use Rattle.rp_semantics.specs.Form.{near_pair, touching_pair, test_pair_if, first_with_part, first_pair}
 use Rattle.rp_region.specs.declared.fault.OpFault.TheVariants.{Limit}
 use Rattle.rp_region.specs.Makes.{work_after, IsFaultOf}
 use Rattle.rp_lotindex.specs.declared.near.Reach.{Reach}

@@ -2,7 +2,7 @@
 use Rattle.std.proofs.Common.{◌≡◌, ℕ, ◌+◌, ◌<◌, ◌≤◌, Bool, true, false, refl, arith}
 use Rattle.std.specs.Prelude.{nat_le}
 use Rattle.std.proofs.lemmas.Bool.Decides.{nat_tests}
-use Rattle.rp_walks.specs.Walk.{Outcome, done, stopped, limit_met, Work, most_tests, count_tests}
+use Rattle.rp_semantics.specs.Walk.{Outcome, done, stopped, limit_met, Work, most_tests, count_tests}
 
 -- a count above the limit is stopped at any work
 pub too_many : (n : ℕ) (w : Work) → most_tests < n → count_tests n w ≡ stopped limit_met w

@@ -1,7 +1,7 @@
 -- Pairs of lots, and what the tests of each show by themselves.
 use Rattle.std.specs.Prelude.{◌≡◌, ℕ, ◌<◌, Bool, false, List, [], ◌∷◌, length, get_or}
 use Rattle.rp_geometry.specs.sets.Shape.{Part}
-use Rattle.rp_walks.specs.Walk.{Outcome, done, stopped, Walk, Work, no_work, with_lines, first_tester}
+use Rattle.rp_semantics.specs.Walk.{Outcome, done, stopped, Walk, Work, no_work, with_lines, first_tester}
 use Rattle.rp_region.specs.Makes.{work_after}
 use Rattle.rp_lotindex.specs.declared.near.Reach.{Reach}
 use Rattle.rp_contacts.specs.declared.pair.Pair.{Pair}

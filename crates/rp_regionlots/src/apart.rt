@@ -1,6 +1,6 @@
 //! All lots of one layer are shown to be apart.
 ghost use Rattle.std.specs.Prelude.{◌≤◌};
-ghost use Rattle.rp_walks.specs.Walk.{first_tester};
+ghost use Rattle.rp_semantics.specs.Walk.{first_tester};
 ghost use Rattle.rp_model.specs.states.State.{state_of_parts};
 ghost use Rattle.rp_model.specs.states.Sound.{IsSound};
 ghost use Rattle.rp_model.specs.commands.Verdict.{clear};

@@ -1,6 +1,6 @@
 //! The questions which lots are in contact.
 ghost use Rattle.std.specs.Prelude.{◌≤◌, IfOk, length};
-ghost use Rattle.rp_walks.specs.Walk.{first_tester};
+ghost use Rattle.rp_semantics.specs.Walk.{first_tester};
 ghost use Rattle.rp_model.specs.states.State.{most_kept_parts};
 ghost use Rattle.rp_model.specs.commands.Verdict.{neighbour_lines};
 ghost use Rattle.rp_model.specs.commands.Reply.{reply_lines};
@@ -12,7 +12,7 @@ ghost use Rattle.rp_contacts.specs.Asked.{Answers};
 use crate::halves::meet_in_halves;
 use rp_answer::RowEnd;
 use rp_boxindex::Watch;
-use rp_contacts::{access_left, access_told, ids_met, touch_left};
+use rp_contacts::{access_left, access_told, contact_ids, pending_contacts};
 use rp_lists::{Name, Names};
 use rp_lotindex::Reach;
 use rp_lots::Keeper;
@@ -40,7 +40,7 @@ pub fn neighbours<R: Threads + Sync, W: Watch, K: Keeper<Work>>(
     ensures row { Answers (λ ids. reply_lines (neighbour_lines ids.items)) result work.new (row_neighbours first_tester (K.state keeper.now) id work.old) }
     ensures few { IfOk result (λ ids. length ids.items ≤ most_kept_parts) }
 {
-    let left = touch_left::<Work, K>(alloc, keeper, id, work)?;
+    let left = pending_contacts::<Work, K>(alloc, keeper, id, work)?;
     let met = meet_in_halves(
         rt,
         alloc,
@@ -52,7 +52,7 @@ pub fn neighbours<R: Threads + Sync, W: Watch, K: Keeper<Work>>(
         work,
     )?;
     let lots = keeper.history().lots();
-    Ok(ids_met(alloc, lots, left.places.items(), &met)?)
+    Ok(contact_ids(alloc, lots, left.places.items(), &met)?)
 }
 
 /// Answers `access`: a shortest chain of live lots of one layer from the lot `from` to the lot `to`, each in contact

@@ -1,8 +1,8 @@
 //! Pairs of lots, judged in halves of work.
 ghost use Rattle.std.specs.Prelude.{◌≡◌, ◌≤◌, [], IfOk, OnOk, length, map};
 ghost use Rattle.std.specs.List.{AllByRecursion};
-ghost use Rattle.rp_walks.specs.Walk.{most_tests, first_tester};
-ghost use Rattle.rp_tester.specs.Comes.{Comes};
+ghost use Rattle.rp_semantics.specs.Walk.{most_tests, first_tester};
+ghost use Rattle.rp_oracle.specs.Refines.{Refines};
 ghost use Rattle.rp_contacts.specs.Meets.{meet_each, IsPairWithin};
 ghost use Rattle.rp_region.specs.Makes.{Makes};
 ghost use Rattle.rp_regionlots.specs.Shown.{pair_test, shown, shown_at, with_all_shown, ShowsNothingCounted, ArePairsWithin};
@@ -12,7 +12,7 @@ use rp_contacts::Pair;
 use rp_lotindex::Reach;
 use rp_parallel::{Judge, judge_all};
 use rp_region::{OpFault, Region, Work};
-use rp_tester::Stopped;
+use rp_oracle::Stopped;
 use std::alloc::{AllocError, Global};
 use std::thread::Threads;
 
@@ -68,7 +68,7 @@ pub fn meet_in_halves<R: Threads + Sync, W: Watch>(
 ) -> Result<Vec<bool>, Stopped>
     requires grain { 1 ≤ grain }
     requires within { AllByRecursion (IsPairWithin forms.now) pairs.now }
-    ensures comes { Comes (λ met. met.items) result work.new (meet_each first_tester reach forms.now [] pairs.now work.old) }
+    ensures comes { Refines (λ met. met.items) result work.new (meet_each first_tester reach forms.now [] pairs.now work.old) }
     ensures each { IfOk result (λ met. length met.items ≡ length pairs.now) }
 {
     let all = judge_pairs(rt, alloc, watch, grain, forms, pairs, reach)?;

@@ -11,10 +11,10 @@ use Rattle.rp_region.specs.declared.fault.OpFault.{OpFault}
 use Rattle.rp_region.specs.declared.fault.OpFault.TheVariants.{Limit, Memory}
 use Rattle.rp_geometry.specs.sets.Relation.{Relation, StandIn}
 use Rattle.rp_geometry.proofs.Kept.{part_is_checked}
-use Rattle.rp_walks.specs.Walk.{Outcome, done, Walk, Work, pass, first_tester}
-use Rattle.rp_walks.specs.Compare.{show_then_no, is_covered, relation_of_parts}
-use Rattle.rp_walks.specs.FormLaws.{IfDone}
-use Rattle.rp_walks.proofs.Outcomes.{weaker_done, then_done}
+use Rattle.rp_semantics.specs.Walk.{Outcome, done, Walk, Work, pass, first_tester}
+use Rattle.rp_semantics.specs.Compare.{show_then_no, is_covered, relation_of_parts}
+use Rattle.rp_semantics.specs.FormLaws.{IfDone}
+use Rattle.rp_semantics.proofs.Outcomes.{weaker_done, then_done}
 use Rattle.rp_forms.proofs.First.{first_tester_is_right_spec}
 use Rattle.rp_forms.proofs.Relations.{relation_is_right_spec}
 use Rattle.rp_region.specs.Makes.{Makes}

@@ -4,12 +4,12 @@ use Rattle.std.specs.Prelude.{IfOk}
 use Rattle.rp_geometry.specs.sets.Shape.{Part}
 use Rattle.rp_geometry.specs.sets.Pieces.{ArePieces}
 use Rattle.rp_geometry.specs.parts.Parts.{IsPart, IsRegion}
-use Rattle.rp_walks.specs.FormLaws.{IfDone}
-use Rattle.rp_walks.specs.Walk.{Outcome, Work, first_tester}
-use Rattle.rp_walks.specs.Pieces.{pieces_of_parts}
+use Rattle.rp_semantics.specs.FormLaws.{IfDone}
+use Rattle.rp_semantics.specs.Walk.{Outcome, Work, first_tester}
+use Rattle.rp_semantics.specs.Pieces.{pieces_of_parts}
 use Rattle.rp_forms.proofs.First.{first_tester_is_right_spec}
 use Rattle.rp_forms.proofs.Pieces.{pieces_are_right_spec}
-use Rattle.rp_tester.specs.declared.stopped.Stopped.{Stopped}
+use Rattle.rp_oracle.specs.declared.stopped.Stopped.{Stopped}
 use Rattle.rp_region.specs.declared.fault.OpFault.{OpFault}
 use Rattle.rp_region.specs.Makes.{Makes}
 use Rattle.rp_region.specs.Stops.{TakesOver}

@@ -3,12 +3,12 @@ use Rattle.std.specs.Prelude.{◌≡◌, ℕ, ◌==◌, true, false, Bool, List,
 use Rattle.rp_geometry.specs.sets.Shape.{Shape, Part}
 use Rattle.rp_geometry.specs.sets.Sets.{IsNonempty, IsEmpty}
 use Rattle.rp_geometry.specs.sets.Relation.{Relation}
-use Rattle.rp_walks.specs.Walk.{done, stopped, limit_met, Walk, Work, first_tester}
+use Rattle.rp_semantics.specs.Walk.{done, stopped, limit_met, Walk, Work, first_tester}
 use Rattle.rp_region.specs.declared.fault.OpFault.{OpFault}
 use Rattle.rp_region.specs.declared.fault.OpFault.TheVariants.{Limit as OpLimit, Memory as OpMemory}
 use Rattle.rp_region.specs.Makes.{IsCutShort}
-use Rattle.rp_queries.specs.declared.compare.Rcc8.{Rcc8}
-use Rattle.rp_queries.specs.Relations.{relation_of, cover_each_other as each_other}
+use Rattle.rp_eval.specs.declared.compare.Rcc8.{Rcc8}
+use Rattle.rp_eval.specs.Relations.{relation_of, cover_each_other as each_other}
 use Rattle.rp_relate.specs.declared.relation.RccFault.{RccFault}
 use Rattle.rp_relate.specs.declared.relation.RccFault.TheVariants.{EmptyRegion, Limit, Memory}
 

@@ -2,8 +2,8 @@
 ghost use Rattle.std.specs.Prelude.{◌≡◌, ◌↔◌, IsTrue, IfOk};
 ghost use Rattle.rp_geometry.specs.sets.Shape.{shape_of_parts};
 ghost use Rattle.rp_geometry.specs.sets.Sets.{IsEmpty, IsWithin, SameMembers};
-ghost use Rattle.rp_walks.specs.Walk.{first_tester};
-ghost use Rattle.rp_walks.specs.Compare.{show_then_no, is_covered};
+ghost use Rattle.rp_semantics.specs.Walk.{first_tester};
+ghost use Rattle.rp_semantics.specs.Compare.{show_then_no, is_covered};
 ghost use Rattle.rp_region.specs.Makes.{Makes};
 ghost use Rattle.rp_relate.specs.Relations.{cover_each_other};
 
@@ -19,7 +19,7 @@ pub fn is_empty(alloc: Global, region: &Region, work: &mut Work) -> Result<bool,
     // Only for what `parts` ensures, that the parts are those of a region.
     let _ = region.parts();
     let mut walked = work.fresh(alloc);
-    let is_so = rp_queries::is_empty(alloc, region, &mut walked);
+    let is_so = rp_eval::is_empty(alloc, region, &mut walked);
     work.take_over(walked, is_so)
 }
 
@@ -33,7 +33,7 @@ pub fn within(alloc: Global, a: &Region, b: &Region, work: &mut Work) -> Result<
     let _ = a.parts();
     let _ = b.parts();
     let mut walked = work.fresh(alloc);
-    let is_so = rp_queries::within(alloc, a, b, &mut walked);
+    let is_so = rp_eval::within(alloc, a, b, &mut walked);
     work.take_over(walked, is_so)
 }
 
@@ -47,6 +47,6 @@ pub fn equal(alloc: Global, a: &Region, b: &Region, work: &mut Work) -> Result<b
     let _ = a.parts();
     let _ = b.parts();
     let mut walked = work.fresh(alloc);
-    let is_so = rp_queries::equal(alloc, a, b, &mut walked);
+    let is_so = rp_eval::equal(alloc, a, b, &mut walked);
     work.take_over(walked, is_so)
 }

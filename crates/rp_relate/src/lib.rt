@@ -15,5 +15,5 @@ pub use cover::{equal, is_empty, within};
 pub use linked::pieces;
 pub use meeting::{contact, overlap};
 pub use relation::{RccFault, rcc};
-pub use rp_queries::Rcc8;
+pub use rp_eval::Rcc8;
 pub use rp_unionfind::PieceList;

@@ -2,8 +2,8 @@
 ghost use Rattle.std.specs.Prelude.{◌≡◌, ◌≤◌, IfOk, length};
 ghost use Rattle.rp_geometry.specs.sets.Pieces.{ArePieces};
 ghost use Rattle.rp_geometry.specs.parts.Parts.{most_parts};
-ghost use Rattle.rp_walks.specs.Walk.{first_tester};
-ghost use Rattle.rp_walks.specs.Pieces.{pieces_of_parts};
+ghost use Rattle.rp_semantics.specs.Walk.{first_tester};
+ghost use Rattle.rp_semantics.specs.Pieces.{pieces_of_parts};
 ghost use Rattle.rp_region.specs.Makes.{Makes};
 ghost use Rattle.rp_unionfind.specs.Lists.{numbers_of};
 
@@ -22,6 +22,6 @@ pub fn pieces(alloc: Global, region: &Region, work: &mut Work) -> Result<PieceLi
     // Only for what `parts` ensures, that the parts are those of a region, and few.
     let _ = region.parts();
     let mut walked = work.fresh(alloc);
-    let pieces = rp_queries::pieces(alloc, region, &mut walked);
+    let pieces = rp_eval::pieces(alloc, region, &mut walked);
     work.take_over(walked, pieces)
 }

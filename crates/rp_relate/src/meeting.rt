@@ -3,8 +3,8 @@ ghost use Rattle.std.specs.Prelude.{◌≡◌, ◌↔◌, IsTrue, IfOk};
 ghost use Rattle.rp_geometry.specs.sets.Shape.{shape_of_parts};
 ghost use Rattle.rp_geometry.specs.sets.Sets.{Overlaps};
 ghost use Rattle.rp_geometry.specs.sets.Contact.{IsInContact};
-ghost use Rattle.rp_walks.specs.Walk.{first_tester};
-ghost use Rattle.rp_walks.specs.Form.{common_in_full, touch_in_full};
+ghost use Rattle.rp_semantics.specs.Walk.{first_tester};
+ghost use Rattle.rp_semantics.specs.Form.{common_in_full, touch_in_full};
 ghost use Rattle.rp_region.specs.Makes.{Makes};
 
 use rp_region::{OpFault, Region, Work};

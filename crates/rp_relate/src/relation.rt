@@ -2,13 +2,13 @@
 ghost use Rattle.std.specs.Prelude.{◌≡◌, Err, IsNone, IfSome, IfOk};
 ghost use Rattle.rp_geometry.specs.sets.Shape.{shape_of_parts};
 ghost use Rattle.rp_geometry.specs.sets.Relation.{StandIn};
-ghost use Rattle.rp_walks.specs.Walk.{first_tester};
-ghost use Rattle.rp_walks.specs.Compare.{relation_of_parts};
+ghost use Rattle.rp_semantics.specs.Walk.{first_tester};
+ghost use Rattle.rp_semantics.specs.Compare.{relation_of_parts};
 ghost use Rattle.rp_region.specs.Makes.{Makes};
-ghost use Rattle.rp_queries.specs.Relations.{relation_of};
+ghost use Rattle.rp_eval.specs.Relations.{relation_of};
 ghost use Rattle.rp_relate.specs.Relations.{first_empty, MakesRelation, TellsEmpty};
 
-use rp_queries::Rcc8;
+use rp_eval::Rcc8;
 use rp_region::{OpFault, Region, Work};
 use std::alloc::{AllocError, Global};
 use thiserror::Error;
@@ -68,6 +68,6 @@ fn found_relation(alloc: Global, a: &Region, b: &Region, work: &mut Work) -> Res
     ensures { Makes relation_of result work.old work.new (relation_of_parts first_tester a.now b.now) }
 {
     let mut walked = work.fresh(alloc);
-    let relation = rp_queries::found_relation(alloc, a, b, &mut walked);
+    let relation = rp_eval::found_relation(alloc, a, b, &mut walked);
     work.take_over(walked, relation)
 }

@@ -6,7 +6,7 @@ use Rattle.rp_geometry.specs.sets.Shape.{Part}
 use Rattle.rp_geometry.specs.searches.Certificate.{is_inside_certificate, is_weak_point, is_outside_certificate}
 use Rattle.rp_geometry.specs.searches.ProofLine.{ProofLine, in_line, out_line, at_line, apart_line, drop_line, box_line}
 use Rattle.rp_geometry.specs.sections.Slice.{Slice, is_slice, slice_of}
-use Rattle.rp_walks.specs.Walk.{pass, stop, ◌>>=◌, ◌>>◌, limit_met, limit_told, line_wrong, taken_wrong, Outcome, done, stopped, Walk, Tester, most_tests}
+use Rattle.rp_semantics.specs.Walk.{pass, stop, ◌>>=◌, ◌>>◌, limit_met, limit_told, line_wrong, taken_wrong, Outcome, done, stopped, Walk, Tester, most_tests}
 use Rattle.rp_geometry.specs.parts.Parts.{most_half_spaces}
 use Rattle.rp_language.specs.Name.{label_eq}
 use Rattle.rp_language.specs.Expression.{Command, expressions_of, first_unknown_among, said}

@@ -1,6 +1,6 @@
 -- The machine of parts: the same answers and changes, computed from the lists of parts alone.
 use Rattle.std.specs.Prelude.{ℕ, suc, Bool, List, [], ◌∷◌, ◌++◌}
-use Rattle.rp_walks.specs.Walk.{Outcome, done, stopped, Work}
+use Rattle.rp_semantics.specs.Walk.{Outcome, done, stopped, Work}
 use Rattle.rp_model.specs.states.State.{PlainState, opening, Change, nothing_changes, changed}
 use Rattle.rp_model.specs.commands.Verdict.{Verdict, refused, limit}
 use Rattle.rp_model.specs.commands.Reply.{Reply}

@@ -7,7 +7,7 @@ use Rattle.std.proofs.lemmas.List.{length-map}
 use Rattle.rp_algebra.proofs.Tests.{and_first, and_second}
 use Rattle.rp_algebra.proofs.Lists.{all_both}
 use Rattle.rp_language.specs.Name.{Label, label_eq, is_among}
-use Rattle.rp_walks.specs.Walk.{Walk, done, pass}
+use Rattle.rp_semantics.specs.Walk.{Walk, done, pass}
 use Rattle.rp_model.specs.states.State.{Lot, PlainState, Traced, trace, lineage, ids_of, lot_with_id}
 use Rattle.rp_model.specs.states.Sound.{are_distinct}
 use Rattle.rp_model.specs.commands.Verdict.{Verdict, unknown, lot_lines}

@@ -3,7 +3,7 @@ use Rattle.std.proofs.Common.{◌≡◌, Bool, true, false, not, List, [], ◌�
 use Rattle.std.proofs.lemmas.List.{length-map}
 use Rattle.rp_algebra.proofs.Lists.{images_twice}
 use Rattle.rp_language.specs.Name.{Label, is_among}
-use Rattle.rp_walks.specs.Walk.{Outcome, done, stopped, Walk, pass}
+use Rattle.rp_semantics.specs.Walk.{Outcome, done, stopped, Walk, pass}
 use Rattle.rp_model.specs.states.State.{Lot, PlainState, Traced, trace, lineage, bare_lot, live_lots, ids_of}
 use Rattle.rp_model.specs.commands.Verdict.{Verdict, unknown, entry_of, lot_lines}
 use Rattle.rp_model.specs.commands.Checks.{refuse_if}
@@ -12,7 +12,7 @@ use Rattle.rp_model.specs.commands.History.{row_history}
 use Rattle.rp_history.specs.Lots.{lots_in}
 use Rattle.rp_lists.specs.Listed.{Listed}
 use Rattle.rp_answer.specs.declared.answer.Verdict.{Verdict as CodeVerdict}
-use Rattle.rp_tester.specs.declared.stopped.Stopped.TheVariants.{Wrong, TakenWrong, Told, Limit, Memory}
+use Rattle.rp_oracle.specs.declared.stopped.Stopped.TheVariants.{Wrong, TakenWrong, LimitReported, Limit, Memory}
 use Rattle.rp_history.proofs.Bare.{bare_ids, bare_live}
 use Rattle.rp_answer.specs.declared.reply.RowEnd.{RowEnd}
 use Rattle.rp_answer.specs.declared.reply.RowEnd.TheVariants.{Refused, Stopped as StoppedEnd}
@@ -71,7 +71,7 @@ tells_beside (Ok lines) v w o h = ap (beside w) h
 tells_beside (Err (Refused r)) v w o h = ap (beside w) h
 tells_beside (Err (StoppedEnd Wrong)) v w o h = ap (beside w) h
 tells_beside (Err (StoppedEnd TakenWrong)) v w o h = ap (beside w) h
-tells_beside (Err (StoppedEnd Told)) v w o h = ap (beside w) h
+tells_beside (Err (StoppedEnd LimitReported)) v w o h = ap (beside w) h
 tells_beside (Err (StoppedEnd Limit)) v w o h = ap (beside w) h
 tells_beside (Err (StoppedEnd (Memory e))) v w o h = tt
 

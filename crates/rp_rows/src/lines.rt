@@ -9,12 +9,12 @@ ghost use Rattle.rp_answer.specs.Views.{verdict_of};
 use rp_answer::{Verdict, Verdicts, one_line};
 use rp_cert::Slice;
 use rp_lists::Listed;
-use rp_queries::PieceList;
-use rp_tester::Tests;
+use rp_eval::PieceList;
+use rp_oracle::Oracle;
 use std::alloc::{AllocError, Global};
 
 /// The verdict lines of the parts of a form; the half-spaces are moved.
-pub(crate) fn part_lines<T: Tests>(alloc: Global, form: T::Form) -> Result<Verdicts, AllocError>
+pub(crate) fn part_lines<T: Oracle>(alloc: Global, form: T::Form) -> Result<Verdicts, AllocError>
     requires { length (T.parts_of form) ≤ most_parts }
     ensures { IfOk result (λ lines. map verdict_of lines.items ≡ part_lines_of (T.parts_of form)) }
 {

@@ -3,7 +3,7 @@ ghost use Rattle.std.specs.Prelude.{◌≡◌, ◌∷◌, [], List};
 ghost use Rattle.rp_command.specs.Views.{expression_of};
 ghost use Rattle.rp_geometry.specs.sets.Shape.{Part};
 ghost use Rattle.rp_language.specs.Expression.{IsKeptExpression, first_unknown_among};
-ghost use Rattle.rp_walks.specs.Walk.{Walk};
+ghost use Rattle.rp_semantics.specs.Walk.{Walk};
 ghost use Rattle.rp_model.specs.commands.Reply.{Reply};
 ghost use Rattle.rp_rows.specs.Asked.{both_of};
 ghost use Rattle.rp_answer.specs.Replies.{GoesOn, row_of_forms};
@@ -11,12 +11,12 @@ ghost use Rattle.rp_answer.specs.Replies.{GoesOn, row_of_forms};
 use rp_answer::{Refusal, RowEnd};
 use rp_command::Expr;
 use rp_lists::Name;
-use rp_queries::{Operand, first_unknown, operand_of};
-use rp_tester::{Named, Tests};
+use rp_eval::{Operand, first_unknown, operand_of};
+use rp_oracle::{Named, Oracle};
 use std::alloc::Global;
 
 /// The first name or lot of two expressions, in reading order, that isn't there.
-fn first_unknown_of<T: Tests, N: Named<T>>(named: &N, first: &Expr, second: &Expr) -> Option<Name>
+fn first_unknown_of<T: Oracle, N: Named<T>>(named: &N, first: &Expr, second: &Expr) -> Option<Name>
     ensures { result ≡ first_unknown_among (N.meaning named.now) (expression_of first.now ∷ expression_of second.now ∷ []) }
 {
     match first_unknown::<T, N>(named, first) {
@@ -28,7 +28,7 @@ fn first_unknown_of<T: Tests, N: Named<T>>(named: &N, first: &Expr, second: &Exp
 /// The forms of `first` and `second`, the two expressions of a command, behind which its row goes on; `tests` make that
 /// of `first` and then that of `second`. `Refused` exactly for the first name or lot of the two, in reading order, that
 /// `named` does not know; it comes before any test.
-pub fn row_operands<'a, T: Tests, N: Named<T>>(
+pub fn row_operands<'a, T: Oracle, N: Named<T>>(
     alloc: Global,
     named: &'a N,
     first: &Expr,

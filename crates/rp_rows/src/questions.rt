@@ -12,14 +12,14 @@ use crate::operand::row_operands;
 use crate::relation::relation;
 use rp_answer::{Refusal, RowEnd, Verdicts, row_form, yes_or_no};
 use rp_command::Expr;
-use rp_queries::{Question, first_unknown, is_empty, is_member, pieces};
+use rp_eval::{Question, first_unknown, is_empty, is_member, pieces};
 use rp_space::Point;
-use rp_tester::{Named, Tests};
+use rp_oracle::{Named, Oracle};
 use std::alloc::Global;
 
 /// `member`: whether `point` is a member of `region`, by signs. It rests on no test and has no limit. `Refused` exactly
 /// for the first name or lot of `region`, in reading order, that `named` does not know.
-pub fn membership<T: Tests, N: Named<T>>(
+pub fn membership<T: Oracle, N: Named<T>>(
     alloc: Global,
     named: &N,
     region: &Expr,
@@ -36,7 +36,7 @@ pub fn membership<T: Tests, N: Named<T>>(
 
 /// `empty`: whether the form of `region`, which `tests` make, has no part. `Refused` exactly for the first name or lot
 /// of `region`, in reading order, that `named` does not know; it comes before any test.
-pub fn emptiness<T: Tests, N: Named<T>>(
+pub fn emptiness<T: Oracle, N: Named<T>>(
     alloc: Global,
     named: &N,
     region: &Expr,
@@ -53,7 +53,7 @@ pub fn emptiness<T: Tests, N: Named<T>>(
 /// `pieces`: what of `region` hangs together, by the numbers of the parts of its form; `tests` make the form and tell
 /// which parts are in contact. `Refused` exactly for the first name or lot of `region`, in reading order, that `named`
 /// does not know; it comes before any test.
-pub fn piece_numbers<T: Tests, N: Named<T>>(
+pub fn piece_numbers<T: Oracle, N: Named<T>>(
     alloc: Global,
     named: &N,
     region: &Expr,
@@ -69,7 +69,7 @@ pub fn piece_numbers<T: Tests, N: Named<T>>(
 
 /// `show`: the parts of the form of `region`, which `tests` make. `Refused` exactly for the first name or lot of
 /// `region`, in reading order, that `named` does not know; it comes before any test.
-pub fn shown_parts<T: Tests, N: Named<T>>(
+pub fn shown_parts<T: Oracle, N: Named<T>>(
     alloc: Global,
     named: &N,
     region: &Expr,
@@ -85,7 +85,7 @@ pub fn shown_parts<T: Tests, N: Named<T>>(
 /// `equal`, `within`, `overlap` and `contact`: the answer to `question` about the forms of `first` and `second`, by
 /// `tests`. `Refused` exactly for the first name or lot of the two, in reading order, that `named` does not know; it
 /// comes before any test.
-pub fn comparison<T: Tests, N: Named<T>>(
+pub fn comparison<T: Oracle, N: Named<T>>(
     alloc: Global,
     named: &N,
     question: Question,
@@ -102,7 +102,7 @@ pub fn comparison<T: Tests, N: Named<T>>(
 }
 
 /// The answer to a question of two forms.
-fn compared<T: Tests>(
+fn compared<T: Oracle>(
     alloc: Global,
     question: Question,
     a: &T::Form,
@@ -118,7 +118,7 @@ fn compared<T: Tests>(
 /// `rcc`: in which of the eight relations `first` stands to `second`, by `tests`. `Refused` exactly for the first name
 /// or lot of the two, in reading order, that `named` does not know, before any test; or else, once both forms are made,
 /// for `first` or else `second`, where it has no point.
-pub fn related<T: Tests, N: Named<T>>(
+pub fn related<T: Oracle, N: Named<T>>(
     alloc: Global,
     named: &N,
     first: &Expr,

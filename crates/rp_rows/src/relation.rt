@@ -2,17 +2,17 @@
 ghost use Rattle.std.specs.Prelude.{◌≡◌};
 ghost use Rattle.rp_model.specs.commands.Verdict.{Verdict as ModelVerdict};
 ghost use Rattle.rp_model.specs.commands.Rcc.{row_relation};
-ghost use Rattle.rp_queries.specs.Relations.{relation_of};
+ghost use Rattle.rp_eval.specs.Relations.{relation_of};
 ghost use Rattle.rp_answer.specs.Views.{verdict_of};
 ghost use Rattle.rp_answer.specs.Replies.{Tells};
 
 use rp_answer::{Refusal, RowEnd, Verdict, Verdicts, one_line};
-use rp_queries::{Rcc8, found_relation};
-use rp_tester::Tests;
+use rp_eval::{Rcc8, found_relation};
+use rp_oracle::Oracle;
 use std::alloc::Global;
 
 /// The verdict line of the relation of two forms, of which each must have a part.
-pub(crate) fn relation<T: Tests>(
+pub(crate) fn relation<T: Oracle>(
     alloc: Global,
     a: &T::Form,
     b: &T::Form,

@@ -6,7 +6,7 @@ use Rattle.rp_geometry.specs.sections.Slice.{Slice, ring, flat}
 use Rattle.rp_geometry.specs.searches.ProofLine.{ProofLine, in_line, out_line, at_line, apart_line, drop_line, box_line}
 use Rattle.rp_language.specs.Grammar.{one, Reading, blank, command, bad, reading}
 use Rattle.rp_model.specs.commands.Verdict.{Verdict, says_yes, says_no, says_ok, refused}
-use Rattle.rp_model.specs.states.State.{State, PlainState, plain_of}
+use Rattle.rp_model.specs.states.State.{State, PlainState, parts_only}
 use Rattle.rp_model.specs.states.Sound.{IsSound, IsLaterThan}
 use Rattle.rp_reports.specs.Machine.{step_answer, step_state, lines_from}
 use Rattle.rp_reports.specs.Made.{Run, run_from, is_refusal}
@@ -176,11 +176,11 @@ more_counted s n line lines end first h =
     }
 
 -- the counts of a run from a sound state are those of its report
-pub run_counted : StepIsComputed → StepsKeepSoundness → (lines : List (List ℕ)) (s : State) → IsSound s → (n : ℕ) → IsLaterThan n s → RunIsCounted (plain_of s) n lines (plain_of (state_after one n s lines))
-run_counted computed keeps [] s sound n late = none_counted (plain_of s) n
+pub run_counted : StepIsComputed → StepsKeepSoundness → (lines : List (List ℕ)) (s : State) → IsSound s → (n : ℕ) → IsLaterThan n s → RunIsCounted (parts_only s) n lines (parts_only (state_after one n s lines))
+run_counted computed keeps [] s sound n late = none_counted (parts_only s) n
 run_counted computed keeps (line ∷ lines) s sound n late =
     let step = computed one s sound n late line in
     let kept = keeps one s sound n late line in
-    more_counted (plain_of s) n line lines (plain_of (state_after one n s (line ∷ lines)))
-    (answer_counted s n line (reading one line) (step_answer one (plain_of s) n line) ((step.0 (step_answer one (plain_of s) n line)).1 refl))
-    (subst (λ (u : PlainState). RunIsCounted u (suc n) lines (plain_of (state_after one n s (line ∷ lines)))) step.1 (run_counted computed keeps lines (next_state one n s line) kept.0 (suc n) kept.1))
+    more_counted (parts_only s) n line lines (parts_only (state_after one n s (line ∷ lines)))
+    (answer_counted s n line (reading one line) (step_answer one (parts_only s) n line) ((step.0 (step_answer one (parts_only s) n line)).1 refl))
+    (subst (λ (u : PlainState). RunIsCounted u (suc n) lines (parts_only (state_after one n s (line ∷ lines)))) step.1 (run_counted computed keeps lines (next_state one n s line) kept.0 (suc n) kept.1))

@@ -11,7 +11,7 @@ use Rattle.rp_reports.specs.Report.{script_lines, report_mark, marked, script_ve
 use Rattle.rp_reports.specs.Machine.{Running, after_line, step_answer, step_state, lines_from, report}
 use Rattle.rp_reports.specs.Output.{IsOutput, IsRefused, is_refused_line}
 use Rattle.rp_states.proofs.Computed.{report_is_computed_spec}
-use Rattle.rp_run_laws.proofs.Rows.{first_rows, meets_rule}
+use Rattle.rp_correctness.proofs.Rows.{first_rows, meets_rule}
 use Rattle.rp_scripts.specs.Lines.{mark_text}
 use Rattle.rp_scripts.specs.Output.{PutsAnswer, PutsFront, PutsOutput, report_task}
 use Rattle.rp_scripts.proofs.MarkLemmas.{marked-append, mark_not_refused, mark_text-lines}

@@ -5,7 +5,7 @@ use Rattle.rp_geometry.specs.sets.Shape.{Shape, is_member}
 use Rattle.rp_geometry.specs.sets.Sets.{IsEmpty, IsWithin, Overlaps}
 use Rattle.rp_language.specs.Name.{Label}
 use Rattle.rp_language.specs.Expression.{Command, expressions_of, first_unknown_among, define, ask_member, ask_empty, ask_pieces, ask_show, ask_equal, ask_within, ask_overlap, ask_contact, ask_relation, register, cut, subdivide, consolidate, retire, ask_neighbours, ask_history, ask_at, ask_as_of, ask_audit, ask_list, set_layer, ask_section, ask_access}
-use Rattle.rp_walks.specs.Walk.{Outcome, done, stopped, limit_met, limit_told, line_wrong, taken_wrong, Work}
+use Rattle.rp_semantics.specs.Walk.{Outcome, done, stopped, limit_met, limit_told, line_wrong, taken_wrong, Work}
 use Rattle.rp_model.specs.commands.Checks.{check_new, check_live, check_name, check_registered, check_cut, check_subdivide, check_consolidate, check_access, child_ids}
 use Rattle.rp_model.specs.commands.Reply.{Reply}
 use Rattle.rp_model.specs.commands.Rules.{Rule, answers, yes_where, labels_then, names_then, refused_where, accepts}

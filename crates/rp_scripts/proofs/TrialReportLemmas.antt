@@ -4,14 +4,14 @@ use Rattle.std.specs.Prelude.{codes}
 use Rattle.std.proofs.lemmas.List.{length-map}
 use Rattle.rp_io.specs.Bytes.{Appends}
 use Rattle.rp_language.specs.Grammar.{Version, one}
-use Rattle.rp_model.specs.states.State.{State, PlainState, opening, live_lots, plain_lot, plain_of}
+use Rattle.rp_model.specs.states.State.{State, PlainState, opening, live_lots, plain_lot, parts_only}
 use Rattle.rp_reports.specs.Machine.{lines_from, report}
 use Rattle.rp_reports.specs.Made.{building_lines, made_script, run_from, told_count, trial_of_run, trial_lines}
 use Rattle.rp_reports.specs.Output.{Task, try_script, IsOutput, is_refused_line}
 use Rattle.rp_reports.specs.Report.{script_mark, report_mark, version_by, marked, script_version, script_body}
 use Rattle.rp_reports.specs.Text.{text_of_lines}
 use Rattle.rp_reports.specs.laws.RunLaws.{state_of_run}
-use Rattle.rp_run_laws.proofs.Rows.{first_rows, meets_rule}
+use Rattle.rp_correctness.proofs.Rows.{first_rows, meets_rule}
 use Rattle.rp_states.proofs.Computed.{opening_sound, report_is_computed_spec, step_is_computed_spec}
 use Rattle.rp_states.proofs.Plain.{live_same}
 use Rattle.rp_states.proofs.Steps.{steps_keep_soundness_spec}
@@ -45,7 +45,7 @@ report_one script lines version body = ap (λ (v : Version). marked report_mark 
 -- ---- the summary
 
 -- the counts over a run of lines of the first version from the opening state
-opening_counted : (lines : List (List ℕ)) → RunIsCounted opening 1 lines (plain_of (state_of_run one lines))
+opening_counted : (lines : List (List ℕ)) → RunIsCounted opening 1 lines (parts_only (state_of_run one lines))
 opening_counted lines = run_counted (step_is_computed_spec meets_rule) (steps_keep_soundness_spec first_rows) lines opening opening_sound 1 (record { births = tt; ends = tt })
 
 -- the live lots of the last state

@@ -3,7 +3,7 @@ use Rattle.std.proofs.Common.{◌≡◌, ◌+◌, Bool, true, false, ◌&&◌, L
 use Rattle.std.specs.Prelude.{nat_le}
 use Rattle.rp_geometry.specs.sets.Shape.{Part}
 use Rattle.rp_language.specs.Name.{Label, is_among}
-use Rattle.rp_walks.specs.Walk.{Walk, done, stopped, limit_met, pass, stop, ◌>>◌}
+use Rattle.rp_semantics.specs.Walk.{Walk, done, stopped, limit_met, pass, stop, ◌>>◌}
 use Rattle.rp_model.specs.states.State.{PlainState, name_added, names_of, parts_under_names, most_names, most_kept_parts}
 use Rattle.rp_model.specs.commands.Verdict.{known}
 use Rattle.rp_model.specs.commands.Checks.{refuse_if}

@@ -3,15 +3,15 @@ use Rattle.std.proofs.Common.{◌≡◌, List, [], map, Option, Some, None, sym,
 use Rattle.std.specs.Prelude.{option_map}
 use Rattle.rp_language.specs.Name.{Label}
 use Rattle.rp_language.specs.Expression.{Expression, subdivide, first_unknown_among}
-use Rattle.rp_walks.specs.Walk.{done, Walk, Tester, after_first, ◌>>=◌}
+use Rattle.rp_semantics.specs.Walk.{done, Walk, Tester, after_first, ◌>>=◌}
 use Rattle.rp_model.specs.states.State.{PlainState, parts_in}
 use Rattle.rp_model.specs.commands.Verdict.{unknown}
 use Rattle.rp_model.specs.commands.Reply.{Reply, refusal, check}
 use Rattle.rp_model.specs.commands.Subdivide.{FormedChild, form_children, row_subdivide}
 use Rattle.rp_model.specs.commands.Row.{row}
-use Rattle.rp_tester.specs.declared.stopped.Stopped.{Stopped}
-use Rattle.rp_tester.specs.Comes.{StopsBy}
-use Rattle.rp_tester.proofs.Left.{stops_on}
+use Rattle.rp_oracle.specs.declared.stopped.Stopped.{Stopped}
+use Rattle.rp_oracle.specs.Refines.{StopsBy}
+use Rattle.rp_oracle.proofs.Left.{stops_on}
 use Rattle.rp_command.specs.declared.command.Expr.{Expr}
 use Rattle.rp_command.specs.Views.{child_of, shapes_of}
 use Rattle.rp_command.proofs.Children.{same_shapes}

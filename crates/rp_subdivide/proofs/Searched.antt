@@ -7,9 +7,9 @@ use Rattle.rp_language.specs.Name.{Label}
 use Rattle.rp_language.specs.Expression.{Meaning}
 use Rattle.rp_command.specs.declared.command.Expr.{Expr}
 use Rattle.rp_command.specs.Views.{child_of, expression_of}
-use Rattle.rp_walks.specs.Walk.{Walk, Tester, pass, after_first}
-use Rattle.rp_walks.specs.Compare.{is_covered}
-use Rattle.rp_walks.specs.Form.{common_nearby, form}
+use Rattle.rp_semantics.specs.Walk.{Walk, Tester, pass, after_first}
+use Rattle.rp_semantics.specs.Compare.{is_covered}
+use Rattle.rp_semantics.specs.Form.{common_nearby, form}
 use Rattle.rp_model.specs.commands.Verdict.{Refusal, outside_lot, children_overlap}
 use Rattle.rp_model.specs.commands.Subdivide.{FormedChild, form_children, first_outside_child, first_overlapping_child, first_overlapping_children}
 use Rattle.rp_subdivide.specs.declared.child.Child.{Child}

@@ -3,11 +3,11 @@ use Rattle.std.proofs.Common.{◌≡◌, ℕ, ◌+◌, ◌<◌, List, [], ◌∷
 use Rattle.rp_algebra.proofs.Lists.{drop_item}
 use Rattle.rp_geometry.specs.sets.Shape.{Part}
 use Rattle.rp_geometry.specs.parts.Parts.{most_parts}
-use Rattle.rp_walks.specs.Walk.{Outcome, done, stopped, Walk, Tester, after_first, ◌>>=◌}
-use Rattle.rp_walks.specs.Form.{subtract, subtract_part, if_at_most}
+use Rattle.rp_semantics.specs.Walk.{Outcome, done, stopped, Walk, Tester, after_first, ◌>>=◌}
+use Rattle.rp_semantics.specs.Form.{subtract, subtract_part, if_at_most}
 use Rattle.rp_model.specs.commands.Subdivide.{child_parts}
 use Rattle.rp_model.specs.commands.Parts.{joined_parts}
-use Rattle.rp_tester.proofs.Left.{IsLeft}
+use Rattle.rp_oracle.proofs.Left.{IsLeft}
 use Rattle.rp_subdivide.specs.declared.child.Child.{Child}
 use Rattle.rp_subdivide.specs.Children.{formed_child}
 

@@ -2,9 +2,9 @@
 use Rattle.std.specs.Prelude.{◌+◌, not, List, map, length}
 use Rattle.rp_geometry.specs.sets.Shape.{Part}
 use Rattle.rp_language.specs.Name.{Label}
-use Rattle.rp_walks.specs.Walk.{Walk, Tester, ◌>>=◌, ◌>>◌}
-use Rattle.rp_walks.specs.Form.{near_pair}
-use Rattle.rp_walks.specs.Compare.{is_covered}
+use Rattle.rp_semantics.specs.Walk.{Walk, Tester, ◌>>=◌, ◌>>◌}
+use Rattle.rp_semantics.specs.Form.{near_pair}
+use Rattle.rp_semantics.specs.Compare.{is_covered}
 use Rattle.rp_model.specs.states.State.{PlainState, parts_under_lots, most_kept_parts}
 use Rattle.rp_model.specs.commands.Verdict.{gap}
 use Rattle.rp_model.specs.commands.Checks.{refuse_if, and_then, check_subdivide}

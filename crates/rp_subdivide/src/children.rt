@@ -1,15 +1,15 @@
 //! The children of a subdivision: what is asked of them.
 ghost use Rattle.std.specs.Prelude.{◌≡◌, ◌+◌, ◌*◌, ◌≤◌, length, map, not, option_map, IfOk};
 ghost use Rattle.std.specs.List.{AllByRecursion};
-ghost use Rattle.rp_walks.specs.Walk.{Walk};
-ghost use Rattle.rp_walks.specs.Compare.{is_covered};
-ghost use Rattle.rp_walks.specs.Form.{near_pair, subtract};
+ghost use Rattle.rp_semantics.specs.Walk.{Walk};
+ghost use Rattle.rp_semantics.specs.Compare.{is_covered};
+ghost use Rattle.rp_semantics.specs.Form.{near_pair, subtract};
 ghost use Rattle.rp_model.specs.commands.Verdict.{empty_child, outside_lot, children_overlap};
 ghost use Rattle.rp_model.specs.commands.Reply.{Reply};
 ghost use Rattle.rp_model.specs.commands.Subdivide.{child_parts, first_empty_child, first_outside_child, first_overlapping_child, first_overlapping_children};
 ghost use Rattle.rp_model.specs.commands.Parts.{joined_parts, count_with_each, count_among};
 ghost use Rattle.rp_answer.specs.Replies.{GoesOn};
-ghost use Rattle.rp_tester.specs.Comes.{Comes};
+ghost use Rattle.rp_oracle.specs.Refines.{Refines};
 ghost use Rattle.rp_subdivide.specs.Children.{formed_child, IsShort};
 ghost use Rattle.rp_subdivide.specs.Steps.{inside_tested, apart_tested, cover_tested};
 
@@ -18,12 +18,12 @@ use rp_answer::{Refusal, RowEnd};
 use rp_lists::Names;
 use rp_lotindex::Reach;
 use rp_lots::{Keeper, Overlaps, count_pairs, count_parts, count_tests};
-use rp_queries::{is_empty, within};
-use rp_tester::{Stopped, Tests};
+use rp_eval::{is_empty, within};
+use rp_oracle::{Stopped, Oracle};
 use std::alloc::{AllocError, Global};
 
 /// Returns the ids of children, in order.
-pub(crate) fn child_ids<T: Tests>(
+pub(crate) fn child_ids<T: Oracle>(
     alloc: Global,
     children: &[Child<T::Form>],
 ) -> Result<Names, AllocError>
@@ -37,7 +37,7 @@ pub(crate) fn child_ids<T: Tests>(
 }
 
 /// Returns the number of the first child that has no part.
-pub(crate) fn first_empty<T: Tests>(children: &[Child<T::Form>]) -> Option<u32>
+pub(crate) fn first_empty<T: Oracle>(children: &[Child<T::Form>]) -> Option<u32>
     requires { length children.now ≤ 1024 }
     ensures { option_map empty_child result ≡ first_empty_child 1 (map (formed_child T.parts_of) children.now) }
 {
@@ -52,7 +52,7 @@ pub(crate) fn first_empty<T: Tests>(children: &[Child<T::Form>]) -> Option<u32>
 }
 
 /// Returns how many parts children have together.
-pub(crate) fn count_all<T: Tests>(children: &[Child<T::Form>]) -> usize
+pub(crate) fn count_all<T: Oracle>(children: &[Child<T::Form>]) -> usize
     requires few { length children.now ≤ 1024 }
     requires short { AllByRecursion (IsShort T.parts_of) children.now }
     ensures { result ≡ length (joined_parts (child_parts (map (formed_child T.parts_of) children.now))) }
@@ -65,7 +65,7 @@ pub(crate) fn count_all<T: Tests>(children: &[Child<T::Form>]) -> usize
 }
 
 /// Each child lies in `whole`.
-pub(crate) fn check_inside<T: Tests>(
+pub(crate) fn check_inside<T: Oracle>(
     alloc: Global,
     whole: &T::Form,
     children: &[Child<T::Form>],
@@ -81,14 +81,14 @@ pub(crate) fn check_inside<T: Tests>(
 }
 
 /// Returns the number of the first child that has a point outside a form.
-fn first_outside<T: Tests>(
+fn first_outside<T: Oracle>(
     alloc: Global,
     whole: &T::Form,
     children: &[Child<T::Form>],
     tests: &mut T,
 ) -> Result<Option<u32>, Stopped>
     requires { length children.now ≤ 1024 }
-    ensures { Comes (option_map outside_lot) result tests.new (first_outside_child T.tester (T.parts_of whole.now) 1 (map (formed_child T.parts_of) children.now) tests.old) }
+    ensures { Refines (option_map outside_lot) result tests.new (first_outside_child T.tester (T.parts_of whole.now) 1 (map (formed_child T.parts_of) children.now) tests.old) }
 {
     let mut number = 1;
     for child in children {
@@ -101,7 +101,7 @@ fn first_outside<T: Tests>(
 }
 
 /// No two children share a point. Their pairs of parts whose boxes share more than boundary are counted first.
-pub(crate) fn check_apart<T: Tests, K: Overlaps<T>>(
+pub(crate) fn check_apart<T: Oracle, K: Overlaps<T>>(
     alloc: Global,
     children: &[Child<T::Form>],
     tests: &mut T,
@@ -118,7 +118,7 @@ pub(crate) fn check_apart<T: Tests, K: Overlaps<T>>(
 }
 
 /// Returns how many pairs of parts of two children have boxes that share more than boundary.
-fn count_near<T: Tests, K: Keeper<T>>(children: &[Child<T::Form>]) -> u64
+fn count_near<T: Oracle, K: Keeper<T>>(children: &[Child<T::Form>]) -> u64
     requires few { length children.now ≤ 1024 }
     requires short { AllByRecursion (IsShort T.parts_of) children.now }
     ensures { result ≡ count_among near_pair (child_parts (map (formed_child T.parts_of) children.now)) }
@@ -131,7 +131,7 @@ fn count_near<T: Tests, K: Keeper<T>>(children: &[Child<T::Form>]) -> u64
 }
 
 /// Returns how many pairs of a part of a child and one of some others have boxes that share more than boundary.
-fn count_near_with<T: Tests, K: Keeper<T>>(child: &Child<T::Form>, others: &[Child<T::Form>]) -> u64
+fn count_near_with<T: Oracle, K: Keeper<T>>(child: &Child<T::Form>, others: &[Child<T::Form>]) -> u64
     requires one { IsShort T.parts_of child.now }
     requires few { length others.now ≤ 1024 }
     requires short { AllByRecursion (IsShort T.parts_of) others.now }
@@ -147,13 +147,13 @@ fn count_near_with<T: Tests, K: Keeper<T>>(child: &Child<T::Form>, others: &[Chi
 
 /// Returns the numbers of the first two children that share a point. Only pairs of parts are tested whose boxes share
 /// more than boundary, and nothing is counted.
-fn first_overlapping<T: Tests, K: Overlaps<T>>(
+fn first_overlapping<T: Oracle, K: Overlaps<T>>(
     alloc: Global,
     children: &[Child<T::Form>],
     tests: &mut T,
 ) -> Result<Option<(u32, u32)>, Stopped>
     requires { length children.now ≤ 1024 }
-    ensures { Comes (option_map (λ p. children_overlap p.0 p.1)) result tests.new (first_overlapping_children T.tester 1 (map (formed_child T.parts_of) children.now) tests.old) }
+    ensures { Refines (option_map (λ p. children_overlap p.0 p.1)) result tests.new (first_overlapping_children T.tester 1 (map (formed_child T.parts_of) children.now) tests.old) }
 {
     for place in 0..children.len() {
         let first = place as u32 + 1;
@@ -168,7 +168,7 @@ fn first_overlapping<T: Tests, K: Overlaps<T>>(
 }
 
 /// Returns the number of the first of the children behind one, of this number, that shares a point with it.
-fn first_overlapping_with<T: Tests, K: Overlaps<T>>(
+fn first_overlapping_with<T: Oracle, K: Overlaps<T>>(
     alloc: Global,
     first: u32,
     child: &Child<T::Form>,
@@ -176,7 +176,7 @@ fn first_overlapping_with<T: Tests, K: Overlaps<T>>(
     tests: &mut T,
 ) -> Result<Option<u32>, Stopped>
     requires { first + length behind.now ≤ 1024 }
-    ensures { Comes (option_map (λ n. children_overlap first n)) result tests.new (first_overlapping_child T.tester first (T.parts_of child.now.form) (first + 1) (map (formed_child T.parts_of) behind.now) tests.old) }
+    ensures { Refines (option_map (λ n. children_overlap first n)) result tests.new (first_overlapping_child T.tester first (T.parts_of child.now.form) (first + 1) (map (formed_child T.parts_of) behind.now) tests.old) }
 {
     let mut number = first + 1;
     for other in behind {
@@ -189,7 +189,7 @@ fn first_overlapping_with<T: Tests, K: Overlaps<T>>(
 }
 
 /// The children leave no point of `whole` out.
-pub(crate) fn check_covered<T: Tests>(
+pub(crate) fn check_covered<T: Oracle>(
     alloc: Global,
     whole: &T::Form,
     children: &[Child<T::Form>],
@@ -204,26 +204,26 @@ pub(crate) fn check_covered<T: Tests>(
 }
 
 /// Returns whether a form has a point that no child has: the children are taken away one after the other.
-fn has_gap<T: Tests>(
+fn has_gap<T: Oracle>(
     alloc: Global,
     whole: &T::Form,
     children: &[Child<T::Form>],
     tests: &mut T,
 ) -> Result<bool, Stopped>
-    ensures { Comes not result tests.new (is_covered T.tester (T.parts_of whole.now) (joined_parts (child_parts (map (formed_child T.parts_of) children.now))) tests.old) }
+    ensures { Refines not result tests.new (is_covered T.tester (T.parts_of whole.now) (joined_parts (child_parts (map (formed_child T.parts_of) children.now))) tests.old) }
 {
     let left = left_of(alloc, whole, children, tests)?;
     Ok(!is_empty(alloc, &left, tests)?)
 }
 
 /// Returns what is left of a form outside all children.
-fn left_of<T: Tests>(
+fn left_of<T: Oracle>(
     alloc: Global,
     whole: &T::Form,
     children: &[Child<T::Form>],
     tests: &mut T,
 ) -> Result<T::Form, Stopped>
-    ensures { Comes T.parts_of result tests.new (subtract T.tester (T.parts_of whole.now) (joined_parts (child_parts (map (formed_child T.parts_of) children.now))) tests.old) }
+    ensures { Refines T.parts_of result tests.new (subtract T.tester (T.parts_of whole.now) (joined_parts (child_parts (map (formed_child T.parts_of) children.now))) tests.old) }
 {
     let mut left = T::copy(alloc, whole)?;
     for child in children {

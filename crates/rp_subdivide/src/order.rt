@@ -6,7 +6,7 @@ ghost use Rattle.rp_language.specs.Expression.{IsKeptExpression, first_unknown_a
 ghost use Rattle.rp_model.specs.states.State.{parts_in};
 ghost use Rattle.rp_model.specs.commands.Row.{row};
 ghost use Rattle.rp_model.specs.commands.Subdivide.{form_children};
-ghost use Rattle.rp_tester.specs.Comes.{Comes};
+ghost use Rattle.rp_oracle.specs.Refines.{Refines};
 ghost use Rattle.rp_lots.specs.Changes.{Changes, change_of};
 ghost use Rattle.rp_subdivide.specs.Children.{formed_children, IsShort};
 
@@ -16,13 +16,13 @@ use rp_answer::{Refusal, RowEnd, short_form};
 use rp_command::Expr;
 use rp_lists::{Listed, Name};
 use rp_lots::{Change, Registry, replacing};
-use rp_queries::first_unknown;
-use rp_tester::{Stopped, Tests};
+use rp_eval::first_unknown;
+use rp_oracle::{Stopped, Oracle};
 use std::alloc::Global;
 
 /// Returns the change of `subdivide`: the lot `id` into a lot for each of `entries`, which have the new ids and the
 /// expressions of their forms.
-pub fn subdivision<T: Tests, K: Registry<T>>(
+pub fn subdivision<T: Oracle, K: Registry<T>>(
     alloc: Global,
     keeper: &K,
     id: Name,
@@ -41,7 +41,7 @@ pub fn subdivision<T: Tests, K: Registry<T>>(
 }
 
 /// Returns the first name or lot of the expressions, in reading order, that isn't there.
-fn first_unknown_shape<T: Tests, K: Registry<T>>(
+fn first_unknown_shape<T: Oracle, K: Registry<T>>(
     keeper: &K,
     entries: &[(Name, Expr)],
 ) -> Option<Name>
@@ -58,14 +58,14 @@ fn first_unknown_shape<T: Tests, K: Registry<T>>(
 }
 
 /// Returns the children of some ids and expressions, all of whose names are there: the forms are made in order.
-fn children<T: Tests, K: Registry<T>>(
+fn children<T: Oracle, K: Registry<T>>(
     alloc: Global,
     keeper: &K,
     entries: &[(Name, Expr)],
     tests: &mut T,
 ) -> Result<Listed<Child<T::Form>>, Stopped>
     requires { AllByRecursion IsKeptExpression (shapes_of entries.now) }
-    ensures comes { Comes (formed_children T.parts_of) result tests.new (form_children T.tester (parts_in (K.state keeper.now)) [] (map child_of entries.now) tests.old) }
+    ensures comes { Refines (formed_children T.parts_of) result tests.new (form_children T.tester (parts_in (K.state keeper.now)) [] (map child_of entries.now) tests.old) }
     ensures each { IfOk result (λ children. length children.items ≡ length entries.now) }
     ensures short { IfOk result (λ children. AllByRecursion (IsShort T.parts_of) children.items) }
 {

@@ -2,7 +2,7 @@
 ghost use Rattle.std.specs.Prelude.{◌≡◌, ◌<◌, ◌≤◌, ◌∷◌, [], List, None, IfOk, length, map, slice_get};
 ghost use Rattle.std.specs.List.{AllByRecursion};
 ghost use Rattle.rp_geometry.specs.sets.Shape.{Part};
-ghost use Rattle.rp_walks.specs.Walk.{Walk};
+ghost use Rattle.rp_semantics.specs.Walk.{Walk};
 ghost use Rattle.rp_model.specs.states.State.{bare_lot, live_lot, lots_replaced};
 ghost use Rattle.rp_model.specs.commands.Checks.{check_live};
 ghost use Rattle.rp_model.specs.commands.Reply.{Reply};
@@ -21,12 +21,12 @@ use crate::children::{
 use rp_answer::{Refusal, RowEnd};
 use rp_lists::{Listed, Name, Names};
 use rp_lots::{Keeper, Overlaps, Replaced, add_born, check_room, form_at};
-use rp_tester::Tests;
+use rp_oracle::Oracle;
 use std::alloc::{AllocError, Global};
 
 /// Returns the change that divides the live lot `id` into children, which lie in it, share no point and leave no gap.
 /// As many tests are counted as there are pairs of parts of two children whose boxes share more than boundary.
-pub fn subdivide<T: Tests, K: Overlaps<T>>(
+pub fn subdivide<T: Oracle, K: Overlaps<T>>(
     alloc: Global,
     keeper: &K,
     id: Name,
@@ -47,7 +47,7 @@ pub fn subdivide<T: Tests, K: Overlaps<T>>(
 
 /// Makes the checks of a subdivision that need no test: names, a part in each child, and room for their parts.
 /// Answers the place of the lot.
-fn check_children<T: Tests, K: Keeper<T>>(
+fn check_children<T: Oracle, K: Keeper<T>>(
     alloc: Global,
     keeper: &K,
     id: Name,
@@ -70,7 +70,7 @@ fn check_children<T: Tests, K: Keeper<T>>(
 }
 
 /// The children lie in `whole`, share no point and leave no gap.
-fn check_division<T: Tests, K: Overlaps<T>>(
+fn check_division<T: Oracle, K: Overlaps<T>>(
     alloc: Global,
     whole: &T::Form,
     children: &[Child<T::Form>],

@@ -11,7 +11,7 @@ use Rattle.rp_language.specs.Name.{label_eq}
 use Rattle.rp_language.specs.Grammar.{space, spaced, Version, box_words}
 use Rattle.rp_reports.specs.Text.{point_text, half_space_text, term_text, items_text, proof_text}
 use Rattle.rp_reports.specs.ProofText.{is_written_point, is_written_half_space, is_written_multiple, are_written_terms, is_written, read_words, loose_words, if_spelled, proof_read}
-use Rattle.rp_accepted.proofs.ProofsAgain.{proof_again}
+use Rattle.rp_checker_completeness.proofs.ProofsAgain.{proof_again}
 use Rattle.rp_text.specs.Readers.{Taker, ◌>>=◌, gives, gives_some, ended, behind, short_number, number_before, point, half_space, term, few_items, dropped, side_of, side, last_side, box_of, all_but_last, box_spelled, behind_or, proof}
 use Rattle.rp_text.proofs.ReaderLaws.{ReadsExactly, steps, onward, kept_true, led, made, behind_sound, short_sound, short_complete, number_sound, number_complete, within_short, point_reads, half_space_reads, term_reads, few_sound, few_complete}
 

@@ -19,7 +19,7 @@ use Rattle.rp_language.specs.Grammar.{Word, space, number_spelled}
 use Rattle.rp_language.proofs.Decimal.{number_of_spelling}
 use Rattle.rp_reports.specs.Text.{in_parentheses, point_text, half_space_text, term_text, items_text}
 use Rattle.rp_reports.specs.ProofText.{is_separator, is_written_point, is_written_half_space, is_written_multiple, cons_some}
-use Rattle.rp_accepted.proofs.LooseWords.{IsLooseWord, number_loose}
+use Rattle.rp_checker_completeness.proofs.LooseWords.{IsLooseWord, number_loose}
 use Rattle.rp_command.specs.Held.{most_held}
 use Rattle.rp_text.specs.Readers.{Taker, taken_on, ◌>>=◌, gives, gives_some, kept_if, if_short, behind, the_word, short_number, number_at, number_before, four_numbers, point, half_space, term, spaced_item, items, filled, few_items}
 use Rattle.rp_text.proofs.NumberWords.{word_is_spelling}

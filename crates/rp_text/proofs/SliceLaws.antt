@@ -18,7 +18,7 @@ use Rattle.rp_model.specs.commands.Verdict.{Verdict}
 use Rattle.rp_reports.specs.Text.{in_parentheses, point_text, term_text, trace_text, step_text, verdict_text}
 use Rattle.rp_reports.specs.ProofText.{is_written_point, is_written_multiple, loose_words}
 use Rattle.rp_reports.specs.SliceText.{trace_bound, is_written_trace, is_written_step, is_three_to_36, is_written_slice, slice_of_words, slice_if_spelled, slice_read}
-use Rattle.rp_accepted.proofs.SlicesAgain.{slice_again}
+use Rattle.rp_checker_completeness.proofs.SlicesAgain.{slice_again}
 use Rattle.rp_text.specs.Readers.{Taker, ◌>>=◌, gives, gives_some, the_word, number_before, point, term, spaced_item, items, few_items}
 use Rattle.rp_text.specs.SliceReaders.{three_numbers, written_edge, edge, step_of, step, if_ring, ring_steps, if_flat, flat_terms, slice}
 use Rattle.rp_text.proofs.ReaderLaws.{ReadsExactly, IsShort, steps, onward, kept_true, led, made, word_sound, number_sound, number_complete, within_short, point_reads, term_reads, spaced_reads, items_sound, items_complete, few_sound, few_complete}

@@ -7,16 +7,16 @@ use Rattle.rp_geometry.specs.Geometry.{HalfSpace}
 use Rattle.rp_geometry.specs.sets.Prism.{Edge, edge_of, edges_of, is_upright, Prism, IsPrism}
 use Rattle.rp_geometry.specs.sets.Shape.{Shape, Part}
 use Rattle.rp_geometry.specs.parts.Parts.{IsCheckedPart, AreOf, most_parts}
-use Rattle.rp_walks.specs.Walk.{done, Walk, ◌>>=◌}
-use Rattle.rp_walks.specs.FormLaws.{IfDone}
-use Rattle.rp_walks.specs.Form.{if_at_most, subtract, exchange, exchange_edge, exchange_edges, prism_form, exchange_lists, exchange_cell}
+use Rattle.rp_semantics.specs.Walk.{done, Walk, ◌>>=◌}
+use Rattle.rp_semantics.specs.FormLaws.{IfDone}
+use Rattle.rp_semantics.specs.Form.{if_at_most, subtract, exchange, exchange_edge, exchange_edges, prism_form, exchange_lists, exchange_cell}
 use Rattle.rp_reports.specs.Check.{Trail, follow_part, line_tester}
 use Rattle.rp_footprint.specs.Cells.{no_corner, edge_at, trapezoid_by, trapezoid_at}
 use Rattle.rp_forms.proofs.Prisms.{prism_is_right_spec}
-use Rattle.rp_verdicts.proofs.Lines.{line_tester_is_right_spec}
-use Rattle.rp_tester.specs.declared.stopped.Stopped.{Stopped}
-use Rattle.rp_tester.specs.Comes.{StopsBy}
-use Rattle.rp_tester.proofs.Left.{IsLeft, all_left, left_as, next_left, stop_left, end_left}
+use Rattle.rp_row_soundness.proofs.Lines.{line_tester_is_right_spec}
+use Rattle.rp_oracle.specs.declared.stopped.Stopped.{Stopped}
+use Rattle.rp_oracle.specs.Refines.{StopsBy}
+use Rattle.rp_oracle.proofs.Left.{IsLeft, all_left, left_as, next_left, stop_left, end_left}
 
 -- ---- one exchange
 

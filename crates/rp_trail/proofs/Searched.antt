@@ -2,9 +2,9 @@
 use Rattle.std.proofs.Common.{◌≡◌, ℕ, ◌+◌, ◌<◌, ◌≤◌, Bool, true, false, List, [], ◌∷◌, length, get_or, drop, refl, ap, ◌∙◌}
 use Rattle.std.proofs.Math.ListN.{drop_of_length-le}
 use Rattle.rp_algebra.proofs.Lists.{drop_item}
-use Rattle.rp_walks.specs.Walk.{done, Walk, pass, ◌>>=◌}
+use Rattle.rp_semantics.specs.Walk.{done, Walk, pass, ◌>>=◌}
 use Rattle.rp_reports.specs.Check.{Trail}
-use Rattle.rp_tester.proofs.Left.{IsLeft, left_as, next_left, end_left}
+use Rattle.rp_oracle.proofs.Left.{IsLeft, left_as, next_left, end_left}
 
 -- what comes behind one item: the end, where it was found, and else the rest
 abbrev pub unless_found : Walk Trail Bool → Bool → Walk Trail Bool

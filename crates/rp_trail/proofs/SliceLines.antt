@@ -6,20 +6,20 @@ use Rattle.rp_geometry.specs.sets.Shape.{Part}
 use Rattle.rp_geometry.specs.sections.Trace.{IsHeight}
 use Rattle.rp_geometry.specs.sections.Slice.{Slice, is_slice, slice_of}
 use Rattle.rp_geometry.specs.parts.Parts.{IsCheckedPart}
-use Rattle.rp_walks.specs.Walk.{done, stopped, line_wrong, Walk}
+use Rattle.rp_semantics.specs.Walk.{done, stopped, line_wrong, Walk}
 use Rattle.rp_model.specs.commands.Verdict.{Verdict}
 use Rattle.rp_reports.specs.Text.{verdict_text}
 use Rattle.rp_reports.specs.Check.{Trail, taken, taken_if, follow_line, follow_lines, next_slice, slice_told, slices_told}
 use Rattle.rp_slice.proofs.RingFound.{slice_is_found_spec}
 use Rattle.rp_slice.proofs.Sizes.{ring_is_kept_spec, ring_is_short_spec}
-use Rattle.rp_accepted.proofs.Shown.{slice_line, follow_each, line_then}
-use Rattle.rp_accepted.proofs.SlicesAgain.{is_passing, wanted_where_passing}
+use Rattle.rp_checker_completeness.proofs.Shown.{slice_line, follow_each, line_then}
+use Rattle.rp_checker_completeness.proofs.SlicesAgain.{is_passing, wanted_where_passing}
 use Rattle.rp_cert.specs.Section.{slice_shown}
 use Rattle.rp_cert.specs.declared.slice.Slice.{Slice as CodeSlice}
-use Rattle.rp_tester.specs.declared.stopped.Stopped.{Stopped}
-use Rattle.rp_tester.specs.Comes.{StopsBy}
+use Rattle.rp_oracle.specs.declared.stopped.Stopped.{Stopped}
+use Rattle.rp_oracle.specs.Refines.{StopsBy}
 use Rattle.rp_trail.specs.Slices.{follow_slice_line, follow_slice_lines}
-use Rattle.rp_tester.proofs.Left.{IsLeft, left_as, next_left, stop_left}
+use Rattle.rp_oracle.proofs.Left.{IsLeft, left_as, next_left, stop_left}
 
 -- ---- one line
 

@@ -4,12 +4,12 @@ use Rattle.std.specs.Prelude.{nat_le, Option}
 use Rattle.rp_geometry.specs.Geometry.{HalfSpace, complement, boxes_meet}
 use Rattle.rp_geometry.specs.sets.Shape.{Part}
 use Rattle.rp_geometry.specs.parts.Parts.{most_parts}
-use Rattle.rp_walks.specs.Walk.{done, stopped, limit_met, Walk, pass, stop, ◌>>=◌, ◌>>◌}
-use Rattle.rp_walks.specs.Form.{made_part, if_at_most, join_pair, carve_one, carve_or_keep, subtract_pair}
+use Rattle.rp_semantics.specs.Walk.{done, stopped, limit_met, Walk, pass, stop, ◌>>=◌, ◌>>◌}
+use Rattle.rp_semantics.specs.Form.{made_part, if_at_most, join_pair, carve_one, carve_or_keep, subtract_pair}
 use Rattle.rp_reports.specs.Check.{Trail, follow_count, follow_strict, follow_part, line_tester}
-use Rattle.rp_tester.specs.declared.stopped.Stopped.{Stopped}
-use Rattle.rp_tester.specs.Comes.{StopsBy}
-use Rattle.rp_tester.proofs.Left.{IsLeft, all_left, left_as, next_left, stop_left, end_left}
+use Rattle.rp_oracle.specs.declared.stopped.Stopped.{Stopped}
+use Rattle.rp_oracle.specs.Refines.{StopsBy}
+use Rattle.rp_oracle.proofs.Left.{IsLeft, all_left, left_as, next_left, stop_left, end_left}
 
 -- a walk that passes what is short enough, by the test of its length
 abbrev short_by : List Part → Bool → Walk Trail (List Part)

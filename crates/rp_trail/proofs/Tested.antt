@@ -11,21 +11,21 @@ use Rattle.rp_cert.specs.Lines.{line_of}
 use Rattle.rp_cert.specs.declared.proof.Proof.{Proof}
 use Rattle.rp_cert.specs.declared.proof.Proof.TheVariants.{In, Out, At, Apart, Dropped, Bounds}
 use Rattle.rp_geometry.specs.parts.Parts.{most_half_spaces, AreKeptHalfSpaces, IsCheckedPart}
-use Rattle.rp_walks.specs.Walk.{Outcome, done, limit_met, Walk, pass, stop, after_first, ◌>>=◌}
-use Rattle.rp_walks.specs.FormLaws.{IfDone, IsMadeOf}
+use Rattle.rp_semantics.specs.Walk.{Outcome, done, limit_met, Walk, pass, stop, after_first, ◌>>=◌}
+use Rattle.rp_semantics.specs.FormLaws.{IfDone, IsMadeOf}
 use Rattle.rp_reports.specs.Check.{Trail, taken, taken_if, next_proof, strict_by_line, follow_strict, weak_by_line, follow_weak, without, dropped_by, follow_drops, if_few, box_by_line, follow_sides, follow_made, part_if, follow_part}
-use Rattle.rp_verdicts.proofs.Lines.{line_tester_is_right_spec}
-use Rattle.rp_tester.specs.declared.stopped.Stopped.{Stopped}
-use Rattle.rp_tester.specs.declared.stopped.Stopped.TheVariants.{Limit}
-use Rattle.rp_tester.specs.Comes.{StopsBy, Comes}
+use Rattle.rp_row_soundness.proofs.Lines.{line_tester_is_right_spec}
+use Rattle.rp_oracle.specs.declared.stopped.Stopped.{Stopped}
+use Rattle.rp_oracle.specs.declared.stopped.Stopped.TheVariants.{Limit}
+use Rattle.rp_oracle.specs.Refines.{StopsBy, Refines}
 use Rattle.rp_trail.specs.Stops.{IsNotDue, IsShown}
-use Rattle.rp_tester.proofs.Left.{IsLeft, all_left, next_left, stop_left, stops_on, end_left}
+use Rattle.rp_oracle.proofs.Left.{IsLeft, all_left, next_left, stop_left, stops_on, end_left}
 use Rattle.rp_trail.proofs.Due.{not_due}
 
 -- ---- what a walk comes to
 
 -- what is known of the end of a walk is known of the result
-pub right_where : {A B : Type 0} (view : A → B) (P : B → Type 0) (r : Result A Stopped) (new : Trail) (o : Outcome Trail B) → Comes view r new o → IfDone o P → IfOk r (λ x. P (view x))
+pub right_where : {A B : Type 0} (view : A → B) (P : B → Type 0) (r : Result A Stopped) (new : Trail) (o : Outcome Trail B) → Refines view r new o → IfDone o P → IfOk r (λ x. P (view x))
 right_where view P (Ok x) new o m h = subst (λ out. IfDone out P) m h
 right_where view P (Err e) new o m h = tt
 
@@ -37,14 +37,14 @@ taken_right P false x t p = tt
 -- ---- lines
 
 -- a strict test in words of the next proof line
-pub strict_shown : (cell : List HalfSpace) (o : Option ProofLine) (r : Result Bool Stopped) (old new : Trail) → o ≡ next_proof old.lines → Comes (λ b. b) r new (strict_by_line cell o old) → Comes (λ b. b) r new (follow_strict cell old)
+pub strict_shown : (cell : List HalfSpace) (o : Option ProofLine) (r : Result Bool Stopped) (old new : Trail) → o ≡ next_proof old.lines → Refines (λ b. b) r new (strict_by_line cell o old) → Refines (λ b. b) r new (follow_strict cell old)
 unfolding follow_strict
-strict_shown cell o r old new e h = subst (λ o. Comes (λ b. b) r new (strict_by_line cell o old)) e h
+strict_shown cell o r old new e h = subst (λ o. Refines (λ b. b) r new (strict_by_line cell o old)) e h
 
 -- a weak test in words of the next proof line
-pub weak_shown : (cell : List HalfSpace) (o : Option ProofLine) (r : Result Bool Stopped) (old new : Trail) → o ≡ next_proof old.lines → Comes (λ b. b) r new (weak_by_line cell o old) → Comes (λ b. b) r new (follow_weak cell old)
+pub weak_shown : (cell : List HalfSpace) (o : Option ProofLine) (r : Result Bool Stopped) (old new : Trail) → o ≡ next_proof old.lines → Refines (λ b. b) r new (weak_by_line cell o old) → Refines (λ b. b) r new (follow_weak cell old)
 unfolding follow_weak
-weak_shown cell o r old new e h = subst (λ o. Comes (λ b. b) r new (weak_by_line cell o old)) e h
+weak_shown cell o r old new e h = subst (λ o. Refines (λ b. b) r new (weak_by_line cell o old)) e h
 
 -- a proof line that is of no strict test
 pub not_strict : (cell : List HalfSpace) (p : Proof) (t : Trail) (e : Stopped) → ((points : List RationalPoint) → p ≡ In points → ⊥) → ((terms : List Multiple) → p ≡ Out terms → ⊥) → Some (line_of p) ≡ next_proof t.lines → IsNotDue e t

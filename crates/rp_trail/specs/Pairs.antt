@@ -2,8 +2,8 @@
 use Rattle.std.specs.Prelude.{Bool, true, false, List}
 use Rattle.rp_geometry.specs.Geometry.{HalfSpace}
 use Rattle.rp_geometry.specs.sets.Shape.{Part}
-use Rattle.rp_walks.specs.Walk.{Walk}
-use Rattle.rp_walks.specs.Form.{every_pair, near_pair, touching_pair, common_in_full, common_nearby, touch_in_full, touch_nearby}
+use Rattle.rp_semantics.specs.Walk.{Walk}
+use Rattle.rp_semantics.specs.Form.{every_pair, near_pair, touching_pair, common_in_full, common_nearby, touch_in_full, touch_nearby}
 use Rattle.rp_reports.specs.Check.{Trail, follow_strict, follow_weak, line_tester}
 use Rattle.rp_trail.specs.declared.meeting.Meeting.{Meeting}
 use Rattle.rp_trail.specs.declared.meeting.Meeting.TheVariants.{Common, Touch}

@@ -1,7 +1,7 @@
 -- The lines of slices that a report shows, each told by itself.
 use Rattle.std.specs.Prelude.{ℤ, List, map}
 use Rattle.rp_geometry.specs.sets.Shape.{Part}
-use Rattle.rp_walks.specs.Walk.{Walk}
+use Rattle.rp_semantics.specs.Walk.{Walk}
 use Rattle.rp_model.specs.commands.Verdict.{Verdict}
 use Rattle.rp_reports.specs.Text.{verdict_text}
 use Rattle.rp_reports.specs.Check.{Trail, next_slice, slice_told, slices_told, follow_line, follow_lines}

@@ -1,15 +1,15 @@
 -- Which stops a call on the lines of a report may come to.
 use Rattle.std.specs.Prelude.{◌≡◌, true, false, List}
 use Rattle.rp_geometry.specs.Geometry.{HalfSpace}
-use Rattle.rp_walks.specs.Walk.{done}
+use Rattle.rp_semantics.specs.Walk.{done}
 use Rattle.rp_reports.specs.Check.{Trail, tells_limit, follow_strict}
-use Rattle.rp_tester.specs.declared.stopped.Stopped.{Stopped}
-use Rattle.rp_tester.specs.declared.stopped.Stopped.TheVariants.{Wrong, Told, Memory}
+use Rattle.rp_oracle.specs.declared.stopped.Stopped.{Stopped}
+use Rattle.rp_oracle.specs.declared.stopped.Stopped.TheVariants.{Wrong, LimitReported, Memory}
 
 -- the next line is to blame: no limit was met and memory was not wanting
 abbrev pub IsOfLine : Stopped → Type 0
 IsOfLine Wrong = Unit {0}
-IsOfLine Told = Unit {0}
+IsOfLine LimitReported = Unit {0}
 IsOfLine _ = ⊥
 
 -- memory was not wanting
@@ -26,7 +26,7 @@ IsWrongOrMemory _ = ⊥
 -- no line is due here: the next one tells of a limit, or it is wrong
 abbrev pub IsNotDue : Stopped → Trail → Type 0
 IsNotDue Wrong t = tells_limit t.lines ≡ false
-IsNotDue Told t = tells_limit t.lines ≡ true
+IsNotDue LimitReported t = tells_limit t.lines ≡ true
 IsNotDue _ t = ⊥
 
 -- a strict test has just shown that the cell has a member

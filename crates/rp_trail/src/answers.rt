@@ -13,10 +13,10 @@ use crate::part::made;
 use crate::prism::prismed;
 use crate::trail::Trail;
 use rp_space::{Corner, Half, Halves, IntBox, Point};
-use rp_tester::{MAX_PARTS, Stopped, Tests};
+use rp_oracle::{MAX_PARTS, Stopped, Oracle};
 use std::alloc::{AllocError, Global};
 
-impl<'a> Tests for Trail<'a> {
+impl<'a> Oracle for Trail<'a> {
     type Part = Kept;
 
     type Form = Form;

@@ -3,8 +3,8 @@ ghost use Rattle.std.specs.Prelude.{◌+◌, ◌≤◌, ◌<◌, ◌++◌, ◌�
 ghost use Rattle.rp_geometry.specs.Geometry.{complement};
 ghost use Rattle.rp_geometry.specs.parts.Parts.{most_half_spaces};
 ghost use Rattle.rp_reports.specs.Check.{follow_count, follow_part, line_tester};
-ghost use Rattle.rp_walks.specs.Form.{carve_one, carve, subtract_pair, subtract_part, subtract};
-ghost use Rattle.rp_tester.specs.Comes.{Comes};
+ghost use Rattle.rp_semantics.specs.Form.{carve_one, carve, subtract_pair, subtract_part, subtract};
+ghost use Rattle.rp_oracle.specs.Refines.{Refines};
 
 use crate::few::{self, Few, MOST_FEW};
 use crate::form::{Form, put};
@@ -13,7 +13,7 @@ use crate::meeting::Meeting;
 use crate::part::made;
 use crate::trail::Trail;
 use rp_space::{Half, joined};
-use rp_tester::{MAX_PARTS, Stopped};
+use rp_oracle::{MAX_PARTS, Stopped};
 use std::alloc::Global;
 
 /// Returns the parts of a list without those of a second list, one after the other.
@@ -23,7 +23,7 @@ pub(crate) fn subtract(
     others: &[Kept],
     trail: &mut Trail<'_>,
 ) -> Result<Form, Stopped>
-    ensures { Comes (λ form. form.items) result trail.new (subtract line_tester parts.items others.now trail.old) }
+    ensures { Refines (λ form. form.items) result trail.new (subtract line_tester parts.items others.now trail.old) }
 {
     let mut current = parts;
     for other in others {
@@ -42,7 +42,7 @@ fn subtract_part(
     other: &Kept,
     trail: &mut Trail<'_>,
 ) -> Result<Form, Stopped>
-    ensures { Comes (λ form. form.items) result trail.new (subtract_part line_tester [] parts.items other.now trail.old) }
+    ensures { Refines (λ form. form.items) result trail.new (subtract_part line_tester [] parts.items other.now trail.old) }
 {
     let mut left = Form::new(alloc);
     for part in parts.into_items() {
@@ -60,7 +60,7 @@ fn subtract_pair(
     other: &Kept,
     trail: &mut Trail<'_>,
 ) -> Result<(), Stopped>
-    ensures { Comes (λ _. left.new.items) result trail.new (subtract_pair line_tester left.old.items part other.now trail.old) }
+    ensures { Refines (λ _. left.new.items) result trail.new (subtract_pair line_tester left.old.items part other.now trail.old) }
 {
     if !Meeting::Common.may_be(&part, other) {
         left.push(part)?;
@@ -87,7 +87,7 @@ fn carve(
 ) -> Result<(), Stopped>
     requires cell { length cell.now ≤ most_half_spaces }
     requires halves { length halves.now ≤ most_half_spaces }
-    ensures { Comes (λ _. left.new.items) result trail.new (carve line_tester left.old.items cell.now [] halves.now trail.old) }
+    ensures { Refines (λ _. left.new.items) result trail.new (carve line_tester left.old.items cell.now [] halves.now trail.old) }
 {
     for (i, half) in halves.iter().enumerate() {
         carve_one(alloc, left, cell, &halves[..i], half, trail)?;
@@ -105,7 +105,7 @@ fn carve_one(
     trail: &mut Trail<'_>,
 ) -> Result<(), Stopped>
     requires { length cell.now + length before.now < 64 }
-    ensures { Comes (λ _. left.new.items) result trail.new (carve_one line_tester left.old.items cell.now before.now half.now trail.old) }
+    ensures { Refines (λ _. left.new.items) result trail.new (carve_one line_tester left.old.items cell.now before.now half.now trail.old) }
 {
     count_test(trail)?;
     let part = made_outside(alloc, cell, before, half, trail)?;
@@ -122,7 +122,7 @@ fn made_outside(
     trail: &mut Trail<'_>,
 ) -> Result<Option<Kept>, Stopped>
     requires { length cell.now + length before.now < 64 }
-    ensures { Comes (λ part. part) result trail.new (follow_part ((cell.now ++ before.now) ++ complement half.now ∷ []) trail.old) }
+    ensures { Refines (λ part. part) result trail.new (follow_part ((cell.now ++ before.now) ++ complement half.now ∷ []) trail.old) }
 {
     if cell.len() + before.len() >= MOST_FEW {
         let mut piece = joined(cell, before);
@@ -138,7 +138,7 @@ fn made_outside(
 
 /// Counts one test.
 fn count_test(trail: &mut Trail<'_>) -> Result<(), Stopped>
-    ensures { Comes (λ x. x) result trail.new (follow_count 1 trail.old) }
+    ensures { Refines (λ x. x) result trail.new (follow_count 1 trail.old) }
 {
     if !trail.count(1) {
         return Err(Stopped::Limit);

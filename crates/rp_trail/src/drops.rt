@@ -5,7 +5,7 @@ ghost use Rattle.arrayvec.specs.ArrayVec.{array_vec_len};
 ghost use Rattle.rp_geometry.specs.Geometry.{complement, half_space_eq, is_listed};
 ghost use Rattle.rp_geometry.specs.searches.Certificate.{is_outside_certificate};
 ghost use Rattle.std.specs.List.{position};
-ghost use Rattle.rp_walks.specs.Walk.{done};
+ghost use Rattle.rp_semantics.specs.Walk.{done};
 ghost use Rattle.rp_reports.specs.Check.{next_proof, without, dropped_by, follow_drops};
 ghost use Rattle.rp_cert.specs.Lines.{line_of};
 

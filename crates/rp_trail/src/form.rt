@@ -5,8 +5,8 @@ ghost use Rattle.rp_geometry.specs.sets.Sets.{Overlaps};
 ghost use Rattle.rp_geometry.specs.sets.Contact.{IsInContact};
 ghost use Rattle.rp_geometry.specs.parts.Parts.{AreOf, IsCheckedPart, most_parts};
 ghost use Rattle.rp_reports.specs.Check.{follow_count, line_tester};
-ghost use Rattle.rp_walks.specs.Form.{join, made_part, subtract};
-ghost use Rattle.rp_tester.specs.Comes.{Comes};
+ghost use Rattle.rp_semantics.specs.Form.{join, made_part, subtract};
+ghost use Rattle.rp_oracle.specs.Refines.{Refines};
 ghost use Rattle.rp_trail.specs.Stops.{IsNotMemory};
 ghost use Rattle.rp_trail.specs.Pairs.{common_by, touch_by, meet_by};
 
@@ -17,7 +17,7 @@ use crate::meeting::Meeting;
 use crate::pairs::first_pair;
 use crate::trail::Trail;
 use rp_lists::Listed;
-use rp_tester::Stopped;
+use rp_oracle::Stopped;
 use std::alloc::{AllocError, Global};
 
 /// A list of parts. Its members are those of any part.
@@ -25,10 +25,10 @@ pub type Form = Listed<Kept>;
 
 /// Returns the join of `a` and `b`, on the next lines of `trail`: a part test of each part of `a` with each part of
 /// `b`. As many tests are counted as there are pairs. `Limit` exactly where too many tests are counted, where a part
-/// would have more than 32 half-spaces or where more than 1,024 parts are made. `Told` and `Wrong` come where a line
+/// would have more than 32 half-spaces or where more than 1,024 parts are made. `LimitReported` and `Wrong` come where a line
 /// that is due doesn't stand there.
 pub fn joined(alloc: Global, a: &Form, b: &Form, trail: &mut Trail<'_>) -> Result<Form, Stopped>
-    ensures comes { Comes (λ form. form.items) result trail.new (join line_tester a.now.items b.now.items trail.old) }
+    ensures comes { Refines (λ form. form.items) result trail.new (join line_tester a.now.items b.now.items trail.old) }
     ensures members { length a.now.items ≤ most_parts → length b.now.items ≤ most_parts →
         IfOk result (λ form. AreOf IsCheckedPart (Shape.intersection (shape_of_parts a.now.items) (shape_of_parts b.now.items)) form.items) }
 {
@@ -42,10 +42,10 @@ pub fn joined(alloc: Global, a: &Form, b: &Form, trail: &mut Trail<'_>) -> Resul
 
 /// Returns the difference of `a` and `b`, on the next lines of `trail`: each part of `b` is taken away from `a` in
 /// turn. `Limit` exactly where too many tests are counted, where a part would have more than 32 half-spaces, or where
-/// more than 1,024 parts are left behind a part of `b`. `Told` and `Wrong` come where a line that is due doesn't stand
+/// more than 1,024 parts are left behind a part of `b`. `LimitReported` and `Wrong` come where a line that is due doesn't stand
 /// there.
 pub fn differed(alloc: Global, a: &Form, b: &Form, trail: &mut Trail<'_>) -> Result<Form, Stopped>
-    ensures comes { Comes (λ form. form.items) result trail.new (subtract line_tester a.now.items b.now.items trail.old) }
+    ensures comes { Refines (λ form. form.items) result trail.new (subtract line_tester a.now.items b.now.items trail.old) }
     ensures members { length a.now.items ≤ most_parts → length b.now.items ≤ most_parts →
         IfOk result (λ form. AreOf IsCheckedPart (Shape.difference (shape_of_parts a.now.items) (shape_of_parts b.now.items)) form.items) }
 {
@@ -58,10 +58,10 @@ pub fn differed(alloc: Global, a: &Form, b: &Form, trail: &mut Trail<'_>) -> Res
 /// Returns whether two lists of parts share a member, on the next lines: a strict test of each part of the first with
 /// each part of the second, up to the first pair that is found. With `near` only the pairs are tested whose boxes share
 /// more than boundary, and nothing is counted; else as many tests are counted as there are pairs, and `Limit` comes
-/// exactly where these are too many. `Told` and `Wrong` come where a line that is due doesn't stand there; `Memory`
+/// exactly where these are too many. `LimitReported` and `Wrong` come where a line that is due doesn't stand there; `Memory`
 /// never comes.
 pub fn common(a: &Form, b: &Form, near: bool, trail: &mut Trail<'_>) -> Result<bool, Stopped>
-    ensures comes { Comes (λ found. found) result trail.new (common_by near a.now.items b.now.items trail.old) }
+    ensures comes { Refines (λ found. found) result trail.new (common_by near a.now.items b.now.items trail.old) }
     ensures right { length a.now.items ≤ most_parts → length b.now.items ≤ most_parts →
         IfOk result (λ found. IsTrue found ↔ Overlaps (shape_of_parts a.now.items) (shape_of_parts b.now.items)) }
     ensures memory { IfErr result IsNotMemory }
@@ -74,10 +74,10 @@ pub fn common(a: &Form, b: &Form, near: bool, trail: &mut Trail<'_>) -> Result<b
 /// Returns whether two lists of parts are in contact, on the next lines: a weak test of each part of the first with
 /// each part of the second, up to the first pair that is found. With `near` only the pairs are tested whose boxes share
 /// a point, the boundary included, and nothing is counted; else as many tests are counted as there are pairs, and
-/// `Limit` comes exactly where these are too many. `Told` and `Wrong` come where a line that is due doesn't stand
+/// `Limit` comes exactly where these are too many. `LimitReported` and `Wrong` come where a line that is due doesn't stand
 /// there; `Memory` never comes.
 pub fn touching(a: &Form, b: &Form, near: bool, trail: &mut Trail<'_>) -> Result<bool, Stopped>
-    ensures comes { Comes (λ found. found) result trail.new (touch_by near a.now.items b.now.items trail.old) }
+    ensures comes { Refines (λ found. found) result trail.new (touch_by near a.now.items b.now.items trail.old) }
     ensures right { length a.now.items ≤ most_parts → length b.now.items ≤ most_parts →
         IfOk result (λ found. IsTrue found ↔ IsInContact (shape_of_parts a.now.items) (shape_of_parts b.now.items)) }
     ensures memory { IfErr result IsNotMemory }
@@ -95,7 +95,7 @@ fn meet(
     near: bool,
     trail: &mut Trail<'_>,
 ) -> Result<bool, Stopped>
-    ensures comes { Comes (λ found. found) result trail.new (meet_by meeting near a.now.items b.now.items trail.old) }
+    ensures comes { Refines (λ found. found) result trail.new (meet_by meeting near a.now.items b.now.items trail.old) }
     ensures memory { IfErr result IsNotMemory }
 {
     if !near {
@@ -106,7 +106,7 @@ fn meet(
 
 /// Counts as many tests as there are pairs of parts.
 fn count_pairs(a: &Form, b: &Form, trail: &mut Trail<'_>) -> Result<(), Stopped>
-    ensures comes { Comes (λ x. x) result trail.new (follow_count (length a.now.items * length b.now.items) trail.old) }
+    ensures comes { Refines (λ x. x) result trail.new (follow_count (length a.now.items * length b.now.items) trail.old) }
     ensures memory { IfErr result IsNotMemory }
 {
     let pairs = (a.items().len() as u64).saturating_mul(b.items().len() as u64);

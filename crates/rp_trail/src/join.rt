@@ -1,13 +1,13 @@
 //! What two lists of parts have in common, test by test.
 ghost use Rattle.rp_reports.specs.Check.{line_tester};
-ghost use Rattle.rp_walks.specs.Form.{join_pair, join_with_part, join_each};
-ghost use Rattle.rp_tester.specs.Comes.{Comes};
+ghost use Rattle.rp_semantics.specs.Form.{join_pair, join_with_part, join_each};
+ghost use Rattle.rp_oracle.specs.Refines.{Refines};
 
 use crate::form::{Form, put};
 use crate::kept::Kept;
 use crate::part::made_of_both;
 use crate::trail::Trail;
-use rp_tester::{MAX_PARTS, Stopped};
+use rp_oracle::{MAX_PARTS, Stopped};
 use std::alloc::Global;
 
 /// Each part of a list with each part of a second list: what they have in common comes behind the parts made already.
@@ -18,7 +18,7 @@ pub(crate) fn join_each(
     others: &[Kept],
     trail: &mut Trail<'_>,
 ) -> Result<(), Stopped>
-    ensures { Comes (λ _. form.new.items) result trail.new (join_each line_tester form.old.items parts.now others.now trail.old) }
+    ensures { Refines (λ _. form.new.items) result trail.new (join_each line_tester form.old.items parts.now others.now trail.old) }
 {
     for part in parts {
         join_with_part(alloc, form, part, others, trail)?;
@@ -34,7 +34,7 @@ fn join_with_part(
     others: &[Kept],
     trail: &mut Trail<'_>,
 ) -> Result<(), Stopped>
-    ensures { Comes (λ _. form.new.items) result trail.new (join_with_part line_tester form.old.items part.now others.now trail.old) }
+    ensures { Refines (λ _. form.new.items) result trail.new (join_with_part line_tester form.old.items part.now others.now trail.old) }
 {
     for other in others {
         join_pair(alloc, form, part, other, trail)?;
@@ -50,7 +50,7 @@ fn join_pair(
     other: &Kept,
     trail: &mut Trail<'_>,
 ) -> Result<(), Stopped>
-    ensures { Comes (λ _. form.new.items) result trail.new (join_pair line_tester form.old.items part.now other.now trail.old) }
+    ensures { Refines (λ _. form.new.items) result trail.new (join_pair line_tester form.old.items part.now other.now trail.old) }
 {
     let common = made_of_both(alloc, part.cell(), other.cell(), trail)?;
     put(form, common)?;

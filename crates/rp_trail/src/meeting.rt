@@ -1,12 +1,12 @@
 //! How two parts meet, and how that is tested.
 ghost use Rattle.std.specs.Prelude.{◌≡◌, ◌++◌, IfErr};
-ghost use Rattle.rp_tester.specs.Comes.{Comes};
+ghost use Rattle.rp_oracle.specs.Refines.{Refines};
 ghost use Rattle.rp_trail.specs.Stops.{IsOfLine};
 ghost use Rattle.rp_trail.specs.Pairs.{may_meet_by, test_by};
 
 use crate::kept::Kept;
 use crate::trail::Trail;
-use rp_tester::Stopped;
+use rp_oracle::Stopped;
 
 /// How two parts meet.
 #[derive(Clone, Copy)]
@@ -35,7 +35,7 @@ impl Meeting {
         second: &Kept,
         trail: &mut Trail<'_>,
     ) -> Result<bool, Stopped>
-        ensures comes { Comes (λ found. found) result trail.new (test_by self (first.now.cell ++ second.now.cell) trail.old) }
+        ensures comes { Refines (λ found. found) result trail.new (test_by self (first.now.cell ++ second.now.cell) trail.old) }
         ensures line { IfErr result IsOfLine }
     {
         match self {

@@ -1,14 +1,14 @@
 //! The first pair of parts of two lists that meet, test by test.
 ghost use Rattle.std.specs.Prelude.{IfErr};
-ghost use Rattle.rp_walks.specs.Form.{test_pair_if, first_with_part, first_pair};
-ghost use Rattle.rp_tester.specs.Comes.{Comes};
+ghost use Rattle.rp_semantics.specs.Form.{test_pair_if, first_with_part, first_pair};
+ghost use Rattle.rp_oracle.specs.Refines.{Refines};
 ghost use Rattle.rp_trail.specs.Stops.{IsOfLine};
 ghost use Rattle.rp_trail.specs.Pairs.{may_meet_by, test_by, chosen_pair};
 
 use crate::kept::Kept;
 use crate::meeting::Meeting;
 use crate::trail::Trail;
-use rp_tester::Stopped;
+use rp_oracle::Stopped;
 
 /// Each part of a list with each part of a second list, up to the first pair that meets. Where `near`, only the pairs
 /// are tested whose boxes let them meet.
@@ -19,7 +19,7 @@ pub(crate) fn first_pair(
     near: bool,
     trail: &mut Trail<'_>,
 ) -> Result<bool, Stopped>
-    ensures comes { Comes (λ found. found) result trail.new (first_pair (chosen_pair near (may_meet_by meeting)) (test_by meeting) parts.now others.now trail.old) }
+    ensures comes { Refines (λ found. found) result trail.new (first_pair (chosen_pair near (may_meet_by meeting)) (test_by meeting) parts.now others.now trail.old) }
     ensures line { IfErr result IsOfLine }
 {
     for part in parts {
@@ -38,7 +38,7 @@ fn first_with_part(
     near: bool,
     trail: &mut Trail<'_>,
 ) -> Result<bool, Stopped>
-    ensures comes { Comes (λ found. found) result trail.new (first_with_part (chosen_pair near (may_meet_by meeting)) (test_by meeting) part.now others.now trail.old) }
+    ensures comes { Refines (λ found. found) result trail.new (first_with_part (chosen_pair near (may_meet_by meeting)) (test_by meeting) part.now others.now trail.old) }
     ensures line { IfErr result IsOfLine }
 {
     for other in others {
@@ -57,7 +57,7 @@ fn test_pair(
     near: bool,
     trail: &mut Trail<'_>,
 ) -> Result<bool, Stopped>
-    ensures comes { Comes (λ found. found) result trail.new (test_pair_if (chosen_pair near (may_meet_by meeting) part.now other.now) (test_by meeting) part.now other.now trail.old) }
+    ensures comes { Refines (λ found. found) result trail.new (test_pair_if (chosen_pair near (may_meet_by meeting) part.now other.now) (test_by meeting) part.now other.now trail.old) }
     ensures line { IfErr result IsOfLine }
 {
     if near && !meeting.may_be(part, other) {

@@ -1,9 +1,9 @@
 //! Part tests.
 ghost use Rattle.std.specs.Prelude.{◌≡◌, ◌+◌, ◌≤◌, ◌++◌, length, Some, IfOk};
 ghost use Rattle.rp_geometry.specs.parts.Parts.{IsCheckedPart};
-ghost use Rattle.rp_walks.specs.FormLaws.{IsMadeOf};
+ghost use Rattle.rp_semantics.specs.FormLaws.{IsMadeOf};
 ghost use Rattle.rp_reports.specs.Check.{follow_made, follow_part};
-ghost use Rattle.rp_tester.specs.Comes.{Comes};
+ghost use Rattle.rp_oracle.specs.Refines.{Refines};
 ghost use Rattle.rp_trail.specs.Stops.{IsShown};
 
 use crate::drops::follow_drops;
@@ -13,17 +13,17 @@ use crate::sides::{follow_box, follow_sides};
 use crate::trail::Trail;
 use arrayvec::ArrayVec;
 use rp_space::{Half, Halves, joined};
-use rp_tester::{MAX_HALVES, Stopped};
+use rp_oracle::{MAX_HALVES, Stopped};
 use std::alloc::Global;
 
 /// Takes a part test of `cell`, of at most 64 half-spaces, on the next lines of `trail`: the part that they make of
 /// it, and `None` where the strict test shows that the cell has no point. Lines may drop half-spaces that add nothing;
 /// then a line gives a box, and further ones show those of its sides that are neither kept nor the cube's. `Limit`
-/// exactly where more than 32 half-spaces are kept and the next line drops none. `Told` and `Wrong` come where a line
+/// exactly where more than 32 half-spaces are kept and the next line drops none. `LimitReported` and `Wrong` come where a line
 /// that is due doesn't stand there.
 pub fn made(alloc: Global, cell: &[Half], trail: &mut Trail<'_>) -> Result<Option<Kept>, Stopped>
     requires { length cell.now ≤ 64 }
-    ensures comes { Comes (λ part. part) result trail.new (follow_part cell.now trail.old) }
+    ensures comes { Refines (λ part. part) result trail.new (follow_part cell.now trail.old) }
     ensures made { IfOk result (λ part. IsMadeOf IsCheckedPart cell.now part) }
 {
     keep_halves(cell);
@@ -43,7 +43,7 @@ pub(crate) fn made_of_both(
     trail: &mut Trail<'_>,
 ) -> Result<Option<Kept>, Stopped>
     requires { length first.now + length second.now ≤ 64 }
-    ensures { Comes (λ part. part) result trail.new (follow_part (first.now ++ second.now) trail.old) }
+    ensures { Refines (λ part. part) result trail.new (follow_part (first.now ++ second.now) trail.old) }
 {
     if first.len() + second.len() > MOST_FEW {
         return made(alloc, joined(first, second).as_slice(), trail);
@@ -58,7 +58,7 @@ pub(crate) fn made_of_both(
 fn made_inside(alloc: Global, cell: &[Half], trail: &mut Trail<'_>) -> Result<Kept, Stopped>
     requires few { length cell.now ≤ 64 }
     requires shown { IsShown cell.now trail.old }
-    ensures { Comes Some result trail.new (follow_made cell.now trail.old) }
+    ensures { Refines Some result trail.new (follow_made cell.now trail.old) }
 {
     if cell.len() > MOST_FEW {
         return made_from(alloc, cell, &mut joined(cell, &[]), trail);
@@ -79,7 +79,7 @@ fn made_from<const N: usize>(
     requires few { length cell.now ≤ 64 }
     requires same { kept.old.items ≡ cell.now }
     requires shown { IsShown cell.now trail.old }
-    ensures { Comes Some result trail.new (follow_made cell.now trail.old) }
+    ensures { Refines Some result trail.new (follow_made cell.now trail.old) }
 {
     keep_halves(cell);
     let next = follow_drops(kept, trail);

@@ -5,22 +5,22 @@ ghost use Rattle.rp_geometry.specs.sets.Shape.{Shape};
 ghost use Rattle.rp_geometry.specs.parts.Parts.{AreOf, IsCheckedPart};
 ghost use Rattle.rp_space.specs.Corners.{prism_of};
 ghost use Rattle.rp_reports.specs.Check.{line_tester};
-ghost use Rattle.rp_walks.specs.Form.{prism_form, exchange_cell, exchange_lists};
-ghost use Rattle.rp_tester.specs.Comes.{Comes};
+ghost use Rattle.rp_semantics.specs.Form.{prism_form, exchange_cell, exchange_lists};
+ghost use Rattle.rp_oracle.specs.Refines.{Refines};
 
 use crate::form::{Form, differed};
 use crate::part::made;
 use crate::trail::Trail;
 use rp_footprint::trapezoid;
 use rp_space::{Corner, Half};
-use rp_tester::{MAX_PARTS, Stopped};
+use rp_oracle::{MAX_PARTS, Stopped};
 use std::alloc::Global;
 
 /// Returns the form of the polygon over `corners` raised from `z1` to below `z2`, on the next lines of `trail`: a part
 /// test of the trapezoid of each edge whose ends have two x, and the two differences that exchange its part with the
 /// parts so far. The part tests aren't counted, those of the differences are. There are from 1 to 256 corners, and all
 /// numbers are within their bounds. `Limit` exactly where too many tests are counted, where a part would have more than
-/// 32 half-spaces, or where more than 1,024 parts are left behind an edge or in the course of a difference. `Told` and
+/// 32 half-spaces, or where more than 1,024 parts are left behind an edge or in the course of a difference. `LimitReported` and
 /// `Wrong` come where a line that is due doesn't stand there.
 pub fn prismed(
     alloc: Global,
@@ -30,7 +30,7 @@ pub fn prismed(
     trail: &mut Trail<'_>,
 ) -> Result<Form, Stopped>
     requires { IsPrism (prism_of z1 z2 corners.now) }
-    ensures comes { Comes (λ form. form.items) result trail.new (prism_form line_tester (prism_of z1 z2 corners.now) trail.old) }
+    ensures comes { Refines (λ form. form.items) result trail.new (prism_form line_tester (prism_of z1 z2 corners.now) trail.old) }
     ensures members { IfOk result (λ form. AreOf IsCheckedPart (Shape.prism (prism_of z1 z2 corners.now)) form.items) }
 {
     let mut current = Form::new(alloc);
@@ -48,7 +48,7 @@ fn exchange_cell(
     cell: Option<[Half; 6]>,
     trail: &mut Trail<'_>,
 ) -> Result<Form, Stopped>
-    ensures { Comes (λ form. form.items) result trail.new (exchange_cell line_tester current.items cell trail.old) }
+    ensures { Refines (λ form. form.items) result trail.new (exchange_cell line_tester current.items cell trail.old) }
 {
     let Some(halves) = cell else {
         return Ok(current);
@@ -69,7 +69,7 @@ fn exchange(
     new: &Form,
     trail: &mut Trail<'_>,
 ) -> Result<Form, Stopped>
-    ensures { Comes (λ form. form.items) result trail.new (exchange_lists line_tester current.now.items new.now.items trail.old) }
+    ensures { Refines (λ form. form.items) result trail.new (exchange_lists line_tester current.now.items new.now.items trail.old) }
 {
     let mut form = differed(alloc, current, new, trail)?;
     let added = differed(alloc, new, current, trail)?;

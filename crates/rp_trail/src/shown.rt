@@ -4,7 +4,7 @@ ghost use Rattle.std.specs.Prelude.{◌≡◌, IfOk, IfErr, OnOk, map};
 ghost use Rattle.rp_geometry.specs.sections.Trace.{IsHeight};
 ghost use Rattle.rp_reports.specs.Check.{next_slice, taken, slice_told, slices_told};
 ghost use Rattle.rp_cert.specs.Section.{slice_shown};
-ghost use Rattle.rp_tester.specs.Comes.{Comes};
+ghost use Rattle.rp_oracle.specs.Refines.{Refines};
 ghost use Rattle.rp_trail.specs.Stops.{IsWrongOrMemory};
 ghost use Rattle.rp_trail.specs.Slices.{follow_slice_line, follow_slice_lines};
 
@@ -13,7 +13,7 @@ use crate::kept::{Kept, keep_part, keep_parts};
 use crate::trail::Trail;
 use rp_cert::{Slice, check_slice};
 use rp_lists::Listed;
-use rp_tester::Stopped;
+use rp_oracle::Stopped;
 use std::alloc::Global;
 
 /// Slices, one for each part of a form.
@@ -21,10 +21,10 @@ pub type Slices = Listed<Slice>;
 
 /// Returns the slices of the parts of `form` at `z`, a height of the cube, on the next lines of `trail`: one line for
 /// each part, in order, which shows a ring or a flat certificate that passes for its cell. `Wrong` comes exactly where
-/// a line shows none that passes, or is missing; `Memory` for want of memory alone, and `Told` and `Limit` never.
+/// a line shows none that passes, or is missing; `Memory` for want of memory alone, and `LimitReported` and `Limit` never.
 pub fn slices(alloc: Global, form: &Form, z: i32, trail: &mut Trail<'_>) -> Result<Slices, Stopped>
     requires { IsHeight z }
-    ensures comes { Comes (λ _. tt) result trail.new (follow_slice_lines z form.now.items trail.old) }
+    ensures comes { Refines (λ _. tt) result trail.new (follow_slice_lines z form.now.items trail.old) }
     ensures told { IfOk result (λ list. map slice_shown list.items ≡ slices_told z form.now.items trail.old.lines) }
     ensures ends { IfErr result IsWrongOrMemory }
 {
@@ -39,7 +39,7 @@ pub fn slices(alloc: Global, form: &Form, z: i32, trail: &mut Trail<'_>) -> Resu
 /// Returns the slice of a part at a height, on the next line.
 fn follow_slice(part: &Kept, z: i32, trail: &mut Trail<'_>) -> Result<Slice, Stopped>
     requires { IsHeight z }
-    ensures comes { Comes (λ _. tt) result trail.new (follow_slice_line z part.now trail.old) }
+    ensures comes { Refines (λ _. tt) result trail.new (follow_slice_line z part.now trail.old) }
     ensures told { IfOk result (λ s. slice_shown s ≡ slice_told z part.now.cell (next_slice trail.old.lines)) }
     ensures takes { OnOk result (trail.new ≡ taken trail.old) }
     ensures ends { IfErr result IsWrongOrMemory }

@@ -6,19 +6,19 @@ ghost use Rattle.rp_geometry.specs.searches.Certificate.{is_outside_certificate}
 ghost use Rattle.rp_reports.specs.Check.{next_proof, is_proper_box, box_by_line, follow_side, follow_sides};
 ghost use Rattle.rp_space.specs.Boxes.{integer_box};
 ghost use Rattle.rp_cert.specs.Lines.{line_of};
-ghost use Rattle.rp_tester.specs.Comes.{Comes};
+ghost use Rattle.rp_oracle.specs.Refines.{Refines};
 
 use crate::drops::is_listed;
 use crate::few::{Few, MOST_FEW, put};
 use crate::trail::Trail;
 use rp_cert::{Proof, check_outside};
 use rp_space::{Half, IntBox, Term, box_halves, cube, joined};
-use rp_tester::Stopped;
+use rp_oracle::Stopped;
 
 /// Returns the box that the next line gives, of which is known what it says.
 pub(crate) fn follow_box(next: Option<Proof>, trail: &mut Trail<'_>) -> Result<IntBox, Stopped>
     requires { option_map line_of next ≡ next_proof trail.old.lines }
-    ensures comes { Comes integer_box result trail.new (box_by_line (next_proof trail.old.lines) trail.old) }
+    ensures comes { Refines integer_box result trail.new (box_by_line (next_proof trail.old.lines) trail.old) }
     ensures bounds { IfOk result (λ bounds. is_box_in_bounds (integer_box bounds) ≡ true) }
 {
     match next {
@@ -44,7 +44,7 @@ pub(crate) fn follow_sides(
 ) -> Result<(), Stopped>
     requires few { length kept.now ≤ 64 }
     requires bounds { is_box_in_bounds (integer_box bounds.now) ≡ true }
-    ensures { Comes (λ _. tt) result trail.new (follow_sides kept.now (box_half_spaces (integer_box bounds.now)) trail.old) }
+    ensures { Refines (λ _. tt) result trail.new (follow_sides kept.now (box_half_spaces (integer_box bounds.now)) trail.old) }
 {
     let sides = box_halves(bounds);
     for side in &sides {
@@ -56,7 +56,7 @@ pub(crate) fn follow_sides(
 /// Takes the line that shows a side, unless it is one of the cell or of the cube.
 fn follow_side(kept: &[Half], side: &Half, trail: &mut Trail<'_>) -> Result<(), Stopped>
     requires { length kept.now ≤ 64 }
-    ensures { Comes (λ _. tt) result trail.new (follow_side kept.now side.now trail.old) }
+    ensures { Refines (λ _. tt) result trail.new (follow_side kept.now side.now trail.old) }
 {
     if is_listed(side, kept) || is_listed(side, &cube()) {
         return Ok(());

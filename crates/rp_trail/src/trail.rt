@@ -5,12 +5,12 @@ ghost use Rattle.rp_geometry.specs.Geometry.{RationalPoint};
 ghost use Rattle.rp_geometry.specs.sets.Shape.{shape_of_cell};
 ghost use Rattle.rp_geometry.specs.sets.Sets.{IsNonempty};
 ghost use Rattle.rp_geometry.specs.laws.CellLaws.{IsSolution};
-ghost use Rattle.rp_walks.specs.Walk.{most_tests};
+ghost use Rattle.rp_semantics.specs.Walk.{most_tests};
 ghost use Rattle.rp_reports.specs.Output.{most_report_bytes, report_lines};
 ghost use Rattle.rp_reports.specs.Check.{tells_limit, next_proof, next_slice, taken, taken_if, with_no_tests, follow_count, follow_strict, follow_weak};
 ghost use Rattle.rp_cert.specs.Lines.{line_of};
 ghost use Rattle.rp_cert.specs.Section.{slice_shown};
-ghost use Rattle.rp_tester.specs.Comes.{counted, Comes};
+ghost use Rattle.rp_oracle.specs.Refines.{counted, Refines};
 ghost use Rattle.rp_trail.specs.Stops.{IsOfLine, IsNotDue};
 ghost use Rattle.rp_trail.specs.Lines.{next_line};
 
@@ -19,7 +19,7 @@ use crate::kept::keep_halves;
 use crate::lines::split_line;
 use rp_cert::{Proof, Slice, check_inside, check_outside, check_weak};
 use rp_space::{Half, joined};
-use rp_tester::{MAX_TESTS, Stopped};
+use rp_oracle::{MAX_TESTS, Stopped};
 use rp_text::{read_proof, read_slice};
 use std::marker::Model;
 
@@ -41,7 +41,7 @@ pub struct Trail<'a> {
 
 impl<'a> Model for Trail<'a> {
     ghost use Rattle.std.specs.Prelude.{◌+◌, ◌≤◌, length};
-    ghost use Rattle.rp_walks.specs.Walk.{most_tests};
+    ghost use Rattle.rp_semantics.specs.Walk.{most_tests};
     ghost use Rattle.rp_reports.specs.Check.{Trail};
     ghost use Rattle.rp_reports.specs.Output.{most_report_bytes};
     ghost use Rattle.rp_trail.specs.Lines.{lines_left, count_next};
@@ -127,11 +127,11 @@ impl<'a> Trail<'a> {
 
     /// Takes a strict test of the cell of `first` followed by `second`, at most 64 half-spaces together: whether the
     /// cell has a point. The next line must show it: it has points that pass as an inside certificate of the cell, or
-    /// multiples that pass as a strict outside one. `Told` where it tells of a limit, `Wrong` where it is any other
+    /// multiples that pass as a strict outside one. `LimitReported` where it tells of a limit, `Wrong` where it is any other
     /// line; never `Limit` or `Memory`. Then no line is taken. The test isn't counted.
     pub fn strict(&mut self, first: &[Half], second: &[Half]) -> Result<bool, Stopped>
         requires { length first.now + length second.now ≤ 64 }
-        ensures comes { Comes (λ found. found) result self.new (follow_strict (first.now ++ second.now) self.old) }
+        ensures comes { Refines (λ found. found) result self.new (follow_strict (first.now ++ second.now) self.old) }
         ensures right { IfOk result (λ found. IsTrue found ↔ IsNonempty (shape_of_cell (first.now ++ second.now))) }
         ensures line { IfErr result IsOfLine }
     {
@@ -146,11 +146,11 @@ impl<'a> Trail<'a> {
 
     /// Takes a weak test of the cell of `first` followed by `second`, at most 64 half-spaces together: whether its
     /// weak system has a point. The next line must show it: it has a point of the weak system, or multiples that pass
-    /// as a weak outside certificate. `Told` where it tells of a limit, `Wrong` where it is any other line; never
+    /// as a weak outside certificate. `LimitReported` where it tells of a limit, `Wrong` where it is any other line; never
     /// `Limit` or `Memory`. Then no line is taken. The test isn't counted.
     pub fn weak(&mut self, first: &[Half], second: &[Half]) -> Result<bool, Stopped>
         requires { length first.now + length second.now ≤ 64 }
-        ensures comes { Comes (λ found. found) result self.new (follow_weak (first.now ++ second.now) self.old) }
+        ensures comes { Refines (λ found. found) result self.new (follow_weak (first.now ++ second.now) self.old) }
         ensures right { IfOk result (λ found. IsTrue found ↔ ((p : RationalPoint) × IsSolution false (first.now ++ second.now) p)) }
         ensures line { IfErr result IsOfLine }
     {
@@ -165,7 +165,7 @@ impl<'a> Trail<'a> {
 
     /// Takes a strict test of a cell.
     pub(crate) fn strict_test(&mut self, cell: &[Half]) -> Result<bool, Stopped>
-        ensures comes { Comes (λ found. found) result self.new (follow_strict cell.now self.old) }
+        ensures comes { Refines (λ found. found) result self.new (follow_strict cell.now self.old) }
         ensures right { IfOk result (λ found. IsTrue found ↔ IsNonempty (shape_of_cell cell.now)) }
         ensures line { IfErr result IsOfLine }
     {
@@ -182,7 +182,7 @@ impl<'a> Trail<'a> {
 
     /// Takes a weak test of a cell.
     pub(crate) fn weak_test(&mut self, cell: &[Half]) -> Result<bool, Stopped>
-        ensures comes { Comes (λ found. found) result self.new (follow_weak cell.now self.old) }
+        ensures comes { Refines (λ found. found) result self.new (follow_weak cell.now self.old) }
         ensures right { IfOk result (λ found. IsTrue found ↔ ((p : RationalPoint) × IsSolution false cell.now p)) }
         ensures line { IfErr result IsOfLine }
     {
@@ -214,7 +214,7 @@ impl<'a> Trail<'a> {
     /// Takes the next line, of which there is one, if its certificate passes; else it is wrong.
     pub(crate) fn take_if<T: Drop>(&mut self, passes: bool, shown: T) -> Result<T, Stopped>
         requires { 0 < length self.old.lines }
-        ensures comes { Comes (λ x. x) result self.new (taken_if passes shown self.old) }
+        ensures comes { Refines (λ x. x) result self.new (taken_if passes shown self.old) }
         ensures line { IfErr result IsOfLine }
     {
         if !passes {
@@ -230,7 +230,7 @@ impl<'a> Trail<'a> {
         ensures line { IsOfLine result }
     {
         if self.tells_limit() {
-            Stopped::Told
+            Stopped::LimitReported
         } else {
             Stopped::Wrong
         }

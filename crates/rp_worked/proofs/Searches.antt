@@ -5,9 +5,9 @@ use Rattle.rp_geometry.specs.Geometry.{RationalPoint, HalfSpace, IntegerBox, hal
 use Rattle.rp_geometry.specs.sets.Shape.{Shape, is_member, Part}
 use Rattle.rp_geometry.specs.parts.PartTest.{slimmed, side_lines}
 use Rattle.rp_geometry.specs.searches.ProofLine.{ProofLine, in_line, out_line, drop_line, box_line}
-use Rattle.rp_walks.specs.Walk.{Outcome, done, stopped, Work, no_work, first_tester}
+use Rattle.rp_semantics.specs.Walk.{Outcome, done, stopped, Work, no_work, first_tester}
 use Rattle.rp_language.specs.Expression.{Expression, Meaning}
-use Rattle.rp_walks.specs.Form.{form}
+use Rattle.rp_semantics.specs.Form.{form}
 use Rattle.std.specs.Prelude.{◌++◌}
 use Rattle.rp_geometry.specs.searches.Certificate.{Multiple}
 use Rattle.rp_geometry.specs.searches.Elimination.{multiple_of, first_outside}

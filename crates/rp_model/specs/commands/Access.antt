@@ -7,8 +7,8 @@ use Rattle.rp_geometry.specs.sets.Contact.{IsInContact}
 use Rattle.rp_geometry.specs.sets.Shape.{Shape, Part}
 use Rattle.rp_language.specs.Expression.{signature, access_verb}
 use Rattle.rp_language.specs.Name.{Label}
-use Rattle.rp_walks.specs.Form.{touch_nearby, touching_pair}
-use Rattle.rp_walks.specs.Walk.{Walk, pass, ◌>>=◌, ◌>>◌, Tester}
+use Rattle.rp_semantics.specs.Form.{touch_nearby, touching_pair}
+use Rattle.rp_semantics.specs.Walk.{Walk, pass, ◌>>=◌, ◌>>◌, Tester}
 use Rattle.rp_model.specs.commands.Checks.{check_access}
 use Rattle.rp_model.specs.commands.Definition.{Definition}
 use Rattle.rp_model.specs.commands.Parts.{count_among, numbered_lists, lot_parts}

@@ -1,7 +1,7 @@
 -- asof LINE POINT: the lot that had a point after a line.
 use Rattle.std.specs.Prelude.{false}
 use Rattle.rp_language.specs.Expression.{signature, asof_verb}
-use Rattle.rp_walks.specs.Walk.{pass}
+use Rattle.rp_semantics.specs.Walk.{pass}
 use Rattle.rp_model.specs.commands.At.{owner_line, parcel_at}
 use Rattle.rp_model.specs.commands.Definition.{Definition}
 use Rattle.rp_model.specs.commands.Reply.{reply}

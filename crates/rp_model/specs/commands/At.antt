@@ -3,7 +3,7 @@ use Rattle.std.specs.Prelude.{true, false, List, [], ◌∷◌}
 use Rattle.rp_geometry.specs.Geometry.{RationalPoint}
 use Rattle.rp_geometry.specs.sets.Shape.{Shape, is_member}
 use Rattle.rp_language.specs.Expression.{signature, at_verb}
-use Rattle.rp_walks.specs.Walk.{pass}
+use Rattle.rp_semantics.specs.Walk.{pass}
 use Rattle.rp_model.specs.commands.Definition.{Definition}
 use Rattle.rp_model.specs.commands.Parts.{is_in_parts}
 use Rattle.rp_model.specs.commands.Reply.{reply}

@@ -2,8 +2,8 @@
 use Rattle.std.specs.Prelude.{ℕ, ◌+◌, Bool, true, false, List, [], ◌∷◌, length}
 use Rattle.rp_geometry.specs.sets.Shape.{Part}
 use Rattle.rp_language.specs.Expression.{signature, audit_verb}
-use Rattle.rp_walks.specs.Form.{common_nearby, near_pair}
-use Rattle.rp_walks.specs.Walk.{Walk, pass, stop, taken_wrong, ◌>>=◌, ◌>>◌, Tester}
+use Rattle.rp_semantics.specs.Form.{common_nearby, near_pair}
+use Rattle.rp_semantics.specs.Walk.{Walk, pass, stop, taken_wrong, ◌>>=◌, ◌>>◌, Tester}
 use Rattle.rp_model.specs.commands.Definition.{Definition}
 use Rattle.rp_model.specs.commands.Parts.{count_with_each, lot_parts}
 use Rattle.rp_model.specs.commands.Reply.{Reply, reply}

@@ -3,8 +3,8 @@ use Rattle.std.specs.Prelude.{List}
 use Rattle.rp_geometry.specs.sets.Contact.{IsInContact}
 use Rattle.rp_geometry.specs.sets.Shape.{Part}
 use Rattle.rp_language.specs.Expression.{signature, contact_verb}
-use Rattle.rp_walks.specs.Form.{touch_in_full}
-use Rattle.rp_walks.specs.Walk.{Walk, pass, ◌>>=◌, Tester}
+use Rattle.rp_semantics.specs.Form.{touch_in_full}
+use Rattle.rp_semantics.specs.Walk.{Walk, pass, ◌>>=◌, Tester}
 use Rattle.rp_model.specs.commands.Definition.{Definition, of_forms}
 use Rattle.rp_model.specs.commands.Reply.{Reply, yes_or_no}
 use Rattle.rp_model.specs.commands.Rules.{yes_where}

@@ -4,8 +4,8 @@ use Rattle.rp_geometry.specs.sets.Sets.{IsWithin, Overlaps}
 use Rattle.rp_geometry.specs.sets.Shape.{Shape, Part}
 use Rattle.rp_language.specs.Expression.{signature, cut_verb}
 use Rattle.rp_language.specs.Name.{Label}
-use Rattle.rp_walks.specs.Form.{join, subtract}
-use Rattle.rp_walks.specs.Walk.{Walk, pass, ◌>>=◌, ◌>>◌, Tester}
+use Rattle.rp_semantics.specs.Form.{join, subtract}
+use Rattle.rp_semantics.specs.Walk.{Walk, pass, ◌>>=◌, ◌>>◌, Tester}
 use Rattle.rp_model.specs.commands.Checks.{refuse_if, check_cut}
 use Rattle.rp_model.specs.commands.Definition.{Definition, with_form}
 use Rattle.rp_model.specs.commands.Parts.{parts_with_id, new_lot}

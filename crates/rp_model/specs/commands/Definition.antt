@@ -3,8 +3,8 @@ use Rattle.std.specs.Prelude.{Bool, true, List, [], ◌∷◌}
 use Rattle.rp_geometry.specs.sections.Slice.{Slice}
 use Rattle.rp_geometry.specs.sets.Shape.{Shape, Part}
 use Rattle.rp_language.specs.Expression.{Expression, Meaning, Kind, expression_kind, Operands}
-use Rattle.rp_walks.specs.Form.{form}
-use Rattle.rp_walks.specs.Walk.{Walk, ◌>>=◌, Tester}
+use Rattle.rp_semantics.specs.Form.{form}
+use Rattle.rp_semantics.specs.Walk.{Walk, ◌>>=◌, Tester}
 use Rattle.rp_model.specs.commands.Reply.{Reply}
 use Rattle.rp_model.specs.commands.Rules.{Rule}
 use Rattle.rp_model.specs.commands.Sets.{set_of}

@@ -3,8 +3,8 @@ use Rattle.std.specs.Prelude.{true, false, List}
 use Rattle.rp_geometry.specs.sets.Sets.{SameMembers}
 use Rattle.rp_geometry.specs.sets.Shape.{Part}
 use Rattle.rp_language.specs.Expression.{signature, equal_verb}
-use Rattle.rp_walks.specs.Compare.{is_covered}
-use Rattle.rp_walks.specs.Walk.{Walk, pass, ◌>>=◌, Tester}
+use Rattle.rp_semantics.specs.Compare.{is_covered}
+use Rattle.rp_semantics.specs.Walk.{Walk, pass, ◌>>=◌, Tester}
 use Rattle.rp_model.specs.commands.Definition.{Definition, of_forms}
 use Rattle.rp_model.specs.commands.Reply.{Reply, yes_or_no}
 use Rattle.rp_model.specs.commands.Rules.{yes_where}

@@ -1,7 +1,7 @@
 -- layer NAME: the layer in which lots are registered from now on.
 use Rattle.std.specs.Prelude.{false}
 use Rattle.rp_language.specs.Expression.{signature, layer_verb}
-use Rattle.rp_walks.specs.Walk.{pass}
+use Rattle.rp_semantics.specs.Walk.{pass}
 use Rattle.rp_model.specs.commands.Definition.{Definition}
 use Rattle.rp_model.specs.commands.Reply.{accepted}
 use Rattle.rp_model.specs.commands.Rules.{accepts}

@@ -1,7 +1,7 @@
 -- list: the live lots.
 use Rattle.std.specs.Prelude.{false, ◌∷◌, length}
 use Rattle.rp_language.specs.Expression.{signature, list_verb}
-use Rattle.rp_walks.specs.Walk.{pass}
+use Rattle.rp_semantics.specs.Walk.{pass}
 use Rattle.rp_model.specs.commands.Definition.{Definition}
 use Rattle.rp_model.specs.commands.Reply.{reply_lines}
 use Rattle.rp_model.specs.commands.Rules.{answers}

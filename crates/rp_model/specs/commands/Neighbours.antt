@@ -4,8 +4,8 @@ use Rattle.rp_geometry.specs.sets.Contact.{IsInContact}
 use Rattle.rp_geometry.specs.sets.Shape.{Shape, Part}
 use Rattle.rp_language.specs.Expression.{signature, neighbours_verb}
 use Rattle.rp_language.specs.Name.{Label}
-use Rattle.rp_walks.specs.Form.{touch_nearby, touching_pair}
-use Rattle.rp_walks.specs.Walk.{Walk, pass, ◌>>=◌, ◌>>◌, Tester}
+use Rattle.rp_semantics.specs.Form.{touch_nearby, touching_pair}
+use Rattle.rp_semantics.specs.Walk.{Walk, pass, ◌>>=◌, ◌>>◌, Tester}
 use Rattle.rp_model.specs.commands.Checks.{check_live}
 use Rattle.rp_model.specs.commands.Definition.{Definition}
 use Rattle.rp_model.specs.commands.Parts.{count_with_each, lot_parts, parts_with_id}
@@ -13,7 +13,7 @@ use Rattle.rp_model.specs.commands.Reply.{Reply, reply_lines, check}
 use Rattle.rp_model.specs.commands.Rules.{Rule, answers, names_then}
 use Rattle.rp_model.specs.commands.Sets.{set_with_id}
 use Rattle.rp_model.specs.commands.Verdict.{neighbour_lines}
-use Rattle.rp_model.specs.states.State.{Lot, StateOf, near_lots, nothing_changes, State}
+use Rattle.rp_model.specs.states.State.{Lot, StateOf, other_live_lots_of_layer, nothing_changes, State}
 
 module _ {W : Type 0} (tester : Tester W) where
   -- the ids found so far, and that of a lot if it touches the parts
@@ -32,8 +32,8 @@ module _ {W : Type 0} (tester : Tester W) where
   -- the lot must be live; the other live lots of its layer that touch it
   abbrev pub row_neighbours : {S : Type 0} → StateOf S → Label → Walk W Reply
   row_neighbours s x = check (check_live s x) do
-    tester.count (count_with_each touching_pair (parts_with_id s x) (lot_parts (near_lots s x)))
-    found ← touched_lots [] (parts_with_id s x) (near_lots s x)
+    tester.count (count_with_each touching_pair (parts_with_id s x) (lot_parts (other_live_lots_of_layer s x)))
+    found ← touched_lots [] (parts_with_id s x) (other_live_lots_of_layer s x)
     pass (reply_lines (neighbour_lines found))
 
 -- the ids are those of the lots of which the fact holds, in order
@@ -45,7 +45,7 @@ AreSelected P (l ∷ ls) ids = ((others : List Label) × P l × (ids ≡ l.id �
 abbrev pub rule_neighbours : State → Label → Rule
 rule_neighbours s x =
     names_then (check_live s x)
-    (λ given. (ids : List Label) × AreSelected (λ l. IsInContact (set_with_id s x) l.set) (near_lots s x) ids × answers (neighbour_lines ids) given)
+    (λ given. (ids : List Label) × AreSelected (λ l. IsInContact (set_with_id s x) l.set) (other_live_lots_of_layer s x) ids × answers (neighbour_lines ids) given)
 
 -- the definition of neighbours
 abbrev pub neighbours_definition : Definition (signature neighbours_verb)

@@ -5,7 +5,7 @@ use Rattle.rp_geometry.specs.Geometry.{RationalPoint, is_in_cell}
 use Rattle.rp_geometry.specs.sets.Shape.{Shape, Part, shape_of_parts}
 use Rattle.rp_language.specs.Expression.{Meaning}
 use Rattle.rp_language.specs.Name.{Label}
-use Rattle.rp_walks.specs.Form.{parts_or_none}
+use Rattle.rp_semantics.specs.Form.{parts_or_none}
 use Rattle.rp_model.specs.states.State.{Lot, StateOf, live_lot, parts_of_lot, NewLot}
 
 -- the point is in one of the parts

@@ -3,8 +3,8 @@ use Rattle.std.specs.Prelude.{ℕ, List}
 use Rattle.rp_geometry.specs.sets.Pieces.{ArePieces}
 use Rattle.rp_geometry.specs.sets.Shape.{Part}
 use Rattle.rp_language.specs.Expression.{signature, pieces_verb}
-use Rattle.rp_walks.specs.Pieces.{pieces_of_parts}
-use Rattle.rp_walks.specs.Walk.{Walk, pass, ◌>>=◌, Tester}
+use Rattle.rp_semantics.specs.Pieces.{pieces_of_parts}
+use Rattle.rp_semantics.specs.Walk.{Walk, pass, ◌>>=◌, Tester}
 use Rattle.rp_model.specs.commands.Definition.{Definition, of_form}
 use Rattle.rp_model.specs.commands.Reply.{Reply, reply_lines}
 use Rattle.rp_model.specs.commands.Rules.{answers}

@@ -4,18 +4,18 @@ use Rattle.rp_geometry.specs.sets.Relation.{Relation, StandIn}
 use Rattle.rp_geometry.specs.sets.Sets.{IsEmpty}
 use Rattle.rp_geometry.specs.sets.Shape.{Shape, Part}
 use Rattle.rp_language.specs.Expression.{signature, rcc_verb}
-use Rattle.rp_walks.specs.Compare.{relation_of_parts}
-use Rattle.rp_walks.specs.Walk.{Walk, pass, ◌>>=◌, Tester}
+use Rattle.rp_semantics.specs.Compare.{relation_of_parts}
+use Rattle.rp_semantics.specs.Walk.{Walk, pass, ◌>>=◌, Tester}
 use Rattle.rp_model.specs.commands.Definition.{Definition, of_forms}
 use Rattle.rp_model.specs.commands.Reply.{Reply, reply, refusal}
 use Rattle.rp_model.specs.commands.Rules.{Rule, answers, refused_where}
-use Rattle.rp_model.specs.commands.Verdict.{Verdict, empty_operand}
+use Rattle.rp_model.specs.commands.Verdict.{Verdict, empty_region}
 
 module _ {W : Type 0} (tester : Tester W) where
   -- both must have a part; then their relation
   abbrev pub row_relation : List Part → List Part → Walk W Reply
-  row_relation [] qs = pass (refusal (empty_operand 1))
-  row_relation (p ∷ ps) [] = pass (refusal (empty_operand 2))
+  row_relation [] qs = pass (refusal (empty_region 1))
+  row_relation (p ∷ ps) [] = pass (refusal (empty_region 2))
   row_relation (p ∷ ps) (q ∷ qs) = do
     r ← relation_of_parts tester (p ∷ ps) (q ∷ qs)
     pass (reply (Verdict.relation r))
@@ -23,8 +23,8 @@ module _ {W : Type 0} (tester : Tester W) where
 -- both sets have a member, and then their one relation
 abbrev pub rule_relation : Shape → Shape → Rule
 rule_relation a b =
-    refused_where (IsEmpty a) (empty_operand 1)
-    (refused_where (IsEmpty b) (empty_operand 2) (λ given. (r : Relation) × StandIn r a b × answers (Verdict.relation r ∷ []) given))
+    refused_where (IsEmpty a) (empty_region 1)
+    (refused_where (IsEmpty b) (empty_region 2) (λ given. (r : Relation) × StandIn r a b × answers (Verdict.relation r ∷ []) given))
 
 -- the definition of rcc
 abbrev pub rcc_definition : Definition (signature rcc_verb)

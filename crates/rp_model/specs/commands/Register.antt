@@ -4,15 +4,15 @@ use Rattle.rp_geometry.specs.sets.Sets.{IsEmpty, Overlaps}
 use Rattle.rp_geometry.specs.sets.Shape.{Shape, Part}
 use Rattle.rp_language.specs.Expression.{signature, register_verb}
 use Rattle.rp_language.specs.Name.{Label}
-use Rattle.rp_walks.specs.Form.{common_nearby, near_pair}
-use Rattle.rp_walks.specs.Walk.{Walk, pass, ◌>>=◌, ◌>>◌, Tester}
+use Rattle.rp_semantics.specs.Form.{common_nearby, near_pair}
+use Rattle.rp_semantics.specs.Walk.{Walk, pass, ◌>>=◌, ◌>>◌, Tester}
 use Rattle.rp_model.specs.commands.Checks.{refuse_if, and_then, check_new}
 use Rattle.rp_model.specs.commands.Definition.{Definition, with_form}
 use Rattle.rp_model.specs.commands.Parts.{count_with_each, lot_parts, new_lot}
 use Rattle.rp_model.specs.commands.Reply.{Reply, accepted, check, check_size}
 use Rattle.rp_model.specs.commands.Rules.{Rule, names_then, refused_where, accepts}
 use Rattle.rp_model.specs.commands.Sets.{set_of, lot_of_set}
-use Rattle.rp_model.specs.commands.Verdict.{empty_region, overlaps}
+use Rattle.rp_model.specs.commands.Verdict.{empty, overlaps}
 use Rattle.rp_model.specs.states.State.{most_kept_parts, Lot, StateOf, present_lots, parts_in, parts_under_lots, lots_replaced, State}
 
 module _ {W : Type 0} (tester : Tester W) where
@@ -25,7 +25,7 @@ module _ {W : Type 0} (tester : Tester W) where
 
   -- known, empty, the size, the count, and then the first live lot of the present layer that overlaps
   abbrev pub row_register : {S : Type 0} → StateOf S → Label → List Part → Walk W Reply
-  row_register s x ps = check (and_then (check_new s x) (refuse_if (length ps == 0) empty_region)) do
+  row_register s x ps = check (and_then (check_new s x) (refuse_if (length ps == 0) empty)) do
     check_size (parts_under_lots s.lots + length ps) most_kept_parts
     tester.count (count_with_each near_pair ps (lot_parts (present_lots s)))
     found ← first_overlapped ps (present_lots s)
@@ -38,7 +38,7 @@ refused_at_overlap (l ∷ ls) a rest = refused_where (Overlaps l.set a) (overlap
 
 -- known, empty, the first live lot of the present layer that overlaps
 abbrev pub rule_register : State → Label → Shape → Rule
-rule_register s x a = names_then (check_new s x) (refused_where (IsEmpty a) empty_region (refused_at_overlap (present_lots s) a accepts))
+rule_register s x a = names_then (check_new s x) (refused_where (IsEmpty a) empty (refused_at_overlap (present_lots s) a accepts))
 
 -- the definition of register
 abbrev pub register_definition : Definition (signature register_verb)

@@ -1,6 +1,6 @@
 -- The reply of a command: its verdict lines and what it changes; and the checks that refuse.
 use Rattle.std.specs.Prelude.{ℕ, Bool, true, false, nat_le, List, [], ◌∷◌, Option, Some, None}
-use Rattle.rp_walks.specs.Walk.{Walk, pass, stop, limit_met}
+use Rattle.rp_semantics.specs.Walk.{Walk, pass, stop, limit_met}
 use Rattle.rp_model.specs.commands.Verdict.{Refusal, Verdict, says_yes, says_no, says_ok, refused}
 use Rattle.rp_model.specs.states.State.{Change, nothing_changes}
 

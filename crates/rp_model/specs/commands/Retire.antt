@@ -2,7 +2,7 @@
 use Rattle.std.specs.Prelude.{false, [], ◌∷◌}
 use Rattle.rp_language.specs.Expression.{signature, retire_verb}
 use Rattle.rp_language.specs.Name.{Label}
-use Rattle.rp_walks.specs.Walk.{Walk, pass}
+use Rattle.rp_semantics.specs.Walk.{Walk, pass}
 use Rattle.rp_model.specs.commands.Checks.{check_live}
 use Rattle.rp_model.specs.commands.Definition.{Definition}
 use Rattle.rp_model.specs.commands.Reply.{Reply, accepted, check}

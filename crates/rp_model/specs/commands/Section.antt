@@ -2,7 +2,7 @@
 use Rattle.std.specs.Prelude.{true, ℤ, List}
 use Rattle.rp_geometry.specs.sets.Shape.{Part}
 use Rattle.rp_language.specs.Expression.{signature, section_verb}
-use Rattle.rp_walks.specs.Walk.{Walk, pass, ◌>>=◌, Tester}
+use Rattle.rp_semantics.specs.Walk.{Walk, pass, ◌>>=◌, Tester}
 use Rattle.rp_model.specs.commands.Definition.{Definition, with_form}
 use Rattle.rp_model.specs.commands.Reply.{Reply, reply_lines}
 use Rattle.rp_model.specs.commands.Rules.{answers}

@@ -1,13 +1,13 @@
 -- The sets that expressions and ids stand for.
 use Rattle.std.specs.Prelude.{List, [], ◌∷◌, unwrap_or}
 use Rattle.rp_geometry.specs.sets.Shape.{Shape}
-use Rattle.rp_language.specs.Expression.{Expression, closed}
+use Rattle.rp_language.specs.Expression.{Expression, resolve_names}
 use Rattle.rp_language.specs.Name.{Label}
 use Rattle.rp_model.specs.states.State.{live_lot, NewLot, State, sets_in, set_of_lot}
 
 -- the set that an expression stands for
 abbrev pub set_of : State → Expression → Shape
-set_of s e = closed (sets_in s) e
+set_of s e = resolve_names (sets_in s) e
 
 -- the set of a live lot
 abbrev pub set_with_id : State → Label → Shape

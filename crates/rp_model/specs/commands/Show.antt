@@ -1,6 +1,6 @@
 -- show EXPRESSION: the parts of a region.
 use Rattle.rp_language.specs.Expression.{signature, show_verb}
-use Rattle.rp_walks.specs.Walk.{pass}
+use Rattle.rp_semantics.specs.Walk.{pass}
 use Rattle.rp_model.specs.commands.Definition.{Definition, of_form}
 use Rattle.rp_model.specs.commands.Reply.{reply_lines}
 use Rattle.rp_model.specs.commands.Rules.{answers}

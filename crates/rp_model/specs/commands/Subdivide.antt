@@ -4,9 +4,9 @@ use Rattle.rp_geometry.specs.sets.Sets.{IsNonempty, IsEmpty, IsWithin, Overlaps}
 use Rattle.rp_geometry.specs.sets.Shape.{Shape, Part}
 use Rattle.rp_language.specs.Expression.{Child, Meaning, signature, subdivide_verb}
 use Rattle.rp_language.specs.Name.{Label}
-use Rattle.rp_walks.specs.Compare.{is_covered}
-use Rattle.rp_walks.specs.Form.{common_nearby, near_pair, form}
-use Rattle.rp_walks.specs.Walk.{Walk, pass, ◌>>=◌, ◌>>◌, Tester}
+use Rattle.rp_semantics.specs.Compare.{is_covered}
+use Rattle.rp_semantics.specs.Form.{common_nearby, near_pair, form}
+use Rattle.rp_semantics.specs.Walk.{Walk, pass, ◌>>=◌, ◌>>◌, Tester}
 use Rattle.rp_model.specs.commands.Checks.{refuse_if, and_then, check_subdivide, child_ids}
 use Rattle.rp_model.specs.commands.Definition.{Definition}
 use Rattle.rp_model.specs.commands.Parts.{count_among, parts_with_id, joined_parts, new_lot}

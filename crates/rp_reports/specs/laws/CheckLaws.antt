@@ -3,13 +3,13 @@ use Rattle.std.specs.Prelude.{◌≡◌, ℕ, suc, ◌≤◌, true, false, IsTru
 use Rattle.std.specs.List.{flat_map, AllByRecursion}
 use Rattle.rp_geometry.specs.sections.Trace.{IsHeight}
 use Rattle.rp_language.specs.Expression.{Command, IsKeptExpression, expressions_of, heights_of}
-use Rattle.rp_model.specs.states.State.{State, plain_of, bare_of, changed}
+use Rattle.rp_model.specs.states.State.{State, parts_only, sets_only, changed}
 use Rattle.rp_geometry.specs.parts.Parts.{IsCheckedPart}
 use Rattle.rp_model.specs.states.Sound.{IsSoundWith, IsLaterThan, AreAlike}
 use Rattle.rp_model.specs.commands.Reply.{Reply}
 use Rattle.rp_model.specs.commands.Row.{row}
 use Rattle.rp_model.specs.commands.Rule.{change_of}
-use Rattle.rp_walks.specs.FormLaws.{IfDone}
+use Rattle.rp_semantics.specs.FormLaws.{IfDone}
 use Rattle.rp_reports.specs.Text.{proof_text, verdict_text, text_of_lines}
 use Rattle.rp_reports.specs.Report.{IsReport}
 use Rattle.rp_reports.specs.Check.{Trail, line_tester, is_accepted, finding, wrong_at, IsFirstWrong}
@@ -20,17 +20,17 @@ use Rattle.rp_reports.specs.TrueReport.{true_rule, is_accepted_change, ToldAnswe
 
 -- The verdict lines of a reply are true of the sets, and there is a sound state after it: its parts are those that the check keeps, and its sets those that the command gives.
 pub record TellsTruth (s : State) (n : ℕ) (c : Command) (r : Reply) : Type 0 where
-  pub verdicts : true_rule (bare_of s) c r.verdicts
+  pub verdicts : true_rule (sets_only s) c r.verdicts
   pub next : State
   pub sound : IsSoundWith IsCheckedPart next
   pub later : IsLaterThan (suc n) next
-  pub parts : plain_of next ≡ changed n (plain_of s) r.change
-  pub sets : bare_of next ≡ (elim (is_accepted_change r.verdicts) [ true ↦ changed n (bare_of s) (change_of (bare_of s) c) | false ↦ bare_of s ])
+  pub parts : parts_only next ≡ changed n (parts_only s) r.change
+  pub sets : sets_only next ≡ (elim (is_accepted_change r.verdicts) [ true ↦ changed n (sets_only s) (change_of (sets_only s) c) | false ↦ sets_only s ])
 
 -- a row that is followed on the lines of a report, from the parts of a sound state, tells the truth
 abbrev pub FollowedRowTellsTruth : Type 0
 FollowedRowTellsTruth = (s : State) → IsSoundWith IsCheckedPart s → (n : ℕ) → IsLaterThan n s → (c : Command) → AllByRecursion IsKeptExpression (expressions_of c) → AllByRecursion IsHeight (heights_of c) → (w : Trail) →
-    IfDone (row line_tester (plain_of s) c w) (λ r. TellsTruth s n c r)
+    IfDone (row line_tester (parts_only s) c w) (λ r. TellsTruth s n c r)
 
 -- ---- whole reports
 

@@ -8,7 +8,7 @@ use Rattle.rp_language.specs.Expression.{Command, set_layer}
 use Rattle.rp_language.specs.Grammar.{Version, Reading, command, reading}
 use Rattle.rp_model.specs.states.State.{Lot, NewLot, State, PlainState, live_lots, live_lot, lot_with_id, Change, lots_replaced, layer_changed, changed}
 use Rattle.rp_model.specs.states.Sound.{IsSound}
-use Rattle.rp_walks.specs.Walk.{done, stopped, line_wrong}
+use Rattle.rp_semantics.specs.Walk.{done, stopped, line_wrong}
 use Rattle.rp_model.specs.commands.Verdict.{Verdict, says_ok}
 use Rattle.rp_model.specs.commands.Rule.{rule_of, proofs_of, change_of, after_command}
 use Rattle.rp_reports.specs.Text.{verdict_text}

@@ -6,10 +6,10 @@ use Rattle.rp_geometry.specs.sets.Shape.{Shape, Part}
 use Rattle.rp_geometry.specs.sets.Sets.{IsNonempty, Overlaps}
 use Rattle.rp_geometry.specs.sections.Trace.{IsHeight}
 use Rattle.rp_language.specs.Grammar.{Version, command, reading}
-use Rattle.rp_walks.specs.Walk.{Work, Tester, first_tester}
+use Rattle.rp_semantics.specs.Walk.{Work, Tester, first_tester}
 use Rattle.rp_model.specs.states.State.{most_kept_parts, most_names}
-use Rattle.rp_language.specs.Expression.{Expression, Command, IsKeptExpression, closed, expressions_of, heights_of}
-use Rattle.rp_walks.specs.Form.{form}
+use Rattle.rp_language.specs.Expression.{Expression, Command, IsKeptExpression, resolve_names, expressions_of, heights_of}
+use Rattle.rp_semantics.specs.Form.{form}
 use Rattle.rp_model.specs.states.State.{Kept, State, live_lots, names_of, ids_of, parts_in, sets_in, parts_under_names, parts_under_lots, NewLot, Change, nothing_changes, name_added, lots_replaced, layer_changed}
 use Rattle.rp_geometry.specs.parts.Parts.{IsPart, IsCheckedPart, AreOf}
 use Rattle.rp_model.specs.states.Sound.{are_distinct, Pairwise, AreOfLayer, IsSoundWith, IsSound}
@@ -21,7 +21,7 @@ use Rattle.rp_model.specs.commands.Verdict.{Verdict}
 use Rattle.rp_reports.specs.Machine.{verdicts_walked}
 use Rattle.rp_reports.specs.Check.{line_tester}
 use Rattle.rp_reports.specs.TrueReport.{true_rule}
-use Rattle.rp_walks.specs.FormLaws.{IfDone, AnswersRightly}
+use Rattle.rp_semantics.specs.FormLaws.{IfDone, AnswersRightly}
 
 -- the lines of a report that the check takes answer rightly
 abbrev pub LineTesterIsRight : Type 0
@@ -29,7 +29,7 @@ LineTesterIsRight = AnswersRightly IsCheckedPart line_tester
 
 -- in a sound state the form of an expression has exactly the members of its set
 abbrev pub FormHasTheMembers : Type 0
-FormHasTheMembers = (s : State) → IsSound s → (e : Expression) → IsKeptExpression e → (w : Work) → IfDone (form first_tester (parts_in s) e w) (λ made. AreOf IsPart (closed (sets_in s) e) made)
+FormHasTheMembers = (s : State) → IsSound s → (e : Expression) → IsKeptExpression e → (w : Work) → IfDone (form first_tester (parts_in s) e w) (λ made. AreOf IsPart (resolve_names (sets_in s) e) made)
 
 -- in a sound state the verdict lines of a row that is not stopped are those that the rule of sets wants
 abbrev pub VerdictsMeetRule : {W : Type 0} → (Part → Type 0) → Tester W → Type 0

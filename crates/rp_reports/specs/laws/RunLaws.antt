@@ -5,7 +5,7 @@ use Rattle.rp_geometry.specs.sets.Shape.{Shape}
 use Rattle.rp_geometry.specs.sets.Sets.{SameMembers}
 use Rattle.rp_language.specs.Expression.{Command, ask_at, ask_as_of}
 use Rattle.rp_language.specs.Grammar.{Version, command, reading}
-use Rattle.rp_model.specs.states.State.{State, opening, plain_of, bare_of, changed}
+use Rattle.rp_model.specs.states.State.{State, opening, parts_only, sets_only, changed}
 use Rattle.rp_model.specs.states.Sound.{IsSound, IsLaterThan, SameState}
 use Rattle.rp_model.specs.commands.Verdict.{Verdict, says_ok}
 use Rattle.rp_model.specs.commands.Rule.{rule_of, change_of}
@@ -26,7 +26,7 @@ StepsKeepSoundness = (v : Version) (s : State) → IsSound s → (n : ℕ) → I
 -- The sets after a command follow its right verdict alone: where it is one ok they are those that the command gives, and every other verdict leaves the state as it is.
 abbrev pub SetsFollowVerdicts : Type 0
 SetsFollowVerdicts = (v : Version) (s : State) → IsSound s → (n : ℕ) (line : List ℕ) (c : Command) → reading v line ≡ command c → (given : List Verdict) → rule_of s c given →
-    (is_accepted_change given ≡ true → bare_of (next_state v n s line) ≡ changed n (bare_of s) (change_of s c)) × (is_accepted_change given ≡ false → next_state v n s line ≡ s)
+    (is_accepted_change given ≡ true → sets_only (next_state v n s line) ≡ changed n (sets_only s) (change_of s c)) × (is_accepted_change given ≡ false → next_state v n s line ≡ s)
 
 -- two sound states of the same layer, names, lots, parts and members give the same answers, and again such states
 abbrev pub AnswersDependOnMembers : Type 0
@@ -37,8 +37,8 @@ AnswersDependOnMembers = (v : Version) (s t : State) → IsSound s → IsSound t
 -- in a sound state the answer that is computed from the parts is the only one, and the parts after the line are those that are computed
 abbrev pub StepIsComputed : Type 0
 StepIsComputed = (v : Version) (s : State) → IsSound s → (n : ℕ) → IsLaterThan n s → (line : List ℕ) →
-    ((a : Answer) → IsAnswerTo s n line (reading v line) a ↔ (a ≡ step_answer v (plain_of s) n line))
-    × (plain_of (next_state v n s line) ≡ step_state v (plain_of s) n line)
+    ((a : Answer) → IsAnswerTo s n line (reading v line) a ↔ (a ≡ step_answer v (parts_only s) n line))
+    × (parts_only (next_state v n s line) ≡ step_state v (parts_only s) n line)
 
 -- the line is the end of the lot
 abbrev pub ends_at : ℕ → Option ℕ → Bool

@@ -7,7 +7,7 @@ use Rattle.rp_geometry.specs.sets.Shape.{Shape}
 use Rattle.rp_geometry.specs.sets.Sets.{SameMembers}
 use Rattle.rp_language.specs.Expression.{Command, ask_at, ask_as_of, cut, subdivide, consolidate}
 use Rattle.rp_language.specs.Grammar.{Version, reading}
-use Rattle.rp_model.specs.states.State.{Lot, State, opening, live_lots, lots_of_layer, alive_after, lot_with_id, ids_of, lineage, Change, lots_replaced, NewLot, plain_of, state_of_parts, changed}
+use Rattle.rp_model.specs.states.State.{Lot, State, opening, live_lots, lots_of_layer, alive_after, lot_with_id, ids_of, lineage, Change, lots_replaced, NewLot, parts_only, state_of_parts, changed}
 use Rattle.rp_model.specs.states.Sound.{IsSound, IsLaterThan, SameState}
 use Rattle.rp_model.specs.commands.Verdict.{Verdict, says_ok}
 use Rattle.rp_model.specs.commands.Rule.{rule_of, walked, change_of}
@@ -34,7 +34,7 @@ OpeningIsSound = IsSound opening
 
 -- the row of a command depends on the parts alone
 abbrev pub WalkIsOfParts : Type 0
-WalkIsOfParts = (s : State) (c : Command) → walked (plain_of s) c ≡ walked s c
+WalkIsOfParts = (s : State) (c : Command) → walked (parts_only s) c ≡ walked s c
 
 -- the sets of a sound state may be read from its parts: the state is sound again, and has the same members
 abbrev pub PartsKeepTheState : Type 0

@@ -1,12 +1,12 @@
 use Rattle.std.proofs.Common.{[], ◌∷◌, ap, sym, ◌∙◌, subst}
 use Rattle.std.proofs.lemmas.Result.{err_from_is_err_and}
 use Rattle.rp_language.specs.Name.{Label}
-use Rattle.rp_walks.specs.Walk.{Outcome, done, pass, after_first}
+use Rattle.rp_semantics.specs.Walk.{Outcome, done, pass, after_first}
 use Rattle.rp_model.specs.states.State.{Change, lots_replaced}
 use Rattle.rp_model.specs.commands.Reply.{Reply, accepted}
 use Rattle.rp_model.specs.commands.Parts.{new_lot}
-use Rattle.rp_tester.specs.Comes.{StopsBy}
-use Rattle.rp_tester.proofs.Left.{stops_on}
+use Rattle.rp_oracle.specs.Refines.{StopsBy}
+use Rattle.rp_oracle.proofs.Left.{stops_on}
 use Rattle.rp_answer.specs.Replies.{EndsBy}
 use Rattle.rp_history.proofs.Checked.{passes_first}
 use Rattle.rp_lots.proofs.Names.{names_end, parts_here}
@@ -29,9 +29,9 @@ pub returns-in_err-inner : goal.returns-in_err-inner
 returns-in_err-inner g c =
     let p = err_from_is_err_and c.from_residual-in_err-inner.result c.from_residual-in_err-inner.ensures.1 in
     let s = g.K.Keeper.state c.args.keeper.now in
-    let tester = g.T.Tests.tester in
-    let whole = g.T.Tests.parts_of c.form_at-whole.result.now in
-    let ps = g.T.Tests.parts_of c.args.by.now in
+    let tester = g.T.Oracle.tester in
+    let whole = g.T.Oracle.parts_of c.form_at-whole.result.now in
+    let ps = g.T.Oracle.parts_of c.args.by.now in
     let e = c.in_err-inner.field-0.0 in
     let new = c.inner_side.new.tests in
     let same = c.history-history.ensures.value in
@@ -44,10 +44,10 @@ pub returns-in_err-outer : goal.returns-in_err-outer
 returns-in_err-outer g c =
     let p = err_from_is_err_and c.from_residual-in_err-outer.result c.from_residual-in_err-outer.ensures.1 in
     let s = g.K.Keeper.state c.args.keeper.now in
-    let tester = g.T.Tests.tester in
-    let whole = g.T.Tests.parts_of c.form_at-whole.result.now in
-    let ps = g.T.Tests.parts_of c.args.by.now in
-    let inner = g.T.Tests.parts_of c.in_ok-inner.inner in
+    let tester = g.T.Oracle.tester in
+    let whole = g.T.Oracle.parts_of c.form_at-whole.result.now in
+    let ps = g.T.Oracle.parts_of c.args.by.now in
+    let inner = g.T.Oracle.parts_of c.in_ok-inner.inner in
     let e = c.in_err-outer.field-0.0 in
     let new = c.outer_side.new.tests in
     let same = c.history-history.ensures.value in
@@ -60,12 +60,12 @@ pub returns-in_err-check_room_for_both : goal.returns-in_err-check_room_for_both
 returns-in_err-check_room_for_both g c =
     let p = err_from_is_err_and c.from_residual-in_err-check_room_for_both.result c.from_residual-in_err-check_room_for_both.ensures.1 in
     let s = g.K.Keeper.state c.args.keeper.now in
-    let tester = g.T.Tests.tester in
+    let tester = g.T.Oracle.tester in
     let x = c.args.id in
-    let whole = g.T.Tests.parts_of c.form_at-whole.result.now in
-    let ps = g.T.Tests.parts_of c.args.by.now in
-    let inner = g.T.Tests.parts_of c.in_ok-inner.inner in
-    let outer = g.T.Tests.parts_of c.in_ok-outer.outer in
+    let whole = g.T.Oracle.parts_of c.form_at-whole.result.now in
+    let ps = g.T.Oracle.parts_of c.args.by.now in
+    let inner = g.T.Oracle.parts_of c.in_ok-inner.inner in
+    let outer = g.T.Oracle.parts_of c.in_ok-outer.outer in
     let v = c.outer_side.new.tests in
     let e = c.in_err-check_room_for_both.field-0.0 in
     let same = c.history-history.ensures.value in
@@ -77,15 +77,15 @@ returns-in_err-check_room_for_both g c =
 pub returns : goal.returns
 returns g c =
     let s = g.K.Keeper.state c.args.keeper.now in
-    let tester = g.T.Tests.tester in
+    let tester = g.T.Oracle.tester in
     let x = c.args.id in
-    let whole = g.T.Tests.parts_of c.form_at-whole.result.now in
-    let ps = g.T.Tests.parts_of c.args.by.now in
-    let inner = g.T.Tests.parts_of c.in_ok-inner.inner in
-    let outer = g.T.Tests.parts_of c.in_ok-outer.outer in
+    let whole = g.T.Oracle.parts_of c.form_at-whole.result.now in
+    let ps = g.T.Oracle.parts_of c.args.by.now in
+    let inner = g.T.Oracle.parts_of c.in_ok-inner.inner in
+    let outer = g.T.Oracle.parts_of c.in_ok-outer.outer in
     let v = c.outer_side.new.tests in
     let same = c.history-history.ensures.value in
-    let new = c.in_ok-in_two.ensures g.T.Tests.parts_of
+    let new = c.in_ok-in_two.ensures g.T.Oracle.parts_of
     ∙ ap (λ (y : Label). lots_replaced (x ∷ []) (new_lot y c.args.first inner (x ∷ []) ∷ new_lot y c.args.second outer (x ∷ []) ∷ [])) (c.layer_of-layer.ensures s same) in
     room_begins tester s x c.args.first c.args.second whole ps c.args.tests.now c.inner_side.new.tests v inner outer (c.in_ok-place.ensures.checks s same) (parts_here x s c.in_ok-place.place whole (c.in_ok-place.ensures.lot s same) c.form_at-whole.ensures) (λ next. c.in_ok-inner.ensures next) (λ next. c.in_ok-outer.ensures next)
     ∙ ap (after_first (λ _. pass (cut_reply s x c.args.first c.args.second inner outer))) (c.in_ok-check_room_for_both.ensures v)

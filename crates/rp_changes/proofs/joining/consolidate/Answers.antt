@@ -1,12 +1,12 @@
 use Rattle.std.proofs.Common.{◌≡◌, ◌+◌, ℕ, [], ◌∷◌, length, refl, sym, ap, ◌∙◌, subst}
 use Rattle.std.proofs.lemmas.Result.{err_from_is_err_and}
 use Rattle.rp_language.specs.Name.{Label}
-use Rattle.rp_walks.specs.Walk.{done, pass}
+use Rattle.rp_semantics.specs.Walk.{done, pass}
 use Rattle.rp_model.specs.states.State.{Change, parts_under_lots, lots_replaced, most_kept_parts}
 use Rattle.rp_model.specs.commands.Reply.{accepted, check_size}
 use Rattle.rp_model.specs.commands.Parts.{new_lot}
-use Rattle.rp_tester.specs.Comes.{StopsBy}
-use Rattle.rp_tester.proofs.Left.{next_left, stop_left, end_left}
+use Rattle.rp_oracle.specs.Refines.{StopsBy}
+use Rattle.rp_oracle.proofs.Left.{next_left, stop_left, end_left}
 use Rattle.rp_lots.proofs.Names.{names_end}
 use Rattle.rp_changes.proofs.United.{united_lot, parts_are_few, parts_are_many}
 use Rattle.rp_changes.proofs.joining.consolidate.Goals as goal
@@ -28,7 +28,7 @@ returns-in_err-check_room g c =
     let s = g.K.Keeper.state c.args.keeper.now in
     let x = c.args.new in
     let ids = c.args.ids.now in
-    let ps = g.T.Tests.parts_of c.in_ok-form.form in
+    let ps = g.T.Oracle.parts_of c.in_ok-form.form in
     let u = c.united.new.tests in
     let e = c.in_err-check_room.field-0.0 in
     rw (p.1, p.2)
@@ -41,7 +41,7 @@ returns g c =
     let s = g.K.Keeper.state c.args.keeper.now in
     let x = c.args.new in
     let ids = c.args.ids.now in
-    let parts_of = g.T.Tests.parts_of in
+    let parts_of = g.T.Oracle.parts_of in
     let ps = parts_of c.in_ok-form.form in
     let u = c.united.new.tests in
     let room = subst (λ (n : ℕ). check_size (parts_under_lots s.lots + n) most_kept_parts u ≡ done tt u) c.count_parts.ensures (c.in_ok-check_room.ensures u) in

@@ -4,8 +4,8 @@ use Rattle.std.specs.Option.{option_copied}
 use Rattle.rp_geometry.specs.sets.Shape.{Part}
 use Rattle.std.proofs.lemmas.List.{drop_all}
 use Rattle.rp_geometry.specs.parts.Parts.{most_parts}
-use Rattle.rp_walks.specs.Walk.{done}
-use Rattle.rp_walks.specs.Form.{if_at_most, parts_or_none}
+use Rattle.rp_semantics.specs.Walk.{done}
+use Rattle.rp_semantics.specs.Form.{if_at_most, parts_or_none}
 use Rattle.rp_changes.proofs.United.{at_most_made, joined_of, united_next, united}
 use Rattle.rp_changes.proofs.joining.united.Goals as goal
 use Rattle.rp_changes.proofs.joining.united.Goals.{in-Some+in_ok-copy+in_ok-form, in_default}
@@ -13,13 +13,13 @@ use Rattle.rp_changes.proofs.joining.united.Goals.{in-Some+in_ok-copy+in_ok-form
 pub returns : goal.returns
 returns g c =
     let s = g.K.Keeper.state c.args.keeper.now in
-    let ps = g.T.Tests.parts_of c.loop-id.form in
+    let ps = g.T.Oracle.parts_of c.loop-id.form in
     let w = c.loop-id.tests in
     subst (λ v. if_at_most most_parts (joined_of s c.args.ids.now) v ≡ done ps w) c.loop-id.invariant.same (united s ps _ c.args.ids.now c.loop-id.invariant.uniting (drop_all c.loop-id.id-index c.args.ids.now c.loop-id-test.false) w)
 
 pub loop-id-preserved : goal.loop-id-preserved
 loop-id-preserved g c =
-    let view = g.T.Tests.parts_of in
+    let view = g.T.Oracle.parts_of in
     let s = g.K.Keeper.state c.args.keeper.now in
     let made = view c.loop-id.form in
     let before = c.loop-id.invariant in

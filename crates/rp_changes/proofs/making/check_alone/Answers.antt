@@ -1,11 +1,11 @@
 use Rattle.std.proofs.Common.{refl, ap, sym, ◌∙◌, subst}
 use Rattle.std.proofs.lemmas.Result.{err_from_is_err_and}
-use Rattle.rp_walks.specs.Walk.{done, after_first}
+use Rattle.rp_semantics.specs.Walk.{done, after_first}
 use Rattle.rp_model.specs.commands.Register.{first_overlapped}
 use Rattle.rp_lotindex.specs.declared.near.Reach.TheVariants.{Overlap}
 use Rattle.rp_lotindex.specs.Near.{others_in, pairs_with, lots_at}
-use Rattle.rp_tester.specs.Comes.{StopsBy}
-use Rattle.rp_tester.proofs.Left.{stops_on}
+use Rattle.rp_oracle.specs.Refines.{StopsBy}
+use Rattle.rp_oracle.proofs.Left.{stops_on}
 use Rattle.rp_lots.specs.declared.near.Near.{Near}
 use Rattle.rp_lots.proofs.Counted.{count_lost}
 use Rattle.rp_changes.proofs.Alone.{told, alone_uncounted, alone_counted}
@@ -15,8 +15,8 @@ pub returns-in_err-near : goal.returns-in_err-near
 returns-in_err-near g c rest =
     let p = err_from_is_err_and c.from_residual.result c.from_residual.ensures.1 in
     let s = g.K.Keeper.state c.args.keeper.now in
-    let ps = g.T.Tests.parts_of c.args.form.now in
-    let tester = g.T.Tests.tester in
+    let ps = g.T.Oracle.parts_of c.args.form.now in
+    let tester = g.T.Oracle.tester in
     let e = c.in_err-near.field-0.0 in
     let w = c.args.tests.now in
     let n = pairs_with Overlap ps (others_in c.args.layer.now c.args.id.now s.lots) in
@@ -28,14 +28,14 @@ returns-in_err-count_tests g c rest =
     let p = err_from_is_err_and c.from_residual-in_err-count_tests.result c.from_residual-in_err-count_tests.ensures.1 in
     let s = g.K.Keeper.state c.args.keeper.now in
     rw (p.1, p.2)
-    (alone_uncounted g.T.Tests.tester c.args.layer.now c.args.id.now s.lots (g.T.Tests.parts_of c.args.form.now) rest c.requires.new c.in_ok-near.near.pairs c.in_err-count_tests.field-0.0 c.args.tests.now c.count_tests.new.tests c.in_ok-near.ensures.pairs.0 c.in_err-count_tests.ensures)
+    (alone_uncounted g.T.Oracle.tester c.args.layer.now c.args.id.now s.lots (g.T.Oracle.parts_of c.args.form.now) rest c.requires.new c.in_ok-near.near.pairs c.in_err-count_tests.field-0.0 c.args.tests.now c.count_tests.new.tests c.in_ok-near.ensures.pairs.0 c.in_err-count_tests.ensures)
 
 pub returns-in_err-other : goal.returns-in_err-other
 returns-in_err-other g c rest =
     let p = err_from_is_err_and c.from_residual-in_err-other.result c.from_residual-in_err-other.ensures.1 in
     let s = g.K.Keeper.state c.args.keeper.now in
-    let ps = g.T.Tests.parts_of c.args.form.now in
-    let tester = g.T.Tests.tester in
+    let ps = g.T.Oracle.parts_of c.args.form.now in
+    let tester = g.T.Oracle.tester in
     let near = lots_at s.lots c.items.result.now in
     let v = c.count_tests.new.tests in
     let u = c.first_overlapped.new.tests in
@@ -48,8 +48,8 @@ returns-in_err-other g c rest =
 pub returns-in-Some : goal.returns-in-Some
 returns-in-Some g c rest =
     let s = g.K.Keeper.state c.args.keeper.now in
-    let ps = g.T.Tests.parts_of c.args.form.now in
-    let tester = g.T.Tests.tester in
+    let ps = g.T.Oracle.parts_of c.args.form.now in
+    let tester = g.T.Oracle.tester in
     let near = lots_at s.lots c.items.result.now in
     let v = c.count_tests.new.tests in
     let u = c.first_overlapped.new.tests in
@@ -59,8 +59,8 @@ returns-in-Some g c rest =
 pub returns : goal.returns
 returns g c rest =
     let s = g.K.Keeper.state c.args.keeper.now in
-    let ps = g.T.Tests.parts_of c.args.form.now in
-    let tester = g.T.Tests.tester in
+    let ps = g.T.Oracle.parts_of c.args.form.now in
+    let tester = g.T.Oracle.tester in
     let near = lots_at s.lots c.items.result.now in
     let v = c.count_tests.new.tests in
     let u = c.first_overlapped.new.tests in

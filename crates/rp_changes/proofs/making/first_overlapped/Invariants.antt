@@ -1,6 +1,6 @@
 use Rattle.std.proofs.Common.{drop}
 use Rattle.rp_model.specs.commands.Register.{first_overlapped}
-use Rattle.rp_tester.proofs.Left.{IsLeft}
+use Rattle.rp_oracle.proofs.Left.{IsLeft}
 use Rattle.rp_lotindex.specs.Near.{lots_at}
 use Rattle.rp_changes.proofs.making.first_overlapped.Given as goal
 
@@ -8,5 +8,5 @@ use Rattle.rp_changes.proofs.making.first_overlapped.Given as goal
 abbrev pub invariant-loop-place : goal.invariant-loop-place
 invariant-loop-place g l =
     let lots = (g.K.Keeper.state l.keeper).lots in
-    let ps = g.T.Tests.parts_of l.form in
-    IsLeft l.fn.tests (first_overlapped g.T.Tests.tester ps (lots_at lots l.places)) l.tests (first_overlapped g.T.Tests.tester ps (lots_at lots (drop l.place-index l.places)))
+    let ps = g.T.Oracle.parts_of l.form in
+    IsLeft l.fn.tests (first_overlapped g.T.Oracle.tester ps (lots_at lots l.places)) l.tests (first_overlapped g.T.Oracle.tester ps (lots_at lots (drop l.place-index l.places)))

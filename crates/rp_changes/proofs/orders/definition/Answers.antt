@@ -7,4 +7,4 @@ pub returns : goal.returns
 returns g c =
     let s = g.K.Keeper.state c.args.keeper.now in
     let u = c.formed_by.new.tests in
-    subst (λ o. Changes (change_of g.T.Tests.parts_of) c.define.result u o) (sym (c.in_ok-form.ensures.goes_on (λ ps. row_define s c.args.name ps))) (c.define.ensures u)
+    subst (λ o. Changes (change_of g.T.Oracle.parts_of) c.define.result u o) (sym (c.in_ok-form.ensures.goes_on (λ ps. row_define s c.args.name ps))) (c.define.ensures u)

@@ -10,14 +10,14 @@ use Rattle.rp_changes.proofs.orders.registration.Goals as goal
 pub returns-in_err-form : goal.returns-in_err-form
 returns-in_err-form g c =
     let p = err_from_is_err_and c.from_residual.result c.from_residual.ensures.1 in
-    let tester = g.T.Tests.tester in
+    let tester = g.T.Oracle.tester in
     let s = g.K.Keeper.state c.args.keeper.now in
     rw (p.1, p.2) (c.in_err-form.ensures.goes_on (λ ps. row_register tester s c.args.id ps))
 
 pub returns : goal.returns
 returns g c =
-    let view = g.T.Tests.parts_of in
-    let tester = g.T.Tests.tester in
+    let view = g.T.Oracle.parts_of in
+    let tester = g.T.Oracle.tester in
     let s = g.K.Keeper.state c.args.keeper.now in
     let w = c.make_lot.new.tests in
     let ps = view c.in_ok-form.form in

@@ -2,7 +2,7 @@ use Rattle.std.proofs.Common.{map, drop}
 use Rattle.rp_reports.specs.Check.{follow_lines}
 use Rattle.rp_reports.specs.Text.{verdict_text}
 use Rattle.rp_answer.specs.Views.{verdict_of}
-use Rattle.rp_tester.proofs.Left.{IsLeft}
+use Rattle.rp_oracle.proofs.Left.{IsLeft}
 use Rattle.rp_checker.proofs.lines.follow_verdicts.Given as goal
 
 -- the lines of the verdicts still to come are left

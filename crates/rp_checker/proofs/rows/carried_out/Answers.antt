@@ -5,7 +5,7 @@ use Rattle.std.proofs.lemmas.Result.{err_from_is_err_and}
 use Rattle.rp_geometry.specs.sets.Shape.{Part}
 use Rattle.rp_lists.specs.Listed.{Listed}
 use Rattle.rp_command.specs.Views.{command_of}
-use Rattle.rp_walks.specs.Walk.{Outcome}
+use Rattle.rp_semantics.specs.Walk.{Outcome}
 use Rattle.rp_model.specs.commands.Reply.{Reply as ModelReply}
 use Rattle.rp_model.specs.commands.Row.{row}
 use Rattle.rp_model.specs.commands.Access.{row_access}
@@ -16,10 +16,10 @@ use Rattle.rp_reports.specs.Check.{Trail, line_tester}
 use Rattle.rp_answer.specs.declared.answer.Verdict.{Verdict as CodeVerdict}
 use Rattle.rp_answer.specs.declared.reply.RowEnd.{RowEnd}
 use Rattle.rp_answer.specs.Replies.{Tells}
-use Rattle.rp_ledger.specs.declared.reply.Row.{Row as CodeRow}
-use Rattle.rp_ledger.specs.Rows.{rest_of, IsReadyRow}
-use Rattle.rp_register.specs.declared.followed.Followed.{Followed}
-use Rattle.rp_register.specs.Followed.{IsFollowed, followed_told}
+use Rattle.rp_register_state.specs.declared.reply.Row.{Row as CodeRow}
+use Rattle.rp_register_state.specs.Rows.{rest_of, IsReadyRow}
+use Rattle.rp_check_state.specs.declared.followed.Followed.{Followed}
+use Rattle.rp_check_state.specs.Followed.{IsFollowed, followed_told}
 use Rattle.rp_checker.proofs.rows.carried_out.Goals as goal
 
 -- a question that is left was followed

@@ -37,8 +37,8 @@ returns-in_err-near-clause-left g c =
     let here = c.deref.ensures.value ∙ c.in_ok-places.ensures.places ∙ ap (live_places (Some y) 0) c.history-history.ensures.value ∙ bare_places (Some y) 0 s.lots in
     let n = tests_behind Touch s.lots c.deref.result.now in
     rw (p.1, p.2)
-    (access_stops g.T.Tests.tester s c.args.from c.args.to y c.requires.checks c.requires.layer n w (ap (tests_behind Touch s.lots) here) e w
-    (count_lost (λ (near : NearPairs). near.tests) g.T.Tests.tester.count c.keep_limit.ensures e n w c.in_err-near.ensures.tests))
+    (access_stops g.T.Oracle.tester s c.args.from c.args.to y c.requires.checks c.requires.layer n w (ap (tests_behind Touch s.lots) here) e w
+    (count_lost (λ (near : NearPairs). near.tests) g.T.Oracle.tester.count c.keep_limit.ensures e n w c.in_err-near.ensures.tests))
 
 pub returns-in_err-count_tests-clause-left : goal.returns-in_err-count_tests-clause-left
 returns-in_err-count_tests-clause-left g c =
@@ -47,7 +47,7 @@ returns-in_err-count_tests-clause-left g c =
     let y = c.args.layer in
     let here = c.deref.ensures.value ∙ c.in_ok-places.ensures.places ∙ ap (live_places (Some y) 0) c.history-history.ensures.value ∙ bare_places (Some y) 0 s.lots in
     rw (p.1, p.2)
-    (access_stops g.T.Tests.tester s c.args.from c.args.to y c.requires.checks c.requires.layer c.in_ok-near.near.tests c.args.tests.now (c.in_ok-near.ensures.tests.0 ∙ ap (tests_behind Touch s.lots) here) c.in_err-count_tests.field-0.0 c.count_tests.new.tests c.in_err-count_tests.ensures)
+    (access_stops g.T.Oracle.tester s c.args.from c.args.to y c.requires.checks c.requires.layer c.in_ok-near.near.tests c.args.tests.now (c.in_ok-near.ensures.tests.0 ∙ ap (tests_behind Touch s.lots) here) c.in_err-count_tests.field-0.0 c.count_tests.new.tests c.in_err-count_tests.ensures)
 
 pub links_left-requires-clause-places : goal.links_left-requires-clause-places
 links_left-requires-clause-places g c =
@@ -92,7 +92,7 @@ links_left-requires-clause-from_there g c =
     let read = c.deref-2.result.now in
     let same = c.deref-2.ensures.value ∙ c.in_ok-places.ensures.places ∙ ap (live_places (Some y) 0) c.history-history.ensures.value ∙ bare_places (Some y) 0 s.lots in
     let ids = ap (λ (ls : List (Lot (Unit {0}))). ids_of (lots_at ls read)) c.lots-lots.ensures.value ∙ bare_ids_at s.lots c.history-history.result.now read c.history-history.ensures.value ∙ ap (λ (ks : List ℕ). ids_of (lots_at s.lots ks)) same in
-    subst (λ (xs : List Label). place_among c.args.from xs < length xs) (sym ids) (numbers_there g.T.Tests.tester s c.args.from c.args.to y c.requires.checks c.requires.layer).0
+    subst (λ (xs : List Label). place_among c.args.from xs < length xs) (sym ids) (numbers_there g.T.Oracle.tester s c.args.from c.args.to y c.requires.checks c.requires.layer).0
 
 pub links_left-requires-clause-to_there : goal.links_left-requires-clause-to_there
 links_left-requires-clause-to_there g c =
@@ -101,7 +101,7 @@ links_left-requires-clause-to_there g c =
     let read = c.deref-2.result.now in
     let same = c.deref-2.ensures.value ∙ c.in_ok-places.ensures.places ∙ ap (live_places (Some y) 0) c.history-history.ensures.value ∙ bare_places (Some y) 0 s.lots in
     let ids = ap (λ (ls : List (Lot (Unit {0}))). ids_of (lots_at ls read)) c.lots-lots.ensures.value ∙ bare_ids_at s.lots c.history-history.result.now read c.history-history.ensures.value ∙ ap (λ (ks : List ℕ). ids_of (lots_at s.lots ks)) same in
-    subst (λ (xs : List Label). place_among c.args.to xs < length xs) (sym ids) (numbers_there g.T.Tests.tester s c.args.from c.args.to y c.requires.checks c.requires.layer).1
+    subst (λ (xs : List Label). place_among c.args.to xs < length xs) (sym ids) (numbers_there g.T.Oracle.tester s c.args.from c.args.to y c.requires.checks c.requires.layer).1
 
 pub returns-clause-within : goal.returns-clause-within
 returns-clause-within g c =
@@ -115,7 +115,7 @@ returns-clause-within g c =
 pub returns-clause-left : goal.returns-clause-left
 returns-clause-left g c =
     let s = g.K.Keeper.state c.args.keeper.now in
-    let tester = g.T.Tests.tester in
+    let tester = g.T.Oracle.tester in
     let x = c.args.from in
     let z = c.args.to in
     let y = c.args.layer in

@@ -27,8 +27,8 @@ returns-in_err-near-clause-left g c =
     let here = c.deref.ensures.value ∙ c.in_ok-places.ensures.places ∙ ap (live_places None 0) c.history.ensures.value ∙ bare_places None 0 s.lots in
     let n = tests_behind Overlap s.lots c.deref.result.now in
     rw (p.1, p.2)
-    (audit_stops g.T.Tests.tester s n w (ap (tests_behind Overlap s.lots) here) e w
-    (count_lost (λ (near : NearPairs). near.tests) g.T.Tests.tester.count c.keep_limit.ensures e n w c.in_err-near.ensures.tests))
+    (audit_stops g.T.Oracle.tester s n w (ap (tests_behind Overlap s.lots) here) e w
+    (count_lost (λ (near : NearPairs). near.tests) g.T.Oracle.tester.count c.keep_limit.ensures e n w c.in_err-near.ensures.tests))
 
 pub returns-in_err-count_tests-clause-left : goal.returns-in_err-count_tests-clause-left
 returns-in_err-count_tests-clause-left g c =
@@ -36,7 +36,7 @@ returns-in_err-count_tests-clause-left g c =
     let s = g.K.Keeper.state c.args.keeper.now in
     let here = c.deref.ensures.value ∙ c.in_ok-places.ensures.places ∙ ap (live_places None 0) c.history.ensures.value ∙ bare_places None 0 s.lots in
     rw (p.1, p.2)
-    (audit_stops g.T.Tests.tester s c.in_ok-near.near.tests c.args.tests.now (c.in_ok-near.ensures.tests.0 ∙ ap (tests_behind Overlap s.lots) here) c.in_err-count_tests.field-0.0 c.count_tests.new.tests c.in_err-count_tests.ensures)
+    (audit_stops g.T.Oracle.tester s c.in_ok-near.near.tests c.args.tests.now (c.in_ok-near.ensures.tests.0 ∙ ap (tests_behind Overlap s.lots) here) c.in_err-count_tests.field-0.0 c.count_tests.new.tests c.in_err-count_tests.ensures)
 
 pub overflow_cast-live : goal.overflow_cast-live
 overflow_cast-live g c =
@@ -61,5 +61,5 @@ returns-clause-left g c =
     let pairs = c.in_ok-near.near.pairs.items in
     let made = c.in_ok-places.ensures.places ∙ ap (live_places None 0) c.history.ensures.value ∙ bare_places None 0 s.lots in
     let here = c.deref.ensures.value ∙ made in
-    audit_leaves g.T.Tests.tester s c.in_ok-near.near.tests c.args.tests.now (c.in_ok-near.ensures.tests.0 ∙ ap (tests_behind Overlap s.lots) here) c.len-live.result (c.len-live.ensures ∙ c.in_ok-places.places.ok.0 ∙ ap length made) pairs
+    audit_leaves g.T.Oracle.tester s c.in_ok-near.near.tests c.args.tests.now (c.in_ok-near.ensures.tests.0 ∙ ap (tests_behind Overlap s.lots) here) c.len-live.result (c.len-live.ensures ∙ c.in_ok-places.places.ok.0 ∙ ap length made) pairs
     (subst (λ (ks : List ℕ). ArePairsBehind Overlap s.lots ks pairs) here c.in_ok-near.ensures.pairs) c.count_tests.new.tests c.in_ok-count_tests.ensures

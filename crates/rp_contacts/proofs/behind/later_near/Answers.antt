@@ -10,13 +10,13 @@ use Rattle.rp_lots.proofs.Sieved.{short_at}
 use Rattle.rp_contacts.proofs.behind.later_near.Goals as goal
 
 pub lots_near-requires-clause-few : goal.lots_near-requires-clause-few
-lots_near-requires-clause-few g c = short_at (g.K.Keeper.state c.args.keeper.now).lots c.history.ensures.short c.args.place (g.T.Tests.parts_of c.form_at-form.result.now) c.form_at-form.ensures
+lots_near-requires-clause-few g c = short_at (g.K.Keeper.state c.args.keeper.now).lots c.history.ensures.short c.args.place (g.T.Oracle.parts_of c.form_at-form.result.now) c.form_at-form.ensures
 
 pub returns-clause-pairs : goal.returns-clause-pairs
 returns-clause-pairs g c =
     let lots = (g.K.Keeper.state c.args.keeper.now).lots in
     let k = c.args.place in
-    let own = sym (parts_item lots k (g.T.Tests.parts_of c.form_at-form.result.now) c.form_at-form.ensures) in
+    let own = sym (parts_item lots k (g.T.Oracle.parts_of c.form_at-form.result.now) c.form_at-form.ensures) in
     let distinct = own_distinct lots c.history.result.now c.history.ensures.value c.lots.ensures.well.distinct in
     let others = others_are lots distinct c.history.result.now c.lots.result.now c.history.ensures.value c.lots.ensures.value k c.index-lots-place.result c.requires c.index-lots-place.is in
     subst (CountsUpTo (λ (near : Near). near.pairs) c.lots_near.result) (ap₂ (λ (ps : List Part) (ls : List (Lot (Unit {0}))). pairs_with c.args.reach ps ls) own others) c.lots_near.ensures.pairs
@@ -25,7 +25,7 @@ pub returns-clause-near : goal.returns-clause-near
 returns-clause-near g c =
     let lots = (g.K.Keeper.state c.args.keeper.now).lots in
     let k = c.args.place in
-    let ps = g.T.Tests.parts_of c.form_at-form.result.now in
+    let ps = g.T.Oracle.parts_of c.form_at-form.result.now in
     let own = sym (parts_item lots k ps c.form_at-form.ensures) in
     let distinct = own_distinct lots c.history.result.now c.history.ensures.value c.lots.ensures.well.distinct in
     let others = others_are lots distinct c.history.result.now c.lots.result.now c.history.ensures.value c.lots.ensures.value k c.index-lots-place.result c.requires c.index-lots-place.is in

@@ -1,5 +1,5 @@
 use Rattle.std.proofs.Common.{◌≡◌, ◌+◌, ◌≤◌, ◌++◌, List, drop}
-use Rattle.rp_walks.specs.Walk.{most_tests}
+use Rattle.rp_semantics.specs.Walk.{most_tests}
 use Rattle.rp_contacts.specs.declared.pair.Pair.{Pair}
 use Rattle.rp_contacts.specs.Behind.{tests_behind, ArePairsBehind}
 use Rattle.rp_contacts.proofs.behind.later_pairs.Given as goal

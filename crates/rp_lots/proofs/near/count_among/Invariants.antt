@@ -7,6 +7,6 @@ use Rattle.rp_lots.proofs.near.count_among.Given as goal
 -- the pairs of the parts still to come are not counted yet
 abbrev pub invariant-loop-part : goal.invariant-loop-part
 invariant-loop-part g l =
-    let seen = g.T.Tests.seen in
+    let seen = g.T.Oracle.seen in
     (l.count + count_pairs (may_meet l.reach) (map seen (drop l.part-index l.parts)) (map seen l.others) ≡ count_pairs (may_meet l.reach) (map seen l.parts) (map seen l.others))
     × (l.count ≤ l.part-index * most_parts)

@@ -3,7 +3,7 @@ use Rattle.std.proofs.lemmas.List.{length-append, drop_all}
 use Rattle.std.proofs.lemmas.Bool.Decides.{nat_tests}
 use Rattle.rp_algebra.proofs.Listed.{all_append}
 use Rattle.rp_algebra.proofs.Lists.{get_some}
-use Rattle.rp_walks.specs.Walk.{most_tests}
+use Rattle.rp_semantics.specs.Walk.{most_tests}
 use Rattle.rp_model.specs.commands.Parts.{count_pairs}
 use Rattle.rp_lotindex.specs.Near.{may_meet, pairs_with, is_near, lots_at, AreWithin}
 use Rattle.rp_lotindex.proofs.Places.{place_within}
@@ -47,7 +47,7 @@ has_none own pairs is none = grind (arith, nat_tests)
 pub loop-place-preserved : goal.loop-place-preserved
 loop-place-preserved g c =
     let r = c.args.reach in
-    let ps = g.T.Tests.parts_of c.args.form.now in
+    let ps = g.T.Oracle.parts_of c.args.form.now in
     let lots = (g.K.Keeper.state c.args.keeper.now).lots in
     let places = c.args.places.now in
     let i = c.loop-place.place-index in
@@ -55,7 +55,7 @@ loop-place-preserved g c =
     let here = c.loop-place-test.true in
     let within : k < length lots = place_within lots places c.requires.within i k here refl in
     let item = get_some lots k within in
-    let qs = g.T.Tests.parts_of c.form_at.result.now in
+    let qs = g.T.Oracle.parts_of c.form_at.result.now in
     let own = item_parts lots k item.0 qs item.1 c.form_at.ensures in
     let pairs = pairs_left r ps lots places i k item.0 qs here refl item.1 own in
     let value = c.count_pairs-pairs.ensures.value in
@@ -102,12 +102,12 @@ ended : (n left all : ℕ) → left ≡ 0 → n + left ≡ all → n ≡ all
 ended n left all none h = omega arith
 
 pub count_pairs-pairs-requires-clause-second : goal.count_pairs-pairs-requires-clause-second
-count_pairs-pairs-requires-clause-second g c = short_at (g.K.Keeper.state c.args.keeper.now).lots c.history.ensures.short _ (g.T.Tests.parts_of c.form_at.result.now) c.form_at.ensures
+count_pairs-pairs-requires-clause-second g c = short_at (g.K.Keeper.state c.args.keeper.now).lots c.history.ensures.short _ (g.T.Oracle.parts_of c.form_at.result.now) c.form_at.ensures
 
 pub returns-then-pairs-near-clause-pairs : goal.returns-then-pairs-near-clause-pairs
 returns-then-pairs-near-clause-pairs g c =
     let r = c.args.reach in
-    let ps = g.T.Tests.parts_of c.args.form.now in
+    let ps = g.T.Oracle.parts_of c.args.form.now in
     let lots = (g.K.Keeper.state c.args.keeper.now).lots in
     let places = c.args.places.now in
     let i = c.loop-place.place-index in
@@ -115,7 +115,7 @@ returns-then-pairs-near-clause-pairs g c =
     let here = c.loop-place-test.true in
     let within : k < length lots = place_within lots places c.requires.within i k here refl in
     let item = get_some lots k within in
-    let qs = g.T.Tests.parts_of c.form_at.result.now in
+    let qs = g.T.Oracle.parts_of c.form_at.result.now in
     let own = item_parts lots k item.0 qs item.1 c.form_at.ensures in
     let pairs_at = λ (at : List ℕ). pairs_with r ps (lots_at lots at) in
     past_limit c.loop-place.near.pairs c.count_pairs-pairs.result (count_pairs (may_meet r) ps qs) (pairs_at (drop i places)) (pairs_at (drop (i + 1) places)) (pairs_at places) most_tests
@@ -124,7 +124,7 @@ returns-then-pairs-near-clause-pairs g c =
 pub returns-clause-pairs : goal.returns-clause-pairs
 returns-clause-pairs g c =
     let r = c.args.reach in
-    let ps = g.T.Tests.parts_of c.args.form.now in
+    let ps = g.T.Oracle.parts_of c.args.form.now in
     let lots = (g.K.Keeper.state c.args.keeper.now).lots in
     let n = c.loop-place.near.pairs in
     let places = c.args.places.now in
@@ -134,7 +134,7 @@ returns-clause-pairs g c =
 
 pub returns-clause-lots : goal.returns-clause-lots
 returns-clause-lots g c =
-    let near = is_near c.args.reach (g.T.Tests.parts_of c.args.form.now) in
+    let near = is_near c.args.reach (g.T.Oracle.parts_of c.args.form.now) in
     let lots = (g.K.Keeper.state c.args.keeper.now).lots in
     let js = c.loop-place.near.places.items in
     let none = drop_all c.loop-place.place-index c.args.places.now c.loop-place-test.false in

@@ -1,5 +1,5 @@
 use Rattle.std.proofs.Common.{◌≡◌, ◌+◌, ◌++◌, ◌≤◌, drop, filter, length}
-use Rattle.rp_walks.specs.Walk.{most_tests}
+use Rattle.rp_semantics.specs.Walk.{most_tests}
 use Rattle.rp_lotindex.specs.Near.{pairs_with, is_near, lots_at, AreWithin}
 use Rattle.rp_lots.proofs.near.count_at.Given as goal
 
@@ -7,7 +7,7 @@ use Rattle.rp_lots.proofs.near.count_at.Given as goal
 abbrev pub invariant-loop-place : goal.invariant-loop-place
 invariant-loop-place g l =
     let lots = (g.K.Keeper.state l.keeper).lots in
-    let ps = g.T.Tests.parts_of l.form in
+    let ps = g.T.Oracle.parts_of l.form in
     record {
       counted : l.near.pairs + pairs_with l.reach ps (lots_at lots (drop l.place-index l.places)) ≡ pairs_with l.reach ps (lots_at lots l.places);
       few : l.near.pairs ≤ most_tests;

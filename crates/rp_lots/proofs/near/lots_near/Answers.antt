@@ -12,7 +12,7 @@ count_at-requires-clause-within g c = subst (λ (ks : List ℕ). AreWithin (g.K.
 pub returns-clause-pairs : goal.returns-clause-pairs
 returns-clause-pairs g c =
     let lots = (g.K.Keeper.state c.args.keeper.now).lots in
-    let ps = g.T.Tests.parts_of c.args.form.now in
+    let ps = g.T.Oracle.parts_of c.args.form.now in
     subst (λ (n : ℕ). CountsUpTo (λ (found : Near). found.pairs) c.count_at.result n)
     (pairs_same c.args.reach ps (lots_at lots c.items.result.now) (others_in c.args.layer.now c.args.id.now (drop c.args.from lots))
     (ap (λ (ks : List ℕ). filter (is_near c.args.reach ps) (lots_at lots ks)) c.items.ensures ∙ c.in_ok-places.ensures.near))
@@ -21,7 +21,7 @@ returns-clause-pairs g c =
 pub returns-clause-lots : goal.returns-clause-lots
 returns-clause-lots g c =
     let lots = (g.K.Keeper.state c.args.keeper.now).lots in
-    let near = is_near c.args.reach (g.T.Tests.parts_of c.args.form.now) in
+    let near = is_near c.args.reach (g.T.Oracle.parts_of c.args.form.now) in
     IfOk-weaker c.count_at.result _ _
     (λ found h. h ∙ ap (λ (ks : List ℕ). filter near (lots_at lots ks)) c.items.ensures ∙ c.in_ok-places.ensures.near)
     c.count_at.ensures.lots

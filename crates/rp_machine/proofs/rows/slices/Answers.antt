@@ -1,7 +1,7 @@
 use Rattle.std.proofs.Common.{rules, FitsSigned, w32, List, sym, ap, ◌∙◌}
 use Rattle.std.proofs.lemmas.Int.{to_z-of_z}
 use Rattle.rp_geometry.specs.sections.Slice.{Slice}
-use Rattle.rp_walks.specs.Walk.{done}
+use Rattle.rp_semantics.specs.Walk.{done}
 use Rattle.rp_model.specs.commands.Verdict.{Verdict, section_lines}
 use Rattle.rp_model.specs.commands.Reply.{reply_lines}
 use Rattle.rp_section.specs.Shown.{slices_of}

@@ -2,8 +2,8 @@ use Rattle.std.proofs.Common.{◌+◌, ◌∷◌, [], ◌++◌, take, drop, sym,
 use Rattle.std.proofs.lemmas.Result.{err_from_is_err_and}
 use Rattle.std.proofs.lemmas.List.{take_more}
 use Rattle.rp_algebra.proofs.Lists.{drop_item}
-use Rattle.rp_walks.specs.Walk.{first_tester}
-use Rattle.rp_walks.specs.Form.{carve_one, carve}
+use Rattle.rp_semantics.specs.Walk.{first_tester}
+use Rattle.rp_semantics.specs.Form.{carve_one, carve}
 use Rattle.rp_region.proofs.Grows.{carve_one_tells, carve_tells}
 use Rattle.rp_region.proofs.Left.{left_as, next_left, fault_left}
 use Rattle.rp_region.proofs.difference.carve.Goals as goal

@@ -3,8 +3,8 @@ use Rattle.std.specs.Prelude.{Option}
 use Rattle.std.proofs.lemmas.List.{append-nil}
 use Rattle.std.proofs.lemmas.Result.{err_from_is_err_and}
 use Rattle.rp_geometry.specs.sets.Shape.{Part}
-use Rattle.rp_walks.specs.Walk.{done, pass}
-use Rattle.rp_walks.specs.Form.{made_part}
+use Rattle.rp_semantics.specs.Walk.{done, pass}
+use Rattle.rp_semantics.specs.Form.{made_part}
 use Rattle.rp_region.proofs.Grows.{pass_tells}
 use Rattle.rp_region.proofs.Left.{end_left, given_up}
 use Rattle.rp_region.proofs.Steps.{piece_uncounted, piece_untested, piece_made}

@@ -1,6 +1,6 @@
 use Rattle.std.proofs.lemmas.Result.{err_from_is_err_and}
-use Rattle.rp_walks.specs.Walk.{first_tester}
-use Rattle.rp_walks.specs.Form.{subtract}
+use Rattle.rp_semantics.specs.Walk.{first_tester}
+use Rattle.rp_semantics.specs.Form.{subtract}
 use Rattle.rp_region.proofs.Grows.{subtract_tells}
 use Rattle.rp_region.proofs.Left.{not_begun}
 use Rattle.rp_region.proofs.difference.subtract.Goals as goal

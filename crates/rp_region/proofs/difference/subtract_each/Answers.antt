@@ -3,8 +3,8 @@ use Rattle.std.proofs.lemmas.Result.{err_from_is_err_and}
 use Rattle.rp_algebra.proofs.Lists.{drop_item}
 use Rattle.rp_geometry.specs.sets.Shape.{Part}
 use Rattle.rp_geometry.specs.parts.Parts.{most_parts}
-use Rattle.rp_walks.specs.Walk.{◌>>=◌, first_tester}
-use Rattle.rp_walks.specs.Form.{if_at_most, subtract_part, subtract}
+use Rattle.rp_semantics.specs.Walk.{◌>>=◌, first_tester}
+use Rattle.rp_semantics.specs.Form.{if_at_most, subtract_part, subtract}
 use Rattle.rp_region.proofs.Grows.{then_tells, few_tells, subtract_part_tells, subtract_tells}
 use Rattle.rp_region.proofs.Left.{left_as, next_left, fault_left}
 use Rattle.rp_region.proofs.Steps.{few_pass}

@@ -1,6 +1,6 @@
 use Rattle.std.proofs.Common.{drop}
-use Rattle.rp_walks.specs.Walk.{first_tester}
-use Rattle.rp_walks.specs.Form.{subtract}
+use Rattle.rp_semantics.specs.Walk.{first_tester}
+use Rattle.rp_semantics.specs.Form.{subtract}
 use Rattle.rp_region.proofs.Left.{IsLeft}
 use Rattle.rp_region.proofs.difference.subtract_each.Given as goal
 

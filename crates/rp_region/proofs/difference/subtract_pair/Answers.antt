@@ -1,7 +1,7 @@
 use Rattle.std.proofs.Common.{Bool, true, false, ◌∷◌, [], ◌++◌, refl, sym, ap, ◌∙◌}
 use Rattle.std.proofs.lemmas.Result.{err_from_is_err_and}
-use Rattle.rp_walks.specs.Walk.{done, pass, first_tester}
-use Rattle.rp_walks.specs.Form.{carve}
+use Rattle.rp_semantics.specs.Walk.{done, pass, first_tester}
+use Rattle.rp_semantics.specs.Form.{carve}
 use Rattle.rp_region.proofs.Grows.{pass_tells}
 use Rattle.rp_region.proofs.Left.{left_as, end_left, given_up, makes_left}
 use Rattle.rp_region.proofs.Steps.{pair_unmet, pair_met}

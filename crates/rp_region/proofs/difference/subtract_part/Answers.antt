@@ -1,8 +1,8 @@
 use Rattle.std.proofs.Common.{ap}
 use Rattle.std.proofs.lemmas.Result.{err_from_is_err_and}
 use Rattle.std.specs.Vec.Iter.{into_iter_items}
-use Rattle.rp_walks.specs.Walk.{first_tester}
-use Rattle.rp_walks.specs.Form.{subtract_pair, subtract_part}
+use Rattle.rp_semantics.specs.Walk.{first_tester}
+use Rattle.rp_semantics.specs.Form.{subtract_pair, subtract_part}
 use Rattle.rp_region.proofs.Grows.{subtract_pair_tells, subtract_part_tells}
 use Rattle.rp_region.proofs.Left.{left_as, next_left, fault_left}
 use Rattle.rp_region.proofs.difference.subtract_part.Goals as goal

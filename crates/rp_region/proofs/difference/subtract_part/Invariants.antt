@@ -1,7 +1,7 @@
 use Rattle.std.proofs.Common.{[]}
 use Rattle.std.specs.Vec.Iter.{into_iter_items}
-use Rattle.rp_walks.specs.Walk.{first_tester}
-use Rattle.rp_walks.specs.Form.{subtract_part}
+use Rattle.rp_semantics.specs.Walk.{first_tester}
+use Rattle.rp_semantics.specs.Form.{subtract_part}
 use Rattle.rp_region.proofs.Left.{IsLeft}
 use Rattle.rp_region.proofs.difference.subtract_part.Given as goal
 

@@ -1,6 +1,6 @@
 use Rattle.std.proofs.lemmas.Result.{err_from_is_err_and}
-use Rattle.rp_walks.specs.Walk.{first_tester}
-use Rattle.rp_walks.specs.Form.{join_each}
+use Rattle.rp_semantics.specs.Walk.{first_tester}
+use Rattle.rp_semantics.specs.Form.{join_each}
 use Rattle.rp_region.proofs.Grows.{join_each_tells}
 use Rattle.rp_region.proofs.Left.{not_begun}
 use Rattle.rp_region.proofs.join.join_each.Goals as goal

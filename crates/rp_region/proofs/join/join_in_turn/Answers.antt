@@ -1,8 +1,8 @@
 use Rattle.std.proofs.Common.{◌+◌, drop, ap}
 use Rattle.std.proofs.lemmas.Result.{err_from_is_err_and}
 use Rattle.rp_algebra.proofs.Lists.{drop_item}
-use Rattle.rp_walks.specs.Walk.{first_tester}
-use Rattle.rp_walks.specs.Form.{join_with_part, join_each}
+use Rattle.rp_semantics.specs.Walk.{first_tester}
+use Rattle.rp_semantics.specs.Form.{join_with_part, join_each}
 use Rattle.rp_region.proofs.Grows.{join_with_part_tells, join_each_tells}
 use Rattle.rp_region.proofs.Left.{left_as, next_left, fault_left}
 use Rattle.rp_region.proofs.join.join_in_turn.Goals as goal

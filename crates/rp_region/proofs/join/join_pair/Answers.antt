@@ -5,7 +5,7 @@ use Rattle.std.proofs.lemmas.Result.{err_from_is_err_and}
 use Rattle.rp_lists.specs.Listed.{Listed}
 use Rattle.rp_geometry.specs.sets.Shape.{Part}
 use Rattle.rp_geometry.specs.parts.Parts.{most_parts}
-use Rattle.rp_walks.specs.Form.{made_part, if_at_most}
+use Rattle.rp_semantics.specs.Form.{made_part, if_at_most}
 use Rattle.rp_region.proofs.Grows.{few_tells}
 use Rattle.rp_region.proofs.Left.{given_up}
 use Rattle.rp_region.proofs.Steps.{pair_joined, pair_few, pair_many}

@@ -1,5 +1,5 @@
 use Rattle.std.proofs.Common.{drop}
-use Rattle.rp_walks.specs.Form.{first_pair}
+use Rattle.rp_semantics.specs.Form.{first_pair}
 use Rattle.rp_region.specs.Pairs.{chosen_pair}
 use Rattle.rp_region.proofs.Left.{IsLeft}
 use Rattle.rp_region.proofs.pairs.first_pair.Given as goal

@@ -1,8 +1,8 @@
 use Rattle.std.proofs.Common.{refl, ap, ◌∙◌}
 use Rattle.std.specs.Prelude.{Option, is_some}
 use Rattle.std.proofs.lemmas.Result.{err_from_is_err_and}
-use Rattle.rp_walks.specs.Walk.{done}
-use Rattle.rp_walks.specs.Form.{test_pair_if, first_with_part}
+use Rattle.rp_semantics.specs.Walk.{done}
+use Rattle.rp_semantics.specs.Form.{test_pair_if, first_with_part}
 use Rattle.rp_region.specs.Pairs.{chosen_pair}
 use Rattle.rp_region.proofs.Searched.{pair_tells, with_part_tells, item_fails, item_found, item_passed, search_ended}
 use Rattle.rp_region.proofs.pairs.first_with_part.Goals as goal

@@ -1,7 +1,7 @@
 use Rattle.std.proofs.Common.{Bool, List, length, sym, ap, ◌∙◌}
 use Rattle.std.proofs.lemmas.Result.{err_from_is_err_and}
 use Rattle.rp_geometry.specs.sets.Shape.{Part}
-use Rattle.rp_walks.specs.Walk.{done, first_tester}
+use Rattle.rp_semantics.specs.Walk.{done, first_tester}
 use Rattle.rp_model.specs.commands.Verdict.{Verdict}
 use Rattle.rp_model.specs.commands.Reply.{reply_lines}
 use Rattle.rp_lotindex.specs.declared.near.Reach.TheVariants.{Touch}

@@ -2,13 +2,13 @@ use Rattle.std.proofs.Common.{List, length, sym, ap, ◌∙◌, arith}
 use Rattle.std.proofs.lemmas.Result.{err_from_is_err_and}
 use Rattle.rp_geometry.specs.sets.Shape.{Part}
 use Rattle.rp_language.specs.Name.{Label}
-use Rattle.rp_walks.specs.Walk.{done, first_tester}
+use Rattle.rp_semantics.specs.Walk.{done, first_tester}
 use Rattle.rp_model.specs.states.State.{Lot}
 use Rattle.rp_model.specs.commands.Verdict.{neighbour_lines}
 use Rattle.rp_model.specs.commands.Reply.{reply_lines}
 use Rattle.rp_lotindex.specs.declared.near.Reach.TheVariants.{Touch}
 use Rattle.rp_contacts.specs.Asked.{contacts_reply}
-use Rattle.rp_contacts.specs.Meets.{ids_met}
+use Rattle.rp_contacts.specs.Meets.{contact_ids}
 use Rattle.rp_contacts.proofs.Contacts.{bare_met}
 use Rattle.rp_contacts.proofs.Judging.{within_lines, within_forms, meet_pairs, judged_stops, judged_ends}
 use Rattle.rp_regionlots.proofs.Shown.{own_map}
@@ -28,13 +28,13 @@ returns-in_err-met-clause-row g c =
     let p = err_from_is_err_and c.from_residual-in_err-met.result c.from_residual-in_err-met.ensures.1 in
     let lots = (g.K.Keeper.state c.args.keeper.now).lots in
     let same = own_map c.forms.result.now ∙ c.forms.ensures in
-    rw (p.1, p.2) (judged_stops (meet_pairs first_tester Touch) lots c.forms.result.now c.in_ok-left.left.pairs.items c.deref.result.now (contacts_reply lots c.in_ok-left.left) c.touch_left.new.tests c.meet_in_halves.new.work _ same c.deref.ensures.value c.in_ok-left.ensures.left c.in_err-met.field-0.0 c.in_err-met.ensures.comes)
+    rw (p.1, p.2) (judged_stops (meet_pairs first_tester Touch) lots c.forms.result.now c.in_ok-left.left.pairs.items c.deref.result.now (contacts_reply lots c.in_ok-left.left) c.pending_contacts.new.tests c.meet_in_halves.new.work _ same c.deref.ensures.value c.in_ok-left.ensures.left c.in_err-met.field-0.0 c.in_err-met.ensures.comes)
 
-pub ids_met-requires-clause-within : goal.ids_met-requires-clause-within
-ids_met-requires-clause-within g c = within_lines (g.K.Keeper.state c.args.keeper.now).lots c.history.result.now c.lots-lots.result.now c.in_ok-left.left.places.items c.items.result.now c.history.ensures.value c.lots-lots.ensures.value c.items.ensures c.in_ok-left.ensures.places
+pub contact_ids-requires-clause-within : goal.contact_ids-requires-clause-within
+contact_ids-requires-clause-within g c = within_lines (g.K.Keeper.state c.args.keeper.now).lots c.history.result.now c.lots-lots.result.now c.in_ok-left.left.places.items c.items.result.now c.history.ensures.value c.lots-lots.ensures.value c.items.ensures c.in_ok-left.ensures.places
 
-pub ids_met-requires-clause-each : goal.ids_met-requires-clause-each
-ids_met-requires-clause-each g c = ap length c.deref-2.ensures.value ∙ c.in_ok-met.ensures.each ∙ ap length c.deref.ensures.value ∙ c.in_ok-left.ensures.each ∙ sym (ap length c.items.ensures)
+pub contact_ids-requires-clause-each : goal.contact_ids-requires-clause-each
+contact_ids-requires-clause-each g c = ap length c.deref-2.ensures.value ∙ c.in_ok-met.ensures.each ∙ ap length c.deref.ensures.value ∙ c.in_ok-left.ensures.each ∙ sym (ap length c.items.ensures)
 
 pub returns-clause-row : goal.returns-clause-row
 returns-clause-row g c =
@@ -43,16 +43,16 @@ returns-clause-row g c =
     let met = c.in_ok-met.met.items in
     let v = c.meet_in_halves.new.work in
     let same = own_map c.forms.result.now ∙ c.forms.ensures in
-    let ids = c.in_ok-ids_met.ensures.ids
-    ∙ (λ i. ids_met (c.lots-lots.ensures.value i) (c.items.ensures i) (c.deref-2.ensures.value i))
-    ∙ ap (λ (ls : List (Lot (Unit {0}))). ids_met ls left.places.items met) c.history.ensures.value
+    let ids = c.in_ok-contact_ids.ensures.ids
+    ∙ (λ i. contact_ids (c.lots-lots.ensures.value i) (c.items.ensures i) (c.deref-2.ensures.value i))
+    ∙ ap (λ (ls : List (Lot (Unit {0}))). contact_ids ls left.places.items met) c.history.ensures.value
     ∙ bare_met lots left.places.items met in
-    judged_ends (meet_pairs first_tester Touch) lots c.forms.result.now left.pairs.items c.deref.result.now (contacts_reply lots left) c.touch_left.new.tests v _ same c.deref.ensures.value c.in_ok-left.ensures.left met c.in_ok-met.ensures.comes
+    judged_ends (meet_pairs first_tester Touch) lots c.forms.result.now left.pairs.items c.deref.result.now (contacts_reply lots left) c.pending_contacts.new.tests v _ same c.deref.ensures.value c.in_ok-left.ensures.left met c.in_ok-met.ensures.comes
     ∙ ap (λ (xs : List Label). done (reply_lines (neighbour_lines xs)) v) (sym ids)
 
 pub returns-clause-few : goal.returns-clause-few
 returns-clause-few g c =
-    let few = c.in_ok-ids_met.ensures.few in
+    let few = c.in_ok-contact_ids.ensures.few in
     let here = ap length c.items.ensures in
     let most = c.in_ok-left.ensures.few in
     omega (arith, few, here, most)

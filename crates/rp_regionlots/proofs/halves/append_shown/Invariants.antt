@@ -1,7 +1,7 @@
 use Rattle.std.proofs.Common.{◌≡◌, ◌≤◌}
 use Rattle.std.specs.Vec.Iter.{into_iter_items}
 use Rattle.std.specs.List.{AllByRecursion}
-use Rattle.rp_walks.specs.Walk.{most_tests}
+use Rattle.rp_semantics.specs.Walk.{most_tests}
 use Rattle.rp_regionlots.specs.Shown.{with_all_shown, ShowsNothingCounted}
 use Rattle.rp_regionlots.proofs.halves.append_shown.Given as goal
 

@@ -1,7 +1,7 @@
 use Rattle.std.specs.Prelude.{◌↔◌, IsTrue}
 use Rattle.rp_geometry.specs.sets.Shape.{shape_of_parts}
 use Rattle.rp_geometry.specs.sets.Sets.{SameMembers}
-use Rattle.rp_queries.proofs.Appended.{equal_appended}
+use Rattle.rp_eval.proofs.Appended.{equal_appended}
 use Rattle.rp_relate.specs.Relations.{cover_each_other}
 use Rattle.rp_relate.proofs.Covered.{made_right, equal_right}
 use Rattle.rp_relate.proofs.Taken.{taken_over}

@@ -1,9 +1,9 @@
 use Rattle.std.specs.Prelude.{◌↔◌, IsTrue}
 use Rattle.rp_geometry.specs.sets.Shape.{shape_of_parts}
 use Rattle.rp_geometry.specs.sets.Sets.{IsWithin}
-use Rattle.rp_walks.specs.Walk.{first_tester}
-use Rattle.rp_walks.specs.Compare.{is_covered}
-use Rattle.rp_queries.proofs.Appended.{covered_appended}
+use Rattle.rp_semantics.specs.Walk.{first_tester}
+use Rattle.rp_semantics.specs.Compare.{is_covered}
+use Rattle.rp_eval.proofs.Appended.{covered_appended}
 use Rattle.rp_relate.proofs.Covered.{made_right, within_right}
 use Rattle.rp_relate.proofs.Taken.{taken_over}
 use Rattle.rp_relate.proofs.cover.within.Goals as goal

@@ -1,9 +1,9 @@
 use Rattle.std.specs.Prelude.{◌≤◌, length}
 use Rattle.rp_geometry.specs.parts.Parts.{most_parts}
 use Rattle.rp_unionfind.specs.Lists.{numbers_of}
-use Rattle.rp_walks.specs.Pieces.{pieces_of_parts}
-use Rattle.rp_walks.specs.Walk.{first_tester}
-use Rattle.rp_queries.proofs.Appended.{pieces_appended}
+use Rattle.rp_semantics.specs.Pieces.{pieces_of_parts}
+use Rattle.rp_semantics.specs.Walk.{first_tester}
+use Rattle.rp_eval.proofs.Appended.{pieces_appended}
 use Rattle.rp_relate.proofs.Pieced.{pieces_right, ok_taken}
 use Rattle.rp_relate.proofs.Taken.{taken_over}
 use Rattle.rp_relate.proofs.linked.pieces.Goals as goal

@@ -1,7 +1,7 @@
-use Rattle.rp_walks.specs.Walk.{first_tester}
-use Rattle.rp_walks.specs.Compare.{relation_of_parts}
-use Rattle.rp_queries.proofs.Appended.{relation_appended}
-use Rattle.rp_queries.specs.Relations.{relation_of}
+use Rattle.rp_semantics.specs.Walk.{first_tester}
+use Rattle.rp_semantics.specs.Compare.{relation_of_parts}
+use Rattle.rp_eval.proofs.Appended.{relation_appended}
+use Rattle.rp_eval.specs.Relations.{relation_of}
 use Rattle.rp_relate.proofs.Taken.{taken_over}
 use Rattle.rp_relate.proofs.relation.found_relation.Goals as goal
 

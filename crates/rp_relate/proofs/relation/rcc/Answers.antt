@@ -1,6 +1,6 @@
 use Rattle.std.proofs.lemmas.Result.{err_from_is_err_and}
 use Rattle.rp_geometry.specs.sets.Shape.{shape_of_parts}
-use Rattle.rp_queries.specs.Relations.{relation_of}
+use Rattle.rp_eval.specs.Relations.{relation_of}
 use Rattle.rp_relate.proofs.Covered.{has_point, has_no_point, fault_tells, found_right}
 use Rattle.rp_relate.proofs.relation.rcc.Goals as goal
 

@@ -12,7 +12,7 @@ use Rattle.rp_rows.proofs.lines.part_lines.Goals as goal
 -- the first line was pushed, and those of all parts are to come
 pub loop-part-init : goal.loop-part-init
 loop-part-init g c =
-    let seen = g.T.Tests.seen in
+    let seen = g.T.Oracle.seen in
     let parts = c.into_parts-part-items.result.items in
     let shown = c.parts.result.now in
     let pushed : c.push.new.self.items ≡ Parts (length shown) ∷ [] = c.in_ok-push.ensures.ok ∙ ap (λ (vs : List CodeVerdict). vs ++ Parts (length shown) ∷ []) c.new-lines.ensures in
@@ -26,7 +26,7 @@ loop-part-init g c =
 -- the line of a part was pushed
 pub loop-part-preserved : goal.loop-part-preserved
 loop-part-preserved g c =
-    let seen = g.T.Tests.seen in
+    let seen = g.T.Oracle.seen in
     let before = c.loop-part.lines.items in
     let rest = map (λ p. Verdict.part (seen p).cell) (into_iter_items c.next.new.self) in
     ap (λ (vs : List CodeVerdict). map verdict_of vs ++ rest) c.in_ok-push-2.ensures.ok
@@ -39,5 +39,5 @@ loop-part-preserved g c =
 pub overflow_cast-parts : goal.overflow_cast-parts
 overflow_cast-parts g c =
     let shown = c.parts.result.now in
-    let many : length shown ≡ length (g.T.Tests.parts_of c.args.form) = sym (length-map shown g.T.Tests.seen) ∙ ap length c.parts.ensures in
+    let many : length shown ≡ length (g.T.Oracle.parts_of c.args.form) = sym (length-map shown g.T.Oracle.seen) ∙ ap length c.parts.ensures in
     few_fit (length shown) (subst (λ (n : ℕ). n ≤ most_parts) (sym many) c.requires)

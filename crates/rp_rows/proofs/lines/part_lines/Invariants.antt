@@ -6,4 +6,4 @@ use Rattle.rp_rows.proofs.lines.part_lines.Given as goal
 
 -- the lines so far and those of the parts still to come are all lines
 abbrev pub invariant-loop-part : goal.invariant-loop-part
-invariant-loop-part g l = map verdict_of l.lines.items ++ map (λ p. Verdict.part (g.T.Tests.seen p).cell) (into_iter_items l.part-iterator) ≡ part_lines_of (g.T.Tests.parts_of l.fn.form)
+invariant-loop-part g l = map verdict_of l.lines.items ++ map (λ p. Verdict.part (g.T.Oracle.seen p).cell) (into_iter_items l.part-iterator) ≡ part_lines_of (g.T.Oracle.parts_of l.fn.form)

@@ -1,6 +1,6 @@
 use Rattle.std.proofs.Common.{◌≤◌, List, [], ◌∷◌, ◌++◌, length, map, sym, ap, ◌∙◌, arith}
 use Rattle.rp_language.specs.Name.{Label}
-use Rattle.rp_walks.specs.Walk.{done}
+use Rattle.rp_semantics.specs.Walk.{done}
 use Rattle.rp_model.specs.commands.Verdict.{Verdict, lot_lines}
 use Rattle.rp_model.specs.commands.Reply.{reply_lines}
 use Rattle.rp_history.specs.Lots.{lots_in}

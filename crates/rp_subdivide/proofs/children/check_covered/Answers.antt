@@ -1,10 +1,10 @@
 use Rattle.std.proofs.Common.{Bool, not, ap, ◌∙◌}
 use Rattle.std.proofs.lemmas.Result.{err_from_is_err_and}
-use Rattle.rp_walks.specs.Walk.{done, after_first}
+use Rattle.rp_semantics.specs.Walk.{done, after_first}
 use Rattle.rp_model.specs.commands.Verdict.{gap}
 use Rattle.rp_model.specs.commands.Checks.{refuse_if}
 use Rattle.rp_model.specs.commands.Reply.{check}
-use Rattle.rp_tester.proofs.Left.{stops_on}
+use Rattle.rp_oracle.proofs.Left.{stops_on}
 use Rattle.rp_subdivide.proofs.children.check_covered.Goals as goal
 
 pub returns-in_err-has_gap : goal.returns-in_err-has_gap

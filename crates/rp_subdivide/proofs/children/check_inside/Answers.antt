@@ -1,10 +1,10 @@
 use Rattle.std.proofs.Common.{ap, ◌∙◌}
 use Rattle.std.specs.Prelude.{option_map}
 use Rattle.std.proofs.lemmas.Result.{err_from_is_err_and}
-use Rattle.rp_walks.specs.Walk.{done, after_first}
+use Rattle.rp_semantics.specs.Walk.{done, after_first}
 use Rattle.rp_model.specs.commands.Verdict.{outside_lot}
 use Rattle.rp_model.specs.commands.Reply.{check}
-use Rattle.rp_tester.proofs.Left.{stops_on}
+use Rattle.rp_oracle.proofs.Left.{stops_on}
 use Rattle.rp_subdivide.proofs.children.check_inside.Goals as goal
 
 pub returns-in_err-number : goal.returns-in_err-number

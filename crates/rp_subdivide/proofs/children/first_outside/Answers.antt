@@ -1,10 +1,10 @@
 use Rattle.std.proofs.Common.{Bool, List, map, sym, ap, ◌∙◌, subst, arith}
 use Rattle.std.proofs.lemmas.List.{drop_all}
 use Rattle.std.proofs.lemmas.Result.{err_from_is_err_and}
-use Rattle.rp_walks.specs.Walk.{after_first}
+use Rattle.rp_semantics.specs.Walk.{after_first}
 use Rattle.rp_model.specs.commands.Subdivide.{first_outside_child}
-use Rattle.rp_tester.specs.Comes.{StopsBy}
-use Rattle.rp_tester.proofs.Left.{stops_on}
+use Rattle.rp_oracle.specs.Refines.{StopsBy}
+use Rattle.rp_oracle.proofs.Left.{stops_on}
 use Rattle.rp_subdivide.specs.declared.child.Child.{Child}
 use Rattle.rp_subdivide.specs.Children.{formed_child}
 use Rattle.rp_subdivide.proofs.Searched.{outside_on, outside_left}
@@ -13,8 +13,8 @@ use Rattle.rp_subdivide.proofs.children.first_outside.Goals as goal
 pub returns-in_err-within : goal.returns-in_err-within
 returns-in_err-within g c =
     let p = err_from_is_err_and c.from_residual.result c.from_residual.ensures.1 in
-    let view = g.T.Tests.parts_of in
-    let tester = g.T.Tests.tester in
+    let view = g.T.Oracle.parts_of in
+    let tester = g.T.Oracle.tester in
     let qs = view c.args.whole.now in
     let children = c.args.children.now in
     let l = c.loop-child in
@@ -25,8 +25,8 @@ returns-in_err-within g c =
 
 pub returns-then-not-branch : goal.returns-then-not-branch
 returns-then-not-branch g c =
-    let view = g.T.Tests.parts_of in
-    let tester = g.T.Tests.tester in
+    let view = g.T.Oracle.parts_of in
+    let tester = g.T.Oracle.tester in
     let qs = view c.args.whole.now in
     let children = c.args.children.now in
     let l = c.loop-child in
@@ -36,8 +36,8 @@ returns-then-not-branch g c =
 
 pub loop-child-preserved : goal.loop-child-preserved
 loop-child-preserved g c =
-    let view = g.T.Tests.parts_of in
-    let tester = g.T.Tests.tester in
+    let view = g.T.Oracle.parts_of in
+    let tester = g.T.Oracle.tester in
     let qs = view c.args.whole.now in
     let children = c.args.children.now in
     let l = c.loop-child in
@@ -50,6 +50,6 @@ loop-child-preserved g c =
 
 pub returns : goal.returns
 returns g c =
-    let view = g.T.Tests.parts_of in
+    let view = g.T.Oracle.parts_of in
     let l = c.loop-child in
-    sym l.invariant.0 ∙ ap (λ (cs : List (Child _)). first_outside_child g.T.Tests.tester (view c.args.whole.now) l.number (map (formed_child view) cs) l.tests) (drop_all l.child-index c.args.children.now c.loop-child-test.false)
+    sym l.invariant.0 ∙ ap (λ (cs : List (Child _)). first_outside_child g.T.Oracle.tester (view c.args.whole.now) l.number (map (formed_child view) cs) l.tests) (drop_all l.child-index c.args.children.now c.loop-child-test.false)

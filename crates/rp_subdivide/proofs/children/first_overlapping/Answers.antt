@@ -2,11 +2,11 @@ use Rattle.std.proofs.Common.{ℕ, ◌+◌, List, map, Option, sym, ap, ◌∙�
 use Rattle.std.specs.Prelude.{option_map}
 use Rattle.std.proofs.lemmas.List.{drop_all}
 use Rattle.std.proofs.lemmas.Result.{err_from_is_err_and}
-use Rattle.rp_walks.specs.Walk.{after_first}
+use Rattle.rp_semantics.specs.Walk.{after_first}
 use Rattle.rp_model.specs.commands.Verdict.{children_overlap}
 use Rattle.rp_model.specs.commands.Subdivide.{first_overlapping_children}
-use Rattle.rp_tester.specs.Comes.{StopsBy}
-use Rattle.rp_tester.proofs.Left.{stops_on}
+use Rattle.rp_oracle.specs.Refines.{StopsBy}
+use Rattle.rp_oracle.proofs.Left.{stops_on}
 use Rattle.rp_subdivide.specs.declared.child.Child.{Child}
 use Rattle.rp_subdivide.specs.Children.{formed_child}
 use Rattle.rp_subdivide.proofs.Searched.{overlapping_with_on, overlapping_with_left}
@@ -15,8 +15,8 @@ use Rattle.rp_subdivide.proofs.children.first_overlapping.Goals as goal
 pub returns-in_err-found : goal.returns-in_err-found
 returns-in_err-found g c =
     let p = err_from_is_err_and c.from_residual.result c.from_residual.ensures.1 in
-    let view = g.T.Tests.parts_of in
-    let tester = g.T.Tests.tester in
+    let view = g.T.Oracle.parts_of in
+    let tester = g.T.Oracle.tester in
     let children = c.args.children.now in
     let l = c.loop-place in
     let e = c.in_err-found.field-0.0 in
@@ -26,8 +26,8 @@ returns-in_err-found g c =
 
 pub returns-in-Some : goal.returns-in-Some
 returns-in-Some g c =
-    let view = g.T.Tests.parts_of in
-    let tester = g.T.Tests.tester in
+    let view = g.T.Oracle.parts_of in
+    let tester = g.T.Oracle.tester in
     let children = c.args.children.now in
     let l = c.loop-place in
     let on = overlapping_with_on view tester children l.place (l.place + 1) in
@@ -36,8 +36,8 @@ returns-in-Some g c =
 
 pub loop-place-preserved : goal.loop-place-preserved
 loop-place-preserved g c =
-    let view = g.T.Tests.parts_of in
-    let tester = g.T.Tests.tester in
+    let view = g.T.Oracle.parts_of in
+    let tester = g.T.Oracle.tester in
     let children = c.args.children.now in
     let l = c.loop-place in
     let on = overlapping_with_on view tester children l.place (l.place + 1) in
@@ -46,6 +46,6 @@ loop-place-preserved g c =
 
 pub returns : goal.returns
 returns g c =
-    let view = g.T.Tests.parts_of in
+    let view = g.T.Oracle.parts_of in
     let l = c.loop-place in
-    sym l.invariant ∙ ap (λ (cs : List (Child _)). first_overlapping_children g.T.Tests.tester (l.place + 1) (map (formed_child view) cs) l.tests) (drop_all l.place c.args.children.now c.loop-place-test.false)
+    sym l.invariant ∙ ap (λ (cs : List (Child _)). first_overlapping_children g.T.Oracle.tester (l.place + 1) (map (formed_child view) cs) l.tests) (drop_all l.place c.args.children.now c.loop-place-test.false)

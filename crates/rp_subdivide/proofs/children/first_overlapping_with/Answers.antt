@@ -1,10 +1,10 @@
 use Rattle.std.proofs.Common.{Bool, List, map, sym, ap, ◌∙◌, subst, arith}
 use Rattle.std.proofs.lemmas.List.{drop_all}
 use Rattle.std.proofs.lemmas.Result.{err_from_is_err_and}
-use Rattle.rp_walks.specs.Walk.{after_first}
+use Rattle.rp_semantics.specs.Walk.{after_first}
 use Rattle.rp_model.specs.commands.Subdivide.{first_overlapping_child}
-use Rattle.rp_tester.specs.Comes.{StopsBy}
-use Rattle.rp_tester.proofs.Left.{stops_on}
+use Rattle.rp_oracle.specs.Refines.{StopsBy}
+use Rattle.rp_oracle.proofs.Left.{stops_on}
 use Rattle.rp_subdivide.specs.declared.child.Child.{Child}
 use Rattle.rp_subdivide.specs.Children.{formed_child}
 use Rattle.rp_subdivide.proofs.Searched.{overlapping_on, overlapping_left}
@@ -13,8 +13,8 @@ use Rattle.rp_subdivide.proofs.children.first_overlapping_with.Goals as goal
 pub returns-in_err-overlap : goal.returns-in_err-overlap
 returns-in_err-overlap g c =
     let p = err_from_is_err_and c.from_residual.result c.from_residual.ensures.1 in
-    let view = g.T.Tests.parts_of in
-    let tester = g.T.Tests.tester in
+    let view = g.T.Oracle.parts_of in
+    let tester = g.T.Oracle.tester in
     let m = c.args.first in
     let ps = view c.args.child.now.form in
     let behind = c.args.behind.now in
@@ -26,8 +26,8 @@ returns-in_err-overlap g c =
 
 pub returns-then-branch : goal.returns-then-branch
 returns-then-branch g c =
-    let view = g.T.Tests.parts_of in
-    let tester = g.T.Tests.tester in
+    let view = g.T.Oracle.parts_of in
+    let tester = g.T.Oracle.tester in
     let m = c.args.first in
     let ps = view c.args.child.now.form in
     let behind = c.args.behind.now in
@@ -38,8 +38,8 @@ returns-then-branch g c =
 
 pub loop-other-preserved : goal.loop-other-preserved
 loop-other-preserved g c =
-    let view = g.T.Tests.parts_of in
-    let tester = g.T.Tests.tester in
+    let view = g.T.Oracle.parts_of in
+    let tester = g.T.Oracle.tester in
     let m = c.args.first in
     let ps = view c.args.child.now.form in
     let behind = c.args.behind.now in
@@ -53,6 +53,6 @@ loop-other-preserved g c =
 
 pub returns : goal.returns
 returns g c =
-    let view = g.T.Tests.parts_of in
+    let view = g.T.Oracle.parts_of in
     let l = c.loop-other in
-    sym l.invariant.0 ∙ ap (λ (cs : List (Child _)). first_overlapping_child g.T.Tests.tester c.args.first (view c.args.child.now.form) l.number (map (formed_child view) cs) l.tests) (drop_all l.other-index c.args.behind.now c.loop-other-test.false)
+    sym l.invariant.0 ∙ ap (λ (cs : List (Child _)). first_overlapping_child g.T.Oracle.tester c.args.first (view c.args.child.now.form) l.number (map (formed_child view) cs) l.tests) (drop_all l.other-index c.args.behind.now c.loop-other-test.false)

@@ -1,15 +1,15 @@
 use Rattle.std.proofs.Common.{◌+◌, drop}
 use Rattle.std.proofs.lemmas.Result.{err_from_is_err_and}
-use Rattle.rp_walks.specs.Form.{subtract}
-use Rattle.rp_tester.proofs.Left.{next_left, stop_left}
+use Rattle.rp_semantics.specs.Form.{subtract}
+use Rattle.rp_oracle.proofs.Left.{next_left, stop_left}
 use Rattle.rp_subdivide.proofs.TakenAway.{parts_of_all, child_left}
 use Rattle.rp_subdivide.proofs.children.left_of.Goals as goal
 
 pub returns-in_err-left-2 : goal.returns-in_err-left-2
 returns-in_err-left-2 g c =
     let p = err_from_is_err_and c.from_residual-in_err-left-2.result c.from_residual-in_err-left-2.ensures.1 in
-    let view = g.T.Tests.parts_of in
-    let tester = g.T.Tests.tester in
+    let view = g.T.Oracle.parts_of in
+    let tester = g.T.Oracle.tester in
     let i = c.loop-child.child-index in
     let children = c.args.children.now in
     let child = c.child-item.result in
@@ -20,8 +20,8 @@ returns-in_err-left-2 g c =
 
 pub loop-child-preserved : goal.loop-child-preserved
 loop-child-preserved g c =
-    let view = g.T.Tests.parts_of in
-    let tester = g.T.Tests.tester in
+    let view = g.T.Oracle.parts_of in
+    let tester = g.T.Oracle.tester in
     let i = c.loop-child.child-index in
     let children = c.args.children.now in
     let child = c.child-item.result in

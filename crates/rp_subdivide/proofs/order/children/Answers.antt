@@ -9,12 +9,12 @@ use Rattle.rp_language.specs.Name.{Label}
 use Rattle.rp_language.specs.Expression.{IsKeptExpression, Meaning}
 use Rattle.rp_command.specs.declared.command.Expr.{Expr}
 use Rattle.rp_command.specs.Views.{child_of, expression_of, shapes_of}
-use Rattle.rp_walks.specs.Walk.{done, after_first}
-use Rattle.rp_walks.specs.Form.{form}
+use Rattle.rp_semantics.specs.Walk.{done, after_first}
+use Rattle.rp_semantics.specs.Form.{form}
 use Rattle.rp_model.specs.states.State.{parts_in}
 use Rattle.rp_model.specs.commands.Subdivide.{FormedChild, form_children}
-use Rattle.rp_tester.specs.Comes.{StopsBy}
-use Rattle.rp_tester.proofs.Left.{stops_on}
+use Rattle.rp_oracle.specs.Refines.{StopsBy}
+use Rattle.rp_oracle.proofs.Left.{stops_on}
 use Rattle.rp_subdivide.specs.declared.child.Child.{Child}
 use Rattle.rp_subdivide.specs.Children.{formed_child, formed_children, IsShort}
 use Rattle.rp_subdivide.proofs.Searched.{formed_on, formed_left}
@@ -28,11 +28,11 @@ short_form-requires g c =
 pub returns-in_err-form-clause-comes : goal.returns-in_err-form-clause-comes
 returns-in_err-form-clause-comes g c =
     let p = err_from_is_err_and c.from_residual.result c.from_residual.ensures.1 in
-    let tester = g.T.Tests.tester in
+    let tester = g.T.Oracle.tester in
     let parts = parts_in (g.K.Keeper.state c.args.keeper.now) in
     let l = c.loop-entry in
     let entry = c.entry-item.result in
-    let made = formed_children g.T.Tests.parts_of l.children in
+    let made = formed_children g.T.Oracle.parts_of l.children in
     let e = c.in_err-form.field-0.0 in
     let new = c.short_form.new.tests in
     let left = formed_left tester parts made c.args.entries.now l.entry-index entry c.loop-entry-test.true c.entry-item.is l.tests in
@@ -41,8 +41,8 @@ returns-in_err-form-clause-comes g c =
 
 pub loop-entry-preserved : goal.loop-entry-preserved
 loop-entry-preserved g c =
-    let view = g.T.Tests.parts_of in
-    let tester = g.T.Tests.tester in
+    let view = g.T.Oracle.parts_of in
+    let tester = g.T.Oracle.tester in
     let parts = parts_in (g.K.Keeper.state c.args.keeper.now) in
     let entries = c.args.entries.now in
     let l = c.loop-entry in
@@ -64,4 +64,4 @@ loop-entry-preserved g c =
 pub returns-clause-comes : goal.returns-clause-comes
 returns-clause-comes g c =
     let l = c.loop-entry in
-    sym l.invariant.left ∙ ap (λ (es : List (Label × Expr)). form_children g.T.Tests.tester (parts_in (g.K.Keeper.state c.args.keeper.now)) (formed_children g.T.Tests.parts_of l.children) (map child_of es) l.tests) (drop_all l.entry-index c.args.entries.now c.loop-entry-test.false)
+    sym l.invariant.left ∙ ap (λ (es : List (Label × Expr)). form_children g.T.Oracle.tester (parts_in (g.K.Keeper.state c.args.keeper.now)) (formed_children g.T.Oracle.parts_of l.children) (map child_of es) l.tests) (drop_all l.entry-index c.args.entries.now c.loop-entry-test.false)

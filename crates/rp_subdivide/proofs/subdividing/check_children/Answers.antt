@@ -23,7 +23,7 @@ returns-in_err-place-clause-row g c w rest =
 pub returns-in-Some-clause-row : goal.returns-in-Some-clause-row
 returns-in-Some-clause-row g c w rest =
     let s = g.K.Keeper.state c.args.keeper.now in
-    let cs = map (formed_child g.T.Tests.parts_of) c.args.children.now in
+    let cs = map (formed_child g.T.Oracle.parts_of) c.args.children.now in
     let named = sym (ap (check_subdivide s c.args.id) (c.items.ensures ∙ c.in_ok-ids.ensures)) ∙ c.in_ok-place.ensures.checks s c.history.ensures.value in
     second_fails rest w (check_subdivide s c.args.id (map (λ (f : FormedChild). f.id) cs)) (first_empty_child 1 cs) (empty_child c.in-Some.number) _ named (sym c.first_empty.ensures ∙ ap (option_map empty_child) c.in-Some.is)
 
@@ -31,7 +31,7 @@ pub returns-in_err-check_room-clause-row : goal.returns-in_err-check_room-clause
 returns-in_err-check_room-clause-row g c w rest =
     let p = err_from_is_err_and c.from_residual-in_err-check_room.result c.from_residual-in_err-check_room.ensures.1 in
     let s = g.K.Keeper.state c.args.keeper.now in
-    let cs = map (formed_child g.T.Tests.parts_of) c.args.children.now in
+    let cs = map (formed_child g.T.Oracle.parts_of) c.args.children.now in
     let named = sym (ap (check_subdivide s c.args.id) (c.items.ensures ∙ c.in_ok-ids.ensures)) ∙ c.in_ok-place.ensures.checks s c.history.ensures.value in
     rw (p.1, p.2)
     (no_room rest w (check_subdivide s c.args.id (map (λ (f : FormedChild). f.id) cs)) (first_empty_child 1 cs) (parts_under_lots s.lots) c.count_all.result (length (joined_parts (child_parts cs))) c.in_err-check_room.field-0.0 named (sym c.first_empty.ensures ∙ ap (option_map empty_child) c.in_default.is) c.count_all.ensures (c.in_err-check_room.ensures w))
@@ -39,7 +39,7 @@ returns-in_err-check_room-clause-row g c w rest =
 pub returns-clause-row : goal.returns-clause-row
 returns-clause-row g c w rest =
     let s = g.K.Keeper.state c.args.keeper.now in
-    let cs = map (formed_child g.T.Tests.parts_of) c.args.children.now in
+    let cs = map (formed_child g.T.Oracle.parts_of) c.args.children.now in
     let named = sym (ap (check_subdivide s c.args.id) (c.items.ensures ∙ c.in_ok-ids.ensures)) ∙ c.in_ok-place.ensures.checks s c.history.ensures.value in
     has_room rest w (check_subdivide s c.args.id (map (λ (f : FormedChild). f.id) cs)) (first_empty_child 1 cs) (parts_under_lots s.lots) c.count_all.result (length (joined_parts (child_parts cs))) named (sym c.first_empty.ensures ∙ ap (option_map empty_child) c.in_default.is) c.count_all.ensures (c.in_ok-check_room.ensures w)
 

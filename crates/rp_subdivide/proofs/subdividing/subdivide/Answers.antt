@@ -2,7 +2,7 @@ use Rattle.std.proofs.Common.{◌≡◌, List, [], ◌∷◌, map, ap, sym, ◌�
 use Rattle.std.proofs.lemmas.Result.{err_from_is_err_and}
 use Rattle.rp_geometry.specs.sets.Shape.{Part}
 use Rattle.rp_language.specs.Name.{Label}
-use Rattle.rp_walks.specs.Walk.{done, pass, Walk, Tester}
+use Rattle.rp_semantics.specs.Walk.{done, pass, Walk, Tester}
 use Rattle.rp_model.specs.states.State.{PlainState, Change, layer_with_id, lots_replaced}
 use Rattle.rp_model.specs.commands.Reply.{Reply, accepted}
 use Rattle.rp_model.specs.commands.Subdivide.{FormedChild, row_subdivide}
@@ -26,8 +26,8 @@ returns-in_err-place g c =
     let p = err_from_is_err_and c.from_residual.result c.from_residual.ensures.1 in
     let s = g.K.Keeper.state c.args.keeper.now in
     let x = c.args.id in
-    let tester = g.T.Tests.tester in
-    let view = g.T.Tests.parts_of in
+    let tester = g.T.Oracle.tester in
+    let view = g.T.Oracle.parts_of in
     let w = c.args.tests.now in
     let cs = map (formed_child view) c.items-list.result.now in
     let e = c.in_err-place.field-0.0 in
@@ -40,8 +40,8 @@ returns-in_err-check_division g c =
     let p = err_from_is_err_and c.from_residual-in_err-check_division.result c.from_residual-in_err-check_division.ensures.1 in
     let s = g.K.Keeper.state c.args.keeper.now in
     let x = c.args.id in
-    let tester = g.T.Tests.tester in
-    let view = g.T.Tests.parts_of in
+    let tester = g.T.Oracle.tester in
+    let view = g.T.Oracle.parts_of in
     let w = c.args.tests.now in
     let cs = map (formed_child view) c.items-list.result.now in
     let whole = view c.form_at-whole.result.now in
@@ -60,8 +60,8 @@ pub returns : goal.returns
 returns g c =
     let s = g.K.Keeper.state c.args.keeper.now in
     let x = c.args.id in
-    let tester = g.T.Tests.tester in
-    let view = g.T.Tests.parts_of in
+    let tester = g.T.Oracle.tester in
+    let view = g.T.Oracle.parts_of in
     let w = c.args.tests.now in
     let v = c.check_division.new.tests in
     let cs = map (formed_child view) c.items-list.result.now in

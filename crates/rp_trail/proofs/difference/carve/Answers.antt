@@ -3,8 +3,8 @@ use Rattle.std.proofs.lemmas.Result.{err_from_is_err_and}
 use Rattle.std.proofs.lemmas.List.{take_more}
 use Rattle.rp_algebra.proofs.Lists.{drop_item}
 use Rattle.rp_reports.specs.Check.{line_tester}
-use Rattle.rp_walks.specs.Form.{carve_one, carve}
-use Rattle.rp_tester.proofs.Left.{left_as, next_left, stop_left}
+use Rattle.rp_semantics.specs.Form.{carve_one, carve}
+use Rattle.rp_oracle.proofs.Left.{left_as, next_left, stop_left}
 use Rattle.rp_trail.proofs.difference.carve.Goals as goal
 
 pub returns-in_err-carve_one : goal.returns-in_err-carve_one

@@ -1,7 +1,7 @@
 use Rattle.std.proofs.Common.{[], take, drop}
 use Rattle.rp_reports.specs.Check.{line_tester}
-use Rattle.rp_walks.specs.Form.{carve}
-use Rattle.rp_tester.proofs.Left.{IsLeft}
+use Rattle.rp_semantics.specs.Form.{carve}
+use Rattle.rp_oracle.proofs.Left.{IsLeft}
 use Rattle.rp_trail.proofs.difference.carve.Given as goal
 
 -- the half-spaces still to come are left, inside those before

@@ -1,8 +1,8 @@
 use Rattle.std.proofs.Common.{◌∷◌, [], ◌++◌, refl, sym, ap}
 use Rattle.std.proofs.lemmas.Result.{err_from_is_err_and}
 use Rattle.rp_geometry.specs.Geometry.{complement}
-use Rattle.rp_walks.specs.Walk.{done}
-use Rattle.rp_tester.proofs.Left.{end_left}
+use Rattle.rp_semantics.specs.Walk.{done}
+use Rattle.rp_oracle.proofs.Left.{end_left}
 use Rattle.rp_trail.proofs.Steps.{piece_uncounted, piece_stops, piece_made}
 use Rattle.rp_trail.proofs.difference.carve_one.Goals as goal
 

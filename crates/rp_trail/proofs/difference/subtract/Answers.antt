@@ -4,9 +4,9 @@ use Rattle.rp_algebra.proofs.Lists.{drop_item}
 use Rattle.rp_geometry.specs.sets.Shape.{Part}
 use Rattle.rp_geometry.specs.parts.Parts.{most_parts}
 use Rattle.rp_reports.specs.Check.{Trail, line_tester}
-use Rattle.rp_walks.specs.Walk.{Walk, ◌>>=◌}
-use Rattle.rp_walks.specs.Form.{if_at_most, subtract_part, subtract}
-use Rattle.rp_tester.proofs.Left.{left_as, next_left, stop_left}
+use Rattle.rp_semantics.specs.Walk.{Walk, ◌>>=◌}
+use Rattle.rp_semantics.specs.Form.{if_at_most, subtract_part, subtract}
+use Rattle.rp_oracle.proofs.Left.{left_as, next_left, stop_left}
 use Rattle.rp_trail.proofs.Steps.{few_pass}
 use Rattle.rp_trail.proofs.difference.subtract.Goals as goal
 

@@ -1,9 +1,9 @@
 use Rattle.std.proofs.Common.{true, [], ◌++◌, sym, ap, ◌∙◌}
 use Rattle.std.proofs.lemmas.Result.{err_from_is_err_and}
 use Rattle.rp_reports.specs.Check.{line_tester}
-use Rattle.rp_walks.specs.Walk.{done}
-use Rattle.rp_walks.specs.Form.{carve}
-use Rattle.rp_tester.proofs.Left.{left_as, comes_left}
+use Rattle.rp_semantics.specs.Walk.{done}
+use Rattle.rp_semantics.specs.Form.{carve}
+use Rattle.rp_oracle.proofs.Left.{left_as, comes_left}
 use Rattle.rp_trail.proofs.Steps.{pair_uncounted, pair_untested, pair_tested}
 use Rattle.rp_trail.proofs.difference.subtract_pair.Goals as goal
 

@@ -2,8 +2,8 @@ use Rattle.std.proofs.Common.{ap}
 use Rattle.std.proofs.lemmas.Result.{err_from_is_err_and}
 use Rattle.std.specs.Vec.Iter.{into_iter_items}
 use Rattle.rp_reports.specs.Check.{line_tester}
-use Rattle.rp_walks.specs.Form.{subtract_pair, subtract_part}
-use Rattle.rp_tester.proofs.Left.{left_as, next_left, stop_left}
+use Rattle.rp_semantics.specs.Form.{subtract_pair, subtract_part}
+use Rattle.rp_oracle.proofs.Left.{left_as, next_left, stop_left}
 use Rattle.rp_trail.proofs.difference.subtract_part.Goals as goal
 
 pub loop-part-preserved : goal.loop-part-preserved

@@ -1,8 +1,8 @@
 use Rattle.std.proofs.Common.{[]}
 use Rattle.std.specs.Vec.Iter.{into_iter_items}
 use Rattle.rp_reports.specs.Check.{line_tester}
-use Rattle.rp_walks.specs.Form.{subtract_part}
-use Rattle.rp_tester.proofs.Left.{IsLeft}
+use Rattle.rp_semantics.specs.Form.{subtract_part}
+use Rattle.rp_oracle.proofs.Left.{IsLeft}
 use Rattle.rp_trail.proofs.difference.subtract_part.Given as goal
 
 -- the parts still to come are left

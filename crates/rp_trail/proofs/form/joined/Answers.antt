@@ -1,8 +1,8 @@
 use Rattle.std.proofs.Common.{[], sym, ap, ◌∙◌, subst}
 use Rattle.std.specs.Prelude.{Ok}
 use Rattle.rp_reports.specs.Check.{line_tester}
-use Rattle.rp_walks.specs.Walk.{after_first}
-use Rattle.rp_walks.specs.Form.{join_each}
+use Rattle.rp_semantics.specs.Walk.{after_first}
+use Rattle.rp_semantics.specs.Form.{join_each}
 use Rattle.rp_trail.proofs.Followed.{AreChecked, joined_right}
 use Rattle.rp_trail.proofs.form.joined.Goals as goal
 

@@ -1,7 +1,7 @@
 use Rattle.std.proofs.Common.{drop}
 use Rattle.rp_reports.specs.Check.{line_tester}
-use Rattle.rp_walks.specs.Form.{join_each}
-use Rattle.rp_tester.proofs.Left.{IsLeft}
+use Rattle.rp_semantics.specs.Form.{join_each}
+use Rattle.rp_oracle.proofs.Left.{IsLeft}
 use Rattle.rp_trail.proofs.join.join_each.Given as goal
 
 -- the parts still to come are left

@@ -2,8 +2,8 @@ use Rattle.std.proofs.Common.{◌+◌, drop, ap}
 use Rattle.std.proofs.lemmas.Result.{err_from_is_err_and}
 use Rattle.rp_algebra.proofs.Lists.{drop_item}
 use Rattle.rp_reports.specs.Check.{line_tester}
-use Rattle.rp_walks.specs.Form.{join_pair, join_with_part}
-use Rattle.rp_tester.proofs.Left.{left_as, next_left, stop_left}
+use Rattle.rp_semantics.specs.Form.{join_pair, join_with_part}
+use Rattle.rp_oracle.proofs.Left.{left_as, next_left, stop_left}
 use Rattle.rp_trail.proofs.join.join_with_part.Goals as goal
 
 pub returns-in_err-join_pair : goal.returns-in_err-join_pair

@@ -1,6 +1,6 @@
 use Rattle.std.proofs.Common.{◌&&◌, sym, ap, ◌∙◌}
 use Rattle.rp_geometry.specs.sets.Shape.{passes, shape_of_parts}
-use Rattle.rp_verdicts.proofs.Points.{in_parts_is_member}
+use Rattle.rp_row_soundness.proofs.Points.{in_parts_is_member}
 use Rattle.rp_trail.proofs.member.holds.Goals as goal
 
 pub returns-then-is_in_cube-clause-in_parts : goal.returns-then-is_in_cube-clause-in_parts

@@ -1,7 +1,7 @@
 use Rattle.std.proofs.Common.{drop}
-use Rattle.rp_walks.specs.Form.{first_with_part}
+use Rattle.rp_semantics.specs.Form.{first_with_part}
 use Rattle.rp_trail.specs.Pairs.{may_meet_by, test_by, chosen_pair}
-use Rattle.rp_tester.proofs.Left.{IsLeft}
+use Rattle.rp_oracle.proofs.Left.{IsLeft}
 use Rattle.rp_trail.proofs.pairs.first_with_part.Given as goal
 
 -- the other parts still to come are left

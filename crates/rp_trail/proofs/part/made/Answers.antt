@@ -2,10 +2,10 @@ use Rattle.std.proofs.Common.{ap, ◌∙◌}
 use Rattle.std.specs.Prelude.{None, Some, Ok}
 use Rattle.std.proofs.lemmas.Result.{err_from_is_err_and}
 use Rattle.rp_geometry.specs.parts.Parts.{IsCheckedPart}
-use Rattle.rp_walks.specs.Walk.{done}
-use Rattle.rp_walks.specs.FormLaws.{IsMadeOf}
+use Rattle.rp_semantics.specs.Walk.{done}
+use Rattle.rp_semantics.specs.FormLaws.{IsMadeOf}
 use Rattle.rp_reports.specs.Check.{follow_part}
-use Rattle.rp_verdicts.proofs.Lines.{line_tester_is_right_spec}
+use Rattle.rp_row_soundness.proofs.Lines.{line_tester_is_right_spec}
 use Rattle.rp_trail.proofs.Tested.{right_where, part_stops, part_none, part_some, part_made_stops}
 use Rattle.rp_trail.proofs.part.made.Goals as goal
 

@@ -3,10 +3,10 @@ use Rattle.std.specs.Prelude.{Some}
 use Rattle.std.proofs.lemmas.Result.{err_from_is_err_and}
 use Rattle.rp_geometry.specs.Geometry.{HalfSpace, box_half_spaces}
 use Rattle.rp_geometry.specs.parts.Parts.{most_half_spaces, IsCheckedPart}
-use Rattle.rp_walks.specs.Walk.{done}
+use Rattle.rp_semantics.specs.Walk.{done}
 use Rattle.rp_reports.specs.Check.{follow_drops, follow_sides}
 use Rattle.rp_space.specs.Boxes.{integer_box}
-use Rattle.rp_tester.specs.Comes.{StopsBy}
+use Rattle.rp_oracle.specs.Refines.{StopsBy}
 use Rattle.rp_trail.proofs.Tested.{boxed, too_many, few_kept, box_followed, sides_stop, sides_followed, made_checked}
 use Rattle.rp_trail.proofs.part.made_from.Goals as goal
 

@@ -2,11 +2,11 @@ use Rattle.std.proofs.Common.{rules, FitsSigned, to_z, of_z}
 use Rattle.std.proofs.lemmas.Int.{to_z-of_z}
 use Rattle.std.proofs.lemmas.Result.{err_from_is_err_and}
 use mir.Syntax.{w32}
-use Rattle.rp_walks.specs.Form.{prism_form}
+use Rattle.rp_semantics.specs.Form.{prism_form}
 use Rattle.rp_reports.specs.Check.{line_tester}
 use Rattle.rp_space.specs.Corners.{prism_of}
 use Rattle.rp_footprint.proofs.Cells.{edge_there, no_edge_there}
-use Rattle.rp_tester.proofs.Left.{whole_as}
+use Rattle.rp_oracle.proofs.Left.{whole_as}
 use Rattle.rp_trail.proofs.Prisms.{edge_drawn, edge_stops, edges_end, drawn_of}
 use Rattle.rp_trail.proofs.prism.prismed.Goals as goal
 

@@ -1,9 +1,9 @@
 use Rattle.std.proofs.Common.{drop}
 use Rattle.rp_geometry.specs.sets.Prism.{edges_of}
-use Rattle.rp_walks.specs.Form.{exchange_edges, prism_form}
+use Rattle.rp_semantics.specs.Form.{exchange_edges, prism_form}
 use Rattle.rp_reports.specs.Check.{line_tester}
 use Rattle.rp_space.specs.Corners.{polygon_corners, prism_of}
-use Rattle.rp_tester.proofs.Left.{IsLeft}
+use Rattle.rp_oracle.proofs.Left.{IsLeft}
 use Rattle.rp_trail.proofs.prism.prismed.Given as goal
 
 -- the edges still to come are left

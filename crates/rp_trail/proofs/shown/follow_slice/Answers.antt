@@ -3,7 +3,7 @@ use Rattle.std.proofs.lemmas.Int.{to_z-of_z}
 use mir.Syntax.{w32}
 use Rattle.rp_geometry.specs.Geometry.{HalfSpace}
 use Rattle.rp_geometry.specs.sections.Slice.{is_slice}
-use Rattle.rp_walks.specs.Walk.{done}
+use Rattle.rp_semantics.specs.Walk.{done}
 use Rattle.rp_cert.specs.Section.{slice_shown}
 use Rattle.rp_trail.proofs.SliceLines.{none_shown, not_passing, line_taken, slice_is_told}
 use Rattle.rp_trail.proofs.shown.follow_slice.Goals as goal

@@ -8,10 +8,10 @@ use Rattle.rp_cert.specs.Section.{slice_shown}
 use Rattle.rp_cert.specs.declared.slice.Slice.{Slice as CodeSlice}
 use mir.Syntax.{w32}
 use Rattle.std.proofs.Common.{to_z, of_z}
-use Rattle.rp_tester.specs.Comes.{StopsBy}
-use Rattle.rp_walks.specs.Walk.{done}
-use Rattle.rp_accepted.proofs.Shown.{follow_each}
-use Rattle.rp_tester.proofs.Left.{left_as, end_left}
+use Rattle.rp_oracle.specs.Refines.{StopsBy}
+use Rattle.rp_semantics.specs.Walk.{done}
+use Rattle.rp_checker_completeness.proofs.Shown.{follow_each}
+use Rattle.rp_oracle.proofs.Left.{left_as, end_left}
 use Rattle.rp_trail.specs.Slices.{follow_slice_lines}
 use Rattle.rp_trail.proofs.SliceLines.{each_left, slice_taken, slice_stops, told_more, all_told}
 use Rattle.rp_trail.proofs.shown.slices.Goals as goal

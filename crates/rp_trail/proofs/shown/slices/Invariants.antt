@@ -1,9 +1,9 @@
 use Rattle.std.proofs.Common.{◌≡◌, ◌++◌, map, drop}
 use Rattle.rp_reports.specs.Check.{slices_told}
 use Rattle.rp_cert.specs.Section.{slice_shown}
-use Rattle.rp_accepted.proofs.Shown.{follow_each}
+use Rattle.rp_checker_completeness.proofs.Shown.{follow_each}
 use Rattle.rp_trail.specs.Slices.{follow_slice_lines}
-use Rattle.rp_tester.proofs.Left.{IsLeft}
+use Rattle.rp_oracle.proofs.Left.{IsLeft}
 use Rattle.rp_trail.proofs.shown.slices.Given as goal
 
 -- the lines of the parts still to come are left, and so are their slices

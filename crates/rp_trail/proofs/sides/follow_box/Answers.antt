@@ -5,7 +5,7 @@ use Rattle.rp_geometry.specs.searches.ProofLine.{box_line}
 use Rattle.rp_reports.specs.Check.{next_proof, taken_if}
 use Rattle.rp_space.specs.Boxes.{integer_box}
 use Rattle.rp_space.specs.declared.bounds.IntBox.{IntBox}
-use Rattle.rp_verdicts.proofs.Written.{next_is_written, written_box}
+use Rattle.rp_row_soundness.proofs.Written.{next_is_written, written_box}
 use Rattle.rp_trail.proofs.Tested.{right_where, taken_right}
 use Rattle.rp_trail.proofs.sides.follow_box.Goals as goal
 

@@ -3,10 +3,10 @@ use Rattle.std.proofs.lemmas.List.{drop_more}
 use Rattle.std.proofs.lemmas.Result.{err_from_is_err_and}
 use Rattle.std.proofs.Math.ListN.{drop_of_length-le}
 use Rattle.rp_geometry.specs.Geometry.{HalfSpace}
-use Rattle.rp_walks.specs.Walk.{done}
+use Rattle.rp_semantics.specs.Walk.{done}
 use Rattle.rp_reports.specs.Check.{follow_side, follow_sides}
-use Rattle.rp_tester.specs.Comes.{StopsBy}
-use Rattle.rp_tester.proofs.Left.{left_as, next_left, stop_left, end_left}
+use Rattle.rp_oracle.specs.Refines.{StopsBy}
+use Rattle.rp_oracle.proofs.Left.{left_as, next_left, stop_left, end_left}
 use Rattle.rp_trail.proofs.sides.follow_sides.Goals as goal
 
 pub returns-in_err-follow_side : goal.returns-in_err-follow_side

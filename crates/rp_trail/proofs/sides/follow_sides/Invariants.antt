@@ -1,6 +1,6 @@
 use Rattle.std.proofs.Common.{drop}
 use Rattle.rp_reports.specs.Check.{follow_sides}
-use Rattle.rp_tester.proofs.Left.{IsLeft}
+use Rattle.rp_oracle.proofs.Left.{IsLeft}
 use Rattle.rp_trail.proofs.sides.follow_sides.Given as goal
 
 -- the sides still to come are left

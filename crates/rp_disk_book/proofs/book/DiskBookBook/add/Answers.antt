@@ -3,9 +3,9 @@ use Rattle.sqlite.specs.Held.{state}
 use Rattle.sqlite.specs.State.{Survives}
 use Rattle.rp_reports.specs.Output.{most_script_bytes}
 use Rattle.rp_book.specs.Act.{act_of}
-use Rattle.rp_entries.specs.Entry.{AddsEntry, Fields, GainsEntry, book_schema, entries_in}
+use Rattle.rp_book_schema.specs.Entry.{AddsEntry, Fields, GainsEntry, book_schema, entries_in}
 use Rattle.rp_disk_book.specs.Kept.{Kept, IsKept, contents_of, with_act}
-use Rattle.rp_disk_book.specs.Disk.{FindsInDatabase, IsBook, Opened}
+use Rattle.rp_disk_book.specs.Disk.{RecoverableFromDatabase, IsBook, Opened}
 use Rattle.rp_disk_book.proofs.DiskLemmas.{fields_are, finds_more, is_longer}
 use Rattle.rp_disk_book.proofs.FindLemmas.{finds_only, may_find}
 use Rattle.rp_disk_book.proofs.KeptLemmas.{IsKept-push}
@@ -24,7 +24,7 @@ returns-in-Err-clause-crash g c = λ test finds passes.
     let fields = fields_are c.next_number-number.result (length acts + 1) a.first a.last e.added.now (option_map (λ t. t.now) e.who) (option_map (λ t. t.now) e.deed) (act_of a) lines c.next_number-number.ensures c.in_ok-act.ensures.act in
     finds_more old new acts (act_of a) book.contents.script.items lines c.requires.end c.in_ok-act.ensures.numbers (c.self.invariant.1 none) c.insert.ensures.clean
     (subst (λ (f : Fields). old.now.schema ≡ book_schema → Survives old new (λ db. GainsEntry (entries_in old.now.trees) (entries_in db) f)) fields c.insert.ensures.survives)
-    test (subst (λ (o : Opened g.row.S.Denot). FindsInDatabase (state g.S.Store o.conn) test) (sym c.self.view_is) finds)
+    test (subst (λ (o : Opened g.row.S.Denot). RecoverableFromDatabase (state g.S.Store o.conn) test) (sym c.self.view_is) finds)
     (subst (λ (o : Opened g.row.S.Denot). IsTrue (test (o.script ++ lines))) (sym c.self.view_is) passes)
 
 pub returns-clause-crash : goal.returns-clause-crash
@@ -40,7 +40,7 @@ returns-clause-crash g c = λ test finds passes.
     let fields = fields_are c.next_number-number.result (length acts + 1) a.first a.last e.added.now (option_map (λ t. t.now) e.who) (option_map (λ t. t.now) e.deed) (act_of a) lines c.next_number-number.ensures c.in_ok-act.ensures.act in
     finds_more old new acts (act_of a) book.contents.script.items lines c.requires.end c.in_ok-act.ensures.numbers (c.self.invariant.1 none) c.insert.ensures.clean
     (subst (λ (f : Fields). old.now.schema ≡ book_schema → Survives old new (λ db. GainsEntry (entries_in old.now.trees) (entries_in db) f)) fields c.insert.ensures.survives)
-    test (subst (λ (o : Opened g.row.S.Denot). FindsInDatabase (state g.S.Store o.conn) test) (sym c.self.view_is) finds)
+    test (subst (λ (o : Opened g.row.S.Denot). RecoverableFromDatabase (state g.S.Store o.conn) test) (sym c.self.view_is) finds)
     (subst (λ (o : Opened g.row.S.Denot). IsTrue (test (o.script ++ lines))) (sym c.self.view_is) passes)
 
 pub invariant_of-self-2 : goal.invariant_of-self-2

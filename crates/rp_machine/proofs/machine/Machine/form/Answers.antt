@@ -3,9 +3,9 @@ use Rattle.std.specs.Prelude.{IfSome, IfOk, IsNone}
 use Rattle.rp_command.specs.Views.{expression_of}
 use Rattle.rp_geometry.specs.sets.Shape.{shape_of_parts}
 use Rattle.rp_geometry.specs.sets.Sets.{SameMembers}
-use Rattle.rp_language.specs.Expression.{closed, first_unknown}
-use Rattle.rp_walks.specs.Walk.{first_tester}
-use Rattle.rp_walks.specs.Form.{form}
+use Rattle.rp_language.specs.Expression.{resolve_names, first_unknown}
+use Rattle.rp_semantics.specs.Walk.{first_tester}
+use Rattle.rp_semantics.specs.Form.{form}
 use Rattle.rp_model.specs.states.State.{parts_in, state_of_parts}
 use Rattle.rp_model.specs.states.Sound.{IsSound}
 use Rattle.rp_model.specs.commands.Parts.{shapes_of_parts}
@@ -27,7 +27,7 @@ returns-clause-makes c =
 pub returns-clause-members : goal.returns-clause-members
 returns-clause-members c =
     let e = expression_of c.args.region.now in
-    subst (λ (m : Running). IfOk c.form.result (λ f. SameMembers (shape_of_parts f) (closed (shapes_of_parts (parts_in m.state)) e))) c.self.view_is c.form.ensures.members
+    subst (λ (m : Running). IfOk c.form.result (λ f. SameMembers (shape_of_parts f) (resolve_names (shapes_of_parts (parts_in m.state)) e))) c.self.view_is c.form.ensures.members
 
 pub returns-clause-sound : goal.returns-clause-sound
 returns-clause-sound c = subst (λ (m : Running). IsSound (state_of_parts m.state)) c.self.view_is c.form.ensures.sound

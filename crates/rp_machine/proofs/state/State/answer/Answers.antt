@@ -1,14 +1,14 @@
 use Rattle.std.proofs.Common.{sym, ap, ◌∙◌, subst}
 use Rattle.std.specs.Prelude.{IfOk}
 use Rattle.rp_geometry.specs.parts.Parts.{IsPart}
-use Rattle.rp_walks.specs.Walk.{Work, first_tester}
+use Rattle.rp_semantics.specs.Walk.{Work, first_tester}
 use Rattle.rp_model.specs.commands.Row.{row}
 use Rattle.rp_model.specs.states.State.{PlainState, changed}
 use Rattle.rp_command.specs.Views.{command_of}
-use Rattle.rp_run_laws.proofs.Rows.{first_rows}
-use Rattle.rp_ledger.specs.Rows.{Replies}
-use Rattle.rp_ledger.specs.Taken.{IsTaken}
-use Rattle.rp_ledger.proofs.States.{reply_is_taken}
+use Rattle.rp_correctness.proofs.Rows.{first_rows}
+use Rattle.rp_register_state.specs.Rows.{Replies}
+use Rattle.rp_register_state.specs.Taken.{IsTaken}
+use Rattle.rp_register_state.proofs.States.{reply_is_taken}
 use Rattle.rp_machine.specs.Replies.{made_by, made_by_row, proofs_of_row}
 use Rattle.rp_machine.proofs.Told.{row_answered, row_changed}
 use Rattle.rp_machine.proofs.state.State.answer.Goals as goal

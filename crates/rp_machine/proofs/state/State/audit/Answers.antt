@@ -1,6 +1,6 @@
 use Rattle.std.proofs.Common.{List, sym, ap, ◌∙◌}
 use Rattle.std.proofs.lemmas.Result.{err_from_is_err_and}
-use Rattle.rp_walks.specs.Walk.{done}
+use Rattle.rp_semantics.specs.Walk.{done}
 use Rattle.rp_model.specs.commands.Verdict.{Verdict}
 use Rattle.rp_model.specs.commands.Reply.{reply_lines}
 use Rattle.rp_machine.proofs.state.State.audit.Goals as goal

@@ -3,16 +3,16 @@ use Rattle.std.proofs.lemmas.Int.{to_z-of_z}
 use Rattle.rp_geometry.specs.sections.Trace.{IsHeight}
 use Rattle.std.proofs.lemmas.Result.{err_from_is_err_and}
 use Rattle.rp_geometry.specs.sets.Shape.{Part}
-use Rattle.rp_walks.specs.Walk.{first_tester}
+use Rattle.rp_semantics.specs.Walk.{first_tester}
 use Rattle.rp_command.specs.Views.{command_of}
 use Rattle.rp_model.specs.commands.Row.{row}
 use Rattle.rp_model.specs.commands.Access.{row_access}
 use Rattle.rp_model.specs.commands.Audit.{row_audit}
 use Rattle.rp_model.specs.commands.Neighbours.{row_neighbours}
 use Rattle.rp_model.specs.commands.Section.{row_section}
-use Rattle.rp_ledger.specs.declared.reply.Row.{Row as CodeRow}
-use Rattle.rp_ledger.specs.Rows.{rest_of, IsReadyRow}
-use Rattle.rp_ledger.proofs.Told.{question_replied}
+use Rattle.rp_register_state.specs.declared.reply.Row.{Row as CodeRow}
+use Rattle.rp_register_state.specs.Rows.{rest_of, IsReadyRow}
+use Rattle.rp_register_state.proofs.Told.{question_replied}
 use Rattle.rp_machine.proofs.state.State.carry_out.Goals as goal
 
 pub returns-in_err-reply : goal.returns-in_err-reply

@@ -1,5 +1,5 @@
 use Rattle.std.proofs.Common.{List, []}
-use Rattle.rp_walks.specs.Walk.{first_tester}
+use Rattle.rp_semantics.specs.Walk.{first_tester}
 use Rattle.rp_model.specs.states.State.{Lot}
 use Rattle.rp_model.specs.commands.Cut.{row_cut}
 use Rattle.rp_history.specs.Lots.{lots_in}

@@ -1,5 +1,5 @@
 use Rattle.std.proofs.Common.{List, [], subst}
-use Rattle.rp_walks.specs.Walk.{first_tester}
+use Rattle.rp_semantics.specs.Walk.{first_tester}
 use Rattle.rp_model.specs.states.State.{Lot}
 use Rattle.rp_model.specs.commands.Neighbours.{row_neighbours}
 use Rattle.rp_model.specs.commands.Reply.{reply_lines}

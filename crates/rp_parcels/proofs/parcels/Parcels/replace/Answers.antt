@@ -7,7 +7,7 @@ use Rattle.rp_history.specs.Parts.{new_lots}
 use Rattle.rp_store.specs.Kept.{AreFew}
 use Rattle.rp_parcels.specs.Kept.{AreSound}
 use Rattle.rp_parcels.specs.Register.{IsLater}
-use Rattle.rp_ledger.proofs.Applied.{later_births}
+use Rattle.rp_register_state.proofs.Applied.{later_births}
 use Rattle.rp_parcels.proofs.Sizes.{sound_few}
 use Rattle.rp_parcels.proofs.Later.{later_after}
 use Rattle.rp_parcels.proofs.parcels.Parcels.replace.Goals as goal

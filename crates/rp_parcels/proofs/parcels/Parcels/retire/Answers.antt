@@ -1,7 +1,7 @@
 use Rattle.std.proofs.Common.{◌+◌, List, [], ◌∷◌, refl, sym, ap, ◌∙◌, subst}
 use Rattle.rp_model.specs.states.State.{Lot, lots_replaced}
 use Rattle.rp_history.specs.Lots.{lots_in, lots_after, AreBornBefore}
-use Rattle.rp_ledger.proofs.Applied.{later_births}
+use Rattle.rp_register_state.proofs.Applied.{later_births}
 use Rattle.rp_parcels.specs.Kept.{AreSound}
 use Rattle.rp_parcels.specs.Register.{IsLater}
 use Rattle.rp_parcels.proofs.Fits.{retire_is_fit, retire_accepted, retire_refused}

@@ -1,7 +1,7 @@
 use Rattle.std.proofs.Common.{List, [], map, refl, subst, arith}
 use Rattle.std.proofs.lemmas.List.{length-map}
 use Rattle.std.proofs.lemmas.Result.{err_from_is_err_and}
-use Rattle.rp_walks.specs.Walk.{first_tester}
+use Rattle.rp_semantics.specs.Walk.{first_tester}
 use Rattle.rp_model.specs.states.State.{Lot}
 use Rattle.rp_model.specs.commands.Subdivide.{row_subdivide}
 use Rattle.rp_region.proofs.Behind.{behind_tells}

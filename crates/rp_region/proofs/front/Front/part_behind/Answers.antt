@@ -1,7 +1,7 @@
 use Rattle.std.proofs.Common.{[], ◌∷◌, ◌++◌, ◌∙◌}
 use Rattle.std.proofs.lemmas.Result.{err_from_is_err_and}
 use Rattle.rp_geometry.specs.searches.ProofLine.{out_line, strict_line}
-use Rattle.rp_walks.specs.Walk.{part_test}
+use Rattle.rp_semantics.specs.Walk.{part_test}
 use Rattle.rp_region.proofs.Grows.{part_tells}
 use Rattle.rp_region.proofs.Left.{not_begun}
 use Rattle.rp_region.proofs.Tested.{no_points, no_part}

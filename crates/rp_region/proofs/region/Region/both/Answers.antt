@@ -1,8 +1,8 @@
 use Rattle.std.proofs.Common.{◌*◌, List, length, sym, ◌∙◌, subst}
 use Rattle.rp_geometry.specs.sets.Shape.{Shape, Part, shape_of_parts}
 use Rattle.rp_geometry.specs.parts.Parts.{IsPart, IsRegion, AreOf}
-use Rattle.rp_walks.specs.Walk.{count_tests, first_tester}
-use Rattle.rp_walks.specs.Form.{join_each}
+use Rattle.rp_semantics.specs.Walk.{count_tests, first_tester}
+use Rattle.rp_semantics.specs.Form.{join_each}
 use Rattle.rp_region.proofs.Members.{join_counted, joined_of}
 use Rattle.rp_region.proofs.region.Region.both.Goals as goal
 

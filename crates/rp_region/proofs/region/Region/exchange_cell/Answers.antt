@@ -1,8 +1,8 @@
 use Rattle.std.proofs.Common.{List, ap, refl, subst}
 use Rattle.std.proofs.lemmas.Result.{err_from_is_err_and}
 use Rattle.rp_geometry.specs.sets.Shape.{Part}
-use Rattle.rp_walks.specs.Walk.{first_tester}
-use Rattle.rp_walks.specs.Form.{exchange, exchange_lists}
+use Rattle.rp_semantics.specs.Walk.{first_tester}
+use Rattle.rp_semantics.specs.Form.{exchange, exchange_lists}
 use Rattle.rp_region.specs.Makes.{Makes}
 use Rattle.rp_region.proofs.Grows.{exchange_tells}
 use Rattle.rp_region.proofs.Left.{left_as, given_up, makes_left}

@@ -1,8 +1,8 @@
 use Rattle.std.proofs.Common.{List, sym, ◌∙◌, subst}
 use Rattle.rp_geometry.specs.sets.Shape.{Shape, Part, shape_of_parts}
 use Rattle.rp_geometry.specs.parts.Parts.{IsPart, IsRegion, AreOf}
-use Rattle.rp_walks.specs.Walk.{first_tester}
-use Rattle.rp_walks.specs.Form.{subtract}
+use Rattle.rp_semantics.specs.Walk.{first_tester}
+use Rattle.rp_semantics.specs.Form.{subtract}
 use Rattle.rp_region.proofs.Members.{left_of}
 use Rattle.rp_region.proofs.region.Region.into_minus.Goals as goal
 

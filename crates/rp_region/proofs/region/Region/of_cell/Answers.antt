@@ -3,9 +3,9 @@ use Rattle.std.proofs.lemmas.Result.{err_from_is_err_and}
 use Rattle.rp_geometry.specs.sets.Shape.{Part, shape_of_cell, shape_of_parts}
 use Rattle.rp_geometry.specs.sets.Sets.{SameMembers}
 use Rattle.rp_geometry.specs.parts.Parts.{IsPart, IsRegion}
-use Rattle.rp_walks.specs.Walk.{pass, part_test, first_tester}
-use Rattle.rp_walks.specs.Form.{made_part, parts_of_cell}
-use Rattle.rp_walks.specs.FormLaws.{IsMadeOf}
+use Rattle.rp_semantics.specs.Walk.{pass, part_test, first_tester}
+use Rattle.rp_semantics.specs.Form.{made_part, parts_of_cell}
+use Rattle.rp_semantics.specs.FormLaws.{IsMadeOf}
 use Rattle.rp_region.proofs.Grows.{part_tells, pass_tells}
 use Rattle.rp_region.proofs.Left.{all_left, next_left, given_up}
 use Rattle.rp_region.proofs.Members.{region_made}

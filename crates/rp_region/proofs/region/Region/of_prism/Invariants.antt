@@ -1,7 +1,7 @@
 use Rattle.std.proofs.Common.{drop}
 use Rattle.rp_geometry.specs.sets.Prism.{edges_of}
-use Rattle.rp_walks.specs.Walk.{first_tester}
-use Rattle.rp_walks.specs.Form.{exchange_edges, prism_form}
+use Rattle.rp_semantics.specs.Walk.{first_tester}
+use Rattle.rp_semantics.specs.Form.{exchange_edges, prism_form}
 use Rattle.rp_space.specs.Corners.{polygon_corners, prism_of}
 use Rattle.rp_region.proofs.Left.{IsLeft}
 use Rattle.rp_region.proofs.region.Region.of_prism.Given as goal

@@ -8,7 +8,7 @@ use Rattle.rp_geometry.specs.parts.LeastBox.{least_box}
 use Rattle.rp_geometry.specs.parts.Parts.{most_half_spaces, IsPart}
 use Rattle.rp_geometry.specs.parts.PartTest.{slimmed, part_of, side_lines}
 use Rattle.rp_geometry.specs.searches.ProofLine.{in_line, box_line}
-use Rattle.rp_walks.specs.Walk.{done, part_test}
+use Rattle.rp_semantics.specs.Walk.{done, part_test}
 use Rattle.rp_region.specs.Makes.{IsCutShort, telling}
 use Rattle.rp_region.proofs.Grows.{part_tells}
 use Rattle.rp_region.proofs.Left.{not_begun}

@@ -4,7 +4,7 @@ use Rattle.rp_geometry.specs.Geometry.{HalfSpace}
 use Rattle.rp_geometry.specs.sets.Shape.{shape_of_cell}
 use Rattle.rp_geometry.specs.sets.Sets.{IsEmpty}
 use Rattle.rp_geometry.specs.searches.Vertex.{first_inside}
-use Rattle.rp_walks.specs.Walk.{strict_test}
+use Rattle.rp_semantics.specs.Walk.{strict_test}
 use Rattle.rp_region.specs.Makes.{op_result, Makes}
 use Rattle.rp_region.proofs.work.Work.strict.Goals as goal
 

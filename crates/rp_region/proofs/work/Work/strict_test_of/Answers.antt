@@ -2,7 +2,7 @@ use Rattle.std.proofs.Common.{◌++◌}
 use Rattle.std.specs.Prelude.{None}
 use Rattle.std.proofs.lemmas.Result.{err_from_is_err_and}
 use Rattle.rp_geometry.specs.searches.ProofLine.{out_line}
-use Rattle.rp_walks.specs.Walk.{strict_test}
+use Rattle.rp_semantics.specs.Walk.{strict_test}
 use Rattle.rp_region.specs.Tells.{strict_tells}
 use Rattle.rp_region.proofs.Left.{not_begun}
 use Rattle.rp_region.proofs.Tested.{no_points, strict_told}

@@ -4,7 +4,7 @@ use Rattle.std.specs.Vec.Iter.{into_iter_items}
 use Rattle.std.proofs.lemmas.Result.{err_from_is_err_and}
 use Rattle.std.proofs.lemmas.List.{nil_from_length}
 use Rattle.rp_geometry.specs.searches.ProofLine.{in_line}
-use Rattle.rp_walks.specs.Walk.{with_lines}
+use Rattle.rp_semantics.specs.Walk.{with_lines}
 use Rattle.rp_cell.specs.Lines.{drop_line_of}
 use Rattle.rp_region.specs.Makes.{telling}
 use Rattle.rp_region.proofs.Left.{all_left, left_as}

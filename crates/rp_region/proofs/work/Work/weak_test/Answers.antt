@@ -2,7 +2,7 @@ use Rattle.std.proofs.Common.{◌∷◌, [], sym, ap, ◌∙◌}
 use Rattle.std.specs.Prelude.{Some, None}
 use Rattle.std.proofs.lemmas.Result.{err_from_is_err_and}
 use Rattle.rp_geometry.specs.searches.ProofLine.{at_line, apart_line}
-use Rattle.rp_walks.specs.Walk.{weak_test, with_lines}
+use Rattle.rp_semantics.specs.Walk.{weak_test, with_lines}
 use Rattle.rp_region.specs.Tells.{weak_tells}
 use Rattle.rp_region.proofs.Left.{not_begun}
 use Rattle.rp_region.proofs.Tested.{no_weak_point, weak_told}

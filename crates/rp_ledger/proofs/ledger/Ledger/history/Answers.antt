@@ -1,5 +1,0 @@
-use Rattle.rp_ledger.proofs.Known.{all_short}
-use Rattle.rp_ledger.proofs.ledger.Ledger.history.Goals as goal
-
-pub returns-clause-short : goal.returns-clause-short
-returns-clause-short g c = all_short c.args.self.now.lots c.keep_sound.ensures.lots_keep_parts

@@ -1,2 +1,0 @@
-pub mod Comes
-pub mod Short

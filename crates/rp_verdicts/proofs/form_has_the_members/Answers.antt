@@ -1,5 +1,0 @@
-use Rattle.rp_verdicts.proofs.Sound.{form_has_the_members_spec}
-use Rattle.rp_verdicts.proofs.form_has_the_members.Goals as goal
-
-pub returns : goal.returns
-returns c = form_has_the_members_spec

@@ -1,6 +1,0 @@
-use Rattle.rp_verdicts.proofs.Limits.{limit_comes_after_refusals}
-use Rattle.rp_verdicts.proofs.Right.{first_walks_are_right}
-use Rattle.rp_verdicts.proofs.limit_comes_after_refusals.Goals as goal
-
-pub returns : goal.returns
-returns c = limit_comes_after_refusals first_walks_are_right

@@ -1,5 +1,0 @@
-use Rattle.rp_verdicts.proofs.Lines.{line_tester_is_right_spec}
-use Rattle.rp_verdicts.proofs.line_tester_is_right.Goals as goal
-
-pub returns : goal.returns
-returns c = line_tester_is_right_spec

@@ -1,5 +1,0 @@
-use Rattle.rp_verdicts.proofs.Right.{line_walks_are_right}
-use Rattle.rp_verdicts.proofs.walks_on_lines_are_right.Goals as goal
-
-pub returns : goal.returns
-returns c = line_walks_are_right
