@@ -7,7 +7,7 @@ ghost use Rattle.rp_access.specs.Tests.{AreClose, IsCloseToAll, IsRight};
 use crate::links::Links;
 use crate::way::first_of_level;
 
-/// Whether both entries are there and differ by at most 1, or neither is there.
+/// Returns whether `own` and `other` are both levels that differ by at most 1, or both `None`.
 fn are_close(own: Option<u32>, other: Option<u32>) -> bool
     ensures { IsTrue result ↔ AreClose own other }
 {
@@ -20,7 +20,7 @@ fn are_close(own: Option<u32>, other: Option<u32>) -> bool
     }
 }
 
-/// Whether an entry is close to those of all these numbers.
+/// Returns whether `own` is close to the level of each of `numbers`, as [`are_close`] says.
 fn is_close_to_all(levels: &[Option<u32>], own: Option<u32>, numbers: &[u32]) -> bool
     requires { AreBelow (length levels.now) numbers.now }
     ensures { IsTrue result ↔ IsCloseToAll levels.now own numbers.now }
@@ -33,8 +33,8 @@ fn is_close_to_all(levels: &[Option<u32>], own: Option<u32>, numbers: &[u32]) ->
     true
 }
 
-/// Whether an entry is the level 0 exactly at the last number, and a level above 0 is one more than that of some of
-/// these numbers.
+/// Returns whether `own` is the level 0 iff `is_last`, and, if it is above 0, one more than the level of some of
+/// `numbers`.
 fn is_right(levels: &[Option<u32>], is_last: bool, own: Option<u32>, numbers: &[u32]) -> bool
     requires { AreBelow (length levels.now) numbers.now }
     ensures { IsTrue result ↔ IsRight levels.now is_last own numbers.now }
@@ -51,7 +51,7 @@ fn is_right(levels: &[Option<u32>], is_last: bool, own: Option<u32>, numbers: &[
     first_of_level(levels, level - 1, numbers).is_some()
 }
 
-/// Whether the four tests pass at one number, which is linked to these numbers.
+/// Returns whether the four tests pass at a number with the level `own` that is linked to `numbers`.
 fn passes_at(levels: &[Option<u32>], is_last: bool, own: Option<u32>, numbers: &[u32]) -> bool
     requires { AreBelow (length levels.now) numbers.now }
     ensures { IsTrue result ↔ (IsRight levels.now is_last own numbers.now × IsCloseToAll levels.now own numbers.now) }
@@ -59,9 +59,14 @@ fn passes_at(levels: &[Option<u32>], is_last: bool, own: Option<u32>, numbers: &
     is_right(levels, is_last, own, numbers) && is_close_to_all(levels, own, numbers)
 }
 
-/// Whether a list of levels passes four tests: the number `to` has the level 0 and no other has it; linked numbers both
-/// have a level or neither has; levels of linked numbers differ by at most 1; and each number of a level above 0 is
-/// linked to one of a level less by 1. Such a list is that of the levels. It takes no memory.
+/// Returns whether `levels` passes four tests:
+///
+/// - the number `to` has the level 0, and no other number has it;
+/// - linked numbers both have a level, or neither has;
+/// - levels of linked numbers differ by at most 1;
+/// - each number of a level above 0 is linked to a number of the level below.
+///
+/// A list that passes is the list of the levels. Takes no memory.
 pub fn check_levels(g: &Links, to: u32, levels: &[Option<u32>]) -> bool
     requires to_below { to < length g.now }
     requires as_many { length levels.now ≡ length g.now }

@@ -2,12 +2,15 @@
 //! Shortest chains over links between numbers (shortest paths in a graph), and the levels (distances) that show that
 //! they are shortest.
 //!
-//! [`Links`] are made link by link, or of pairs, and go both ways; where one fails for want of memory all are as they
-//! were. [`levels`] finds, by a search breadth first, how many steps the shortest chain from each number to one number
-//! has, and none exactly where there is no chain; they pass four tests. [`chain`] finds a shortest chain, which takes
-//! the first number that serves each time, and none exactly where there is none. [`check_levels`] says yes exactly
-//! where the four tests pass, whatever entries it is given; no command calls it, it is there for readers. Calls that
-//! answer `AllocError` do so only for want of memory.
+//! - [`Links`] are made link by link, or from pairs, and go both ways. If a link fails for want of memory, nothing has
+//!   changed.
+//! - [`levels`] finds, by a breadth-first search, the number of steps of the shortest chain from each number to one
+//!   number; `None` iff there is no chain. The levels pass four tests.
+//! - [`chain`] finds a shortest chain, `None` iff there is none. In each step it takes the first number that is one
+//!   level lower.
+//! - [`check_levels`] returns true iff the four tests pass, whatever entries it is given. No command calls it; it is
+//!   there for readers.
+//! - Calls that return `AllocError` do so only for want of memory.
 
 mod check;
 mod laws;

@@ -9,8 +9,7 @@ use crate::neighbours::Neighbours;
 use std::alloc::{AllocError, Global};
 use std::marker::Model;
 
-/// Which of the numbers from 0 to below a count are linked to each other: for each number the list of those that it is
-/// linked to. Links go both ways.
+/// The numbers from 0 to below a count, and the list of the numbers that each is linked to. Links go both ways.
 #[derive(Drop)]
 pub struct Links {
     lists: Vec<Neighbours>,
@@ -28,7 +27,11 @@ impl Model for Links {
 }
 
 impl Links {
-    /// The numbers from 0 to below `n`, none of them linked.
+    /// Returns the numbers from 0 to below `n` without links.
+    ///
+    /// # Errors
+    ///
+    /// `AllocError` for want of memory.
     pub fn new(alloc: Global, n: u32) -> Result<Links, AllocError>
         ensures { IfOk result (λ g. g ≡ replicate n []) }
     {
@@ -39,8 +42,12 @@ impl Links {
         Ok(Links { lists })
     }
 
-    /// The numbers from 0 to below `n`, of which the two of each of `pairs` are linked to each other. All numbers in
-    /// `pairs` are below `n`.
+    /// Returns the numbers from 0 to below `n`, with a link between the two of each of `pairs`. All numbers in `pairs`
+    /// are below `n`.
+    ///
+    /// # Errors
+    ///
+    /// `AllocError` for want of memory.
     pub fn from_pairs(alloc: Global, n: u32, pairs: &[(u32, u32)]) -> Result<Links, AllocError>
         requires { AllByRecursion (IsBelow n) pairs.now }
         ensures count { IfOk result (λ g. length g ≡ n) }
@@ -53,8 +60,8 @@ impl Links {
         Ok(links)
     }
 
-    /// Links `a` and `b`, both of them numbers that are there, to each other. After `AllocError` all links are as they
-    /// were.
+    /// Links `a` and `b` to each other. Both are below the count of the numbers. After `AllocError` nothing has
+    /// changed.
     pub fn join(&mut self, _alloc: Global, a: u32, b: u32) -> Result<(), AllocError>
         requires a_below { a < length self.old }
         requires b_below { b < length self.old }
@@ -71,7 +78,7 @@ impl Links {
         }
     }
 
-    /// How many numbers there are.
+    /// Returns the count of the numbers.
     pub(crate) fn count(&self) -> usize
         ensures count { result ≡ length self.now }
         ensures links { AreLinks self.now }
@@ -79,7 +86,7 @@ impl Links {
         self.lists.len()
     }
 
-    /// The numbers that a number is linked to.
+    /// Returns the numbers that `i` is linked to.
     pub(crate) fn linked_to(&self, i: usize) -> &[u32]
         requires { i < length self.now }
         ensures value { result.now ≡ linked_to self.now i }

@@ -19,7 +19,7 @@ impl Model for Neighbours {
 }
 
 impl Neighbours {
-    /// No numbers.
+    /// Returns an empty list.
     pub(crate) fn new(alloc: Global) -> Neighbours
         ensures { result ≡ [] }
     {
@@ -28,7 +28,7 @@ impl Neighbours {
         }
     }
 
-    /// Appends a number. After `AllocError` the numbers are as they were.
+    /// Appends a number. After `AllocError` nothing has changed.
     pub(crate) fn push(&mut self, number: u32) -> Result<(), AllocError>
         ensures ok { OnOk result (self.new ≡ self.old ++ number ∷ []) }
         ensures err { OnErr result (self.new ≡ self.old) }
@@ -37,14 +37,14 @@ impl Neighbours {
         Ok(())
     }
 
-    /// Takes the last number away.
+    /// Removes the last number.
     pub(crate) fn pop(&mut self) -> Option<u32>
         ensures { (ns : List ℕ) (n : ℕ) → self.old ≡ ns ++ n ∷ [] → self.new ≡ ns }
     {
         self.numbers.pop()
     }
 
-    /// The numbers in order.
+    /// Returns the numbers in order.
     pub(crate) fn numbers(&self) -> &[u32]
         ensures { result.now ≡ self.now }
     {

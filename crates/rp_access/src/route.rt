@@ -4,7 +4,8 @@ ghost use Rattle.std.specs.Prelude.{◌≡◌, IsOk, OnOk, OnErr, [], ◌∷◌,
 use std::alloc::{AllocError, Global};
 use std::marker::Model;
 
-/// A list of numbers that grows at its end. A contract sees its `items`, and in `spare` how many more it has room for.
+/// A list of numbers that grows at its end. A contract sees its `items`, and in `spare` the number of further items for
+/// which it has room.
 #[derive(Drop)]
 pub struct Route {
     numbers: Vec<u32>,
@@ -20,7 +21,7 @@ impl Model for Route {
 }
 
 impl Route {
-    /// The empty list, which keeps the allocator and takes no memory.
+    /// Returns the empty list, which stores the allocator. Takes no memory.
     pub fn new(alloc: Global) -> Route
         ensures { result.items ≡ [] }
     {
@@ -29,8 +30,8 @@ impl Route {
         }
     }
 
-    /// Appends a number. After `AllocError` the numbers are as they were. Where there is room to spare it succeeds, and
-    /// takes one place of it at most.
+    /// Appends a number. After `AllocError` the numbers are as they were. If there is room, the call succeeds and uses
+    /// at most one place of it.
     pub fn push(&mut self, number: u32) -> Result<(), AllocError>
         ensures ok { OnOk result (self.new.items ≡ self.old.items ++ number ∷ []) }
         ensures err { OnErr result (self.new.items ≡ self.old.items) }
@@ -41,7 +42,7 @@ impl Route {
         Ok(())
     }
 
-    /// Makes room for `n` more numbers. The numbers stay in any case.
+    /// Reserves room for `n` more numbers. The numbers do not change, even after `AllocError`.
     pub fn reserve(&mut self, n: usize) -> Result<(), AllocError>
         ensures items { self.new.items ≡ self.old.items }
         ensures ok { OnOk result (n ≤ self.new.spare) }
@@ -49,7 +50,7 @@ impl Route {
         self.numbers.reserve(n)
     }
 
-    /// The numbers in order.
+    /// Returns the numbers in order.
     pub fn items(&self) -> &[u32]
         ensures { result.now ≡ self.now.items }
     {

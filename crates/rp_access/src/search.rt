@@ -1,4 +1,4 @@
-//! The search for levels, breadth first.
+//! The breadth-first search for levels.
 ghost use Rattle.std.specs.Prelude.{◌≡◌, ◌<◌, length, IfOk, OnOk};
 ghost use Rattle.rp_access.specs.Chain.{AreLevels, PassesTests};
 ghost use Rattle.rp_access.specs.Searching.{AreBelow, reach, started};
@@ -7,7 +7,7 @@ use crate::links::Links;
 use std::alloc::{AllocError, Global};
 use std::marker::Model;
 
-/// The levels found so far, and the numbers that have one in the order in which they were reached.
+/// The levels found so far, and the numbers that have a level, in the order in which they were reached.
 #[derive(Drop)]
 struct Search {
     levels: Vec<Option<u32>>,
@@ -23,7 +23,7 @@ impl Model for Search {
 }
 
 impl Search {
-    /// Only the last number is reached, with the level 0.
+    /// Returns a search over `n` numbers that has reached `to` alone, with the level 0.
     fn new(alloc: Global, n: usize, to: u32) -> Result<Search, AllocError>
         requires { to < n }
         ensures { IfOk result (λ s. s ≡ started n to) }
@@ -35,7 +35,7 @@ impl Search {
         Ok(Search { levels, queue })
     }
 
-    /// Each of these numbers that has no level yet gets this one, and goes to the end of the queue.
+    /// Gives `level` to each of `numbers` that has no level yet, and appends it to the queue.
     fn reach(&mut self, numbers: &[u32], level: u32) -> Result<(), AllocError>
         requires { AreBelow (length self.old.levels) numbers.now }
         ensures { OnOk result (self.new ≡ reach level numbers.now self.old) }
@@ -50,9 +50,13 @@ impl Search {
     }
 }
 
-/// The level of each number: how many steps the shortest chain from it to `to` has, and `None` where no chain leads
-/// there. The list passes the four tests. It takes time linear in the links: each number is visited once, in the order
-/// in which it is reached.
+/// Returns the level of each number: the number of steps of the shortest chain from it to `to`; `None` iff there is no
+/// chain. The list passes the four tests. The time is linear in the links: each number is visited once, in the order in
+/// which it is reached.
+///
+/// # Errors
+///
+/// `AllocError` for want of memory.
 pub fn levels(alloc: Global, g: &Links, to: u32) -> Result<Vec<Option<u32>>, AllocError>
     requires { to < length g.now }
     ensures found { IfOk result (λ v. AreLevels g.now to v.items) }

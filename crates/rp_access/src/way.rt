@@ -1,4 +1,4 @@
-//! A shortest chain, which goes down the levels.
+//! The search for a shortest chain, along falling levels.
 ghost use Rattle.std.specs.Prelude.{◌≡◌, ◌<◌, ◌∷◌, [], ◌++◌, List, ℕ, length, IfOk, MatchOption};
 ghost use Rattle.rp_access.specs.Chain.{HasNoChain, IsRoute};
 ghost use Rattle.rp_access.specs.Searching.{AreBelow};
@@ -9,7 +9,7 @@ use crate::route::Route;
 use crate::search::levels;
 use std::alloc::{AllocError, Global};
 
-/// The lesser of a number and another, if there is one.
+/// Returns the lesser of `first` and `j`; `j` if there is no `first`.
 fn earlier(first: Option<u32>, j: u32) -> u32
     ensures { result ≡ earlier first j }
 {
@@ -19,7 +19,7 @@ fn earlier(first: Option<u32>, j: u32) -> u32
     }
 }
 
-/// The first number with the level among the numbers so far and one number more, whose level was found.
+/// Returns the first number with the level `level` among `first`, the result so far, and `j`, whose level is `found`.
 fn first_with(found: Option<u32>, level: u32, first: Option<u32>, j: u32) -> Option<u32>
     ensures { result ≡ first_with found level first j }
 {
@@ -35,7 +35,7 @@ fn first_with(found: Option<u32>, level: u32, first: Option<u32>, j: u32) -> Opt
     }
 }
 
-/// The first of the numbers that has the level, where there is one.
+/// Returns the first of `numbers` with the level `level`; `None` iff there is none.
 pub(crate) fn first_of_level(levels: &[Option<u32>], level: u32, numbers: &[u32]) -> Option<u32>
     requires { AreBelow (length levels.now) numbers.now }
     ensures { IsFirstAmong levels.now level numbers.now result }
@@ -47,9 +47,12 @@ pub(crate) fn first_of_level(levels: &[Option<u32>], level: u32, numbers: &[u32]
     first
 }
 
-/// A shortest chain along the links `g` from `from` to `to`, both of them numbers that are there; `None` exactly where
-/// there is no chain. Each time it goes on with the first number that is linked to the last one and has a level one
-/// less.
+/// Returns a shortest chain along the links `g` from `from` to `to`, both below the count of the numbers; `None` iff
+/// there is no chain. Each next number is the least that is linked to the number before and is one level lower.
+///
+/// # Errors
+///
+/// `AllocError` for want of memory.
 pub fn chain(alloc: Global, g: &Links, from: u32, to: u32) -> Result<Option<Route>, AllocError>
     requires from_below { from < length g.now }
     requires to_below { to < length g.now }

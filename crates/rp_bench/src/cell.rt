@@ -11,7 +11,7 @@ use std::io::{BufRead, BufReader, Read};
 /// The most half-spaces of a cell.
 const MOST_HALVES: usize = 64;
 
-/// The half-space of which a line asks whether it has a point.
+/// Returns the half-space of `line`, if it asks whether one half-space has a point.
 fn half_asked(line: &Line) -> Option<Half> {
     match line {
         Line::Cmd(Command::Empty(Expr::Half(half))) => Some(*half),
@@ -19,7 +19,7 @@ fn half_asked(line: &Line) -> Option<Half> {
     }
 }
 
-/// The half-space of a line that reads `empty half A B C D`.
+/// Returns the half-space of `line`, if it reads `empty half A B C D`.
 fn half_of_line(alloc: Global, line: &[u8]) -> Result<Option<Half>, AllocError> {
     let read = read_line(alloc, Version::One, line)?;
     let half = half_asked(&read);
@@ -27,7 +27,11 @@ fn half_of_line(alloc: Global, line: &[u8]) -> Result<Option<Half>, AllocError> 
     Ok(half)
 }
 
-/// The half-space of the line with this number. A line that has none is an error, which names it.
+/// Returns the half-space of `line`, which has the number `number`.
+///
+/// # Errors
+///
+/// An error that names the line if it has another form.
 fn half_at(alloc: Global, number: usize, line: &[u8]) -> Result<Half> {
     let Some(half) = half_of_line(alloc, line)? else {
         bail!("line {number} is not of the form: empty half A B C D")
@@ -35,8 +39,11 @@ fn half_at(alloc: Global, number: usize, line: &[u8]) -> Result<Half> {
     Ok(half)
 }
 
-/// The half-spaces of an input, one a line. A line that has none and a half-space past the 64th are errors, which name
-/// the line.
+/// Returns the half-spaces of `input`, one a line, at most 64.
+///
+/// # Errors
+///
+/// An error that names the line if it has another form, has a half-space after the 64th, or cannot be read.
 pub fn read_cell<R: Read + Drop>(alloc: Global, input: R) -> Result<Vec<Half>>
     ensures { IfOk result (λ cell. length cell.items ≤ 64) }
 {

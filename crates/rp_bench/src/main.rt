@@ -1,6 +1,7 @@
 #![tactic(auto)]
-//! Asks one search of one cell over and over, and prints what it found, so that `bench/run` can time a call. The words
-//! are a search and how often it is asked, as `inside 1000`. Other words and other lines end the program with status 1.
+//! Runs one search of one cell several times, and prints its result, so that `bench/run` can time a call. The arguments
+//! are a search and the number of its runs, as `inside 1000`. Other arguments and other lines end the program with
+//! status 1.
 
 mod cell;
 mod rounds;
@@ -15,14 +16,14 @@ use std::rt::Env;
 use std::{env, io};
 use task::read_task;
 
-/// The words behind the program's name.
+/// Returns the arguments after the program's name.
 fn words_of(rt: &(impl Env + AllocGlobal)) -> io::Result<Vec<String>> {
     let words = env::args(rt)?.skip(1).collect(rt.alloc())?;
     Ok(words)
 }
 
-/// Prints what a search found, as `inside 4` for four points, `outside 3` or `apart 3` for three terms, or `none`; and
-/// then the sum of these numbers over all rounds, as `total 4000`, which uses what each round found.
+/// Prints the result of a search: `inside 4` for four points, `outside 3` or `apart 3` for three terms, or `none`. Then
+/// it prints the sum of these numbers over all rounds, as `total 4000`, so that the result of each round is used.
 fn print_tally(rt: &impl Print, search: Search, tally: Tally) -> io::Result<()> {
     match tally.last {
         Some(size) => println!(rt; "{} {size}", search.word())?,

@@ -1,4 +1,4 @@
-//! Rounds in which the same search is asked of the same cell.
+//! Rounds that run the same search on the same cell.
 ghost use Rattle.std.specs.Prelude.{◌≡◌, ◌≤◌, ◌<◌, ◌*◌, length};
 ghost use Rattle.std.specs.Option.{unwrap_or};
 ghost use Rattle.rp_bench.specs.Found.{size_found};
@@ -6,16 +6,16 @@ ghost use Rattle.rp_bench.specs.Found.{size_found};
 use crate::task::Task;
 use rp_space::Half;
 
-/// What the rounds found.
+/// The results of the rounds.
 #[derive(Clone, Copy)]
 pub struct Tally {
-    /// The number of points or terms that the last round found, if it found some.
+    /// The number of points or terms that the last round found; `None` if it found none.
     pub last: Option<usize>,
     /// The sum of these numbers over all rounds.
     pub total: u64,
 }
 
-/// Asks the search of a task of a cell, which has at most 64 half-spaces, as often as the task says.
+/// Runs the search of `task` on `cell`, which has at most 64 half-spaces, as often as the task says.
 pub fn ask(task: &Task, cell: &[Half]) -> Tally
     requires few { length cell.now ≤ 64 }
     requires once { 0 < task.now.times }

@@ -1,4 +1,4 @@
-//! The searches that can be asked.
+//! The searches that can be run.
 ghost use Rattle.std.specs.Prelude.{◌≡◌, ◌≤◌, length, IfSome, Some};
 ghost use Rattle.rp_bench.specs.declared.search.Search.TheVariants.{Decide};
 ghost use Rattle.rp_bench.specs.Found.{search_of, size_found, word_of};
@@ -11,20 +11,20 @@ use rp_vertex::{first_inside, first_inside_over_triples};
 /// A search for a certificate of a cell.
 #[derive(Clone, Copy, Debug, PartialEq, Eq)]
 pub enum Search {
-    /// For the one or the other, as the program decides.
+    /// Whichever of the two the cell has, as the program decides.
     Decide,
-    /// For points that show that the cell has a point, over triples of planes.
+    /// Points that show that the cell has a point, over triples of planes.
     Inside,
-    /// For the same points, along the lines of two planes.
+    /// The same points as `Inside`, along the lines of two planes.
     Along,
-    /// For multiples of half-spaces that show that it has none.
+    /// Multiples of half-spaces that show that the cell has no point.
     Outside,
-    /// For multiples of half-spaces that show that its weak system has no point.
+    /// Multiples of half-spaces that show that the cell's weak system has no point.
     Apart,
 }
 
 impl Search {
-    /// The search of a word. `None` exactly where the word asks for none.
+    /// Returns the search of `word`; `None` iff `word` names none.
     pub fn of_word(word: &str) -> Option<Search>
         ensures { result ≡ search_of word.now }
     {
@@ -38,7 +38,7 @@ impl Search {
         }
     }
 
-    /// The word of a search.
+    /// Returns the word of a search.
     pub fn word(self) -> &'static str
         ensures { result.now ≡ word_of self }
     {
@@ -51,8 +51,8 @@ impl Search {
         }
     }
 
-    /// The number of points or terms that the search finds in a cell, which has at most 64 half-spaces. `None` where it
-    /// finds nothing.
+    /// Returns the number of points or terms that the search finds in `cell`, which has at most 64 half-spaces; `None`
+    /// iff it finds nothing.
     pub fn size_found(self, cell: &[Half]) -> Option<usize>
         requires { length cell.now ≤ 64 }
         ensures size { result ≡ size_found self cell.now }
@@ -68,7 +68,7 @@ impl Search {
     }
 }
 
-/// The number of points or terms of what decides whether a cell has a point.
+/// Returns the number of points or terms in the decision whether `cell`, of at most 64 half-spaces, has a point.
 fn size_decided(cell: &[Half]) -> usize
     requires { length cell.now ≤ 64 }
     ensures size { Some result ≡ size_found Decide cell.now }

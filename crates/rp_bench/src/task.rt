@@ -1,19 +1,23 @@
-//! The words of the command line.
+//! The arguments of the command line.
 ghost use Rattle.std.specs.Prelude.{◌<◌, IfOk};
 
 use crate::search::Search;
 use anyhow::{Context, Result, bail, ensure};
 
-/// What the words ask for.
+/// The request of the arguments.
 #[derive(Clone, Copy, Debug, PartialEq, Eq)]
 pub struct Task {
     /// The search.
     pub search: Search,
-    /// How often it is asked.
+    /// The number of its runs.
     pub times: u32,
 }
 
-/// How often a search is asked: a number from 1 to 4294967295.
+/// Returns the number of runs in `word`, from 1 to 4294967295.
+///
+/// # Errors
+///
+/// An error if `word` is not a number from 1 to 4294967295.
 fn read_times(word: &str) -> Result<u32>
     ensures { IfOk result (λ times. 0 < times) }
 {
@@ -24,7 +28,11 @@ fn read_times(word: &str) -> Result<u32>
     Ok(times)
 }
 
-/// The task of the words behind the program's name: a search, and how often it is asked. Other words are an error.
+/// Returns the task of `words`, the arguments after the program's name: a search and the number of its runs.
+///
+/// # Errors
+///
+/// An error if there are other arguments.
 pub fn read_task(words: &[String]) -> Result<Task>
     ensures { IfOk result (λ task. 0 < task.times) }
 {

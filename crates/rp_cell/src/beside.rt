@@ -1,4 +1,4 @@
-//! Decisions about a cell of which a front is held already.
+//! Decisions about a cell whose first half-spaces are stored already.
 ghost use Rattle.std.specs.Prelude.{◌≡◌, ◌+◌, ◌<◌, ◌≤◌, [], ◌∷◌, ◌++◌, true, length, IfSome, IsTrue, Some};
 ghost use Rattle.rp_geometry.specs.sets.Shape.{shape_of_cell};
 ghost use Rattle.rp_geometry.specs.sets.Sets.{IsEmpty};
@@ -13,9 +13,10 @@ use rp_elim::{first_outside_through, first_outside_with_last};
 use rp_space::{Half, Outside, keep_bounds};
 
 impl Held {
-    /// Whether the cell of `first` with `more` half-spaces behind its own has a point, as `decide_strict` answers: at
-    /// most 64 together. It is held here for that, in place of what was held before. Where one of `more` takes the last
-    /// point away, and it is not their last one, the others are held instead: what they share with `first` is copied.
+    /// Decides whether the cell of `first` with `more` half-spaces after its own has a point, as [`decide_strict`]
+    /// does. The cell has at most 64 half-spaces and replaces the stored one. If one of `more`, except their last, took
+    /// the last point away, the cell without that half-space is stored instead: the data that it shares with `first`
+    /// are copied.
     pub fn strict_beside(&mut self, first: &Held, more: &[Half]) -> Strict
         requires { length first.now + length more.now ≤ 64 }
         ensures decides { DecidesStrict (first.now ++ more.now) result }
@@ -31,8 +32,9 @@ impl Held {
         self.strict()
     }
 
-    /// The first outside certificate of the cell with `half` behind its own half-spaces, if it is seen that the cell
-    /// has a point, and `half` alone or with one other refutes. With `None` it isn't known whether there is a point.
+    /// Returns the first outside certificate of the cell with `half` after its own half-spaces, in one case: the
+    /// vertices show that the cell has a point, and `half` refutes alone or with one other. After `None` it is open
+    /// whether there is a point.
     pub fn refute_with_next(&self, half: &Half) -> Option<Outside>
         ensures { IfSome result (λ terms. out_line terms ≡ strict_line (self.now ++ half.now ∷ [])) }
     {
@@ -40,13 +42,13 @@ impl Held {
             return None;
         }
         let cell = self.halves();
-        // Only so that it is known of all half-spaces that they keep their bounds.
+        // The two calls make it known that all half-spaces keep their bounds.
         keep_bounds(cell);
         let _ = half.numbers();
         first_outside_with_last(cell, half, true)
     }
 
-    /// Holds the cell of `first` with `more` half-spaces behind its own: at most 64 together.
+    /// Stores the cell of `first` with `more` half-spaces after its own, at most 64 together.
     fn hold_behind(&mut self, first: &Held, more: &[Half])
         requires { length first.now + length more.now ≤ 64 }
         ensures { self.new ≡ first.now ++ more.now }
@@ -55,8 +57,9 @@ impl Held {
         self.extend(more);
     }
 
-    /// The first outside certificate of the cell of `first` and `more`, if the others have a point without the
-    /// half-space of `more` at a place. With `None` nothing is known.
+    /// Returns the first outside certificate of the cell of `first` and `more`, in one case: the vertices show that the
+    /// other half-spaces have a point without the one of `more` at `place`. After `None` it is open whether there is a
+    /// certificate.
     fn refute_through(&mut self, first: &Held, more: &[Half], place: usize) -> Option<Outside>
         requires few { length first.now + length more.now ≤ 64 }
         requires place { place < length more.now }
@@ -70,7 +73,7 @@ impl Held {
         if !self.has_point() {
             return None;
         }
-        // Only so that it is known of all half-spaces that they keep their bounds.
+        // The calls make it known that all half-spaces keep their bounds.
         keep_bounds(self.halves());
         keep_bounds(first.halves());
         keep_bounds(more);

@@ -1,4 +1,4 @@
-//! The least whole box round a cell, and what shows that the cell has nothing outside it.
+//! The least whole box around a cell, and the certificates that the cell has no member outside it.
 ghost use Rattle.std.specs.Prelude.{◌≡◌, ◌≤◌, [], ◌∷◌, ◌++◌, true, ◌||◌, length, map};
 ghost use Rattle.rp_geometry.specs.Geometry.{box_half_spaces, complement, cube_half_spaces, is_box_in_bounds, is_listed};
 ghost use Rattle.rp_geometry.specs.sets.Shape.{shape_of_cell};
@@ -17,18 +17,19 @@ use rp_space::{Half, IntBox, Outside, box_halves, cube, keep_bounds};
 /// A list of at most six outside certificates, one for a side of a box, which takes no memory.
 pub type SideProofs = Short<Outside, 6>;
 
-/// The least box of a cell, and what shows of its sides that no member lies beyond them.
+/// The least box of a cell, with certificates that no member is beyond its sides.
 #[derive(Drop)]
 pub struct Sides {
-    /// The least whole box that holds every member of the cell.
+    /// The least whole box that contains every member of the cell.
     pub bounds: IntBox,
-    /// For each side of the box that is neither in the cell nor one of the cube's, in the order of the sides, multiples
-    /// that show that the cell has no member outside it.
+    /// Certificates that the cell has no member outside a side of the box, in the order of the sides. There is one for
+    /// each side that is neither in the cell nor one of the cube's.
     pub proofs: SideProofs,
 }
 
-/// The least whole box round a cell that has a member: on each axis the greatest `lo` and the least `hi` with
-/// `lo <= x < hi` for all members. It is the box of the vertices. A cell has at most 64 half-spaces. Takes no memory.
+/// Returns the least whole box around `cell`, which has a member: on each axis the greatest `lo` and the least `hi`
+/// with `lo <= x < hi` for all members. It is the box of the vertices. `cell` has at most 64 half-spaces. Takes no
+/// memory.
 pub fn box_of(cell: &[Half]) -> IntBox
     requires few { length cell.now ≤ 64 }
     requires member { IsNonempty (shape_of_cell cell.now) }
@@ -36,14 +37,15 @@ pub fn box_of(cell: &[Half]) -> IntBox
     ensures least { IsLeastBox cell.now (integer_box result) }
     ensures bounds { is_box_in_bounds (integer_box result) ≡ true }
 {
-    // Only so that it is known of all half-spaces that they keep their bounds.
+    // The call makes it known that all half-spaces keep their bounds.
     keep_bounds(cell);
     Held::new(cell).bounds()
 }
 
-/// The least whole box round a cell that has a member, with the first outside certificate of the cell and the
-/// complement of a side for each side of the box, the lower and the upper one of x, of y and of z, that is neither in
-/// the cell nor one of the cube's. A cell has at most 32 half-spaces here. Takes no memory.
+/// Returns the least whole box around `cell`, which has a member, with certificates of its sides. The sides are the
+/// lower and the upper one of x, of y and of z. Each side that is neither in the cell nor one of the cube's has one:
+/// the first outside certificate of the cell and the complement of the side. `cell` has at most 32 half-spaces here.
+/// Takes no memory.
 pub fn sides_of(cell: &[Half]) -> Sides
     requires few { length cell.now ≤ 32 }
     requires member { IsNonempty (shape_of_cell cell.now) }
@@ -56,8 +58,8 @@ pub fn sides_of(cell: &[Half]) -> Sides
 }
 
 impl Held {
-    /// The least whole box round a slim cell of the cell, with its certificates, as `sides_of` answers: the box of the
-    /// vertices that are held.
+    /// Returns the least whole box around `slim`, a slim cell of this cell, with its certificates, as [`sides_of`]
+    /// does. It is the box of the stored vertices.
     pub fn sides(&self, slim: &[Half]) -> Sides
         requires few { length slim.now ≤ 32 }
         requires member { IsNonempty (shape_of_cell slim.now) }
@@ -67,14 +69,14 @@ impl Held {
         ensures bounds { is_box_in_bounds (integer_box result.bounds) ≡ true }
         ensures lines { map side_line_of result.proofs ≡ side_lines slim.now (box_half_spaces (least_box slim.now)) }
     {
-        // Only so that it is known of all half-spaces that they keep their bounds.
+        // The two calls make it known that all half-spaces keep their bounds.
         keep_bounds(self.halves());
         keep_bounds(slim);
         sides_in(slim, self.bounds())
     }
 }
 
-/// A box, which is the least round a cell that has a member, with the certificates of its sides, as `sides_of` answers.
+/// Returns `bounds`, the least box around `cell`, with the certificates of its sides, as [`sides_of`] does.
 fn sides_in(cell: &[Half], bounds: IntBox) -> Sides
     requires few { length cell.now ≤ 32 }
     requires member { IsNonempty (shape_of_cell cell.now) }
@@ -95,29 +97,29 @@ fn sides_in(cell: &[Half], bounds: IntBox) -> Sides
     Sides { bounds, proofs }
 }
 
-/// Whether a side of a box is one of the half-spaces of a cell or of the domain cube.
+/// Returns whether `side` is one of the half-spaces of `cell` or of the domain cube.
 fn is_given(cell: &[Half], side: &Half) -> bool
     ensures { result ≡ (is_listed side.now cell.now || is_listed side.now cube_half_spaces) }
 {
     is_listed(side, cell) || is_listed(side, &cube())
 }
 
-/// Whether a half-space stands in a list.
+/// Returns whether `half` is one of `halves`.
 fn is_listed(half: &Half, halves: &[Half]) -> bool
     ensures { result ≡ is_listed half.now halves.now }
 {
     halves.iter().any(|other| half == other)
 }
 
-/// The multiples that show that no member of a cell lies outside a half-space. Since the cell has members, the search
-/// is through the complement of the half-space.
+/// Returns the multiples that show that no member of `cell` is outside `side`. The cell has members, so each refutation
+/// contains the complement of `side`.
 fn side_proof(cell: &[Half], side: &Half) -> Outside
     requires few { length cell.now ≤ 63 }
     requires member { IsNonempty (shape_of_cell cell.now) }
     requires none { IsEmpty (shape_of_cell (cell.now ++ complement side.now ∷ [])) }
     ensures { result ≡ outside_terms true (cell.now ++ complement side.now ∷ []) }
 {
-    // Only so that it is known of all half-spaces that they keep their bounds.
+    // The call makes it known that all half-spaces keep their bounds.
     keep_bounds(cell);
     first_outside_through(cell, &side.not(), &[], true).unwrap()
 }

@@ -1,4 +1,4 @@
-//! Whether a cell has a point, and whether its weak system has one.
+//! Decisions whether a cell has a point, and whether its weak system has one.
 ghost use Rattle.std.specs.Prelude.{◌≡◌, ◌≤◌, ◌++◌, true, false, length, IsTrue, IfSome, Some};
 ghost use Rattle.rp_geometry.specs.Geometry.{RationalPoint, with_cube};
 ghost use Rattle.rp_geometry.specs.sets.Shape.{shape_of_cell};
@@ -17,22 +17,22 @@ use rp_elim::{first_outside, first_outside_between, first_outside_of_two};
 use rp_space::{Half, Inside, Outside, Point, keep_bounds};
 use rp_vertex::{first_inside, first_weak, inside_on_few_lines, weak_on_few_lines};
 
-/// Whether a cell has a point.
+/// The decision whether a cell has a point.
 #[derive(Drop)]
 pub enum Strict {
-    /// It has one: an average of these points is strictly inside.
+    /// There is a point: an average of these points is strictly inside.
     Inside(Inside),
-    /// It has none: these multiples of its half-spaces and the cube's add up to a contradiction.
+    /// There is no point: these multiples of the cell's half-spaces and the cube's add up to a contradiction.
     Outside(Outside),
 }
 
-/// Whether the weak system of a cell has a point: one of the closed cube at which no half-space of the cell is
-/// negative. Where the cell has a point, these are its closure.
+/// The decision whether the weak system of a cell has a point: a point of the closed cube at which no half-space of the
+/// cell is negative. If the cell has a point, these points are its closure.
 #[derive(Drop)]
 pub enum Weak {
-    /// It has this one.
+    /// There is a point: this one.
     At(Point),
-    /// It has none: these multiples of its half-spaces and the cube's add up to a contradiction.
+    /// There is no point: these multiples of the cell's half-spaces and the cube's add up to a contradiction.
     Outside(Outside),
 }
 
@@ -40,15 +40,16 @@ pub enum Weak {
 /// as fast.
 const FEW_FOR_PAIRS: usize = 7;
 
-/// The fewest half-spaces of a cell that is held with its vertices to be decided: with fewer the searches are as fast.
+/// The fewest half-spaces of a cell that is stored with its vertices to be decided: with fewer the searches are as
+/// fast.
 const FEW: usize = 10;
 
-/// The fewest half-spaces of a cell whose points are sought on polygons before all else, as long as its first plane has
-/// a vertex.
+/// The fewest half-spaces of a cell whose points are searched on polygons first, as long as its first plane has a
+/// vertex.
 const MANY: usize = 16;
 
-/// Whether a cell has a point: the first inside certificate exactly where it has one, else the first outside
-/// certificate. There always is one of the two (Motzkin's theorem of the alternative). A cell has at most 64
+/// Decides whether `cell` has a point. Returns the first inside certificate if it has one, otherwise the first outside
+/// certificate. There always is one of the two (Motzkin's theorem of the alternative). `cell` has at most 64
 /// half-spaces. Takes no memory.
 pub fn decide_strict(cell: &[Half]) -> Strict
     requires { length cell.now ≤ 64 }
@@ -61,8 +62,8 @@ pub fn decide_strict(cell: &[Half]) -> Strict
     }
 }
 
-/// Whether a cell has a point, as `decide_strict` answers, where that is found without its vertices; with `None` it is
-/// left open. A cell has at most 64 half-spaces. Takes no memory.
+/// Decides whether `cell` has a point, as [`decide_strict`] does, if it needs no stored vertices for it; otherwise
+/// returns `None`. `cell` has at most 64 half-spaces. Takes no memory.
 pub fn try_decide_strict(cell: &[Half]) -> Option<Strict>
     requires { length cell.now ≤ 64 }
     ensures decides { IfSome result (λ found. DecidesStrict cell.now found) }
@@ -80,8 +81,8 @@ pub fn try_decide_strict(cell: &[Half]) -> Option<Strict>
     }
 }
 
-/// The strict decision of `cell`, by a refutation by two half-spaces where there is one, and by few further searches.
-/// With `None` it is left to its vertices.
+/// Decides whether `cell` has a point, by a refutation by at most two half-spaces, otherwise by few further searches.
+/// After `None` the vertices are needed. `cell` has at most 64 half-spaces.
 fn refute_soon(cell: &[Half]) -> Option<Strict>
     requires { length cell.now ≤ 64 }
     ensures decides { IfSome result (λ found. DecidesStrict cell.now found) }
@@ -96,8 +97,8 @@ fn refute_soon(cell: &[Half]) -> Option<Strict>
     try_strict(cell)
 }
 
-/// The strict decision of `cell`, by a search on a few lines, and over vertices where one of the points is on none of
-/// them.
+/// Decides whether `cell` has a point, by a search on a few lines. After `None` the vertices are needed. `cell` has at
+/// most 64 half-spaces.
 fn try_strict(cell: &[Half]) -> Option<Strict>
     requires { length cell.now ≤ 64 }
     ensures decides { IfSome result (λ found. DecidesStrict cell.now found) }
@@ -109,7 +110,8 @@ fn try_strict(cell: &[Half]) -> Option<Strict>
     }
 }
 
-/// The strict decision of `cell`, over vertices. It is apart so that nobody else makes room for them.
+/// Decides whether `cell`, of at most 64 half-spaces, has a point, over stored vertices. It is a function of its own so
+/// that no other function makes room for them.
 pub fn decide_by_vertices(cell: &[Half]) -> Strict
     requires { length cell.now ≤ 64 }
     ensures decides { DecidesStrict cell.now result }
@@ -118,7 +120,7 @@ pub fn decide_by_vertices(cell: &[Half]) -> Strict
     Held::new(cell).strict()
 }
 
-/// The strict decision of `cell`, by a search over the vertices in their order.
+/// Decides whether `cell`, of at most 64 half-spaces, has a point, by a search over the vertices in their order.
 pub(crate) fn search_strict(cell: &[Half]) -> Strict
     requires { length cell.now ≤ 64 }
     ensures decides { DecidesStrict cell.now result }
@@ -130,9 +132,9 @@ pub(crate) fn search_strict(cell: &[Half]) -> Strict
     }
 }
 
-/// Whether the weak system of a cell has a point: the first weak point exactly where it has one, else the first outside
-/// certificate that is not strict. There always is one of the two (Farkas' lemma). A cell has at most 64 half-spaces.
-/// Takes no memory.
+/// Decides whether the weak system of `cell` has a point. Returns the first weak point if it has one, otherwise the
+/// first outside certificate that is not strict. There always is one of the two (Farkas' lemma). `cell` has at most 64
+/// half-spaces. Takes no memory.
 pub fn decide_weak(cell: &[Half]) -> Weak
     requires { length cell.now ≤ 64 }
     ensures decides { DecidesWeak cell.now result }
@@ -144,8 +146,8 @@ pub fn decide_weak(cell: &[Half]) -> Weak
     }
 }
 
-/// Whether the weak system of a cell has a point, as `decide_weak` answers, where that is found without the cell's
-/// vertices; with `None` it is left open. A cell has at most 64 half-spaces. Takes no memory.
+/// Decides whether the weak system of `cell` has a point, as [`decide_weak`] does, if it needs no stored vertices for
+/// it; otherwise returns `None`. `cell` has at most 64 half-spaces. Takes no memory.
 pub fn weak_soon(cell: &[Half]) -> Option<Weak>
     requires { length cell.now ≤ 64 }
     ensures decides { IfSome result (λ found. DecidesWeak cell.now found) }
@@ -160,8 +162,9 @@ pub fn weak_soon(cell: &[Half]) -> Option<Weak>
     }
 }
 
-/// The first weak point of a cell, if it is where it is sought first: on a few lines, or on the polygon of the first
-/// plane of a large cell. `None` tells nothing. In small cells a point is not sought so.
+/// Returns the first weak point of `cell`, if a first short search finds it: on a few lines, or on the polygon of the
+/// first plane of a large cell. After `None` it is open whether there is one. In cells of fewer than 10 half-spaces it
+/// does not search. `cell` has at most 64 half-spaces.
 fn point_soon(cell: &[Half]) -> Option<Point>
     requires { length cell.now ≤ 64 }
     ensures first { IfSome result (λ p. first_weak_point cell.now ≡ Some p) }
@@ -176,14 +179,14 @@ fn point_soon(cell: &[Half]) -> Option<Point>
     weak_on_polygon(cell)
 }
 
-/// The weak decision of `cell`, by a refutation by two half-spaces where there is one, and by few further searches.
-/// With `None` it is left to its vertices.
+/// Decides whether the weak system of `cell` has a point, by a refutation by at most two half-spaces, otherwise by few
+/// further searches. After `None` the vertices are needed. `cell` has at most 64 half-spaces.
 fn refute_weak_soon(cell: &[Half]) -> Option<Weak>
     requires { length cell.now ≤ 64 }
     ensures decides { IfSome result (λ found. DecidesWeak cell.now found) }
     ensures line { IfSome result (λ found. line_of_weak found ≡ weak_line cell.now) }
 {
-    // Only so that it is known of all half-spaces that they keep their bounds.
+    // The call makes it known that all half-spaces keep their bounds.
     keep_bounds(cell);
     if let Some(terms) = first_outside_of_two(cell, false) {
         return Some(Weak::Outside(terms));
@@ -197,8 +200,8 @@ fn refute_weak_soon(cell: &[Half]) -> Option<Weak>
     try_weak(cell)
 }
 
-/// The weak decision of `cell`, by a search on a few lines of one plane, and over vertices where the first point is on
-/// none of them.
+/// Decides whether the weak system of `cell` has a point, by a search on a few lines of one plane. After `None` the
+/// vertices are needed. `cell` has at most 64 half-spaces.
 fn try_weak(cell: &[Half]) -> Option<Weak>
     requires { length cell.now ≤ 64 }
     ensures decides { IfSome result (λ found. DecidesWeak cell.now found) }
@@ -210,7 +213,8 @@ fn try_weak(cell: &[Half]) -> Option<Weak>
     }
 }
 
-/// The weak decision of `cell`, over vertices. It is apart so that nobody else makes room for them.
+/// Decides whether the weak system of `cell`, of at most 64 half-spaces, has a point, over stored vertices. It is a
+/// function of its own so that no other function makes room for them.
 pub fn hold_weak(cell: &[Half]) -> Weak
     requires { length cell.now ≤ 64 }
     ensures decides { DecidesWeak cell.now result }
@@ -219,7 +223,8 @@ pub fn hold_weak(cell: &[Half]) -> Weak
     Held::new(cell).weak()
 }
 
-/// The weak decision of `cell`, by a search over the vertices in their order.
+/// Decides whether the weak system of `cell`, of at most 64 half-spaces, has a point, by a search over the vertices in
+/// their order.
 pub(crate) fn search_weak(cell: &[Half]) -> Weak
     requires { length cell.now ≤ 64 }
     ensures decides { DecidesWeak cell.now result }
@@ -231,8 +236,9 @@ pub(crate) fn search_weak(cell: &[Half]) -> Weak
     }
 }
 
-/// The first outside certificate of a cell where it has at most two terms: then the cell has no point. With `None` that
-/// is not known. Nothing else is searched for. A cell has at most 64 half-spaces. Takes no memory.
+/// Returns the first outside certificate of `cell` if it has at most two terms. Then the cell has no point. After
+/// `None` it is open whether it has one; no other certificate is searched for. `cell` has at most 64 half-spaces. Takes
+/// no memory.
 pub fn refute_by_two(cell: &[Half]) -> Option<Outside>
     requires { length cell.now ≤ 64 }
     ensures found { result ≡ first_of_two true (with_cube cell.now) }
@@ -241,40 +247,41 @@ pub fn refute_by_two(cell: &[Half]) -> Option<Outside>
     ensures empty { IfSome result (λ _. IsEmpty (shape_of_cell cell.now)) }
     ensures line { IfSome result (λ terms. out_line terms ≡ strict_line cell.now) }
 {
-    // Only so that it is known of all half-spaces that they keep their bounds.
+    // The call makes it known that all half-spaces keep their bounds.
     keep_bounds(cell);
     first_outside_of_two(cell, true)
 }
 
-/// The first outside certificate of two cells together, each of which has a point, where it has at most two terms: then
-/// they share no point. With `None` that is not known. Only one half-space of the first with one of the second may
-/// refute, so the cells need not be joined. They have at most 64 half-spaces together. Takes no memory.
+/// Returns the first outside certificate of `first` and `second` together if it has at most two terms. Then they share
+/// no point. After `None` it is open whether they do. Each of the two cells has a point. So only one half-space of
+/// `first` with one of `second` may refute, and the cells need not be joined. Takes no memory.
 pub fn refute_between(first: &[Half], second: &[Half]) -> Option<Outside>
     requires first { IsNonempty (shape_of_cell first.now) }
     requires second { IsNonempty (shape_of_cell second.now) }
     ensures { IfSome result (λ terms. out_line terms ≡ strict_line (first.now ++ second.now)) }
 {
-    // Only so that it is known of all half-spaces that they keep their bounds.
+    // The two calls make it known that all half-spaces keep their bounds.
     keep_bounds(first);
     keep_bounds(second);
     first_outside_between(first, second, true)
 }
 
-/// The first outside certificate of the weak systems of two cells together, each of which has a point, where it has at
-/// most two terms: then they are not in contact. With `None` that is not known. Takes no memory.
+/// Returns the first outside certificate of the weak systems of `first` and `second` together if it has at most two
+/// terms. Then they are not in contact. After `None` it is open whether they are. Each of the two cells has a point.
+/// Takes no memory.
 pub fn refute_weak_between(first: &[Half], second: &[Half]) -> Option<Outside>
     requires first { IsNonempty (shape_of_cell first.now) }
     requires second { IsNonempty (shape_of_cell second.now) }
     ensures { IfSome result (λ terms. apart_line terms ≡ weak_line (first.now ++ second.now)) }
 {
-    // Only so that it is known of all half-spaces that they keep their bounds.
+    // The two calls make it known that all half-spaces keep their bounds.
     keep_bounds(first);
     keep_bounds(second);
     first_outside_between(first, second, false)
 }
 
-/// The first outside certificate of a cell that is known to have no point. Points are not searched for.
-/// A cell has at most 64 half-spaces. Takes no memory.
+/// Returns the first outside certificate of `cell`, which has no point. It searches for no points. `cell` has at most
+/// 64 half-spaces. Takes no memory.
 pub fn refute_strict(cell: &[Half]) -> Outside
     requires few { length cell.now ≤ 64 }
     requires empty { IsEmpty (shape_of_cell cell.now) }
@@ -286,8 +293,8 @@ pub fn refute_strict(cell: &[Half]) -> Outside
     first_outside(cell, true).unwrap()
 }
 
-/// The first outside certificate that is not strict of a cell whose weak system is known to have no point. Points are
-/// not searched for. A cell has at most 64 half-spaces. Takes no memory.
+/// Returns the first outside certificate, not strict, of `cell`, whose weak system has no point. It searches for no
+/// points. `cell` has at most 64 half-spaces. Takes no memory.
 pub fn refute_weak(cell: &[Half]) -> Outside
     requires few { length cell.now ≤ 64 }
     requires empty { (p : RationalPoint) → ¬ IsSolution false cell.now p }

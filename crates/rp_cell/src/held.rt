@@ -1,4 +1,4 @@
-//! Cells held with their vertices.
+//! Cells stored with their vertices.
 ghost use Rattle.std.specs.Prelude.{◌≡◌, ◌+◌, ◌<◌, ◌≤◌, [], ◌∷◌, ◌++◌, true, false, length, Some, IsTrue, IfOk, IfSome, map};
 ghost use Rattle.rp_geometry.specs.Geometry.{RationalPoint, is_box_in_bounds};
 ghost use Rattle.rp_geometry.specs.parts.LeastBox.{least_box};
@@ -19,22 +19,25 @@ use rp_space::{Half, IntBox, Outside, System, joined};
 use rp_vertex::{box_of_points, box_of_vertices};
 use std::marker::Model;
 
-/// Room for all vertices of a cell of 64 half-spaces in the cube: a body of 70 faces has at most 136 (Euler).
+/// Room for all vertices of a cell of 64 half-spaces in the cube: a body of 70 faces has at most 136 by Euler's
+/// formula.
 const ROOM: usize = 136;
 
-/// A cell of at most 64 half-spaces, held with its vertices, so that what is asked of it, and of it with further
-/// half-spaces, need not search for them. A contract sees the list of its half-spaces. Takes no memory. It is large:
-/// `hold` serves better than a new one.
+/// A cell of at most 64 half-spaces, stored with its vertices. So decisions about it, and about it with further
+/// half-spaces, need no search for them. A contract sees the list of its half-spaces. It takes no memory. It is large:
+/// use [`Held::hold`] instead of a new one.
 #[derive(Drop)]
 pub struct Held {
     cell: System,
     clip: Clip<ROOM>,
-    /// Whether the clip has the whole cell: else one of the half-spaces would have made too many vertices for it.
+    /// Whether the clip has the whole cell. Otherwise one of the half-spaces would have made too many vertices for it.
     whole: bool,
-    /// So many half-spaces from the front have a common point, if this is not 0. Where the cell has none, the next one
-    /// is likely to be in all refutations, and is where it is the last one.
+    /// The number of half-spaces, from the first on, that have a common point, as far as is known; otherwise 0. If the
+    /// cell has no point, the next half-space is likely to be in all refutations, and it is in all if it is the last
+    /// one.
     inner: usize,
-    /// So many half-spaces from the front have a common point of their weak systems. Only a hint of the same kind.
+    /// The number of half-spaces, from the first on, whose weak systems have a common point. It is only a hint, as
+    /// `inner` is.
     closed: usize,
 }
 
@@ -51,7 +54,7 @@ impl Model for Held {
 }
 
 impl Held {
-    /// The cell, which has at most 64 half-spaces.
+    /// Returns `cell`, which has at most 64 half-spaces, with its vertices.
     pub fn new(cell: &[Half]) -> Held
         requires { length cell.now ≤ 64 }
         ensures { result ≡ cell.now }
@@ -67,7 +70,7 @@ impl Held {
         held
     }
 
-    /// Holds another cell, which has at most 64 half-spaces.
+    /// Stores `cell`, which has at most 64 half-spaces, in place of the stored cell.
     pub fn hold(&mut self, cell: &[Half])
         requires { length cell.now ≤ 64 }
         ensures { self.new ≡ cell.now }
@@ -80,7 +83,7 @@ impl Held {
         self.extend(cell);
     }
 
-    /// The cell with further half-spaces behind its own: at most 64 together.
+    /// Returns the cell with `more` half-spaces after its own, at most 64 together.
     pub fn with(&self, more: &[Half]) -> Held
         requires { length self.now + length more.now ≤ 64 }
         ensures { result ≡ self.now ++ more.now }
@@ -90,7 +93,7 @@ impl Held {
         held
     }
 
-    /// A copy of the held cell.
+    /// Returns a copy of the stored cell.
     pub fn copy(&self) -> Held
         ensures { result ≡ self.now }
     {
@@ -103,7 +106,7 @@ impl Held {
         }
     }
 
-    /// Holds the same cell as another. Copies the vertices that are there, and not all the room for them.
+    /// Stores the cell of `other`. Copies its vertices, and not the unused room for more.
     pub fn copy_from(&mut self, other: &Held)
         ensures { self.new ≡ other.now }
     {
@@ -114,7 +117,7 @@ impl Held {
         self.closed = other.closed;
     }
 
-    /// Puts further half-spaces behind those of the cell: at most 64 together.
+    /// Appends `more` half-spaces to those of the cell, at most 64 together.
     pub fn extend(&mut self, more: &[Half])
         requires { length self.old + length more.now ≤ 64 }
         ensures { self.new ≡ self.old ++ more.now }
@@ -124,7 +127,7 @@ impl Held {
         }
     }
 
-    /// Puts a half-space behind those of the cell, of which there are fewer than 64.
+    /// Appends `half` to the half-spaces of the cell, of which there are fewer than 64.
     pub fn push(&mut self, half: Half)
         requires { length self.old < 64 }
         ensures { self.new ≡ self.old ++ half ∷ [] }
@@ -134,7 +137,7 @@ impl Held {
         self.note_point();
     }
 
-    /// Puts a half-space behind those of the cell.
+    /// Appends `half` to the half-spaces of the cell, of which there are fewer than 64, and clips its vertices.
     fn add(&mut self, half: Half)
         requires { length self.old < 64 }
         ensures { self.new ≡ self.old ++ half ∷ [] }
@@ -143,7 +146,7 @@ impl Held {
         self.whole = add_if(self.whole, &mut self.clip, half);
     }
 
-    /// Notes whether the weak system of the cell has a point still.
+    /// Records whether the weak system of the cell still has a point.
     fn note_weak_point(&mut self)
         ensures { self.new ≡ self.old }
     {
@@ -152,7 +155,7 @@ impl Held {
         }
     }
 
-    /// Notes whether the cell has a point still.
+    /// Records whether the cell still has a point.
     fn note_point(&mut self)
         ensures { self.new ≡ self.old }
     {
@@ -161,8 +164,9 @@ impl Held {
         }
     }
 
-    /// The place, behind so many half-spaces, of the one of `count` there that took the last point of the cell away.
-    /// `None` where the cell has a point, or another one took it, or the last of them.
+    /// Returns the place, among the `count` half-spaces after the first `behind`, of the half-space that took the last
+    /// point of the cell away. Returns `None` if the cell has a point, or a half-space outside these took it, or the
+    /// last of them.
     pub(crate) fn taker(&self, behind: usize, count: usize) -> Option<usize>
         ensures { IfSome result (λ place. place < count) }
     {
@@ -176,7 +180,7 @@ impl Held {
         Some(place)
     }
 
-    /// The half-spaces in order.
+    /// Returns the half-spaces in order, at most 64.
     pub fn halves(&self) -> &[Half]
         ensures value { result.now ≡ self.now }
         ensures few { length result.now ≤ 64 }
@@ -184,21 +188,22 @@ impl Held {
         self.cell.as_slice()
     }
 
-    /// Whether the vertices show that the cell has a point.
+    /// Returns true only if the cell has a point, as the vertices show.
     pub(crate) fn has_point(&self) -> bool
         ensures { result ≡ true → IsNonempty (shape_of_cell self.now) }
     {
         self.whole && self.clip.has_inside()
     }
 
-    /// Whether the vertices show that the weak system of the cell has a point.
+    /// Returns true only if the weak system of the cell has a point, as the vertices show.
     pub(crate) fn has_weak_point(&self) -> bool
         ensures { result ≡ true → (p : RationalPoint) × IsSolution false self.now p }
     {
         self.whole && self.clip.first_weak().is_some()
     }
 
-    /// Whether the vertices show that a point of a half-space's plane lies strictly inside all others of the cell.
+    /// Returns true only if a point of the plane of the half-space at `place` is strictly inside all others of the
+    /// cell, as the vertices show.
     pub(crate) fn has_side(&self, place: usize) -> bool
         requires { place < length self.now }
         ensures { result ≡ true → HasSide self.now place }
@@ -206,7 +211,7 @@ impl Held {
         self.whole && self.clip.has_side(place)
     }
 
-    /// The least whole box round the cell, if it has a member: the box of its vertices.
+    /// Returns the least whole box around the cell, if it has a member: the box of its vertices.
     pub(crate) fn bounds(&self) -> IntBox
         ensures value { integer_box result ≡ least_box self.now }
         ensures bounds { is_box_in_bounds (integer_box result) ≡ true }
@@ -217,7 +222,7 @@ impl Held {
         box_of_points(self.clip.corners())
     }
 
-    /// Whether the cell has a point, as `decide_strict` answers.
+    /// Decides whether the cell has a point, as [`decide_strict`] does.
     pub fn strict(&self) -> Strict
         ensures decides { DecidesStrict self.now result }
         ensures line { line_of_strict result ≡ strict_line self.now }
@@ -231,7 +236,7 @@ impl Held {
         }
     }
 
-    /// The first outside certificate of the cell, which is known to have no point.
+    /// Returns the first outside certificate of the cell, which has no point.
     fn refute(&self) -> Outside
         requires { IsEmpty (shape_of_cell self.now) }
         ensures first { first_outside true self.now ≡ Some result }
@@ -245,7 +250,7 @@ impl Held {
         refute_last(cell)
     }
 
-    /// Whether the weak system of the cell has a point, as `decide_weak` answers.
+    /// Decides whether the weak system of the cell has a point, as [`decide_weak`] does.
     pub fn weak(&self) -> Weak
         ensures decides { DecidesWeak self.now result }
         ensures line { line_of_weak result ≡ weak_line self.now }
@@ -259,8 +264,8 @@ impl Held {
         }
     }
 
-    /// Whether the cell with further half-spaces behind its own has a point, as `decide_strict` answers: at most 64
-    /// together.
+    /// Decides whether the cell with `more` half-spaces after its own, at most 64 together, has a point, as
+    /// [`decide_strict`] does.
     pub fn strict_with(&self, more: &[Half]) -> Strict
         requires { length self.now + length more.now ≤ 64 }
         ensures decides { DecidesStrict (self.now ++ more.now) result }
@@ -269,8 +274,8 @@ impl Held {
         self.with(more).strict()
     }
 
-    /// Whether the weak system of the cell with further half-spaces behind its own has a point, as `decide_weak`
-    /// answers: at most 64 together.
+    /// Decides whether the weak system of the cell with `more` half-spaces after its own, at most 64 together, has a
+    /// point, as [`decide_weak`] does.
     pub fn weak_with(&self, more: &[Half]) -> Weak
         requires { length self.now + length more.now ≤ 64 }
         ensures decides { DecidesWeak (self.now ++ more.now) result }
@@ -280,7 +285,7 @@ impl Held {
     }
 }
 
-/// Adds a half-space to a clip, if it has the whole cell. Whether it has the whole cell then.
+/// Adds `half` to `clip` if `clip` has the whole cell (`whole`). Returns whether it then has the whole cell.
 fn add_if(whole: bool, clip: &mut Clip<ROOM>, half: Half) -> bool
     requires { whole ≡ true → length clip.old.halves < 64 }
     ensures was { result ≡ true → whole ≡ true }
@@ -289,7 +294,7 @@ fn add_if(whole: bool, clip: &mut Clip<ROOM>, half: Half) -> bool
     whole && clip.add(half)
 }
 
-/// Fills a list with half-spaces, of which there are at most 64.
+/// Replaces the content of `list` by `halves`, at most 64.
 fn refill(list: &mut System, halves: &[Half])
     requires { length halves.now ≤ 64 }
     ensures { list.new.items ≡ halves.now }

@@ -4,14 +4,14 @@ ghost use Rattle.rp_geometry.specs.Geometry.{IsKeptHalfSpace, complement};
 
 use rp_space::{Half, System, joined};
 
-/// The cell of two lists of half-spaces and the complement of one more: its members are those of the lists that are
-/// outside that one.
+/// Returns the cell of `first`, `second` and the complement of `half`: its members are those of the two lists that are
+/// outside `half`.
 pub(crate) fn outside_of(half: &Half, first: &[Half], second: &[Half]) -> System
     requires { length first.now + length second.now < 64 }
     ensures items { result.items ≡ first.now ++ second.now ++ complement half.now ∷ [] }
     ensures kept { IsKeptHalfSpace half.now }
 {
-    // Only for what `numbers` ensures, that the half-space keeps its bounds and is in lowest terms.
+    // The call makes it known that the half-space keeps its bounds and is in lowest terms.
     let _ = half.numbers();
     let mut outside = joined(first, second);
     outside.push(half.not());

@@ -13,12 +13,13 @@ use crate::held::Held;
 use rp_elim::first_outside_through;
 use rp_space::{Half, Outside, keep_bounds};
 
-/// The fewest half-spaces of a cell whose others are held with their vertices to see that they have a point: with fewer
-/// the search among all of them is as fast.
+/// The fewest half-spaces of a cell whose others are stored with their vertices to see that they have a point: with
+/// fewer the search among all of them is as fast.
 const FEW: usize = 16;
 
-/// The first outside certificate of a cell that is known to have no point, as `refute_strict` answers. Where the others
-/// have a point without the half-space at a place, that one is in every refutation, and the search is through it.
+/// Returns the first outside certificate of `cell`, which has no point, as [`refute_strict`] does. If the others have a
+/// point without the half-space at `place`, that half-space is in every refutation, and only the sets with it are
+/// tried.
 pub(crate) fn refute_strict_at(cell: &[Half], place: usize) -> Outside
     requires few { length cell.now ≤ 64 }
     requires empty { IsEmpty (shape_of_cell cell.now) }
@@ -29,13 +30,12 @@ pub(crate) fn refute_strict_at(cell: &[Half], place: usize) -> Outside
     if !have_point_without(cell, place) {
         return refute_strict(cell);
     }
-    // Only so that it is known of all half-spaces that they keep their bounds.
+    // The call makes it known that all half-spaces keep their bounds.
     keep_bounds(cell);
     first_outside_through(&cell[..place], &cell[place], &cell[place + 1..], true).unwrap()
 }
 
-/// The first outside certificate of a cell that is known to have no point, where all but the last of its half-spaces
-/// have one.
+/// Returns the first outside certificate of `cell`, which has no point; all half-spaces but the last have one.
 pub(crate) fn refute_last(cell: &[Half]) -> Outside
     requires few { length cell.now ≤ 64 }
     requires some { 0 < length cell.now }
@@ -46,13 +46,13 @@ pub(crate) fn refute_last(cell: &[Half]) -> Outside
     ensures line { out_line result ≡ strict_line cell.now }
 {
     let last = cell.len() - 1;
-    // Only so that it is known of all half-spaces that they keep their bounds.
+    // The call makes it known that all half-spaces keep their bounds.
     keep_bounds(cell);
     first_outside_through(&cell[..last], &cell[last], &[], true).unwrap()
 }
 
-/// Whether there is a half-space at the place, and the others of the cell, where they are many, are seen to have a
-/// point without it.
+/// Returns true only if there is a half-space at `place`, and the others of `cell` have a point without it, as their
+/// vertices show. Returns false if `cell` has fewer than 16 half-spaces.
 fn have_point_without(cell: &[Half], place: usize) -> bool
     requires few { length cell.now ≤ 64 }
     ensures place { result ≡ true → place < length cell.now }
@@ -61,8 +61,8 @@ fn have_point_without(cell: &[Half], place: usize) -> bool
     cell.len() >= FEW && place < cell.len() && is_held_without(cell, place)
 }
 
-/// Whether the others of the cell are seen to have a point without the half-space at a place. It is apart so that
-/// nobody else makes room for their vertices.
+/// Returns true only if the others of `cell` have a point without the half-space at `place`, as their vertices show. It
+/// is a function of its own so that no other function makes room for the vertices.
 fn is_held_without(cell: &[Half], place: usize) -> bool
     requires few { length cell.now ≤ 64 }
     requires place { place < length cell.now }
@@ -73,8 +73,9 @@ fn is_held_without(cell: &[Half], place: usize) -> bool
     others.has_point()
 }
 
-/// The first outside certificate that is not strict of a cell whose weak system is known to have no point, as
-/// `refute_weak` answers; found in the same way.
+/// Returns the first outside certificate, not strict, of `cell`, whose weak system has no point, as [`refute_weak`]
+/// does. If the weak system of the others has a point without the half-space at `place`, only the sets with that
+/// half-space are tried.
 pub(crate) fn refute_weak_at(cell: &[Half], place: usize) -> Outside
     requires few { length cell.now ≤ 64 }
     requires empty { (p : RationalPoint) → ¬ IsSolution false cell.now p }
@@ -85,12 +86,13 @@ pub(crate) fn refute_weak_at(cell: &[Half], place: usize) -> Outside
     if !have_weak_point_without(cell, place) {
         return refute_weak(cell);
     }
-    // Only so that it is known of all half-spaces that they keep their bounds.
+    // The call makes it known that all half-spaces keep their bounds.
     keep_bounds(cell);
     first_outside_through(&cell[..place], &cell[place], &cell[place + 1..], false).unwrap()
 }
 
-/// Whether there is a half-space at the place, and the weak system of the others is seen to have a point without it.
+/// Returns true only if there is a half-space at `place`, and the weak system of the others of `cell` has a point
+/// without it, as their vertices show. Returns false if `cell` has fewer than 16 half-spaces.
 fn have_weak_point_without(cell: &[Half], place: usize) -> bool
     requires few { length cell.now ≤ 64 }
     ensures place { result ≡ true → place < length cell.now }
@@ -99,8 +101,8 @@ fn have_weak_point_without(cell: &[Half], place: usize) -> bool
     cell.len() >= FEW && place < cell.len() && is_held_weakly_without(cell, place)
 }
 
-/// Whether the weak system of the others is seen to have a point without the half-space at a place. It is apart so that
-/// nobody else makes room for their vertices.
+/// Returns true only if the weak system of the others of `cell` has a point without the half-space at `place`, as their
+/// vertices show. It is a function of its own so that no other function makes room for the vertices.
 fn is_held_weakly_without(cell: &[Half], place: usize) -> bool
     requires few { length cell.now ≤ 64 }
     requires place { place < length cell.now }

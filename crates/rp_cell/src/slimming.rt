@@ -1,4 +1,4 @@
-//! Slim cells: half-spaces that add nothing are dropped.
+//! Slim cells: cells without redundant half-spaces.
 ghost use Rattle.std.specs.Prelude.{◌≡◌, ◌+◌, ◌<◌, ◌≤◌, ◌++◌, true, IfOk, length, map};
 ghost use Rattle.rp_geometry.specs.Geometry.{RationalPoint, IsKeptHalfSpace};
 ghost use Rattle.rp_geometry.specs.laws.CellLaws.{IsSolution, AreHalfSpaces};
@@ -21,7 +21,7 @@ use std::marker::Model;
 /// A cell, as a list of half-spaces.
 pub type Cell = Listed<Half>;
 
-/// A half-space that was dropped from a cell, with the multiples that show that it adds nothing.
+/// A redundant half-space of a cell, with the multiples that show that it adds nothing.
 #[derive(Drop)]
 pub struct DroppedHalf {
     /// The half-space.
@@ -40,22 +40,26 @@ impl Model for DroppedHalf {
     ghost view = { λ d. (d.half, d.terms) };
 }
 
-/// Half-spaces that were dropped from a cell.
+/// Redundant half-spaces of a cell.
 pub type Drops = Listed<DroppedHalf>;
 
-/// A slim cell, and what was dropped on the way to it.
+/// A slim cell, and the half-spaces that were dropped on the way to it.
 #[derive(Drop)]
 pub struct Slimmed {
-    /// The half-spaces that are kept, in the order of the cell.
+    /// The needed half-spaces, in the order of the cell.
     pub kept: Cell,
-    /// Those that are dropped, in the order of the cell.
+    /// The dropped half-spaces, in the order of the cell.
     pub dropped: Drops,
 }
 
-/// The slim cell of a cell. From the first half-space to the last, one is dropped where no member of the others that
-/// are still kept lies outside it: the first outside certificate of these others and its complement shows it. The slim
-/// cell has the members of the cell. Where these are some, and at most 32 half-spaces are kept, the slim cell and its
-/// least box are a part. A cell has at most 64 half-spaces.
+/// Returns the slim cell of `cell`, which has at most 64 half-spaces. From the first half-space to the last, a
+/// half-space is dropped iff no member of the others that are left is outside it. The first outside certificate of
+/// these others and its complement shows that. The slim cell has the members of the cell. If there are members, and at
+/// most 32 half-spaces are left, the slim cell and its least box are a part.
+///
+/// # Errors
+///
+/// `AllocError` for want of memory.
 pub fn slim(alloc: Global, cell: &[Half]) -> Result<Slimmed, AllocError>
     requires { length cell.now ≤ 64 }
     ensures kept { IfOk result (λ slim. slim.kept.items ≡ (slimmed cell.now).kept) }
@@ -67,7 +71,11 @@ pub fn slim(alloc: Global, cell: &[Half]) -> Result<Slimmed, AllocError>
 }
 
 impl Held {
-    /// The slim cell of the cell, as `slim` answers.
+    /// Returns the slim cell of the stored cell, as [`slim`] does.
+    ///
+    /// # Errors
+    ///
+    /// `AllocError` for want of memory.
     pub fn slim(&self, alloc: Global) -> Result<Slimmed, AllocError>
         ensures kept { IfOk result (λ slim. slim.kept.items ≡ (slimmed self.now).kept) }
         ensures lines { IfOk result (λ slim. map drop_line_of slim.dropped.items ≡ (slimmed self.now).lines) }
@@ -87,14 +95,14 @@ impl Held {
         Ok(Slimmed { kept, dropped })
     }
 
-    /// What shows that no member of the others lies outside the half-space at a place, and `None` exactly where one
-    /// does. The others are those that are still kept of the half-spaces before it, and all behind it.
+    /// Returns the multiples that show that no member of the others is outside `half`, which is at `place`; `None` iff
+    /// a member is. The others are `kept`, the half-spaces before it that are left, and `rest`, all after it.
     fn drop_proof(&self, place: usize, half: &Half, kept: &[Half], rest: &[Half]) -> Option<Outside>
         requires { IsTested self.now place kept.now half.now rest.now }
         ensures proof { IsDropProof (tested kept.now half.now rest.now) result }
         ensures lowest { IsKeptHalfSpace half.now }
     {
-        // Only for what these ensure: that half-spaces keep their bounds and are in lowest terms.
+        // The calls make it known that half-spaces keep their bounds and are in lowest terms.
         keep_bounds(self.halves());
         let _ = half.numbers();
         if self.has_side(place) {
@@ -107,8 +115,8 @@ impl Held {
     }
 }
 
-/// What shows that no member of others, which have a point, lies outside a half-space, and `None` exactly where one
-/// does.
+/// Returns the multiples that show that no member of `kept` and `rest`, which have a point, is outside `half`; `None`
+/// iff a member is.
 fn through_complement(half: &Half, kept: &[Half], rest: &[Half]) -> Option<Outside>
     requires few { length kept.now + length rest.now < 64 }
     requires bounds { AreHalfSpaces (tested kept.now half.now rest.now) }
@@ -118,7 +126,8 @@ fn through_complement(half: &Half, kept: &[Half], rest: &[Half]) -> Option<Outsi
     first_outside_behind(kept, rest, &half.not(), true)
 }
 
-/// The same of others that may have no point. It is apart so that nobody else makes room for the list.
+/// Returns the multiples that show that no member of `kept` and `rest`, which may have no point, is outside `half`;
+/// `None` iff a member is. It is a function of its own so that no other function makes room for the list.
 fn with_complement(half: &Half, kept: &[Half], rest: &[Half]) -> Option<Outside>
     requires { length kept.now + length rest.now < 64 }
     ensures { IsDropProof (tested kept.now half.now rest.now) result }

@@ -118,7 +118,7 @@ fn a_held_box_stands_before_other_half_spaces(rt: HostRuntime) {
         lo: [0, 0, 0],
         hi: [10, 10, 10],
     }));
-    // The first one takes the corner at the origin away, and the second one is below it.
+    // The first half-space removes the corner at the origin, and the second one is below it.
     let more = [half(&rt, (-1, -1, -1, -1)), half(&rt, (0, 0, -1, 5))];
     let mut room = Held::new(&[]);
     let Strict::Outside(terms) = room.strict_beside(&held, &more) else {

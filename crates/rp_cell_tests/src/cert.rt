@@ -16,7 +16,7 @@ fn certificates_are_checked(rt: HostRuntime) {
     assert!(rt; check_outside(&apart, &terms, false));
 }
 
-/// A step of a ring at height 5 with these numbers.
+/// Returns a step of a ring at the height 5: the edge `a`, `b`, `d` and the end `x`, `y`.
 fn step(rt: &impl Abort, a: i32, b: i32, d: i64, x: i128, y: i128) -> RingStep {
     let end = Point::new(x, y, 5, 1).expect(rt, "no point");
     RingStep {

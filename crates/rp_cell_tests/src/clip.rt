@@ -30,7 +30,8 @@ fn a_tetrahedron_has_its_four_corners(rt: HostRuntime) {
     assert_eq!(rt; clip.corners().len(), 8);
 }
 
-/// Whether its polygons tell the first points of a cell.
+/// Returns whether the polygons of `cell`, of at most 64 half-spaces, show its first inside points and its first weak
+/// point.
 fn are_told(cell: &[Half]) -> bool
     requires { length cell.now ≤ 64 }
 {
@@ -40,7 +41,7 @@ fn are_told(cell: &[Half]) -> bool
 #[test]
 fn polygons_tell_first_points(rt: HostRuntime) {
     assert!(rt; are_told(&tetrahedron(&rt)));
-    // The first plane passes through an edge, and the second is as the first.
+    // The first plane passes through an edge, and the second plane is the same.
     let through = half(&rt, (1, 1, 0, 0));
     let roof = [
         through,
@@ -49,7 +50,7 @@ fn polygons_tell_first_points(rt: HostRuntime) {
         half(&rt, (0, 0, 1, 16777216)),
     ];
     assert!(rt; are_told(&roof));
-    // The first two planes have an edge alone.
+    // The first two planes have only an edge.
     let edge = [
         through,
         half(&rt, (1, 2, 0, 0)),

@@ -44,7 +44,7 @@ fn a_first_point_on_four_planes_is_found_on_a_few_lines(rt: HostRuntime) {
     assert_eq!(rt; points[2].numbers(), (0, 7, 0, 3));
 }
 
-/// The six sides of a box.
+/// Returns the six sides of the box from `lo` to `hi`.
 fn box_sides(rt: &impl Abort, lo: [i32; 3], hi: [i32; 3]) -> [Half; 6] {
     [
         half(rt, (1, 0, 0, -(lo[0] as i64))),
@@ -59,7 +59,7 @@ fn box_sides(rt: &impl Abort, lo: [i32; 3], hi: [i32; 3]) -> [Half; 6] {
 #[test]
 fn boxes_side_by_side_touch_beyond_planes_that_are_cut_off(rt: HostRuntime) {
     let near = box_sides(&rt, [0, 0, 0], [4, 4, 2]);
-    // Beside it on x, on y and on an edge, upon it, and in it.
+    // Next to it on x, on y and at an edge, on top of it, and in it.
     let cases = [
         ([4, -1, 0], [9, 3, 2], (4, 0, 0, 1)),
         ([0, 4, 0], [4, 9, 2], (0, 4, 0, 1)),

@@ -5,8 +5,8 @@ use arrayvec::ArrayVec;
 use rp_space::Point;
 use std::marker::Model;
 
-/// What a half-space leaves on a horizontal plane: the points with `a x + b y + d > 0`, with part of the line where it
-/// is 0.
+/// The trace of a half-space on a horizontal plane: the points with `a x + b y + d > 0`, with part of the line on which
+/// the sum is 0.
 #[derive(Clone, Copy, PartialEq, Eq, Default)]
 pub struct Edge {
     /// The factor of x.
@@ -27,12 +27,12 @@ impl Model for Edge {
     ghost inverse = { λ t. record { a = t.a; b = t.b; d = t.d } };
 }
 
-/// A step along a ring: an edge, and the point at which it ends.
+/// A step along a ring: an edge, and the point at which the edge ends.
 #[derive(Clone, Copy, PartialEq, Eq, Default)]
 pub struct RingStep {
     /// The edge.
     pub edge: Edge,
-    /// Its end.
+    /// The end of the edge.
     pub end: Point,
 }
 
@@ -47,7 +47,7 @@ impl Model for RingStep {
 }
 
 /// A list of at most 36 steps of a ring, which takes no memory: room for the half-spaces of a cell and the cube's four
-/// upright sides.
+/// vertical sides.
 #[derive(Drop)]
 pub struct RingSteps {
     steps: ArrayVec<RingStep, 36>,
@@ -63,7 +63,7 @@ impl Model for RingSteps {
 }
 
 impl RingSteps {
-    /// The empty list.
+    /// Returns the empty list.
     pub fn new() -> RingSteps
         ensures { result ≡ [] }
     {
@@ -72,7 +72,7 @@ impl RingSteps {
         }
     }
 
-    /// Appends a step, for which there is room.
+    /// Appends a step. The list has fewer than 36.
     pub fn push(&mut self, x: RingStep)
         requires { length self.old < 36 }
         ensures { self.new ≡ self.old ++ x ∷ [] }
@@ -80,7 +80,7 @@ impl RingSteps {
         self.steps.push(x);
     }
 
-    /// The steps in order.
+    /// Returns the steps in order, at most 36.
     pub fn items(&self) -> &[RingStep]
         ensures value { result.now ≡ self.now }
         ensures fits { length result.now ≤ 36 }
@@ -88,7 +88,7 @@ impl RingSteps {
         self.steps.as_slice()
     }
 
-    /// A copy: the same steps in the same order.
+    /// Returns a copy, with equal steps in the same order.
     pub fn copy(&self) -> RingSteps
         ensures { result ≡ self.now }
     {

@@ -13,7 +13,7 @@ use crate::outside::is_listed;
 use crate::trace::{has_trace, holds_level, offset_at};
 use rp_space::{Half, Term, cube, is_multiplier};
 
-/// Which number of a half-space on the plane of a height.
+/// A choice of one of the three numbers of a half-space on the plane of a height.
 #[derive(Clone, Copy)]
 enum Number {
     A,
@@ -21,9 +21,12 @@ enum Number {
     Offset,
 }
 
-/// Whether the terms are a flat certificate of the cell at the height: one to three terms, each multiplier from 1 to
-/// 2^75 - 1, each half-space one of the cell or an upright side of the domain cube, the multiples of `a` and of `b`
-/// add up to 0, and they are of one of the two kinds.
+/// Returns whether `terms` are a flat certificate of `cell` at the height `z`:
+///
+/// - there are one to three terms, each with a multiplier from 1 to 2^75 - 1;
+/// - each half-space is one of the cell or a vertical side of the domain cube;
+/// - the multiples of `a` and of `b` add up to 0;
+/// - the terms are of one of the two kinds of [`cancels_at`].
 pub(crate) fn is_flat(cell: &[Half], z: i32, terms: &[Term]) -> bool
     requires { IsHeight z }
     ensures { result ≡ is_flat z cell.now terms.now }
@@ -37,30 +40,33 @@ pub(crate) fn is_flat(cell: &[Half], z: i32, terms: &[Term]) -> bool
     cancels_at(terms, z)
 }
 
-/// Whether a number is from 1 to 3.
+/// Returns whether `n` is from 1 to 3.
 fn is_one_to_three(n: usize) -> bool
     ensures { result ≡ is_one_to_three n }
 {
     1 <= n && n <= 3
 }
 
-/// Whether each term is a multiple, within bounds, of a half-space of the cell or of an upright side of the cube.
+/// Returns whether each of `terms` has a multiplier from 1 to 2^75 - 1 and a half-space of `cell` or a vertical side of
+/// the cube.
 fn are_multiples_of(cell: &[Half], terms: &[Term]) -> bool
     ensures { result ≡ list_all (λ t. is_multiplier t.factor && is_listed t.of (with_sides cell.now)) terms.now }
 {
     terms.iter().all(|term| is_multiplier(term.by) && is_listed_with_sides(&term.half, cell))
 }
 
-/// Whether a half-space is one of the cell or an upright side of the domain cube.
+/// Returns whether `half` is one of `cell` or a vertical side of the domain cube.
 fn is_listed_with_sides(half: &Half, cell: &[Half]) -> bool
     ensures { result ≡ is_listed half.now (with_sides cell.now) }
 {
     is_listed(half, cell) || is_listed(half, &cube()[..4])
 }
 
-/// Whether `terms`, at most three multiples with multipliers from 1 to 2^75 - 1, show that no point of the height `z`
-/// is held: the multiples of `a` and of `b` add up to 0, and either one half-space without a trace does not hold the
-/// points of the height, or each has a trace and the offsets at the height add up to at most 0.
+/// Returns whether `terms`, at most three multiples with multipliers from 1 to 2^75 - 1, show that no point of the
+/// height `z` is in all half-spaces. The multiples of `a` and of `b` add up to 0, and one of these is the case:
+///
+/// - There is one half-space. It has no trace and does not contain the points of the height.
+/// - Each half-space has a trace, and the offsets at the height add up to at most 0.
 pub fn cancels_at(terms: &[Term], z: i32) -> bool
     requires height { IsHeight z }
     requires few { length terms.now ≤ 3 }
@@ -72,7 +78,7 @@ pub fn cancels_at(terms: &[Term], z: i32) -> bool
         && (is_level_kind(terms, z) || is_trace_kind(terms, z))
 }
 
-/// Whether there is one half-space, without a trace, that does not hold the points of the height.
+/// Returns whether `terms` are one half-space without a trace that does not contain the points of the height `z`.
 fn is_level_kind(terms: &[Term], z: i32) -> bool
     requires { IsHeight z }
     ensures { result ≡ is_level_kind z terms.now }
@@ -83,7 +89,8 @@ fn is_level_kind(terms: &[Term], z: i32) -> bool
     }
 }
 
-/// Whether each half-space has a trace, and the multiples of the offsets at the height add up to at most 0.
+/// Returns whether each half-space of `terms`, at most three, has a trace, and the multiples of the offsets at the
+/// height `z` add up to at most 0.
 fn is_trace_kind(terms: &[Term], z: i32) -> bool
     requires height { IsHeight z }
     requires few { length terms.now ≤ 3 }
@@ -93,14 +100,14 @@ fn is_trace_kind(terms: &[Term], z: i32) -> bool
     have_traces(terms) && weighted_sum(terms, Number::Offset, z) <= 0
 }
 
-/// Whether each half-space has a trace.
+/// Returns whether each half-space of `terms` has a trace.
 fn have_traces(terms: &[Term]) -> bool
     ensures { result ≡ list_all (λ t. has_trace t.of) terms.now }
 {
     terms.iter().all(|term| has_trace(&term.half))
 }
 
-/// The sum of the multiples of one number.
+/// Returns the sum of the multiples of the number `which` at the height `z`, over `terms`, at most three.
 fn weighted_sum(terms: &[Term], which: Number, z: i32) -> i128
     requires height { IsHeight z }
     requires few { length terms.now ≤ 3 }
@@ -114,7 +121,7 @@ fn weighted_sum(terms: &[Term], which: Number, z: i32) -> i128
     sum
 }
 
-/// The multiple of one number of a term's half-space.
+/// Returns the multiple of the number `which` of the half-space of `term` at the height `z`.
 fn multiple(term: &Term, which: Number, z: i32) -> i128
     requires height { IsHeight z }
     requires multiplier { is_multiplier term.now.factor ≡ true }
@@ -124,7 +131,7 @@ fn multiple(term: &Term, which: Number, z: i32) -> i128
     term.by * number_at(&term.half, which, z) as i128
 }
 
-/// One number of a half-space on the plane of a height.
+/// Returns the number `which` of `half` on the plane of the height `z`, within 2^50.
 fn number_at(half: &Half, which: Number, z: i32) -> i64
     requires { IsHeight z }
     ensures value { result ≡ number_at which z half.now }

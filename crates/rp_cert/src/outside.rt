@@ -10,9 +10,12 @@ ghost use Rattle.rp_geometry.specs.searches.Certificate.{is_multiplier, is_outsi
 use crate::inside::is_one_to_four;
 use rp_space::{Half, Term, cube, is_balanced, is_contradiction, is_multiplier, keep_bounds};
 
-/// Whether the terms show that the cell has no member (`strict`), or that its weak system has no point: there are one
-/// to four terms, each multiplier is from 1 to 2^75 - 1, each half-space is one of the cell or of the domain cube, the
-/// multiples of `a`, of `b` and of `c` add up to 0, and those of `d` to at most 0 (`strict`) or to less than 0.
+/// Returns whether `terms` show that `cell` has no member (`strict`), or that its weak system has no point:
+///
+/// - there are one to four terms, each with a multiplier from 1 to 2^75 - 1;
+/// - each half-space is one of the cell or of the domain cube;
+/// - the multiples of `a`, of `b` and of `c` add up to 0, and those of `d` to at most 0 (`strict`) or to less than 0.
+///
 /// The counts and the bounds are tested before any product, so every sum stays within 128 bits.
 pub fn check_outside(cell: &[Half], terms: &[Term], strict: bool) -> bool
     ensures value { result ≡ is_outside_certificate strict cell.now terms.now }
@@ -29,21 +32,22 @@ pub fn check_outside(cell: &[Half], terms: &[Term], strict: bool) -> bool
     is_balanced(terms) && is_contradiction(terms, strict)
 }
 
-/// Whether each term is a multiple, within bounds, of a half-space of the cell or of the domain cube.
+/// Returns whether each of `terms` has a multiplier from 1 to 2^75 - 1 and a half-space of `cell` or of the domain
+/// cube.
 fn are_multiples_of(cell: &[Half], terms: &[Term]) -> bool
     ensures { result ≡ list_all (λ t. is_multiplier t.factor && is_listed t.of (with_cube cell.now)) terms.now }
 {
     terms.iter().all(|term| is_multiplier(term.by) && is_listed_with_cube(&term.half, cell))
 }
 
-/// Whether a half-space is one of the cell or of the domain cube.
+/// Returns whether `half` is one of `cell` or of the domain cube.
 fn is_listed_with_cube(half: &Half, cell: &[Half]) -> bool
     ensures { result ≡ is_listed half.now (with_cube cell.now) }
 {
     is_listed(half, cell) || is_listed(half, &cube())
 }
 
-/// Whether a half-space stands in a list.
+/// Returns whether `half` is one of `halves`.
 pub(crate) fn is_listed(half: &Half, halves: &[Half]) -> bool
     ensures { result ≡ is_listed half.now halves.now }
 {

@@ -14,7 +14,7 @@ pub enum Proof {
     At(Point),
     /// Multiples that show that a weak system has no point.
     Apart(Outside),
-    /// A half-space that adds nothing to a cell, with the multiples that show it.
+    /// A redundant half-space of a cell, with the multiples that show that it adds nothing.
     Dropped(Half, Outside),
     /// The least box of a cell.
     Bounds(IntBox),

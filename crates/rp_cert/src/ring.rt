@@ -1,4 +1,4 @@
-//! Rings: the edges and ends round the points that a cell has at a height.
+//! Rings: the edges and ends around the points that a cell has at a height.
 ghost use Rattle.std.specs.Prelude.{◌≡◌, ◌<◌, ◌*◌, ◌^◌, ◌&&◌, ◌||◌, ◌-ℤ◌, ◌*ℤ◌, not, length};
 ghost use Rattle.std.specs.List.{list_all, list_any, AllByRecursion};
 ghost use Rattle.rp_algebra.specs.Integer.{is_zero, is_positive, is_nonnegative};
@@ -13,8 +13,9 @@ use crate::edge::{Edge, RingStep};
 use crate::trace::{has_trace, holds_level, offset_at, trace_at};
 use rp_space::{Half, Point, cube, keep_bounds};
 
-/// Whether the steps are a ring of the cell at the height: at least three, whose edges are traces of the cell or the
-/// cube's upright sides, in rising angle, each turning to the left, and whose ends are the points where they meet.
+/// Returns whether `steps` are a ring of `cell` at the height `z`. There are at least three steps. Their edges are
+/// traces of the cell or the cube's vertical sides, in order of rising angle, and each turns to the left. Their ends
+/// are the points in which the edges meet.
 pub(crate) fn is_ring(cell: &[Half], z: i32, steps: &[RingStep]) -> bool
     requires { IsHeight z }
     ensures { result ≡ is_ring z cell.now steps.now }
@@ -35,7 +36,7 @@ pub(crate) fn is_ring(cell: &[Half], z: i32, steps: &[RingStep]) -> bool
     all_levels_hold(cell, z)
 }
 
-/// Whether each step has a trace as its edge and ends where no trace is negative.
+/// Returns whether each of `steps` may be in a ring of `cell` at the height `z`, as [`is_step`] says.
 fn are_steps(cell: &[Half], z: i32, steps: &[RingStep]) -> bool
     requires { IsHeight z }
     ensures { result ≡ list_all (is_step z (with_sides cell.now)) steps.now }
@@ -43,8 +44,8 @@ fn are_steps(cell: &[Half], z: i32, steps: &[RingStep]) -> bool
     steps.iter().all(|step| is_step(cell, z, step))
 }
 
-/// Whether the edge of a step is a trace of the cell or of the cube, and its end a point of the height at which no
-/// trace is negative.
+/// Returns whether `step` may be in a ring of `cell` at the height `z`. Its edge is a trace of the cell or of the cube.
+/// Its end is a point of the height at which no trace is negative.
 fn is_step(cell: &[Half], z: i32, step: &RingStep) -> bool
     requires { IsHeight z }
     ensures { result ≡ is_step z (with_sides cell.now) step.now }
@@ -59,7 +60,7 @@ fn is_step(cell: &[Half], z: i32, step: &RingStep) -> bool
     all_hold_with_sides(cell, z, &step.end)
 }
 
-/// Whether a point has the height.
+/// Returns whether `p` has the height `z`.
 fn is_at_height(p: &Point, z: i32) -> bool
     requires { IsHeight z }
     ensures { result ≡ is_zero (p.now.z -ℤ z *ℤ p.now.w) }
@@ -67,7 +68,7 @@ fn is_at_height(p: &Point, z: i32) -> bool
     above_height(p, z) == 0
 }
 
-/// How far a point is above the height, times its weight.
+/// Returns the distance of `p` above the height `z`, times the weight of `p`.
 fn above_height(p: &Point, z: i32) -> i128
     requires { IsHeight z }
     ensures { result ≡ p.now.z -ℤ z *ℤ p.now.w }
@@ -76,7 +77,8 @@ fn above_height(p: &Point, z: i32) -> i128
     height - z as i128 * w
 }
 
-/// Whether the edge is the trace of a half-space of the cell or of an upright side of the domain cube.
+/// Returns whether `edge` is the trace at the height `z` of a half-space of `cell` or of a vertical side of the domain
+/// cube.
 fn is_trace_with_sides(edge: &Edge, cell: &[Half], z: i32) -> bool
     requires { IsHeight z }
     ensures { result ≡ is_trace_of z (with_sides cell.now) edge.now }
@@ -84,7 +86,7 @@ fn is_trace_with_sides(edge: &Edge, cell: &[Half], z: i32) -> bool
     is_trace_of(edge, cell, z) || is_trace_of(edge, &cube()[..4], z)
 }
 
-/// Whether the edge is the trace of a half-space of the list.
+/// Returns whether `edge` is the trace at the height `z` of one of `halves`.
 fn is_trace_of(edge: &Edge, halves: &[Half], z: i32) -> bool
     requires { IsHeight z }
     ensures { result ≡ is_trace_of z halves.now edge.now }
@@ -92,8 +94,8 @@ fn is_trace_of(edge: &Edge, halves: &[Half], z: i32) -> bool
     halves.iter().any(|half| is_trace(edge, half, z))
 }
 
-/// Whether the edge is the trace of a half-space. The directions are compared first, since most differ and a divisor
-/// costs more.
+/// Returns whether `edge` is the trace of `half` at the height `z`. The directions are compared first, since most
+/// differ and a divisor costs more.
 fn is_trace(edge: &Edge, half: &Half, z: i32) -> bool
     requires { IsHeight z }
     ensures { result ≡ (has_trace half.now && trace_eq (trace_at z half.now) edge.now) }
@@ -107,14 +109,14 @@ fn is_trace(edge: &Edge, half: &Half, z: i32) -> bool
     }
 }
 
-/// Whether a half-space's direction is that of an edge, or its opposite.
+/// Returns whether the direction of `half` is that of `edge`, or its opposite.
 fn is_along(edge: &Edge, half: &Half) -> bool
     ensures { result ≡ is_zero (turn_from edge.now half.now) }
 {
     turn_from(edge, half) == 0
 }
 
-/// The cross product of the directions of an edge and a half-space.
+/// Returns the cross product of the directions of `edge` and `half`.
 fn turn_from(edge: &Edge, half: &Half) -> i128
     ensures { result ≡ turn_from edge.now half.now }
 {
@@ -122,7 +124,8 @@ fn turn_from(edge: &Edge, half: &Half) -> i128
     edge.a as i128 * b as i128 - edge.b as i128 * a as i128
 }
 
-/// Whether no trace of the cell or of an upright side of the domain cube is negative at a point of the height.
+/// Returns whether no trace of `cell` or of a vertical side of the domain cube is negative at `p`, a point of the
+/// height `z`.
 fn all_hold_with_sides(cell: &[Half], z: i32, p: &Point) -> bool
     requires height { IsHeight z }
     requires there { IsAtHeight z p.now }
@@ -131,7 +134,7 @@ fn all_hold_with_sides(cell: &[Half], z: i32, p: &Point) -> bool
     all_traces_hold(cell, z, p) && all_traces_hold(&cube()[..4], z, p)
 }
 
-/// Whether no trace of the list is negative at a point of the height.
+/// Returns whether no trace of `halves` is negative at `p`, a point of the height `z`.
 fn all_traces_hold(halves: &[Half], z: i32, p: &Point) -> bool
     requires height { IsHeight z }
     requires there { IsAtHeight z p.now }
@@ -140,7 +143,7 @@ fn all_traces_hold(halves: &[Half], z: i32, p: &Point) -> bool
     halves.iter().all(|half| is_above(half, z, p))
 }
 
-/// Whether a half-space has no trace, or its trace is not negative at a point of the height.
+/// Returns whether `half` has no trace, or its trace is not negative at `p`, a point of the height `z`.
 fn is_above(half: &Half, z: i32, p: &Point) -> bool
     requires height { IsHeight z }
     requires there { IsAtHeight z p.now }
@@ -149,8 +152,8 @@ fn is_above(half: &Half, z: i32, p: &Point) -> bool
     !has_trace(half) || value_at(half, z, p) >= 0
 }
 
-/// The side value of a half-space at a point of the height, by the offset that it has there: a product fewer than at
-/// other points. Its size is below 2^127.
+/// Returns the side value of `half` at `p`, a point of the height `z`. It uses the offset at the height, which saves a
+/// product. Its size is below 2^127.
 fn value_at(half: &Half, z: i32, p: &Point) -> i128
     requires height { IsHeight z }
     requires there { IsAtHeight z p.now }
@@ -161,7 +164,7 @@ fn value_at(half: &Half, z: i32, p: &Point) -> i128
     a as i128 * x + b as i128 * y + offset_at(half, z) as i128 * w
 }
 
-/// Whether each half-space without a trace holds the points of the height.
+/// Returns whether each of `halves` without a trace contains the points of the height `z`.
 fn all_levels_hold(halves: &[Half], z: i32) -> bool
     requires { IsHeight z }
     ensures { result ≡ list_all (λ h. has_trace h || holds_level z h) halves.now }
@@ -171,7 +174,7 @@ fn all_levels_hold(halves: &[Half], z: i32) -> bool
         .all(|half| has_trace(half) || holds_level(half, z))
 }
 
-/// Whether each step makes a turn to the next one; after the last step comes the first.
+/// Returns whether each of `steps` makes a turn to the next one; after the last step comes the first.
 fn are_turns(steps: &[RingStep]) -> bool
     requires some { 0 < length steps.now }
     requires small { AllByRecursion (λ s. IsSmallTrace s.edge) steps.now }
@@ -186,8 +189,8 @@ fn are_turns(steps: &[RingStep]) -> bool
     is_turn(&steps[last], &steps[0])
 }
 
-/// Whether a step and the next one make a turn: the end is on both edges, the next end is another point, and the next
-/// edge turns to the left.
+/// Returns whether `step` and `next` make a turn: the end of `step` is on both edges, the end of `next` is another
+/// point, and the edge of `next` turns to the left.
 fn is_turn(step: &RingStep, next: &RingStep) -> bool
     requires step { IsSmallTrace step.now.edge }
     requires next { IsSmallTrace next.now.edge }
@@ -205,7 +208,7 @@ fn is_turn(step: &RingStep, next: &RingStep) -> bool
     is_left_turn(&step.edge, &next.edge)
 }
 
-/// Whether a point is on an edge.
+/// Returns whether `p` is on `edge`.
 fn is_on(edge: &Edge, p: &Point) -> bool
     requires { IsSmallTrace edge.now }
     ensures { result ≡ is_zero (trace_value edge.now p.now) }
@@ -213,14 +216,14 @@ fn is_on(edge: &Edge, p: &Point) -> bool
     value(edge, p) == 0
 }
 
-/// Whether the second edge turns to the left from the first.
+/// Returns whether `t` turns to the left from `s`.
 fn is_left_turn(s: &Edge, t: &Edge) -> bool
     ensures { result ≡ is_positive (cross s.now t.now) }
 {
     cross(s, t) > 0
 }
 
-/// The value of an edge at a point. Its size is below 2^127.
+/// Returns the value of `edge` at `p`. Its size is below 2^127.
 fn value(edge: &Edge, p: &Point) -> i128
     requires { IsSmallTrace edge.now }
     ensures { result ≡ trace_value edge.now p.now }
@@ -229,21 +232,21 @@ fn value(edge: &Edge, p: &Point) -> i128
     edge.a as i128 * x + edge.b as i128 * y + edge.d as i128 * w
 }
 
-/// The cross product of the directions of two edges.
+/// Returns the cross product of the directions of `s` and `t`.
 fn cross(s: &Edge, t: &Edge) -> i128
     ensures { result ≡ cross s.now t.now }
 {
     s.a as i128 * t.b as i128 - t.a as i128 * s.b as i128
 }
 
-/// Whether the angle of the direction, counterclockwise from (1, 0), is below half a turn.
+/// Returns whether the angle of the direction of `edge`, counterclockwise from (1, 0), is below half a turn.
 fn is_upper(edge: &Edge) -> bool
     ensures { result ≡ is_upper edge.now }
 {
     edge.b > 0 || (edge.b == 0 && edge.a > 0)
 }
 
-/// Whether the direction of `s` has a smaller angle than that of `t`.
+/// Returns whether the direction of `s` has a smaller angle than that of `t`.
 pub fn is_angle_before(s: &Edge, t: &Edge) -> bool
     ensures { result ≡ is_angle_before s.now t.now }
 {
@@ -254,14 +257,14 @@ pub fn is_angle_before(s: &Edge, t: &Edge) -> bool
     upper
 }
 
-/// Whether the edge of the first step has a smaller angle than that of the second.
+/// Returns whether the edge of `step` has a smaller angle than that of `next`.
 fn is_before(step: &RingStep, next: &RingStep) -> bool
     ensures { result ≡ is_angle_before step.now.edge next.now.edge }
 {
     is_angle_before(&step.edge, &next.edge)
 }
 
-/// Whether the angles of the edges rise, from the first step to the last.
+/// Returns whether the angles of the edges rise, from the first of `steps` to the last.
 fn angles_rise(steps: &[RingStep]) -> bool
     requires { 0 < length steps.now }
     ensures { result ≡ angles_rise steps.now }

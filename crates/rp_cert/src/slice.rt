@@ -1,4 +1,4 @@
-//! Slices: what is shown of a cell at a height.
+//! Slices: certificates of the members of a cell at a height.
 ghost use Rattle.std.specs.Prelude.{◌≡◌, IsTrue};
 ghost use Rattle.rp_geometry.specs.sections.Trace.{IsHeight};
 ghost use Rattle.rp_geometry.specs.sections.Slice.{is_slice};
@@ -9,17 +9,17 @@ use crate::flat::is_flat;
 use crate::ring::is_ring;
 use rp_space::{Half, Outside};
 
-/// What is shown of a cell at a height.
+/// A certificate of the members of a cell at a height.
 #[derive(Drop)]
 pub enum Slice {
-    /// The edges and ends round the points that the cell has there.
+    /// The edges and ends around the members at the height.
     Ring(RingSteps),
-    /// One to three multiples of half-spaces that show that it has none.
+    /// One to three multiples of half-spaces that show that there is no member at the height.
     Flat(Outside),
 }
 
-/// Whether `s` is a ring or a flat certificate of `cell` at `z`, a height of the cube. A ring then shows the points of
-/// the cell there, a flat certificate that there are none.
+/// Returns whether `s` is a ring or a flat certificate of `cell` at `z`, a height of the cube. A ring then shows the
+/// points of the cell there; a flat certificate shows that there are none.
 pub fn check_slice(cell: &[Half], z: i32, s: &Slice) -> bool
     requires { IsHeight z }
     ensures value { result ≡ is_slice z cell.now (slice_shown s.now) }

@@ -1,4 +1,4 @@
-//! Traces: what half-spaces leave on the plane of a height.
+//! Traces: half-spaces on the plane of a height.
 ghost use Rattle.std.specs.Prelude.{◌≡◌, ◌^◌, ◌&&◌, ◌||◌, ◌<◌, true, false, not, pos, IfSome, [], ◌∷◌};
 ghost use Rattle.rp_algebra.specs.Integer.{gcd_of, reduced_by, is_zero, is_positive};
 ghost use Rattle.rp_algebra.specs.Within.{IsWithin};
@@ -10,8 +10,7 @@ ghost use Rattle.rp_cert.specs.Section.{trace_if};
 use crate::edge::Edge;
 use rp_space::{Half, greatest_common_divisor, quotient};
 
-/// The trace of `half` at the height `z`, in lowest terms. `None` exactly where it has none: its `a` and `b` are both
-/// 0.
+/// Returns the trace of `half` at the height `z`, in lowest terms; `None` iff its `a` and `b` are both 0.
 pub fn trace_at(half: &Half, z: i32) -> Option<Edge>
     requires { IsHeight z }
     ensures value { result ≡ trace_if z half.now }
@@ -24,7 +23,7 @@ pub fn trace_at(half: &Half, z: i32) -> Option<Edge>
     Some(lowest(a, b, offset_at(half, z)))
 }
 
-/// Whether `a` and `b` of a half-space are not both 0.
+/// Returns whether `a` and `b` of `half` are not both 0.
 pub fn has_trace(half: &Half) -> bool
     ensures { result ≡ has_trace half.now }
 {
@@ -32,7 +31,7 @@ pub fn has_trace(half: &Half) -> bool
     !(a == 0 && b == 0)
 }
 
-/// What `c` and `d` of `half` come to at the height `z`.
+/// Returns the offset of `half` at the height `z`, `c * z + d`, within 2^50.
 pub fn offset_at(half: &Half, z: i32) -> i64
     requires { IsHeight z }
     ensures value { result ≡ offset_at z half.now }
@@ -42,7 +41,7 @@ pub fn offset_at(half: &Half, z: i32) -> i64
     c * z as i64 + d
 }
 
-/// Whether `half` holds the point of the height `z` on the axis.
+/// Returns whether `half` contains the point of the height `z` on the z axis.
 pub fn holds_level(half: &Half, z: i32) -> bool
     requires { IsHeight z }
     ensures { result ≡ holds_level z half.now }
@@ -50,14 +49,14 @@ pub fn holds_level(half: &Half, z: i32) -> bool
     holds_by(half, offset_at(half, z))
 }
 
-/// Whether a half-space holds a point at which it has this value.
+/// Returns whether `half` contains a point at which its side value is `value`.
 fn holds_by(half: &Half, value: i64) -> bool
     ensures { result ≡ (is_positive value || (is_zero value && owns_boundary half.now)) }
 {
     value > 0 || (value == 0 && owns_boundary(half))
 }
 
-/// Whether the first of `a`, `b` and `c` that is not 0 is positive.
+/// Returns whether the first of `a`, `b` and `c` of `half` that is not 0 is positive.
 fn owns_boundary(half: &Half) -> bool
     ensures { result ≡ owns_boundary half.now }
 {
@@ -65,7 +64,7 @@ fn owns_boundary(half: &Half) -> bool
     a > 0 || (a == 0 && (b > 0 || (b == 0 && c > 0)))
 }
 
-/// Three numbers divided by their greatest common divisor.
+/// Returns the edge of the three numbers divided by their greatest common divisor.
 fn lowest(a: i64, b: i64, d: i64) -> Edge
     requires a_small { IsWithin (2 ^ 24) a }
     requires b_small { IsWithin (2 ^ 24) b }
@@ -81,7 +80,7 @@ fn lowest(a: i64, b: i64, d: i64) -> Edge
     }
 }
 
-/// The greatest common divisor of three numbers.
+/// Returns the greatest common divisor of `a`, `b` and `d`.
 fn divisor_of(a: i64, b: i64, d: i64) -> u128
     requires a_small { IsWithin (2 ^ 24) a }
     requires b_small { IsWithin (2 ^ 24) b }

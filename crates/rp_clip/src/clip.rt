@@ -23,11 +23,11 @@ use rp_space::{Half, Inside, Meeting, Point};
 use std::marker::Model;
 
 /// A cell of at most 64 half-spaces with the vertices of its weak system, each once, in no stated order. There is room
-/// for `MOST` of them, which are at least the eight corners of the cube.
-/// A contract sees the half-spaces in order and the vertices in lowest terms. No call takes memory.
+/// for `MOST` of them, which are at least the eight corners of the cube. A contract sees the half-spaces in order and
+/// the vertices in lowest terms. No call takes memory.
 ///
-/// There are two tables, of which one counts: `add` fills the other, which counts then, so that no table is moved. A
-/// clip is large, so `clear` and `copy_from` serve better than a new one.
+/// There are two tables, of which one is in use: `add` fills the other, which is then in use, so that no table is
+/// moved. A clip is large, so `clear` and `copy_from` serve better than a new one.
 #[derive(Drop)]
 pub struct Clip<const MOST: usize> {
     planes: Planes,
@@ -49,7 +49,7 @@ impl<const MOST: usize> Model for Clip<MOST> {
 }
 
 impl<const MOST: usize> Clip<MOST> {
-    /// No half-spaces, and the eight corners of the closed cube.
+    /// Returns the clip without half-spaces, with the eight corners of the closed cube.
     pub fn cube() -> Clip<MOST>
         requires { 8 ≤ MOST }
         ensures value { result ≡ clipped [] cube_corners }
@@ -66,7 +66,7 @@ impl<const MOST: usize> Clip<MOST> {
         clip
     }
 
-    /// Takes all half-spaces out, so that the eight corners of the closed cube are left.
+    /// Removes all half-spaces, so that the eight corners of the closed cube are left.
     pub fn clear(&mut self)
         requires { 8 ≤ MOST }
         ensures value { self.new ≡ clipped [] cube_corners }
@@ -77,8 +77,8 @@ impl<const MOST: usize> Clip<MOST> {
         self.is_second = false;
     }
 
-    /// Adds a half-space at the end, where there are fewer than 64; the points become the vertices with it. False
-    /// exactly where there would be more than `MOST` vertices, and then all is as before.
+    /// Adds `h` after the half-spaces, of which there are fewer than 64; the points become the vertices with it.
+    /// Returns false iff there would be more than `MOST` vertices, and then nothing changes.
     pub fn add(&mut self, h: Half) -> bool
         requires { length self.old.halves < 64 }
         ensures added { result ≡ true → self.new.halves ≡ self.old.halves ++ h ∷ [] }
@@ -86,7 +86,7 @@ impl<const MOST: usize> Clip<MOST> {
         ensures full { (result ≡ false) ↔ HasMoreVertices MOST (self.old.halves ++ h ∷ []) }
         ensures vertices { AreVertices self.new.halves self.new.points }
     {
-        // Only for what `numbers` ensures, that they keep their bounds.
+        // The call makes it known that the numbers keep their bounds.
         let _ = h.numbers();
         if !refill(
             &self.planes,
@@ -103,7 +103,7 @@ impl<const MOST: usize> Clip<MOST> {
         true
     }
 
-    /// The half-spaces, in the order in which they were added.
+    /// Returns the half-spaces, in the order in which they were added.
     pub fn halves(&self) -> &[Half]
         ensures value { result.now ≡ self.now.halves }
         ensures fits { length result.now ≤ 64 }
@@ -111,7 +111,7 @@ impl<const MOST: usize> Clip<MOST> {
         self.planes.halves()
     }
 
-    /// The vertices, each once, not in lowest terms.
+    /// Returns the vertices, each once, not in lowest terms.
     pub fn corners(&self) -> &[Meeting]
         ensures value { map reduced_point result.now ≡ self.now.points }
         ensures vertices { AreVertices self.now.halves (map reduced_point result.now) }
@@ -120,7 +120,7 @@ impl<const MOST: usize> Clip<MOST> {
         self.table().corners()
     }
 
-    /// The vertices, each once. They are put into lowest terms here.
+    /// Returns the vertices, each once, in lowest terms.
     pub fn vertices(&self) -> ArrayVec<Point, MOST>
         ensures value { result.items ≡ self.now.points }
         ensures vertices { AreVertices self.now.halves result.items }
@@ -128,8 +128,8 @@ impl<const MOST: usize> Clip<MOST> {
         points_of(self.corners())
     }
 
-    /// The first inside certificate of the half-spaces: the first vertex, and then, as long as a half-space of the list
-    /// is zero at all points taken, the first vertex that is positive on one of these. `None` exactly where the cell
+    /// Returns the first inside certificate of the half-spaces: the first vertex, and then, as long as a half-space is
+    /// zero at all points so far, the first vertex at which one of these half-spaces is positive. `None` iff the cell
     /// has no point.
     pub fn first_inside(&self) -> Option<Inside>
         ensures first { result ≡ first_inside self.now.halves }
@@ -139,7 +139,7 @@ impl<const MOST: usize> Clip<MOST> {
         first_points(&self.planes, self.table())
     }
 
-    /// The first weak point of the half-spaces: the first vertex. `None` exactly where the weak system has no point.
+    /// Returns the first weak point of the half-spaces: the first vertex. `None` iff the weak system has no point.
     pub fn first_weak(&self) -> Option<Point>
         ensures first { result ≡ first_weak_point self.now.halves }
         ensures passes { IfSome result (λ p. IsSolution false self.now.halves p) }
@@ -148,15 +148,15 @@ impl<const MOST: usize> Clip<MOST> {
         first_point(&self.planes, self.table())
     }
 
-    /// Whether the cell has a point: whether there are vertices, and no plane passes through all of them.
+    /// Returns whether the cell has a point: whether there are vertices, and no plane passes through all of them.
     pub fn has_inside(&self) -> bool
         ensures { (result ≡ true) ↔ IsNonempty (shape_of_cell self.now.halves) }
     {
         common_places(self.table().planes(), 0) == 0
     }
 
-    /// Whether the vertices on the plane of the half-space at a place show that a point of this plane lies strictly
-    /// inside all the others: whether no other plane passes through all of them. `false` says nothing.
+    /// Returns whether the plane of the half-space at `place` has vertices, and no other plane passes through all of
+    /// them. Then a point of this plane is strictly inside all other half-spaces. After false that is open.
     pub fn has_side(&self, place: usize) -> bool
         requires { place < length self.now.halves }
         ensures { result ≡ true → HasSide self.now.halves place }
@@ -166,7 +166,7 @@ impl<const MOST: usize> Clip<MOST> {
         common_places(masks, set) == set
     }
 
-    /// A copy of the value.
+    /// Returns a copy of the clip.
     pub fn copy(&self) -> Clip<MOST>
         ensures { result ≡ self.now }
     {
@@ -183,7 +183,7 @@ impl<const MOST: usize> Clip<MOST> {
         }
     }
 
-    /// Becomes the same as another clip. Copies what is there, and not all the room.
+    /// Copies the content of `other`, without its unused room.
     pub fn copy_from(&mut self, other: &Clip<MOST>)
         ensures { self.new ≡ other.now }
     {
@@ -192,7 +192,7 @@ impl<const MOST: usize> Clip<MOST> {
         self.is_second = false;
     }
 
-    /// The table of the vertices.
+    /// Returns the table of the vertices.
     fn table(&self) -> &Table<MOST>
         ensures clip { HasVertices MOST self.now.halves result.now }
         ensures points { result.now.points ≡ self.now.points }
@@ -205,8 +205,8 @@ impl<const MOST: usize> Clip<MOST> {
     }
 }
 
-/// Fills the table that does not count with the vertices of the cell of the other with one more half-space.
-/// False where there are too many.
+/// Fills the unused one of the two tables with the vertices of the cell of the other table with `h` as well. Returns
+/// false if there are too many.
 pub(crate) fn refill<const MOST: usize>(
     planes: &Planes,
     h: &Half,
@@ -227,7 +227,7 @@ pub(crate) fn refill<const MOST: usize>(
     }
 }
 
-/// Points put into lowest terms.
+/// Returns `corners`, at most `MOST`, in lowest terms.
 fn points_of<const MOST: usize>(corners: &[Meeting]) -> ArrayVec<Point, MOST>
     requires { length corners.now ≤ MOST }
     ensures { result.items ≡ map reduced_point corners.now }

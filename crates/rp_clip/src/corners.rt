@@ -7,21 +7,21 @@ ghost use Rattle.rp_clip.specs.Masks.{mask_of};
 use crate::table::Table;
 use rp_space::{HALF_EDGE, Meeting};
 
-/// The lower or the upper edge of the cube, the same along each axis.
+/// Returns the upper or the lower bound of the cube on an axis; the axes have equal bounds.
 fn edge(is_upper: bool) -> i32
     ensures { result ≡ edge_of is_upper }
 {
     if is_upper { HALF_EDGE } else { -HALF_EDGE }
 }
 
-/// The corner on the lower or the upper side along x, y and z.
+/// Returns the corner on the upper or the lower side along `x`, `y` and `z`.
 fn corner(x: bool, y: bool, z: bool) -> Meeting
     ensures { reduced_point result ≡ cube_corner x y z }
 {
     Meeting::whole(edge(x), edge(y), edge(z))
 }
 
-/// Fills a table with the eight corners, each with the places of its three sides.
+/// Fills `table` with the eight corners, each with the places of its three sides.
 pub(crate) fn fill_cube<const MOST: usize>(table: &mut Table<MOST>)
     requires { 8 ≤ MOST }
     ensures points { table.new.points ≡ cube_corners }

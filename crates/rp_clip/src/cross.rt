@@ -13,26 +13,26 @@ use crate::table::Table;
 use arrayvec::ArrayVec;
 use rp_space::{Half, Meeting, has_two};
 
-/// On which side of a plane a point lies.
+/// The side of a plane on which a point is.
 #[derive(Clone, Copy)]
 pub(crate) enum Side {
     /// The half-space is positive there.
     Above,
-    /// It is 0.
+    /// The half-space is 0 there.
     On,
-    /// It is negative.
+    /// The half-space is negative there.
     Below,
 }
 
 impl Default for Side {
-    /// Some side.
+    /// Returns `Side::On`.
     fn default() -> Side {
         Side::On
     }
 }
 
-/// Room for what is noted of a table while a half-space is added: on which side of its plane each of the points lies,
-/// and the planes through those that lie below. It is made once and cleared, and not filled with nothing each time.
+/// Room for notes about a table while a half-space is added: the side of its plane on which each point is, and the
+/// planes through the points below it. It is made once and then cleared, since a new one is filled with zeros.
 #[derive(Drop)]
 pub(crate) struct Notes<const MOST: usize> {
     sides: ArrayVec<Side, MOST>,
@@ -40,7 +40,7 @@ pub(crate) struct Notes<const MOST: usize> {
 }
 
 impl<const MOST: usize> Notes<MOST> {
-    /// Nothing noted.
+    /// Returns notes without content.
     pub(crate) fn new() -> Notes<MOST> {
         Notes {
             sides: ArrayVec::new(),
@@ -49,8 +49,8 @@ impl<const MOST: usize> Notes<MOST> {
     }
 }
 
-/// Fills a further table with the vertices that a cell of fewer than 64 half-spaces has with one more: those of the
-/// cell that are not below its plane, and then the points at which edges cross it. False where it has no room for them.
+/// Fills `more` with the vertices that a cell of fewer than 64 half-spaces has with `h`: its vertices that are not
+/// below the plane of `h`, and then the points at which edges cross the plane. Returns false if `more` has no room.
 pub(crate) fn cross_over<const MOST: usize>(
     planes: &Planes,
     h: &Half,
@@ -68,11 +68,11 @@ pub(crate) fn cross_over<const MOST: usize>(
     cross_all(planes, h, table, sides, notes.below.as_slice(), more)
 }
 
-/// On which side of the plane of a half-space the point lies.
+/// Returns the side of the plane of `h` on which `p` is.
 fn side_of(h: &Half, p: &Meeting) -> Side
     ensures { result ≡ side_of h.now (reduced_point p.now) }
 {
-    // Only for what `numbers` ensures, that the weight is positive.
+    // The call makes it known that the weight is positive.
     let _ = p.numbers();
     let value = p.side(h);
     if value > 0 {
@@ -84,7 +84,7 @@ fn side_of(h: &Half, p: &Meeting) -> Side
     Side::Below
 }
 
-/// Notes on which side of the plane of a half-space each of the points lies.
+/// Writes to `sides` the side of the plane of `h` on which each of `corners` is.
 fn note_sides<const MOST: usize>(h: &Half, corners: &[Meeting], sides: &mut ArrayVec<Side, MOST>)
     requires { length corners.now ≤ MOST }
     ensures { sides.new.items ≡ map (side_of h.now) (map reduced_point corners.now) }
@@ -95,8 +95,8 @@ fn note_sides<const MOST: usize>(h: &Half, corners: &[Meeting], sides: &mut Arra
     }
 }
 
-/// Fills a table with the points of another that are not below the plane, those on it with the new place, and a list
-/// with the places of those that are.
+/// Fills `kept` with the points of `table` that are not below the plane of `h`, those on it with the new place. Fills
+/// `below` with the sets of places of the points below the plane.
 fn split<const MOST: usize>(
     planes: &Planes,
     h: &Half,
@@ -119,8 +119,8 @@ fn split<const MOST: usize>(
     }
 }
 
-/// Appends a point that is not below the plane to the one, with the new place if it is on it. Of a point that is below
-/// it appends the places to the other.
+/// Appends a point that is not below the plane to `kept`, with the new `place` if it is on it. If the point is below
+/// the plane, appends the places `planes` to `below`.
 fn split_one<const MOST: usize>(
     side: Side,
     corner: Meeting,
@@ -142,7 +142,7 @@ fn split_one<const MOST: usize>(
     }
 }
 
-/// Puts the points at which edges cross the plane of `h` into a further table. False where there are too many.
+/// Adds to `more` the points at which edges cross the plane of `h`. Returns false if there are too many.
 fn cross_all<const MOST: usize>(
     planes: &Planes,
     h: &Half,
@@ -165,7 +165,7 @@ fn cross_all<const MOST: usize>(
     true
 }
 
-/// Puts the points at which the edges from one vertex cross the plane of `h` into a further table, if it is above.
+/// Adds to `more` the points at which the edges from one vertex cross the plane of `h`, if the vertex is above it.
 fn cross_above<const MOST: usize>(
     planes: &Planes,
     h: &Half,
@@ -186,7 +186,7 @@ fn cross_above<const MOST: usize>(
     cross_from(planes, h, set, below, more)
 }
 
-/// Puts the points at which the edges from one vertex above the plane of `h` cross it into a further table.
+/// Adds to `more` the points at which the edges from one vertex above the plane of `h` cross this plane.
 fn cross_from<const MOST: usize>(
     planes: &Planes,
     h: &Half,
@@ -208,14 +208,14 @@ fn cross_from<const MOST: usize>(
     true
 }
 
-/// Puts the point at which the line of common planes crosses the plane of `h` into a further table, if they have a
-/// line.
+/// Adds to `more` the point at which the line of the planes at the places `common` crosses the plane of `h`, if these
+/// have a line.
 fn cross<const MOST: usize>(planes: &Planes, h: &Half, common: u128, more: &mut Table<MOST>) -> bool
     requires between { IsBetween planes.now h.now common }
     requires more { IsTable MOST (with_one planes.now h.now) more.old }
     ensures { IsCrossed MOST planes.now h.now common more.old more.new result }
 {
-    // Most pairs of vertices have no edge: a line takes two planes.
+    // Most pairs of vertices have no edge: a line needs two planes.
     if !has_two(common) {
         return true;
     }

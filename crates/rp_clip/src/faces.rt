@@ -1,9 +1,9 @@
-//! The planes that all vertices of a cell have in common, or those of one of its faces.
+//! The planes that all vertices of a cell, or of one of its faces, have in common.
 ghost use Rattle.std.specs.Prelude.{◌≡◌, ◌-◌, ◌^◌};
 ghost use Rattle.rp_clip.specs.Faces.{common_with, common_of};
 
-/// The places that the masks have in common of all vertices on the planes of a set; all places where there is no such
-/// vertex.
+/// Returns the places that the masks of all vertices on the planes of `set` have in common; all places if there is no
+/// such vertex.
 pub(crate) fn common_places(masks: &[u128], set: u128) -> u128
     ensures { result ≡ common_of set (2 ^ 128 - 1) masks.now }
 {
@@ -14,7 +14,7 @@ pub(crate) fn common_places(masks: &[u128], set: u128) -> u128
     common
 }
 
-/// The places that are in common so far, and with one vertex more, if it is on the planes of the set.
+/// Returns the places of `common` that `mask` has too, if its vertex is on the planes of `set`; otherwise `common`.
 fn common_with(set: u128, common: u128, mask: u128) -> u128
     ensures { result ≡ common_with set common mask }
 {

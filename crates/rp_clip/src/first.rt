@@ -1,4 +1,4 @@
-//! The first vertex of a table, in the order of the first three places of each.
+//! The first vertex of a table, in the order of the first three places of each vertex.
 ghost use Rattle.std.specs.Prelude.{◌≡◌, ◌<◌, true, IfSome, IfNone, Some};
 ghost use Rattle.std.specs.Int.{trailing_zeros, w128};
 ghost use Rattle.rp_clip.specs.Firsts.{AreOn, HasFirst, IsBetter, IsFirstAt};
@@ -16,7 +16,8 @@ pub(crate) struct Found {
     pub(crate) basis: Basis,
 }
 
-/// The first vertex of a cell that is not on all planes of a set, from a table that has it, if it has any that is not.
+/// Returns the row in `table` of the first vertex of the cell that is not on all planes of `set`; `None` iff each
+/// vertex is on all of them. If the cell has a vertex off these planes, the first of them is in the table.
 pub(crate) fn first_vertex<const MOST: usize>(
     planes: &Planes,
     table: &Table<MOST>,
@@ -35,8 +36,8 @@ pub(crate) fn first_vertex<const MOST: usize>(
     Some(found.index)
 }
 
-/// The one of two vertices whose first three places are before the other's, where the new one is not on all planes of a
-/// set.
+/// Returns `best` or the vertex at `index` with the places `mask`: the one whose first three places come first. The new
+/// vertex is returned only if it is not on all planes of `set`.
 fn better(
     planes: &Planes,
     set: u128,
@@ -65,8 +66,8 @@ fn better(
     Some(Found { index, basis })
 }
 
-/// Whether the lowest place of a vertex, which is the first of its three, is behind the first one of the best so far.
-/// Most vertices are told apart here.
+/// Returns true only if the lowest place of `mask`, which is the first of its three, is after the first place of
+/// `best`. Most vertices differ here.
 fn is_behind(best: Option<Found>, mask: u128) -> bool
     ensures { result ≡ true → (f : Found) × (best ≡ Some f) × (f.basis.first < trailing_zeros w128 mask) }
 {

@@ -16,7 +16,7 @@ pub(crate) struct Met {
     pub(crate) at: Meeting,
 }
 
-/// The first two places of a set, from a place on, whose planes meet that of `h` in one point.
+/// Returns the first two places of `set`, from the place `from` on, whose planes meet that of `h` in one point.
 pub(crate) fn first_meeting(planes: &Planes, set: u128, from: u32, h: &Half) -> Option<Met>
     requires places { HasHalfSpaces planes.now set }
     requires from { from < 128 }
@@ -34,7 +34,7 @@ pub(crate) fn first_meeting(planes: &Planes, set: u128, from: u32, h: &Half) -> 
     None
 }
 
-/// The first place of a set behind a first one, whose plane meets that one's and that of `h` in one point.
+/// Returns the first place of `set` after `first` whose plane meets the planes at `first` and of `h` in one point.
 fn meeting_with(planes: &Planes, set: u128, first: u32, h: &Half) -> Option<Met>
     requires places { HasHalfSpaces planes.now set }
     requires first { IsIn set first }
@@ -62,7 +62,7 @@ pub(crate) struct Basis {
 }
 
 impl Basis {
-    /// Whether this one has the smaller place at the first at which they differ.
+    /// Returns whether this basis has the smaller place at the first position at which it differs from `other`.
     pub(crate) fn is_before(&self, other: &Basis) -> bool
         ensures { (result ≡ true) ↔ IsBasisBefore self.now other.now }
     {
@@ -73,7 +73,7 @@ impl Basis {
     }
 }
 
-/// The first three places of the planes through a vertex whose planes meet in one point.
+/// Returns the first three places of `set`, the planes through a vertex, whose planes meet in one point.
 pub(crate) fn first_basis(planes: &Planes, set: u128) -> Option<Basis>
     requires { IsVertexSet planes.now set }
     ensures some { IfSome result (λ b. IsFirstOfSet planes.now set b) }
@@ -92,7 +92,7 @@ pub(crate) fn first_basis(planes: &Planes, set: u128) -> Option<Basis>
     })
 }
 
-/// The places of a set that has exactly three, as most vertices have.
+/// Returns the places of `set` if it has exactly three, as most vertices have; otherwise `None`.
 fn three_places(set: u128) -> Option<Basis>
     requires { HasLowPlaces set }
     ensures { IfSome result (IsThree set) }

@@ -1,13 +1,13 @@
-//! In which order the half-spaces of a cell cut the polygon on the plane of one of them.
+//! The order in which the half-spaces of a cell cut the polygon on the plane of one of them.
 ghost use Rattle.std.specs.Prelude.{◌≡◌, ◌≤◌, ◌<◌, length, true};
 ghost use Rattle.rp_clip.specs.Polygons.{Covers};
 
 use arrayvec::ArrayVec;
 use rp_space::Half;
 
-/// The places of a cell: first one of them, then those whose half-spaces look much to the same side as this one's, and
-/// then the others. What bounds the polygon is mostly among the former, so that little is cut after them. No answer
-/// depends on the order.
+/// Returns the places of `cell`: first `place`, then those whose half-spaces look much to the same side as the
+/// half-space there, and then the others. The sides of the polygon are mostly among the former, so that little is cut
+/// after them. No result depends on the order.
 pub(crate) fn near_first(cell: &[Half], place: usize) -> ArrayVec<usize, 64>
     requires { place < length cell.now }
 {
@@ -30,8 +30,8 @@ pub(crate) fn near_first(cell: &[Half], place: usize) -> ArrayVec<usize, 64>
     order
 }
 
-/// How much the second half-space looks to the same side as the first: the product of their coefficients of x, y and z,
-/// over about the greatest of the second, in 4096ths.
+/// Returns how much `other` looks to the same side as `face`: the product of their coefficients of x, y and z, over
+/// about the greatest of `other`, in 4096ths.
 fn nearness(face: &Half, other: &Half) -> i64 {
     let (a, b, c, _) = face.numbers();
     let (d, e, f, _) = other.numbers();
@@ -45,7 +45,7 @@ fn nearness(face: &Half, other: &Half) -> i64 {
         .wrapping_shr(64 - size.leading_zeros())
 }
 
-/// Whether each place of a list is below a count, and each below it is in the list.
+/// Returns true only if each place of `order` is below `count`, and each place below `count` is in `order`.
 pub(crate) fn covers(order: &[usize], count: usize) -> bool
     requires { count ≤ 64 }
     ensures { result ≡ true → Covers order.now count }

@@ -28,7 +28,7 @@ impl Model for Planes {
 }
 
 impl Planes {
-    /// No half-spaces but the cube's.
+    /// Returns the cube's half-spaces alone.
     pub(crate) fn new() -> Planes
         ensures { result ≡ [] }
     {
@@ -38,7 +38,7 @@ impl Planes {
         }
     }
 
-    /// The half-spaces of a cell, of which there are at most 64.
+    /// Returns the half-spaces of `cell`, at most 64, and the cube's.
     pub(crate) fn of(cell: &[Half]) -> Planes
         requires { length cell.now ≤ 64 }
         ensures { result ≡ cell.now }
@@ -50,7 +50,7 @@ impl Planes {
         planes
     }
 
-    /// The cell's half-spaces, in order.
+    /// Returns the cell's half-spaces, in order, at most 64.
     pub(crate) fn halves(&self) -> &[Half]
         ensures value { result.now ≡ self.now }
         ensures fits { length result.now ≤ 64 }
@@ -58,7 +58,7 @@ impl Planes {
         self.cell.as_slice()
     }
 
-    /// The number of the cell's half-spaces.
+    /// Returns the number of the cell's half-spaces, at most 64.
     pub(crate) fn len(&self) -> u32
         ensures value { result ≡ length self.now }
         ensures fits { result ≤ 64 }
@@ -66,7 +66,7 @@ impl Planes {
         self.cell.len() as u32
     }
 
-    /// Adds a half-space to the cell, for which there is room.
+    /// Appends `h` to the cell's half-spaces, of which there are fewer than 64.
     pub(crate) fn push(&mut self, h: Half)
         requires { length self.old < 64 }
         ensures { self.new ≡ self.old ++ h ∷ [] }
@@ -74,7 +74,7 @@ impl Planes {
         self.cell.push(h);
     }
 
-    /// The half-space at a place where there is one.
+    /// Returns the half-space at `place`, at which there is one.
     pub(crate) fn at(&self, place: u32) -> Half
         requires { IsSome (half_at self.now place) }
         ensures { Some result ≡ half_at self.now place }
@@ -86,14 +86,14 @@ impl Planes {
         }
     }
 
-    /// Takes the cell's half-spaces out.
+    /// Removes the cell's half-spaces.
     pub(crate) fn clear(&mut self)
         ensures { self.new ≡ [] }
     {
         self.cell.clear();
     }
 
-    /// Becomes the same as others.
+    /// Copies the half-spaces of `other`.
     pub(crate) fn copy_from(&mut self, other: &Planes)
         ensures { self.new ≡ other.now }
     {

@@ -12,10 +12,10 @@ use crate::table::Table;
 use rp_space::{Half, Meeting, lowest_from};
 use std::marker::Model;
 
-/// The polygon of a cell on the plane of its first half-space: the vertices there, each once, in no stated order, of
-/// which there are at most 16. A contract sees the half-spaces and the table of the vertices.
+/// The polygon of a cell on the plane of its first half-space: the vertices there, each once, in no stated order, at
+/// most 16. A contract sees the half-spaces and the table of the vertices.
 ///
-/// Of two tables one counts, as in a `Clip`. The corners of the cube are there to begin with.
+/// Of the two tables one is used at a time, as in a `Clip`. It begins with the corners of the cube.
 #[derive(Drop)]
 pub(crate) struct Polygon {
     cube: Table<16>,
@@ -40,7 +40,7 @@ impl Model for Polygon {
 }
 
 impl Polygon {
-    /// No half-space and no vertex.
+    /// Returns a polygon without half-spaces and vertices.
     pub(crate) fn new() -> Polygon {
         let mut cube = Table::new();
         fill_cube(&mut cube);
@@ -54,7 +54,7 @@ impl Polygon {
         }
     }
 
-    /// Becomes that of the half-spaces at the places of a list. False where there is no room for it.
+    /// Makes the polygon of the half-spaces of `cell` at the places of `order`. Returns false if it has no room for it.
     pub(crate) fn cut_by(&mut self, cell: &[Half], order: &[usize]) -> bool
         requires few { length cell.now ≤ 64 }
         requires places { Covers order.now (length cell.now) }
@@ -72,11 +72,11 @@ impl Polygon {
         true
     }
 
-    /// Becomes that of one half-space. False where there is no room for it.
+    /// Makes the polygon of `h` alone. Returns false if it has no room for it.
     fn begin(&mut self, h: Half) -> bool
         ensures { result ≡ true → self.new.halves ≡ h ∷ [] }
     {
-        // Only for what `numbers` ensures, that they keep their bounds.
+        // The call makes it known that the numbers keep their bounds.
         let _ = h.numbers();
         self.planes.clear();
         self.first.clear();
@@ -95,13 +95,14 @@ impl Polygon {
         true
     }
 
-    /// Adds a half-space at the end, of which there are fewer than 64. False where there is no room for its vertices.
+    /// Adds `h` after the half-spaces, of which there are fewer than 64. Returns false if there is no room for its
+    /// vertices.
     fn add(&mut self, h: Half) -> bool
         requires some { 0 < length self.old.halves }
         requires few { length self.old.halves < 64 }
         ensures { result ≡ true → self.new.halves ≡ self.old.halves ++ h ∷ [] }
     {
-        // Only for what `numbers` ensures, that they keep their bounds.
+        // The call makes it known that the numbers keep their bounds.
         let _ = h.numbers();
         if is_positive_at_all(&h, self.table().corners()) {
             self.planes.push(h);
@@ -122,7 +123,7 @@ impl Polygon {
         true
     }
 
-    /// The table of the vertices.
+    /// Returns the table of the vertices.
     fn table(&self) -> &Table<16>
         ensures { result.now ≡ self.now.table }
     {
@@ -134,12 +135,12 @@ impl Polygon {
     }
 }
 
-/// Whether a half-space is positive at all of the points.
+/// Returns true only if `h` is positive at all of `corners`.
 fn is_positive_at_all(h: &Half, corners: &[Meeting]) -> bool
     ensures { result ≡ true → IsPositiveAtAll h.now corners.now }
 {
     for corner in corners {
-        // Only for what `numbers` ensures, that the weight is positive.
+        // The call makes it known that the weight is positive.
         let _ = corner.numbers();
         if corner.side(h) <= 0 {
             return false;
@@ -148,8 +149,8 @@ fn is_positive_at_all(h: &Half, corners: &[Meeting]) -> bool
     true
 }
 
-/// Fills a table with the vertices of a cell on the plane at a place, from a table of those of its half-spaces in
-/// another order, where this plane is the first one.
+/// Fills `to` with the vertices of `cell` on the plane at `place`. `from` is a table of the vertices of the half-spaces
+/// in the order `order`, in which this plane is the first.
 fn keep_on_first(
     sorted: &Planes,
     from: &Table<16>,
@@ -176,7 +177,7 @@ fn keep_on_first(
     }
 }
 
-/// A set of places of half-spaces in the order of a list, as the places that the list has for them. The cube's stay.
+/// Returns `set`, a set of places in `order`, as the set of the places that `order` has there. The cube's places stay.
 fn renamed(set: u128, order: &[usize]) -> u128
     requires order { (i : ℕ) → Contains order.now i → i < 64 }
     requires few { length order.now ≤ 64 }
@@ -194,8 +195,8 @@ fn renamed(set: u128, order: &[usize]) -> u128
     places
 }
 
-/// Fills a table with the vertices of a cell on the plane of the half-space at a place. False where there is no room
-/// for them.
+/// Fills `corners` with the vertices of `cell` on the plane of the half-space at `place`. Returns false if there is no
+/// room for them.
 pub(crate) fn fill_polygon(
     cell: &[Half],
     place: usize,

@@ -1,4 +1,4 @@
-//! The first certificates of a cell, sought on the plane of one half-space after the other.
+//! The search for the first certificates of a cell, on the plane of one half-space after the other.
 ghost use Rattle.std.specs.Prelude.{◌≡◌, ◌≤◌, length, IfSome, IsTrue, false, Some};
 ghost use Rattle.rp_geometry.specs.searches.Certificate.{is_inside_certificate};
 ghost use Rattle.rp_geometry.specs.searches.Vertex.{first_inside, first_weak_point};
@@ -11,15 +11,16 @@ use crate::polygon::{Polygon, fill_polygon};
 use crate::table::Table;
 use rp_space::{Half, Inside, Point, keep_bounds};
 
-/// The first inside certificate of a cell, found on the polygons of its planes, one after the other as long as points
-/// are wanted: of each plane the vertices on it are found, and no others. `None` tells nothing: the first plane may
-/// have no vertex, or one of them too many. A cell has at most 64 half-spaces. Takes no memory.
+/// Returns the first inside certificate of `cell`, from the polygons of its planes, one after the other as long as
+/// points are wanted. Of each plane it computes the vertices on it, and no others. After `None` it is open whether
+/// there is a certificate: the first plane may have no vertex, or one of the planes too many. `cell` has at most 64
+/// half-spaces. Takes no memory.
 pub fn inside_on_polygons(cell: &[Half]) -> Option<Inside>
     requires { length cell.now ≤ 64 }
     ensures first { IfSome result (λ points. first_inside cell.now ≡ Some points) }
     ensures passes { IfSome result (λ points. IsTrue (is_inside_certificate cell.now points)) }
 {
-    // Only so that it is known of all half-spaces that they keep their bounds.
+    // The call makes it known that all half-spaces keep their bounds.
     keep_bounds(cell);
     let planes = Planes::of(cell);
     let mut polygon = Polygon::new();
@@ -41,14 +42,14 @@ pub fn inside_on_polygons(cell: &[Half]) -> Option<Inside>
     None
 }
 
-/// The first weak point of a cell, if it is on the first plane, and this has not too many vertices. `None` tells
-/// nothing. A cell has at most 64 half-spaces. Takes no memory.
+/// Returns the first weak point of `cell`, if it is on the first plane, and this plane has not too many vertices. After
+/// `None` it is open whether there is a weak point. `cell` has at most 64 half-spaces. Takes no memory.
 pub fn weak_on_polygon(cell: &[Half]) -> Option<Point>
     requires { length cell.now ≤ 64 }
     ensures first { IfSome result (λ p. first_weak_point cell.now ≡ Some p) }
     ensures passes { IfSome result (λ p. IsSolution false cell.now p) }
 {
-    // Only so that it is known of all half-spaces that they keep their bounds.
+    // The call makes it known that all half-spaces keep their bounds.
     keep_bounds(cell);
     let planes = Planes::of(cell);
     let mut corners = Table::new();

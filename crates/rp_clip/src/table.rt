@@ -8,8 +8,8 @@ use arrayvec::ArrayVec;
 use rp_space::{Meeting, Point};
 use std::marker::Model;
 
-/// At most so many points, which are not put into lowest terms, and beside each the places of the planes through it.
-/// A contract sees the points in lowest terms, and the places.
+/// At most `MOST` points, which are not in lowest terms, each with the set of the places of the planes through it. A
+/// contract sees the points in lowest terms, and the places.
 #[derive(Drop)]
 pub(crate) struct Table<const MOST: usize> {
     corners: ArrayVec<Meeting, MOST>,
@@ -29,7 +29,7 @@ impl<const MOST: usize> Model for Table<MOST> {
 }
 
 impl<const MOST: usize> Table<MOST> {
-    /// The empty table.
+    /// Returns the empty table.
     pub(crate) fn new() -> Table<MOST>
         ensures { result ≡ rows_of [] [] }
     {
@@ -39,7 +39,7 @@ impl<const MOST: usize> Table<MOST> {
         }
     }
 
-    /// Takes all rows out.
+    /// Removes all rows.
     pub(crate) fn clear(&mut self)
         ensures { self.new ≡ rows_of [] [] }
     {
@@ -47,7 +47,7 @@ impl<const MOST: usize> Table<MOST> {
         self.planes.clear();
     }
 
-    /// Appends a row, for which there is room.
+    /// Appends a row. The table has room for it.
     pub(crate) fn push(&mut self, corner: Meeting, planes: u128)
         requires { length self.old.points < MOST }
         ensures points { self.new.points ≡ self.old.points ++ reduced_point corner ∷ [] }
@@ -57,7 +57,7 @@ impl<const MOST: usize> Table<MOST> {
         self.planes.push(planes);
     }
 
-    /// Whether there is no room for a further row.
+    /// Returns whether there is no room for a further row.
     fn is_full(&self) -> bool
         ensures full { result ≡ true → length self.now.points ≡ MOST }
         ensures room { result ≡ false → length self.now.points < MOST }
@@ -65,14 +65,14 @@ impl<const MOST: usize> Table<MOST> {
         self.corners.len() == MOST
     }
 
-    /// Whether a row has exactly these places.
+    /// Returns whether a row has exactly the places `planes`.
     fn has(&self, planes: u128) -> bool
         ensures { (result ≡ true) ↔ Contains self.now.planes planes }
     {
         self.planes.contains(&planes)
     }
 
-    /// Adds a row where none has these places. False where none has and the table is full.
+    /// Adds a row, if no row has the places `planes`. Returns false if no row has them and the table is full.
     pub(crate) fn put(&mut self, corner: Meeting, planes: u128) -> bool
         ensures { IsPut MOST self.old (reduced_point corner) planes self.new result }
     {
@@ -86,7 +86,7 @@ impl<const MOST: usize> Table<MOST> {
         true
     }
 
-    /// The points, not in lowest terms.
+    /// Returns the points, not in lowest terms.
     pub(crate) fn corners(&self) -> &[Meeting]
         ensures points { map reduced_point result.now ≡ self.now.points }
         ensures fits { length result.now ≤ MOST }
@@ -94,7 +94,7 @@ impl<const MOST: usize> Table<MOST> {
         self.corners.as_slice()
     }
 
-    /// The places of the planes through each point.
+    /// Returns the places of the planes through each point.
     pub(crate) fn planes(&self) -> &[u128]
         ensures value { result.now ≡ self.now.planes }
         ensures as_many { length result.now ≡ length self.now.points }
@@ -102,7 +102,7 @@ impl<const MOST: usize> Table<MOST> {
         self.planes.as_slice()
     }
 
-    /// The point of a row, in lowest terms.
+    /// Returns the point of the row `i`, in lowest terms.
     pub(crate) fn point(&self, i: usize) -> Point
         requires { i < length self.now.points }
         ensures { Some result ≡ slice_get self.now.points i }
@@ -110,7 +110,7 @@ impl<const MOST: usize> Table<MOST> {
         self.corners[i].point()
     }
 
-    /// The places of the planes through the point of a row.
+    /// Returns the places of the planes through the point of the row `i`.
     pub(crate) fn places(&self, i: usize) -> u128
         requires { i < length self.now.planes }
         ensures { Some result ≡ slice_get self.now.planes i }
@@ -118,7 +118,7 @@ impl<const MOST: usize> Table<MOST> {
         self.planes[i]
     }
 
-    /// Becomes the same as another table.
+    /// Copies the rows of `other`.
     pub(crate) fn copy_from(&mut self, other: &Table<MOST>)
         ensures { self.new ≡ other.now }
     {

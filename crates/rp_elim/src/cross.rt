@@ -1,4 +1,5 @@
-//! The cross product of the normals of two half-spaces: with it the determinant with a third one takes three products.
+//! The cross product of the normals of two half-spaces. With it, the determinant with a third half-space needs three
+//! products.
 ghost use Rattle.std.specs.Prelude.{◌≡◌, ◌≢◌, ◌*◌, ◌^◌, true, pos, neg_ℤ, MatchOption};
 ghost use Rattle.rp_algebra.specs.Within.{IsWithin};
 ghost use Rattle.rp_geometry.specs.searches.Vertex.{meeting_weight};
@@ -34,7 +35,7 @@ impl<'a> Model for Cross<'a> {
 }
 
 impl<'a> Cross<'a> {
-    /// The cross product of the normals of `f` and `g`.
+    /// Returns the cross product of the normals of `f` and `g`.
     pub fn new(f: &'a Half, g: &'a Half) -> Cross<'a>
         ensures { result ≡ two_of f.now g.now }
     {
@@ -49,21 +50,21 @@ impl<'a> Cross<'a> {
         }
     }
 
-    /// The first half-space.
+    /// Returns the first half-space.
     pub fn first(&self) -> &'a Half
         ensures { result.now ≡ self.now.first }
     {
         self.first
     }
 
-    /// The second half-space.
+    /// Returns the second half-space.
     pub fn second(&self) -> &'a Half
         ensures { result.now ≡ self.now.second }
     {
         self.second
     }
 
-    /// A copy of the cross product.
+    /// Returns a copy of the cross product.
     pub fn copy(&self) -> Cross<'a>
         ensures { result ≡ self.now }
     {
@@ -76,7 +77,7 @@ impl<'a> Cross<'a> {
         }
     }
 
-    /// The determinant of the coefficients of the two half-spaces and `h`.
+    /// Returns the determinant of the coefficients of the two half-spaces and `h`, within 6 * 2^72.
     pub fn weight(&self, h: &Half) -> i128
         ensures value { result ≡ meeting_weight self.now.first self.now.second h.now }
         ensures small { IsWithin (6 * 2 ^ 72) result }
@@ -85,22 +86,23 @@ impl<'a> Cross<'a> {
         a as i128 * self.bc as i128 - b as i128 * self.ac as i128 + c as i128 * self.ab as i128
     }
 
-    /// Whether the determinant with `h` as the third half-space is seen not to be 0 by its last 64 bits, which take one
-    /// product of a word for each coefficient: then the three normals are independent.
+    /// Returns true only if the determinant with `h` as the third half-space is not 0; then the three normals are
+    /// independent. It reads the last 64 bits of the determinant alone, which need one product of a word for each
+    /// coefficient.
     pub fn is_seen_independent(&self, h: &Half) -> bool
         ensures { result ≡ true → meeting_weight self.now.first self.now.second h.now ≢ pos 0 }
     {
         self.weight(h) & LAST_WORD != 0
     }
 
-    /// Whether the determinant with a third half-space is above 0 (`positive`), or below 0.
+    /// Returns whether the determinant with `h` as the third half-space is above 0 (`positive`), or below 0.
     pub fn has_sign(&self, positive: bool, h: &Half) -> bool
         ensures { result ≡ has_sign positive (meeting_weight self.now.first self.now.second h.now) }
     {
         has_sign(positive, self.weight(h))
     }
 
-    /// Whether the negative of the determinant with `h` is above 0. `None` where it is 0.
+    /// Returns whether the negative of the determinant with `h` is above 0; `None` iff the determinant is 0.
     pub fn opposite_sign(&self, h: &Half) -> Option<bool>
         ensures { MatchOption result (meeting_weight self.now.first self.now.second h.now ≡ pos 0) (λ s. has_sign s (neg_ℤ (meeting_weight self.now.first self.now.second h.now)) ≡ true) }
     {
@@ -114,7 +116,7 @@ impl<'a> Cross<'a> {
     }
 }
 
-/// Whether a number is above 0 (`positive`), or below 0.
+/// Returns whether `v` is above 0 (`positive`), or below 0.
 fn has_sign(positive: bool, v: i128) -> bool
     ensures { result ≡ has_sign positive v }
 {

@@ -11,15 +11,15 @@ use crate::refutation::if_found;
 use crate::search::{are_passed_over, first_two_with, refutation_of_one, refutation_of_two};
 use rp_space::{Half, Outside, cube, keep_bounds};
 
-/// The first outside certificate of `others`, which have a solution, and `last` behind them, for strict or weak sides,
-/// if it has at most two terms: then one of them is of `last`, and no other two are tried. With `None` it isn't known
-/// whether there is a point.
+/// Returns the first outside certificate of `others` followed by `last`, for strict or weak sides, if it has at most
+/// two terms. `others` have a solution, so one term is of `last`, and no other two half-spaces are tried. After `None`
+/// it is open whether there is a solution.
 pub fn first_outside_with_last(others: &[Half], last: &Half, strict: bool) -> Option<Outside>
     requires { (p : RationalPoint) × IsSolution strict others.now p }
     ensures first { IfSome result (λ terms. first_outside strict (others.now ++ last.now ∷ []) ≡ Some terms) }
     ensures none { IfSome result (λ terms. (p : RationalPoint) → ¬ IsSolution strict (others.now ++ last.now ∷ []) p) }
 {
-    // Only so that it is known of all half-spaces that they keep their bounds.
+    // The two calls make it known that all half-spaces keep their bounds.
     keep_bounds(others);
     let _ = last.numbers();
     let mut found = Outside::new();
@@ -27,7 +27,8 @@ pub fn first_outside_with_last(others: &[Half], last: &Half, strict: bool) -> Op
     if_found(is_found, found)
 }
 
-/// The first refutation by the last half-space alone, or with one of those before it, or with one of the cube's.
+/// Writes to `found` the first refutation by `last` alone, by `last` and one of `others`, or by `last` and one of the
+/// cube's half-spaces. Returns whether there is one.
 fn first_with_last(strict: bool, others: &[Half], last: &Half, found: &mut Outside) -> bool
     ensures { if_found result found.new ≡ first_with_last strict others.now last.now }
 {
@@ -40,7 +41,8 @@ fn first_with_last(strict: bool, others: &[Half], last: &Half, found: &mut Outsi
     first_two_with(strict, last, &cube(), found)
 }
 
-/// The first refutation by one of several half-spaces and one behind them.
+/// Writes to `found` the first refutation by one of `gs` and `h`, which has a later place. Returns whether there is
+/// one.
 fn first_two_before(strict: bool, gs: &[Half], h: &Half, found: &mut Outside) -> bool
     ensures { if_found result found.new ≡ first_of (λ g. refutation_of_two strict g h.now) gs.now }
 {

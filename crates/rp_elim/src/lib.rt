@@ -1,33 +1,39 @@
 #![tactic(auto)]
-//! The first outside certificate: the first few multiples of half-spaces that show that nothing is there.
+//! The first outside certificate: the first few multiples of half-spaces that show that a cell has no point.
 //!
-//! That a list of half-spaces has a solution or multiples that add up to a contradiction, and never both, is Farkas'
-//! lemma (1902) for weak sides and Motzkin's theorem of the alternative (1936) for strict ones. That four multiples are
-//! enough is Carathéodory's theorem (1911), which says here what Helly's (1923) says: where each four of the
-//! half-spaces have a common point, all have one. The laws are those of `rp_convex`, where they are proved by adding
-//! one half-space after the other, and not by eliminating one unknown after the other.
+//! Farkas' lemma (1902) says that a list of weak half-spaces has either a solution or multiples that add up to a
+//! contradiction, and never both. Motzkin's theorem of the alternative (1936) is the form of this law for strict
+//! half-spaces. By Carathéodory's theorem (1911) four multiples are enough. Helly's theorem (1923) is its form for
+//! points: if each four of the half-spaces have a common point, all have one. These laws are proved in `rp_convex`, by
+//! adding one half-space after the other, and not by eliminating one unknown after the other.
 //!
 //! So the sets of one, two, three and four half-spaces of a cell and the cube are tried, in the order of their places
-//! (`search.rt`). What is found is the first certificate, passes its check, and there is none exactly where the cell,
-//! or its weak system, has a solution. The multipliers of a set are signed minors of the coefficients (`minors.rt`),
-//! below 2^75 by their form, so each step is exact and within 128 bits. A set whose multipliers are not determined up
-//! to a factor is never the first certificate, since a smaller set then is one. The signs are compared before the
-//! determinants: two normals that do not oppose each other on each axis never cancel, so most pairs cost a few
-//! comparisons. Of three the determinant comes first: where it is not 0 they never cancel, so most cost three products
-//! of one word each, and of those whose determinant is 0 most have an axis on which no two coefficients oppose each
-//! other. Of four the signs of the minors come first, and then the sum of the offsets, so that terms are made where
-//! they refute and hardly elsewhere. What is found is written where the caller says, and each search answers whether it
-//! has found something: a list of terms is large, and most sets have none.
+//! (`search.rt`). The result is the first certificate, and it passes its check. There is none iff the cell, or its weak
+//! system, has a solution. The multipliers of a set are signed minors of the coefficients (`minors.rt`). They are below
+//! 2^75 by their form, so each step is exact and within 128 bits. If the multipliers of a set are not determined up to
+//! a factor, a smaller set has a certificate, so the set is never the first.
 //!
-//! Where all but one half-space have a solution, that one is in every certificate, and only the sets that contain it
-//! are tried ([`first_outside_through`], and [`first_outside_behind`] where the others stand in two lists). Of the sets
-//! of one size that share a half-space the first is the one whose others come first, so what is found is the first of
-//! all. The determinants of that half-space and two others are taken once, and their signs kept as sets of places
-//! (`sign_sets.rt`): of three those alone are tried whose determinant is 0, and of four those with three signs that
-//! fit, which are the places in two sets at once. A certificate of at most two terms is found by itself
-//! ([`first_outside_of_two`]), where it is the first: two boxes apart always have one. Of two cells that have solutions
-//! it has one term of each ([`first_outside_between`]), and of a cell whose others have one it has a term of the last
-//! half-space ([`first_outside_with_last`]).
+//! Cheap tests come first:
+//!
+//! - Two: the signs of the coefficients. Two normals that do not oppose each other on each axis never cancel, so most
+//!   pairs cost a few comparisons.
+//! - Three: the determinant. If it is not 0, the three never cancel, so most sets cost three products of one word each.
+//!   Most sets whose determinant is 0 have an axis on which no two coefficients oppose each other.
+//! - Four: the signs of the minors, and then the sum of the offsets. Almost all sets that pass both tests refute.
+//!
+//! A search writes its result to a variable of the caller and returns whether there is one: a list of terms is large,
+//! and most sets have none.
+//!
+//! If all half-spaces but one have a solution, that half-space is in every certificate, and only the sets that contain
+//! it are tried: [`first_outside_through`], or [`first_outside_behind`] if the others are in two lists. Of the sets of
+//! one size that share a half-space, the first is the set whose other half-spaces come first. So the first of these
+//! sets is the first of all. The determinants of the shared half-space and two others are computed once, and their
+//! signs are stored as sets of places (`sign_sets.rt`). Three are tried only if their determinant is 0. Four are tried
+//! only if three signs fit: these are the places that two sets have in common.
+//!
+//! A certificate of at most two terms has a search of its own ([`first_outside_of_two`]): two boxes apart always have
+//! one. If two cells have solutions, it has one term of each ([`first_outside_between`]). If a cell without its last
+//! half-space has a solution, it has a term of the last half-space ([`first_outside_with_last`]).
 
 mod couple;
 mod cross;

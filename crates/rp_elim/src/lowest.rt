@@ -7,7 +7,7 @@ ghost use Rattle.rp_geometry.specs.searches.Elimination.{factors_of, reduced_ter
 
 use rp_space::{Outside, Term, greatest_common_divisor, quotient};
 
-/// The greatest common divisor of the multipliers.
+/// Returns the greatest common divisor of the multipliers of `terms`.
 fn divisor_of(terms: &[Term]) -> u128
     ensures { result ≡ gcd_of (factors_of terms.now) }
 {
@@ -17,7 +17,8 @@ fn divisor_of(terms: &[Term]) -> u128
     }
 }
 
-/// The terms with their multipliers divided by the greatest common divisor of them all.
+/// Returns `terms`, 1 to 4, with each multiplier divided by the greatest common divisor of all. The multipliers are
+/// from 1 to 2^75 - 1.
 pub fn lowest_terms(terms: &[Term]) -> Outside
     requires some { 0 < length terms.now }
     requires few { length terms.now ≤ 4 }
@@ -29,7 +30,7 @@ pub fn lowest_terms(terms: &[Term]) -> Outside
     lowest
 }
 
-/// Writes to `found`, in place of what stands there, what `lowest_terms` answers.
+/// Replaces the content of `found` by the result of [`lowest_terms`] for `terms`.
 pub fn write_lowest(terms: &[Term], found: &mut Outside)
     requires some { 0 < length terms.now }
     requires few { length terms.now ≤ 4 }

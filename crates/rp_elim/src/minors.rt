@@ -9,7 +9,7 @@ ghost use Rattle.rp_elim.specs.Factors.{AreFactorsSmall};
 
 use rp_space::{Half, Term};
 
-/// An axis.
+/// An axis of space.
 #[derive(Clone, Copy)]
 pub enum Axis {
     X,
@@ -17,7 +17,7 @@ pub enum Axis {
     Z,
 }
 
-/// The coefficient of an axis.
+/// Returns the coefficient of `half` on `axis`, within 2^24.
 fn along(half: &Half, axis: Axis) -> i64
     ensures value { result ≡ along axis half.now }
     ensures small { IsWithin (2 ^ 24) result }
@@ -30,7 +30,7 @@ fn along(half: &Half, axis: Axis) -> i64
     }
 }
 
-/// The negative of the coefficient of an axis.
+/// Returns the negative of the coefficient of `half` on `axis`, within 2^24.
 fn opposite_along(half: &Half, axis: Axis) -> i64
     ensures value { result ≡ neg_ℤ (along axis half.now) }
     ensures small { IsWithin (2 ^ 24) result }
@@ -38,7 +38,7 @@ fn opposite_along(half: &Half, axis: Axis) -> i64
     -along(half, axis)
 }
 
-/// The 2 by 2 determinant of `f` and `g` on the axes `u` and `v`.
+/// Returns the 2 by 2 determinant of `f` and `g` on the axes `u` and `v`, within 2 * 2^48.
 pub fn minor(f: &Half, g: &Half, u: Axis, v: Axis) -> i64
     ensures value { result ≡ det2 (along u f.now) (along v f.now) (along u g.now) (along v g.now) }
     ensures small { IsWithin (2 * 2 ^ 48) result }
@@ -46,7 +46,7 @@ pub fn minor(f: &Half, g: &Half, u: Axis, v: Axis) -> i64
     along(f, u) * along(g, v) - along(f, v) * along(g, u)
 }
 
-/// The negative of the 2 by 2 determinant of two half-spaces on two axes.
+/// Returns the negative of the 2 by 2 determinant of `f` and `g` on the axes `u` and `v`.
 fn opposite_minor(f: &Half, g: &Half, u: Axis, v: Axis) -> i64
     ensures value { result ≡ neg_ℤ (det2 (along u f.now) (along v f.now) (along u g.now) (along v g.now)) }
     ensures small { IsWithin (2 * 2 ^ 48) result }
@@ -54,7 +54,7 @@ fn opposite_minor(f: &Half, g: &Half, u: Axis, v: Axis) -> i64
     -minor(f, g, u, v)
 }
 
-/// The determinant of the coefficients of three half-spaces.
+/// Returns the determinant of the coefficients of `f`, `g` and `h`, within 6 * 2^72.
 fn determinant(f: &Half, g: &Half, h: &Half) -> i128
     ensures value { result ≡ meeting_weight f.now g.now h.now }
     ensures small { IsWithin (6 * 2 ^ 72) result }
@@ -64,7 +64,7 @@ fn determinant(f: &Half, g: &Half, h: &Half) -> i128
         + along(h, Axis::X) as i128 * minor(f, g, Axis::Y, Axis::Z) as i128
 }
 
-/// The negative of the determinant of the coefficients of three half-spaces.
+/// Returns the negative of the determinant of the coefficients of `f`, `g` and `h`.
 fn opposite_determinant(f: &Half, g: &Half, h: &Half) -> i128
     ensures value { result ≡ neg_ℤ (meeting_weight f.now g.now h.now) }
     ensures small { IsWithin (6 * 2 ^ 72) result }
@@ -72,28 +72,28 @@ fn opposite_determinant(f: &Half, g: &Half, h: &Half) -> i128
     -determinant(f, g, h)
 }
 
-/// Whether a coefficient is 0.
+/// Returns whether the coefficient of `half` on `axis` is 0.
 fn is_without(half: &Half, axis: Axis) -> bool
     ensures { result ≡ is_zero (along axis half.now) }
 {
     along(half, axis) == 0
 }
 
-/// Whether two half-spaces are dependent on two axes.
+/// Returns whether the 2 by 2 determinant of `f` and `g` on the axes `u` and `v` is 0.
 fn are_dependent(f: &Half, g: &Half, u: Axis, v: Axis) -> bool
     ensures { result ≡ is_zero (det2 (along u f.now) (along v f.now) (along u g.now) (along v g.now)) }
 {
     minor(f, g, u, v) == 0
 }
 
-/// Whether all three coefficients are 0: then a half-space holds every point or none.
+/// Returns whether all three coefficients of `half` are 0. Such a half-space contains every point or none.
 pub fn is_without_normal(half: &Half) -> bool
     ensures { result ≡ is_without_normal half.now }
 {
     is_without(half, Axis::X) && is_without(half, Axis::Y) && is_without(half, Axis::Z)
 }
 
-/// Whether the normals of `f` and `g` are dependent.
+/// Returns whether the normals of `f` and `g` are dependent.
 pub fn are_parallel(f: &Half, g: &Half) -> bool
     ensures { result ≡ are_parallel f.now g.now }
 {
@@ -102,15 +102,15 @@ pub fn are_parallel(f: &Half, g: &Half) -> bool
         && are_dependent(f, g, Axis::Y, Axis::Z)
 }
 
-/// Whether the normals of `f` and `g` may cancel: on each axis one coefficient is positive and the other negative, or
-/// both are 0.
+/// Returns whether the normals of `f` and `g` may cancel: on each axis one coefficient is positive and the other
+/// negative, or both are 0.
 pub fn may_cancel(f: &Half, g: &Half) -> bool
     ensures { result ≡ may_cancel f.now g.now }
 {
     are_opposed(f, g, Axis::X) && are_opposed(f, g, Axis::Y) && are_opposed(f, g, Axis::Z)
 }
 
-/// Whether one coefficient is positive and the other negative, or both are 0.
+/// Returns whether, on `axis`, one coefficient is positive and the other negative, or both are 0.
 fn are_opposed(f: &Half, g: &Half, axis: Axis) -> bool
     ensures { result ≡ are_opposed (along axis f.now) (along axis g.now) }
 {
@@ -119,15 +119,15 @@ fn are_opposed(f: &Half, g: &Half, axis: Axis) -> bool
     (v > 0) == (w < 0) && (v < 0) == (w > 0)
 }
 
-/// Whether the normals of `f`, `g` and `h` may cancel: on each axis one coefficient is positive and one negative, or
-/// all are 0.
+/// Returns whether the normals of `f`, `g` and `h` may cancel: on each axis one coefficient is positive and one
+/// negative, or all are 0.
 pub fn may_three_cancel(f: &Half, g: &Half, h: &Half) -> bool
     ensures { result ≡ may_three_cancel f.now g.now h.now }
 {
     are_mixed(f, g, h, Axis::X) && are_mixed(f, g, h, Axis::Y) && are_mixed(f, g, h, Axis::Z)
 }
 
-/// Whether one of three coefficients is positive and one negative, or all are 0.
+/// Returns whether, on `axis`, one of the three coefficients is positive and one negative, or all are 0.
 fn are_mixed(f: &Half, g: &Half, h: &Half, axis: Axis) -> bool
     ensures { result ≡ are_mixed (along axis f.now) (along axis g.now) (along axis h.now) }
 {
@@ -137,7 +137,8 @@ fn are_mixed(f: &Half, g: &Half, h: &Half, axis: Axis) -> bool
     ((u > 0) | (v > 0) | (w > 0)) == ((u < 0) | (v < 0) | (w < 0))
 }
 
-/// The multiples of `f` and `g` that cancel on the first axis on which the coefficient of `f` is not 0.
+/// Returns the multiples of `f` and `g` that cancel on the first axis on which the coefficient of `f` is not 0; on z if
+/// all coefficients of `f` are 0.
 pub fn minors_of_two(f: &Half, g: &Half) -> [Term; 2]
     ensures value { result ≡ minors_of_two f.now g.now }
     ensures small { AreFactorsSmall result }
@@ -151,7 +152,7 @@ pub fn minors_of_two(f: &Half, g: &Half) -> [Term; 2]
     minors_on_axis(f, g, Axis::Z)
 }
 
-/// The multiples of two half-spaces that cancel on an axis.
+/// Returns the multiples of `f` and `g` that cancel on the axis `u`.
 fn minors_on_axis(f: &Half, g: &Half, u: Axis) -> [Term; 2]
     ensures value { result ≡ minors_on_axis f.now g.now (along u) }
     ensures small { AreFactorsSmall result }
@@ -168,7 +169,7 @@ fn minors_on_axis(f: &Half, g: &Half, u: Axis) -> [Term; 2]
     ]
 }
 
-/// The first two axes on which `f` and `g` are independent; the last two where there are none.
+/// Returns the first two axes on which `f` and `g` are independent; y and z if there are none.
 pub fn axes_of(f: &Half, g: &Half) -> (Axis, Axis)
     ensures { result ≡ axes_of f.now g.now }
 {
@@ -181,7 +182,7 @@ pub fn axes_of(f: &Half, g: &Half) -> (Axis, Axis)
     (Axis::Y, Axis::Z)
 }
 
-/// The multiples of `f`, `g` and `h` that cancel on the axes `u` and `v`.
+/// Returns the multiples of `f`, `g` and `h` that cancel on the axes `u` and `v`.
 pub fn minors_on_axes(f: &Half, g: &Half, h: &Half, u: Axis, v: Axis) -> [Term; 3]
     ensures value { result ≡ minors_on_axes f.now g.now h.now (along u) (along v) }
     ensures small { AreFactorsSmall result }
@@ -202,7 +203,7 @@ pub fn minors_on_axes(f: &Half, g: &Half, h: &Half, u: Axis, v: Axis) -> [Term; 
     ]
 }
 
-/// The multiples of `e`, `f`, `g` and `h` that cancel: the four minors of third order with alternating signs.
+/// Returns the multiples of `e`, `f`, `g` and `h` that cancel: the four minors of third order with alternating signs.
 pub fn minors_of_four(e: &Half, f: &Half, g: &Half, h: &Half) -> [Term; 4]
     ensures value { result ≡ minors_of_four e.now f.now g.now h.now }
     ensures small { AreFactorsSmall result }

@@ -1,4 +1,4 @@
-//! The half-spaces of a list beside one that is held fast.
+//! The other half-spaces of a list, each with its side of one chosen half-space.
 ghost use Rattle.std.specs.Prelude.{◌≡◌, ◌+◌, ◌≤◌, [], ◌++◌, true, false, length, map};
 ghost use Rattle.rp_geometry.specs.Geometry.{with_cube};
 ghost use Rattle.rp_elim.specs.HeldFast.{placed_at, placed_list};
@@ -6,15 +6,16 @@ ghost use Rattle.rp_elim.specs.HeldFast.{placed_at, placed_list};
 use arrayvec::ArrayVec;
 use rp_space::{Half, cube};
 
-/// A half-space of a list, and whether it stands before the one that is held fast.
+/// A half-space of a list, and whether its place is before that of the chosen half-space.
 #[derive(Clone, Copy, Default)]
 pub struct Placed {
     pub half: Half,
     pub before: bool,
 }
 
-/// Appends to `others` the half-spaces of `before` and of `more`, which stand before one, then those of `after`, which
-/// stand behind it, and the cube's six; there is room for them.
+/// Appends to `others`, which is empty, the half-spaces of `before` and of `more` as those before the chosen
+/// half-space. Then it appends the half-spaces of `after` and the cube's six as those after it. `others` has room for
+/// all.
 pub fn place<const MOST: usize>(
     others: &mut ArrayVec<Placed, MOST>,
     before: &[Half],
@@ -31,7 +32,8 @@ pub fn place<const MOST: usize>(
     extend(others, &cube(), false);
 }
 
-/// Appends half-spaces, for which there is room.
+/// Appends `halves` to `others`, which has room for them. `before` says whether their places are before that of the
+/// chosen half-space.
 fn extend<const MOST: usize>(others: &mut ArrayVec<Placed, MOST>, halves: &[Half], before: bool)
     requires { length others.old.items + length halves.now ≤ MOST }
     ensures { others.new.items ≡ others.old.items ++ map (placed_at before) halves.now }

@@ -1,4 +1,4 @@
-//! Whether multiples of a few half-spaces refute, once their multipliers are positive and in lowest terms.
+//! Tests whether multiples of a few half-spaces refute, with positive multipliers in lowest terms.
 ghost use Rattle.std.specs.Prelude.{◌≡◌, ◌&&◌, ◌<◌, ◌≤◌, true, neg_ℤ, length};
 ghost use Rattle.std.specs.List.{list_all};
 ghost use Rattle.rp_geometry.specs.searches.Certificate.{is_balanced, is_contradiction, is_multiplier};
@@ -9,10 +9,10 @@ ghost use Rattle.rp_elim.specs.Written.{if_found};
 use crate::lowest::write_lowest;
 use rp_space::{Outside, Term, is_balanced, is_contradiction, is_multiplier};
 
-/// Writes to `found` the `terms` with positive multipliers in lowest terms, if they refute that all their half-spaces
-/// are positive (`strict`), or that none is negative; the multipliers may have either sign. False where two multipliers
-/// have different signs or one is 0: then no positive multiples of them all cancel, or a term can be dropped, and a
-/// smaller set would come first.
+/// Writes to `found` the 1 to 4 `terms`, with positive multipliers in lowest terms, if they refute; returns whether
+/// they do. They refute that all their half-spaces are positive (`strict`), or that none is negative. The multipliers
+/// may have either sign. Returns false if two multipliers have different signs or one is 0. Then no positive multiples
+/// of all terms cancel, or a term can be dropped and a smaller set comes first.
 pub fn refutation(strict: bool, terms: &[Term], found: &mut Outside) -> bool
     requires some { 0 < length terms.now }
     requires few { length terms.now ≤ 4 }
@@ -28,8 +28,8 @@ pub fn refutation(strict: bool, terms: &[Term], found: &mut Outside) -> bool
     false
 }
 
-/// Writes to `found` the `terms` in lowest terms, if they refute that all their half-spaces are positive (`strict`), or
-/// that none is negative; all multipliers are positive.
+/// Writes to `found` the 1 to 4 `terms` in lowest terms, if they refute; returns whether they do. They refute that all
+/// their half-spaces are positive (`strict`), or that none is negative. All multipliers are positive.
 pub fn positive_refutation(strict: bool, terms: &[Term], found: &mut Outside) -> bool
     requires some { 0 < length terms.now }
     requires few { length terms.now ≤ 4 }
@@ -43,14 +43,15 @@ pub fn positive_refutation(strict: bool, terms: &[Term], found: &mut Outside) ->
     true
 }
 
-/// The terms that a search has written down, if it has found some.
+/// Returns `terms` if `is_found`, otherwise `None`.
 pub fn if_found(is_found: bool, terms: Outside) -> Option<Outside>
     ensures { result ≡ if_found is_found terms }
 {
     if is_found { Some(terms) } else { None }
 }
 
-/// Whether positive multiples contradict and cancel. Most that are tried cancel, so the contradiction comes first.
+/// Returns whether the 1 to 4 positive multiples `terms` contradict and cancel. Most that are tried cancel, so the
+/// contradiction is tested first.
 fn cancel(strict: bool, terms: &[Term]) -> bool
     requires few { length terms.now ≤ 4 }
     requires multipliers { list_all (λ t. is_multiplier t.factor) terms.now ≡ true }
@@ -59,21 +60,21 @@ fn cancel(strict: bool, terms: &[Term]) -> bool
     is_contradiction(terms, strict) && is_balanced(terms)
 }
 
-/// Whether each multiplier is from 1 to 2^75 - 1.
+/// Returns whether each multiplier of `terms` is from 1 to 2^75 - 1.
 pub fn are_multipliers(terms: &[Term]) -> bool
     ensures { result ≡ list_all (λ t. is_multiplier t.factor) terms.now }
 {
     terms.iter().all(|term| is_multiplier(term.by))
 }
 
-/// Whether the negative of each multiplier is from 1 to 2^75 - 1.
+/// Returns whether the negative of each multiplier of `terms` is from 1 to 2^75 - 1.
 pub fn are_negated_multipliers(terms: &[Term]) -> bool
     ensures { result ≡ list_all (λ t. is_multiplier (neg_ℤ t.factor)) terms.now }
 {
     terms.iter().all(|term| is_negated_multiplier(term.by))
 }
 
-/// Whether the negative of a multiplier is from 1 to 2^75 - 1.
+/// Returns whether the negative of `by` is from 1 to 2^75 - 1.
 fn is_negated_multiplier(by: i128) -> bool
     ensures { result ≡ is_multiplier (neg_ℤ by) }
 {
@@ -81,7 +82,7 @@ fn is_negated_multiplier(by: i128) -> bool
         .is_some_and(|opposite| is_multiplier(opposite))
 }
 
-/// The terms with their multipliers negated.
+/// Returns `terms`, at most 4, with their multipliers negated. The negated multipliers are from 1 to 2^75 - 1.
 pub fn negated(terms: &[Term]) -> Outside
     requires few { length terms.now ≤ 4 }
     requires multipliers { list_all (λ t. is_multiplier (neg_ℤ t.factor)) terms.now ≡ true }
@@ -94,7 +95,7 @@ pub fn negated(terms: &[Term]) -> Outside
     negated
 }
 
-/// The term with its multiplier negated.
+/// Returns `term` with its multiplier negated.
 fn negative(term: &Term) -> Term
     requires { is_multiplier (neg_ℤ term.now.factor) ≡ true }
     ensures factor { result.factor ≡ neg_ℤ term.now.factor }

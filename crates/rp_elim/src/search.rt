@@ -1,5 +1,6 @@
-//! Searches over one, two, three and four half-spaces, in the order of their places. Each function that searches writes
-//! the refutation that it finds to `found`, and answers whether there is one: so no list of terms is moved on the way.
+//! Searches over one, two, three and four half-spaces, in the order of their places. A refutation is a list of positive
+//! multiples of half-spaces that cancel and contradict. Each search writes the refutation that it finds to `found`, and
+//! returns whether there is one: so no list of terms is moved between functions.
 ghost use Rattle.std.specs.Prelude.{◌≡◌, ◌↔◌, ◌≤◌, ◌++◌, Bool, true, length, None, Some, IsNone, IfSome, IsTrue};
 ghost use Rattle.rp_geometry.specs.Geometry.{RationalPoint, with_cube};
 ghost use Rattle.rp_geometry.specs.laws.CellLaws.{IsSolution};
@@ -16,11 +17,13 @@ use crate::refutation::{if_found, positive_refutation, refutation};
 use crate::triple::Triple;
 use rp_space::{Half, Outside, Term, keep_bounds, with_cube};
 
-/// The first outside certificate of a cell (Farkas, Motzkin): the first few of its half-spaces and the cube's six, by
-/// their number and then by their places, with positive multiples that cancel and whose offsets add up to at most 0
-/// (`strict`) or to less than 0; the multipliers are in lowest terms.
-/// `None` exactly where there is a point at which all the half-spaces are positive (`strict`), or none is negative.
-/// The cell has at most 64 half-spaces. At most four terms are ever wanted (Carathéodory).
+/// Returns the first outside certificate of `cell` (Farkas, Motzkin): the first few of its half-spaces and the cube's
+/// six, by their number and then by their places. Each has a positive multiplier, in lowest terms. The multiples
+/// cancel, and their offsets add up to at most 0 (`strict`) or to less than 0. It has at most four terms
+/// (Carathéodory).
+///
+/// Returns `None` iff there is a point at which all the half-spaces are positive (`strict`), or none is negative.
+/// `cell` has at most 64 half-spaces.
 pub fn first_outside(cell: &[Half], strict: bool) -> Option<Outside>
     requires { length cell.now ≤ 64 }
     ensures first { result ≡ first_outside strict cell.now }
@@ -33,9 +36,9 @@ pub fn first_outside(cell: &[Half], strict: bool) -> Option<Outside>
     if_found(is_found, found)
 }
 
-/// The first outside certificate of `cell`, `strict` or not, as `first_outside` finds it, if it has at most two terms:
-/// then one half-space holds no point, or two look away from one another. So few sets are tried that this may come
-/// before a search for points. With `None` it isn't known whether there is a point. The cell has at most 64
+/// Returns the first outside certificate of `cell`, `strict` or not, as [`first_outside`] finds it, if it has at most
+/// two terms. Then one half-space contains no point, or two look away from one another. It tries few sets, so it may
+/// come before a search for points. After `None` it is open whether there is a point. `cell` has at most 64
 /// half-spaces.
 pub fn first_outside_of_two(cell: &[Half], strict: bool) -> Option<Outside>
     requires { length cell.now ≤ 64 }
@@ -50,8 +53,8 @@ pub fn first_outside_of_two(cell: &[Half], strict: bool) -> Option<Outside>
     if_found(is_found, found)
 }
 
-/// The first outside certificate of `first` and `second` together, for strict or weak sides, if it has at most two
-/// terms, as `first_outside_of_two` finds it. Each of the two cells has a solution, so that only one half-space of
+/// Returns the first outside certificate of `first` and `second` together, for strict or weak sides, if it has at most
+/// two terms, as [`first_outside_of_two`] finds it. Each of the two cells has a solution. So only one half-space of
 /// `first` with one of `second` may refute, and no other two are tried.
 pub fn first_outside_between(first: &[Half], second: &[Half], strict: bool) -> Option<Outside>
     requires first { (p : RationalPoint) × IsSolution strict first.now p }
@@ -61,7 +64,7 @@ pub fn first_outside_between(first: &[Half], second: &[Half], strict: bool) -> O
     ensures passes { IfSome result (λ terms. IsTrue (is_outside_certificate strict (first.now ++ second.now) terms)) }
     ensures none { IfSome result (λ terms. (p : RationalPoint) → ¬ IsSolution strict (first.now ++ second.now) p) }
 {
-    // Only so that it is known of all half-spaces that they keep their bounds.
+    // The two calls make it known that all half-spaces keep their bounds.
     keep_bounds(first);
     keep_bounds(second);
     let mut found = Outside::new();
@@ -69,7 +72,7 @@ pub fn first_outside_between(first: &[Half], second: &[Half], strict: bool) -> O
     if_found(is_found, found)
 }
 
-/// The first refutation by one half-space of a list and one of a second list.
+/// Writes to `found` the first refutation by one of `gs` and one of `hs`; returns whether there is one.
 fn first_between(strict: bool, gs: &[Half], hs: &[Half], found: &mut Outside) -> bool
     ensures { if_found result found.new ≡ first_of (λ g. first_of (refutation_of_two strict g) hs.now) gs.now }
 {
@@ -81,7 +84,8 @@ fn first_between(strict: bool, gs: &[Half], hs: &[Half], found: &mut Outside) ->
     false
 }
 
-/// The first refutation among the half-spaces of a list, by number of terms and then by places.
+/// Writes to `found` the first refutation among `halves`, by number of terms and then by places. Returns whether there
+/// is one.
 fn first_refutation(strict: bool, halves: &[Half], found: &mut Outside) -> bool
     ensures { if_found result found.new ≡ first_refutation strict halves.now }
 {
@@ -94,7 +98,7 @@ fn first_refutation(strict: bool, halves: &[Half], found: &mut Outside) -> bool
     first_four(strict, halves, found)
 }
 
-/// The first refutation by one half-space of a list, or else by two.
+/// Writes to `found` the first refutation by one of `halves`, otherwise by two; returns whether there is one.
 fn first_of_two(strict: bool, halves: &[Half], found: &mut Outside) -> bool
     ensures { if_found result found.new ≡ first_of_two strict halves.now }
 {
@@ -104,8 +108,8 @@ fn first_of_two(strict: bool, halves: &[Half], found: &mut Outside) -> bool
     first_two(strict, halves, found)
 }
 
-/// The refutation by `h` alone, if it refutes that it is positive (`strict`), or that it is not negative. Only one
-/// without a normal can cancel.
+/// Writes to `found` the refutation by `h` alone; returns whether there is one. It refutes that `h` is positive
+/// (`strict`), or that `h` is not negative. Only a half-space without a normal can cancel.
 pub fn refutation_of_one(strict: bool, h: &Half, found: &mut Outside) -> bool
     ensures { if_found result found.new ≡ refutation_of_one strict h.now }
 {
@@ -115,8 +119,8 @@ pub fn refutation_of_one(strict: bool, h: &Half, found: &mut Outside) -> bool
     positive_refutation(strict, &[Term { by: 1, half: *h }], found)
 }
 
-/// The refutation by `g` and `h`, if they refute that both are positive (`strict`), or that none is negative. Only two
-/// with dependent normals can cancel.
+/// Writes to `found` the refutation by `g` and `h`; returns whether there is one. It refutes that both are positive
+/// (`strict`), or that none is negative. Only two with dependent normals can cancel.
 pub fn refutation_of_two(strict: bool, g: &Half, h: &Half, found: &mut Outside) -> bool
     ensures { if_found result found.new ≡ refutation_of_two strict g.now h.now }
 {
@@ -126,7 +130,7 @@ pub fn refutation_of_two(strict: bool, g: &Half, h: &Half, found: &mut Outside) 
     refutation(strict, &minors_of_two(g, h), found)
 }
 
-/// Whether the signs of the coefficients tell that two half-spaces do not refute. Most pairs are passed over so,
+/// Returns true only if the signs of the coefficients show that `g` and `h` do not refute. It rules out most pairs,
 /// without room for terms.
 pub fn are_passed_over(g: &Half, h: &Half) -> bool
     ensures { result ≡ true → (strict : Bool) → refutation_of_two strict g.now h.now ≡ None }
@@ -134,7 +138,7 @@ pub fn are_passed_over(g: &Half, h: &Half) -> bool
     !may_cancel(g, h)
 }
 
-/// The first refutation by one of several.
+/// Writes to `found` the first refutation by one of `hs`; returns whether there is one.
 fn first_one(strict: bool, hs: &[Half], found: &mut Outside) -> bool
     ensures { if_found result found.new ≡ first_of (refutation_of_one strict) hs.now }
 {
@@ -146,7 +150,7 @@ fn first_one(strict: bool, hs: &[Half], found: &mut Outside) -> bool
     false
 }
 
-/// The first refutation by two of several.
+/// Writes to `found` the first refutation by two of `gs`; returns whether there is one.
 fn first_two(strict: bool, gs: &[Half], found: &mut Outside) -> bool
     ensures { if_found result found.new ≡ first_of_pairs (refutation_of_two strict) gs.now }
 {
@@ -158,7 +162,7 @@ fn first_two(strict: bool, gs: &[Half], found: &mut Outside) -> bool
     false
 }
 
-/// Writes to `found` the first refutation by `g` and one of `hs`, and answers whether there is one.
+/// Writes to `found` the first refutation by `g` and one of `hs`; returns whether there is one.
 pub fn first_two_with(strict: bool, g: &Half, hs: &[Half], found: &mut Outside) -> bool
     ensures { if_found result found.new ≡ first_of (refutation_of_two strict g.now) hs.now }
 {
@@ -173,7 +177,7 @@ pub fn first_two_with(strict: bool, g: &Half, hs: &[Half], found: &mut Outside) 
     false
 }
 
-/// The first refutation by three of several.
+/// Writes to `found` the first refutation by three of `fs`; returns whether there is one.
 fn first_three(strict: bool, fs: &[Half], found: &mut Outside) -> bool
     ensures { if_found result found.new ≡ first_of_triples (refutation_of_three strict) fs.now }
 {
@@ -185,7 +189,7 @@ fn first_three(strict: bool, fs: &[Half], found: &mut Outside) -> bool
     false
 }
 
-/// The first refutation by one half-space and two of several.
+/// Writes to `found` the first refutation by `f` and two of `gs`; returns whether there is one.
 fn first_three_with(strict: bool, f: &Half, gs: &[Half], found: &mut Outside) -> bool
     ensures { if_found result found.new ≡ first_of_pairs (refutation_of_three strict f.now) gs.now }
 {
@@ -197,8 +201,9 @@ fn first_three_with(strict: bool, f: &Half, gs: &[Half], found: &mut Outside) ->
     false
 }
 
-/// The first refutation by two half-spaces and one of several. Where the normals of the two are dependent, the
-/// multipliers of three are not determined up to a factor: a term can be dropped, so a smaller set would come first.
+/// Writes to `found` the first refutation by `f`, `g` and one of `hs`; returns whether there is one. If the normals of
+/// `f` and `g` are dependent, the multipliers of three are not determined up to a factor. Then a term can be dropped,
+/// and a smaller set comes first.
 fn first_three_with_two(strict: bool, f: &Half, g: &Half, hs: &[Half], found: &mut Outside) -> bool
     ensures { if_found result found.new ≡ first_of (refutation_of_three strict f.now g.now) hs.now }
 {
@@ -208,7 +213,7 @@ fn first_three_with_two(strict: bool, f: &Half, g: &Half, hs: &[Half], found: &m
     }
 }
 
-/// The first refutation by a couple and one of several.
+/// Writes to `found` the first refutation by the two of `couple` and one of `hs`; returns whether there is one.
 fn first_three_with_couple(strict: bool, couple: &Couple, hs: &[Half], found: &mut Outside) -> bool
     ensures { if_found result found.new ≡ first_of (refutation_of_three strict couple.now.first couple.now.second) hs.now }
 {
@@ -223,7 +228,7 @@ fn first_three_with_couple(strict: bool, couple: &Couple, hs: &[Half], found: &m
     false
 }
 
-/// The first refutation by four of several.
+/// Writes to `found` the first refutation by four of `es`; returns whether there is one.
 fn first_four(strict: bool, es: &[Half], found: &mut Outside) -> bool
     ensures { if_found result found.new ≡ first_of_quadruples (refutation_of_four strict) es.now }
 {
@@ -235,7 +240,7 @@ fn first_four(strict: bool, es: &[Half], found: &mut Outside) -> bool
     false
 }
 
-/// The first refutation by one half-space and three of several.
+/// Writes to `found` the first refutation by `e` and three of `fs`; returns whether there is one.
 fn first_four_with(strict: bool, e: &Half, fs: &[Half], found: &mut Outside) -> bool
     ensures { if_found result found.new ≡ first_of_triples (refutation_of_four strict e.now) fs.now }
 {
@@ -247,7 +252,7 @@ fn first_four_with(strict: bool, e: &Half, fs: &[Half], found: &mut Outside) -> 
     false
 }
 
-/// The first refutation by two half-spaces and two of several.
+/// Writes to `found` the first refutation by `e`, `f` and two of `gs`; returns whether there is one.
 fn first_four_with_two(strict: bool, e: &Half, f: &Half, gs: &[Half], found: &mut Outside) -> bool
     ensures { if_found result found.new ≡ first_of_pairs (refutation_of_four strict e.now f.now) gs.now }
 {
@@ -260,9 +265,9 @@ fn first_four_with_two(strict: bool, e: &Half, f: &Half, gs: &[Half], found: &mu
     false
 }
 
-/// The first refutation by two half-spaces, a third one and one of several. Where the normals of the three are
-/// dependent, the multipliers of four are not determined up to a factor: a term can be dropped, so a smaller set would
-/// come first.
+/// Writes to `found` the first refutation by the two of `ef`, `g` and one of `hs`; returns whether there is one. If the
+/// normals of the three are dependent, the multipliers of four are not determined up to a factor. Then a term can be
+/// dropped, and a smaller set comes first.
 fn first_four_with_three(
     strict: bool,
     ef: &Cross,
@@ -278,7 +283,7 @@ fn first_four_with_three(
     }
 }
 
-/// The first refutation by a triple and one of several.
+/// Writes to `found` the first refutation by the three of `triple` and one of `hs`; returns whether there is one.
 fn first_four_with_triple(strict: bool, triple: &Triple, hs: &[Half], found: &mut Outside) -> bool
     ensures { if_found result found.new ≡ first_of (refutation_of_four strict triple.now.first triple.now.second triple.now.third) hs.now }
 {

@@ -1,5 +1,5 @@
-//! The search for the first refutation where one half-space is known to be in each. Each function writes it to `found`,
-//! and answers whether there is one.
+//! The search for the first refutation that contains one given half-space. Each function writes the refutation to
+//! `found` and returns whether there is one.
 ghost use Rattle.std.specs.Prelude.{◌≡◌, ◌↔◌, ◌+◌, ◌<◌, ◌≤◌, ◌∷◌, ◌++◌, [], Bool, true, false, length, None, IsNone, IfSome, IsTrue};
 ghost use Rattle.rp_geometry.specs.Geometry.{RationalPoint, with_cube};
 ghost use Rattle.rp_geometry.specs.laws.CellLaws.{IsSolution};
@@ -24,21 +24,22 @@ use crate::triple::Triple;
 use arrayvec::ArrayVec;
 use rp_space::{Half, Outside, keep_bounds, lowest_from};
 
-/// Up to so many others stand in a short list.
+/// The most other half-spaces for which a short list has room.
 const FEW: usize = 14;
 
-/// The places of a list of few others and the cube's six half-spaces.
+/// The length of a short list: 14 others and the cube's six half-spaces.
 const FEW_PLACES: usize = 20;
 
-/// The places of a list of 63 others and the cube's six half-spaces.
+/// The length of a long list: 63 others and the cube's six half-spaces.
 const MOST_PLACES: usize = 69;
 
-/// The first outside certificate of the cell of `before`, `half` and `after`, in this order, where `before` and `after`
-/// alone have a solution: a point at which all of them are positive (`strict`), or none is negative. At that point no
-/// multiples of these and of the cube's six add up to a contradiction, so each certificate has a term of `half`
-/// (Farkas, Motzkin), and only the sets that contain it are tried: with at most three others (Carathéodory), in the
-/// order of their places.
-/// `None` exactly where the whole cell has a solution. It has at most 64 half-spaces.
+/// Returns the first outside certificate of the cell of `before`, `half` and `after`, in this order; `None` iff the
+/// whole cell has a solution. It has at most 64 half-spaces.
+///
+/// `before` and `after` alone have a solution: a point at which all of them are positive (`strict`), or none is
+/// negative. So no multiples of these and of the cube's six add up to a contradiction, and each certificate has a term
+/// of `half` (Farkas, Motzkin). Only the sets that contain `half` are tried, with at most three others (Carathéodory),
+/// in the order of their places.
 pub fn first_outside_through(
     before: &[Half],
     half: &Half,
@@ -59,10 +60,9 @@ pub fn first_outside_through(
     if_found(is_found, found)
 }
 
-/// The first outside certificate of the cell of `first`, `second` and `last`, in this order, where `first` and `second`
-/// alone have a solution, of their strict sides (`strict`) or of the weak ones. Only sets with `last` are tried, as
-/// [`first_outside_through`] says.
-/// `None` exactly where the whole cell has a solution. It has at most 64 half-spaces.
+/// Returns the first outside certificate of the cell of `first`, `second` and `last`, in this order; `None` iff the
+/// whole cell has a solution. It has at most 64 half-spaces. `first` and `second` alone have a solution of their strict
+/// sides (`strict`) or of the weak ones. Only sets with `last` are tried, as [`first_outside_through`] says.
 pub fn first_outside_behind(
     first: &[Half],
     second: &[Half],
@@ -83,8 +83,8 @@ pub fn first_outside_behind(
     if_found(is_found, found)
 }
 
-/// The first refutation by a half-space and others, which are those of `before` and `more` before it and those of
-/// `after` and the cube behind it. Most cells have so few of them that a short list has room.
+/// Writes to `found` the first refutation by `half` and others: `before` and `more` before it, `after` and the cube
+/// after it. Returns whether there is one. Most cells have so few half-spaces that a short list has room.
 fn first_beside(
     strict: bool,
     before: &[Half],
@@ -102,8 +102,8 @@ fn first_beside(
     first_beside_many(strict, before, more, half, after, found)
 }
 
-/// The first refutation by `half` and the others, which stand in a short list. It is apart so that nobody else makes
-/// room for it.
+/// Writes to `found` the first refutation by `half` and the others, in a short list; returns whether there is one. It
+/// is a function of its own so that no other function makes room for the list.
 fn first_beside_few(
     strict: bool,
     before: &[Half],
@@ -121,7 +121,7 @@ fn first_beside_few(
     first_through(strict, half, others.as_slice(), &mut signs, found)
 }
 
-/// The first refutation by `half` and the others, which stand in a long list.
+/// Writes to `found` the first refutation by `half` and the others, in a long list; returns whether there is one.
 fn first_beside_many(
     strict: bool,
     before: &[Half],
@@ -139,8 +139,8 @@ fn first_beside_many(
     first_through(strict, half, others.as_slice(), &mut signs, found)
 }
 
-/// The first refutation by a half-space and others, by number of terms and then by places. `signs` is room for as many
-/// pairs of sets.
+/// Writes to `found` the first refutation by `k` and some of `others`, by number of terms and then by places. Returns
+/// whether there is one. `signs` is empty and has room for one pair of sets for each of `others`.
 fn first_through<const MOST: usize>(
     strict: bool,
     k: &Half,
@@ -165,7 +165,7 @@ fn first_through<const MOST: usize>(
     first_four(strict, k, others, signs.as_slice(), found)
 }
 
-/// The first refutation by a half-space and one of several.
+/// Writes to `found` the first refutation by `k` and one of `ps`; returns whether there is one.
 fn first_two(strict: bool, k: &Half, ps: &[Placed], found: &mut Outside) -> bool
     ensures { if_found result found.new ≡ first_of (two_in_order (refutation_of_two strict) k.now) ps.now }
 {
@@ -180,8 +180,8 @@ fn first_two(strict: bool, k: &Half, ps: &[Placed], found: &mut Outside) -> bool
     false
 }
 
-/// Whether the signs of the coefficients tell that a half-space and another one do not refute, in the order of their
-/// places.
+/// Returns true only if the signs of the coefficients show that `k` and `p`, in the order of their places, do not
+/// refute.
 fn is_passed_over(k: &Half, p: &Placed) -> bool
     ensures { result ≡ true → (strict : Bool) → two_in_order (refutation_of_two strict) k.now p.now ≡ None }
 {
@@ -191,7 +191,7 @@ fn is_passed_over(k: &Half, p: &Placed) -> bool
     are_passed_over(k, &p.half)
 }
 
-/// The refutation by a half-space and another one, in the order of their places, if they refute.
+/// Writes to `found` the refutation by `k` and `p`, in the order of their places; returns whether there is one.
 fn two_in_order(strict: bool, k: &Half, p: &Placed, found: &mut Outside) -> bool
     ensures { if_found result found.new ≡ two_in_order (refutation_of_two strict) k.now p.now }
 {
@@ -201,8 +201,8 @@ fn two_in_order(strict: bool, k: &Half, p: &Placed, found: &mut Outside) -> bool
     refutation_of_two(strict, k, &p.half, found)
 }
 
-/// The first refutation by a half-space and two of several. Where there is none, `signs` has the signs of the
-/// determinants of the half-space with each two of them.
+/// Writes to `found` the first refutation by `k` and two of `ps`; returns whether there is one. Otherwise `signs` has
+/// the signs of the determinants of `k` with each two of `ps`.
 fn first_three<const MOST: usize>(
     strict: bool,
     k: &Half,
@@ -228,8 +228,8 @@ fn first_three<const MOST: usize>(
     false
 }
 
-/// The first refutation by a half-space, a second one and one of several. Only three with dependent normals have
-/// multiples that cancel, so those alone are tried whose determinant is neither above 0 nor below.
+/// Writes to `found` the first refutation by `k`, `p` and one of `qs`; returns whether there is one. Only three with
+/// dependent normals have multiples that cancel. So only those of `qs` are tried whose determinant is 0.
 fn first_three_with(
     strict: bool,
     k: &Half,
@@ -242,7 +242,7 @@ fn first_three_with(
     requires signs { signs ≡ signs_of k.now p.now.half qs.now }
     ensures { if_found result found.new ≡ first_of (three_in_order (refutation_of_three strict) k.now p.now) qs.now }
 {
-    // All places but those of the two sets, which have none in common.
+    // All places outside the two sets, which are disjoint.
     let flat = (1u128 << qs.len()) - 1 - signs.above - signs.below;
     let mut from = 0;
     while let Some(place) = lowest_from(flat, from) {
@@ -254,7 +254,7 @@ fn first_three_with(
     false
 }
 
-/// The refutation by a half-space and two others, in the order of their places, if they refute.
+/// Writes to `found` the refutation by `k`, `p` and `q`, in the order of their places; returns whether there is one.
 fn three_in_order(strict: bool, k: &Half, p: &Placed, q: &Placed, found: &mut Outside) -> bool
     ensures { if_found result found.new ≡ three_in_order (refutation_of_three strict) k.now p.now q.now }
 {
@@ -267,8 +267,8 @@ fn three_in_order(strict: bool, k: &Half, p: &Placed, q: &Placed, found: &mut Ou
     refutation_of_three(strict, &p.half, &q.half, k, found)
 }
 
-/// The refutation by three half-spaces, if they refute. Where the signs of the coefficients tell that they do not
-/// cancel, or the normals of the first two are dependent, they do not.
+/// Writes to `found` the refutation by `f`, `g` and `h`; returns whether there is one. There is none if the signs of
+/// the coefficients show that the three do not cancel, or if the normals of `f` and `g` are dependent.
 fn refutation_of_three(strict: bool, f: &Half, g: &Half, h: &Half, found: &mut Outside) -> bool
     ensures { if_found result found.new ≡ refutation_of_three strict f.now g.now h.now }
 {
@@ -281,7 +281,8 @@ fn refutation_of_three(strict: bool, f: &Half, g: &Half, h: &Half, found: &mut O
     }
 }
 
-/// The first refutation by a half-space and three of several.
+/// Writes to `found` the first refutation by `k` and three of `ps`; returns whether there is one. `signs` has the signs
+/// of `k` with each two of `ps`.
 fn first_four(strict: bool, k: &Half, ps: &[Placed], signs: &[Signs], found: &mut Outside) -> bool
     requires few { length ps.now ≤ 69 }
     requires signs { signs.now ≡ signs_list k.now ps.now }
@@ -304,8 +305,8 @@ fn first_four(strict: bool, k: &Half, ps: &[Placed], signs: &[Signs], found: &mu
     false
 }
 
-/// The first refutation by a half-space, a second one and two of several. `own` has the signs of the first two with
-/// each of them, and `signs` those of the first with each two of them.
+/// Writes to `found` the first refutation by `k`, `p` and two of `qs`; returns whether there is one. `own` has the
+/// signs of `k` and `p` with each of `qs`, and `signs` those of `k` with each two of `qs`.
 fn first_four_with(
     strict: bool,
     k: &Half,
@@ -336,8 +337,9 @@ fn first_four_with(
     false
 }
 
-/// The first refutation by a half-space, two more and one at some places of several. The determinant of the three is
-/// the multiplier of the fourth but for its sign: where it is 0 they do not refute.
+/// Writes to `found` the first refutation by `k`, `p`, `q` and one at some `places` of `rs`; returns whether there is
+/// one. The determinant of the first three is, up to its sign, the multiplier of the fourth: if it is 0, the four do
+/// not refute.
 fn first_four_with_two(
     strict: bool,
     kp: &Cross,
@@ -359,7 +361,8 @@ fn first_four_with_two(
     }
 }
 
-/// The first refutation by three half-spaces whose determinant is not 0, and one at some places of several.
+/// Writes to `found` the first refutation by `k`, `p`, `q`, whose determinant is not 0, and one at some `places` of
+/// `rs`. Returns whether there is one.
 fn first_four_with_triple(
     strict: bool,
     triple: &Triple,
@@ -385,9 +388,9 @@ fn first_four_with_triple(
     false
 }
 
-/// The refutation by a half-space and three others, in the order of their places, if they refute.
-/// The sign that is left and the sum of the offsets are tried first: where two signs differ, or the sum does not
-/// contradict, the minors need not be taken.
+/// Writes to `found` the refutation by `k`, `p`, `q` and `r`, in the order of their places; returns whether there is
+/// one. The last sign and the sum of the offsets are tried first: if two signs differ, or the sum does not contradict,
+/// the minors are not computed.
 fn four_if_one_sign(
     strict: bool,
     triple: &Triple,
@@ -406,7 +409,8 @@ fn four_if_one_sign(
     four_in_order(strict, k, p, q, r, found)
 }
 
-/// The refutation by a half-space and three others, in the order of their places, if they refute.
+/// Writes to `found` the refutation by `k`, `p`, `q` and `r`, in the order of their places; returns whether there is
+/// one.
 fn four_in_order(
     strict: bool,
     k: &Half,
@@ -429,7 +433,7 @@ fn four_in_order(
     refutation_of_four(strict, &p.half, &q.half, &r.half, k, found)
 }
 
-/// The refutation by four half-spaces, if they refute.
+/// Writes to `found` the refutation by `e`, `f`, `g` and `h`; returns whether there is one.
 fn refutation_of_four(
     strict: bool,
     e: &Half,

@@ -1,4 +1,4 @@
-//! Three half-spaces, with what the refutations by them and a further one share.
+//! Three half-spaces, with the values that all refutations by the three and a fourth half-space use.
 ghost use Rattle.std.specs.Prelude.{◌≡◌, ◌&&◌, ◌*◌, ◌^◌, ◌*ℤ◌, Bool, true, false, not, pos, MatchOption};
 ghost use Rattle.rp_algebra.specs.Within.{IsWithin};
 ghost use Rattle.rp_geometry.specs.searches.Vertex.{meeting_weight};
@@ -13,7 +13,7 @@ use crate::refutation::refutation;
 use rp_space::{Half, Outside, Term};
 use std::marker::Model;
 
-/// Three half-spaces with independent normals. A contract sees the three.
+/// Three half-spaces with independent normals. A contract sees the three half-spaces.
 #[derive(Drop)]
 pub struct Triple<'a> {
     ef: Cross<'a>,
@@ -35,7 +35,7 @@ impl<'a> Model for Triple<'a> {
 }
 
 impl<'a> Triple<'a> {
-    /// The triple of the two half-spaces of `ef` and `g`. `None` exactly where their normals are dependent.
+    /// Returns the triple of the two half-spaces of `ef` and `g`; `None` iff their normals are dependent.
     pub fn new(ef: &Cross<'a>, g: &'a Half) -> Option<Triple<'a>>
         ensures { MatchOption result (meeting_weight ef.now.first ef.now.second g.now ≡ pos 0) (λ t. t ≡ three_of ef.now.first ef.now.second g.now) }
     {
@@ -50,15 +50,17 @@ impl<'a> Triple<'a> {
         }
     }
 
-    /// Whether the four minors of the three half-spaces and `h` have one sign but for their places, and so many times
-    /// the offsets add up to a contradiction (`strict` or not). Else the four do not refute, in whatever order.
+    /// Returns false only if the three half-spaces and `h` do not refute, in whatever order. Compares the alternating
+    /// signs of the four minors, and then tests whether the offsets times these minors add up to a contradiction
+    /// (`strict` or not).
     pub fn may_refute(&self, strict: bool, h: &Half) -> bool
         ensures { result ≡ false → CannotRefute strict self.now.first self.now.second self.now.third h.now }
     {
         self.ef.has_sign(self.positive, h) && self.may_refute_beside(strict, h)
     }
 
-    /// The same, where it is known of the first two half-spaces and `h` that their minor has the sign.
+    /// Returns false only if the three half-spaces and `h` do not refute, in whatever order. It makes the tests of
+    /// [`Triple::may_refute`] except that of the minor of the first two half-spaces and `h`.
     fn may_refute_beside(&self, strict: bool, h: &Half) -> bool
         ensures { result ≡ false → CannotRefute strict self.now.first self.now.second self.now.third h.now }
     {
@@ -66,8 +68,8 @@ impl<'a> Triple<'a> {
             && contradict(strict, self.positive, &self.ef, &self.eg, &self.fg, h)
     }
 
-    /// The same, where it is known of the first half-space, each of the two others and `h` that their minors have the
-    /// sign.
+    /// Returns false only if the three half-spaces and `h` do not refute, in whatever order. It makes the tests of
+    /// [`Triple::may_refute`] except those of the minors of the first half-space, one of the two others and `h`.
     pub fn may_refute_last(&self, strict: bool, h: &Half) -> bool
         ensures { result ≡ false → CannotRefute strict self.now.first self.now.second self.now.third h.now }
     {
@@ -75,9 +77,9 @@ impl<'a> Triple<'a> {
             && contradict(strict, self.positive, &self.ef, &self.eg, &self.fg, h)
     }
 
-    /// Writes to `found` the refutation by the three half-spaces and `h`, if they refute that all four are positive
-    /// (`strict`), or that none is negative. The signs and the sum of the offsets are tried first: where two signs
-    /// differ, or the sum does not contradict, the minors need not be taken.
+    /// Writes to `found` the refutation by the three half-spaces and `h`; returns whether there is one. It refutes that
+    /// all four are positive (`strict`), or that none is negative. The signs and the sum of the offsets are tried
+    /// first: if two signs differ, or the sum does not contradict, the minors are not computed.
     pub fn refutation(&self, strict: bool, h: &Half, found: &mut Outside) -> bool
         ensures { if_found result found.new ≡ refutation_of_four strict self.now.first self.now.second self.now.third h.now }
     {
@@ -88,7 +90,7 @@ impl<'a> Triple<'a> {
     }
 }
 
-/// The multiples that cancel of the two half-spaces of a cross product, the second one of another and a fourth one.
+/// Returns the multiples that cancel of the two half-spaces of `ef`, the second half-space of `eg`, and `h`.
 fn minors_of_crosses(ef: &Cross, eg: &Cross, h: &Half) -> [Term; 4]
     ensures value { result ≡ minors_of_four ef.now.first ef.now.second eg.now.second h.now }
     ensures small { AreFactorsSmall result }
@@ -96,23 +98,24 @@ fn minors_of_crosses(ef: &Cross, eg: &Cross, h: &Half) -> [Term; 4]
     minors_of_four(ef.first(), ef.second(), eg.second(), h)
 }
 
-/// Whether the first two of the four minors have the sign of the last one. They are taken at once, since which of them
-/// has another sign cannot be foreseen.
+/// Returns whether the first two of the four minors have the sign that `positive` asks of the last one. Both are
+/// computed at once, since it cannot be foreseen which of them has another sign.
 fn have_one_sign(positive: bool, eg: &Cross, fg: &Cross, h: &Half) -> bool
     ensures { result ≡ (has_sign (not positive) (meeting_weight eg.now.first eg.now.second h.now) && has_sign positive (meeting_weight fg.now.first fg.now.second h.now)) }
 {
     eg.has_sign(!positive, h) & fg.has_sign(positive, h)
 }
 
-/// Whether the offsets of four half-spaces, each times its minor, add up to a contradiction; where the last minor is
-/// not `positive`, the negative of their sum.
+/// Returns whether the offsets of four half-spaces, each times its minor, add up to a contradiction. If the last minor
+/// is not `positive`, the negative of the sum is tested.
 fn contradict(strict: bool, positive: bool, ef: &Cross, eg: &Cross, fg: &Cross, h: &Half) -> bool
     ensures { result ≡ contradicts strict (signed positive (four_offsets (meeting_weight fg.now.first fg.now.second h.now) (meeting_weight eg.now.first eg.now.second h.now) (meeting_weight ef.now.first ef.now.second h.now) (meeting_weight ef.now.first ef.now.second eg.now.second) ef.now.first ef.now.second eg.now.second h.now)) }
 {
     contradicts(strict, signed(positive, offset(ef, eg, fg, h)))
 }
 
-/// The sum of the offsets of four half-spaces, each times its minor.
+/// Returns the sum of the offsets of the four half-spaces of `ef`, `eg`, `fg` and `h`, each times its signed minor,
+/// within 72 * 2^120.
 fn offset(ef: &Cross, eg: &Cross, fg: &Cross, h: &Half) -> i128
     ensures value { result ≡ four_offsets (meeting_weight fg.now.first fg.now.second h.now) (meeting_weight eg.now.first eg.now.second h.now) (meeting_weight ef.now.first ef.now.second h.now) (meeting_weight ef.now.first ef.now.second eg.now.second) ef.now.first ef.now.second eg.now.second h.now }
     ensures small { IsWithin (72 * 2 ^ 120) result }
@@ -125,7 +128,7 @@ fn offset(ef: &Cross, eg: &Cross, fg: &Cross, h: &Half) -> i128
     x - y + z - w
 }
 
-/// The offset of a half-space, so many times.
+/// Returns the offset of `half` times `times`, within 18 * 2^120.
 fn times_offset(times: i128, half: &Half) -> i128
     requires { IsWithin (6 * 2 ^ 72) times }
     ensures value { result ≡ times *ℤ half.now.d }
@@ -135,7 +138,7 @@ fn times_offset(times: i128, half: &Half) -> i128
     times * d as i128
 }
 
-/// A sum, or its negative.
+/// Returns `sum` if `positive`, otherwise its negative.
 fn signed(positive: bool, sum: i128) -> i128
     requires { IsWithin (72 * 2 ^ 120) sum }
     ensures { result ≡ signed positive sum }
@@ -143,7 +146,7 @@ fn signed(positive: bool, sum: i128) -> i128
     if positive { sum } else { -sum }
 }
 
-/// Whether a sum of offsets is at most 0 (`strict`), or below 0.
+/// Returns whether `sum` is at most 0 (`strict`), or below 0.
 fn contradicts(strict: bool, sum: i128) -> bool
     ensures { result ≡ contradicts strict sum }
 {

@@ -7,7 +7,7 @@ ghost use Rattle.rp_footprint.specs.Cells.{AreInOrder};
 
 use rp_space::{Corner, Half};
 
-/// The difference of two coordinates.
+/// Returns `u - v`, the difference of two coordinates.
 fn difference(u: i32, v: i32) -> i64
     requires u_small { unsigned_abs u ≤ 8388608 }
     requires v_small { unsigned_abs v ≤ 8388608 }
@@ -17,7 +17,7 @@ fn difference(u: i32, v: i32) -> i64
     u as i64 - v as i64
 }
 
-/// The product of a difference and a coordinate.
+/// Returns `d * v`, the product of a difference and a coordinate.
 fn product(d: i64, v: i32) -> i64
     requires d_small { unsigned_abs d ≤ 16777216 }
     requires v_small { unsigned_abs v ≤ 8388608 }
@@ -27,7 +27,7 @@ fn product(d: i64, v: i32) -> i64
     d * v as i64
 }
 
-/// The difference of two products.
+/// Returns `u - v`, the difference of two products.
 fn offset(u: i64, v: i64) -> i64
     requires u_small { unsigned_abs u ≤ 140737488355328 }
     requires v_small { unsigned_abs v ≤ 140737488355328 }
@@ -36,7 +36,7 @@ fn offset(u: i64, v: i64) -> i64
     u - v
 }
 
-/// The opposite of a difference.
+/// Returns `-d`, the opposite of a difference.
 fn opposite(d: i64) -> i64
     requires { unsigned_abs d ≤ 16777216 }
     ensures { result ≡ neg_ℤ d }
@@ -44,7 +44,7 @@ fn opposite(d: i64) -> i64
     -d
 }
 
-/// The half-space below the line from a corner to one that is right of it, in lowest terms.
+/// Returns the half-space below the line from `left` to `right`, a corner with a greater x, in lowest terms.
 pub(crate) fn below_line(left: Corner, right: Corner) -> Option<Half>
     requires { AreInOrder (polygon_corner left) (polygon_corner right) }
     ensures { result ≡ Some (reduced_half_space (below_line (polygon_corner left) (polygon_corner right))) }

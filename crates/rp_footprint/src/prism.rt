@@ -11,7 +11,7 @@ ghost use Rattle.rp_parts.proofs.Parity.{differ};
 use crate::line::below_line;
 use rp_space::{Corner, Half, IntBox, Point, box_halves};
 
-/// The least y of some corners.
+/// Returns the least y of `corners`, at least one.
 fn least_y(corners: &[Corner]) -> i32
     requires { 1 ≤ length corners.now }
     ensures { result ≡ least_y (polygon_corners corners.now) }
@@ -23,7 +23,7 @@ fn least_y(corners: &[Corner]) -> i32
     least
 }
 
-/// The corner at which an edge ends: the next one, and after the last the first.
+/// Returns the corner at which the edge number `k` ends: the next corner, or the first one after the last.
 fn edge_end(corners: &[Corner], k: usize) -> Corner
     requires { k < length corners.now }
     ensures { edge_at (polygon_corners corners.now) k ≡ edge_of (polygon_corner (slice_index_or corners.now k result)) (polygon_corner result) }
@@ -35,7 +35,8 @@ fn edge_end(corners: &[Corner], k: usize) -> Corner
     }
 }
 
-/// The cell under the line from a corner to one that is right of it.
+/// Returns the cell under the line from `left` to `right`, a corner with a greater x, above `least` in y and from `z1`
+/// to below `z2`.
 fn cell_between(z1: i32, z2: i32, least: i32, left: Corner, right: Corner) -> Option<[Half; 6]>
     requires order { AreInOrder (polygon_corner left) (polygon_corner right) }
     requires heights { AreHeights z1 z2 least }
@@ -49,7 +50,8 @@ fn cell_between(z1: i32, z2: i32, least: i32, left: Corner, right: Corner) -> Op
     Some([from, to, floor, below, low, high])
 }
 
-/// The cell under an edge, where its ends have two x.
+/// Returns the cell under the edge from `start` to `end`, above `least` in y and from `z1` to below `z2`; `None` iff
+/// both ends have equal x.
 fn cell_of(z1: i32, z2: i32, least: i32, start: Corner, end: Corner) -> Option<[Half; 6]>
     requires near { AreNear (polygon_corner start) (polygon_corner end) }
     requires heights { AreHeights z1 z2 least }
@@ -65,8 +67,8 @@ fn cell_of(z1: i32, z2: i32, least: i32, start: Corner, end: Corner) -> Option<[
     }
 }
 
-/// The trapezoid of the edge number `k`, from 0, of the prism over `corners` from `z1` to below `z2`: between the ends
-/// of the edge, from the least y of the corners up to it, between the heights. `None` exactly where both ends have one
+/// Returns the trapezoid of the edge number `k`, from 0, of the prism over `corners` from `z1` to below `z2`: between
+/// the ends of the edge, from the least y of the corners up to it, between the heights. `None` iff both ends have equal
 /// x. There are from 1 to 256 corners, `k` is below their number, and all numbers are within their bounds.
 pub fn trapezoid(z1: i32, z2: i32, corners: &[Corner], k: usize) -> Option<[Half; 6]>
     requires bounds { IsPrism (prism_of z1 z2 corners.now) }
@@ -76,7 +78,7 @@ pub fn trapezoid(z1: i32, z2: i32, corners: &[Corner], k: usize) -> Option<[Half
     cell_of(z1, z2, least_y(corners), corners[k], edge_end(corners, k))
 }
 
-/// Whether all half-spaces hold the point.
+/// Returns whether `p` is in all half-spaces of `cell`.
 fn all_hold(cell: &[Half], p: &Point) -> bool
     ensures { result ≡ all_hold cell.now p.now }
 {
@@ -88,7 +90,7 @@ fn all_hold(cell: &[Half], p: &Point) -> bool
     true
 }
 
-/// Whether the cell, if there is one, has the point.
+/// Returns whether `p` is in `cell`; false if there is no cell.
 fn is_inside(cell: Option<[Half; 6]>, p: &Point) -> bool
     ensures { result ≡ cell_holds cell p.now }
 {
@@ -98,14 +100,14 @@ fn is_inside(cell: Option<[Half; 6]>, p: &Point) -> bool
     }
 }
 
-/// Whether a number is odd after one more is counted or not.
+/// Returns whether a count is odd. It was odd before iff `odd`, and is then raised by 1 iff `counted`.
 fn flipped(odd: bool, counted: bool) -> bool
     ensures { result ≡ differ counted odd }
 {
     if counted { !odd } else { odd }
 }
 
-/// Whether `p` is a member of the prism over `corners` from `z1` to below `z2`: it lies in the cube, between the
+/// Returns whether `p` is a member of the prism over `corners` from `z1` to below `z2`: it is in the cube, between the
 /// heights, and an odd number of edges are above it. There are from 1 to 256 corners, and all numbers are within their
 /// bounds.
 pub fn prism_holds(z1: i32, z2: i32, corners: &[Corner], p: &Point) -> bool

@@ -1,9 +1,9 @@
-//! What is copied without memory.
+//! Values that are copied without memory.
 ghost use Rattle.std.specs.Prelude.{◌≡◌};
 
-/// What is copied without memory.
+/// A value that is copied without memory.
 pub trait Copied: Default + Drop {
-    /// A copy, which is the same.
+    /// Returns a copy, which is equal.
     fn copy(&self) -> Self
         ensures { result ≡ self.now };
 }

@@ -1,10 +1,11 @@
 #![tactic(auto)]
 //! Names, and lists.
 //!
-//! Names are exactly the byte strings that the grammar calls names. A [`Listed`] takes an item at its end: where there
-//! was room for it this does not fail, and where it fails the items are as they were; room that is reserved is there,
-//! and reserving gives none back. A [`Short`] list has room for so many items and takes no memory. Calls that answer
-//! `AllocError` do so only for want of memory.
+//! - Names are exactly the byte strings that the grammar calls names.
+//! - A [`Listed`] appends an item at its end. If there was room, this does not fail; if it fails, the items are as they
+//!   were. Reserved room stays.
+//! - A [`Short`] list has room for a fixed number of items and takes no memory.
+//! - Calls that return `AllocError` do so only for want of memory.
 
 mod copied;
 mod listed;

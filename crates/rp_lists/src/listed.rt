@@ -1,11 +1,12 @@
-//! Lists that grow, whose room contracts see.
+//! Lists that grow. A contract sees their room.
 ghost use Rattle.std.specs.Prelude.{◌≡◌, IfOk, IsOk, OnOk, OnErr, [], ◌∷◌, ◌++◌, ◌≤◌, ◌<◌, ◌+◌, length};
 
 use crate::name::Name;
 use std::alloc::{AllocError, Global};
 use std::marker::Model;
 
-/// A list that grows at its end. A contract sees its `items`, and in `spare` how many more it has room for.
+/// A list that grows at its end. A contract sees its `items`, and in `spare` the number of further items for which it
+/// has room.
 #[derive(Debug, Drop)]
 pub struct Listed<T> {
     items: Vec<T>,
@@ -21,7 +22,7 @@ impl<T> Model for Listed<T> {
 }
 
 impl<T: Drop> Listed<T> {
-    /// The empty list, which keeps the allocator and takes no memory.
+    /// Returns the empty list, which stores the allocator. Takes no memory.
     pub fn new(alloc: Global) -> Listed<T>
         ensures { result.items ≡ [] }
     {
@@ -30,9 +31,8 @@ impl<T: Drop> Listed<T> {
         }
     }
 
-    /// Appends an item. After `AllocError` the items are as they were. Where there is room to spare it succeeds, and
-    /// takes one place of it at most. Each of the first two items takes room for itself alone, since most lists have no
-    /// more.
+    /// Appends an item. After `AllocError` the items are as they were. If there is room, the call succeeds and uses at
+    /// most one place of it. Each of the first two items takes memory for itself alone, since most lists have no more.
     pub fn push(&mut self, x: T) -> Result<(), AllocError>
         ensures ok { OnOk result (self.new.items ≡ self.old.items ++ x ∷ []) }
         ensures err { OnErr result (self.new.items ≡ self.old.items) }
@@ -46,8 +46,8 @@ impl<T: Drop> Listed<T> {
         Ok(())
     }
 
-    /// Appends all items of another list in order; they are moved. After `AllocError` the items are as they were. Where
-    /// there is room for all of them it succeeds, and takes as many places of it at most.
+    /// Appends all items of `other` in order; they are moved. After `AllocError` the items are as they were. If there
+    /// is room for all of them, the call succeeds and uses at most as many places of it.
     pub fn append(&mut self, other: Listed<T>) -> Result<(), AllocError>
         ensures ok { OnOk result (self.new.items ≡ self.old.items ++ other.items) }
         ensures err { OnErr result (self.new.items ≡ self.old.items) }
@@ -58,7 +58,7 @@ impl<T: Drop> Listed<T> {
         self.items.append(&mut items)
     }
 
-    /// Makes room for `n` more items. In any case the items stay, and so does the room that there was.
+    /// Reserves room for `n` more items. The items and the room that there was stay, even after `AllocError`.
     pub fn reserve(&mut self, n: usize) -> Result<(), AllocError>
         ensures items { self.new.items ≡ self.old.items }
         ensures ok { OnOk result (n ≤ self.new.spare) }
@@ -67,14 +67,14 @@ impl<T: Drop> Listed<T> {
         self.items.reserve(n)
     }
 
-    /// The items in order.
+    /// Returns the items in order.
     pub fn items(&self) -> &[T]
         ensures { result.now ≡ self.now.items }
     {
         &self.items
     }
 
-    /// The items in order, without the list; this takes no memory.
+    /// Returns the items in order. Takes no memory.
     pub fn into_items(self) -> Vec<T>
         ensures { result.items ≡ self.items }
     {
@@ -83,7 +83,11 @@ impl<T: Drop> Listed<T> {
 }
 
 impl<T: Copy + Drop> Listed<T> {
-    /// The list of `items`.
+    /// Returns the list of `items`.
+    ///
+    /// # Errors
+    ///
+    /// `AllocError` for want of memory.
     pub fn copy_of(alloc: Global, items: &[T]) -> Result<Listed<T>, AllocError>
         ensures { IfOk result (λ list. list.items ≡ items.now) }
     {

@@ -12,8 +12,8 @@ use std::marker::Model;
 /// The greatest number of bytes of a name.
 const MAX_NAME: usize = 32;
 
-/// A name of 1 to 32 bytes: letters `a` to `z` and `A` to `Z`, digits, `_`, `-` and `.`, the first of them a letter.
-/// A contract sees the list of its bytes.
+/// A name of 1 to 32 bytes: letters `a` to `z` and `A` to `Z`, digits, `_`, `-` and `.`; the first byte is a letter. A
+/// contract sees the list of its bytes.
 #[derive(Clone, Copy, Debug)]
 pub struct Name {
     bytes: [u8; 32],
@@ -37,7 +37,7 @@ impl Model for Name {
 }
 
 impl Name {
-    /// The name of these bytes. `None` exactly where they are no name.
+    /// Returns the name of `bytes`; `None` iff they are not a name.
     pub fn new(bytes: &[u8]) -> Option<Name>
         ensures { result ≡ name_of bytes.now }
     {
@@ -52,7 +52,7 @@ impl Name {
         })
     }
 
-    /// The bytes of the name.
+    /// Returns the bytes of the name.
     pub fn bytes(&self) -> &[u8]
         ensures value { result.now ≡ self.now }
         ensures name { is_name result.now ≡ true }
@@ -61,7 +61,7 @@ impl Name {
     }
 }
 
-/// Two names are the same where their bytes are.
+/// Two names are equal iff their bytes are.
 impl PartialEq for Name {
     ghost eq = { label_eq };
 
@@ -86,28 +86,28 @@ impl Hash for Name {
     }
 }
 
-/// Whether a byte is a letter.
+/// Returns whether `byte` is a letter.
 fn is_letter(byte: u8) -> bool
     ensures { result ≡ is_letter byte }
 {
     (97 <= byte && byte <= 122) || (65 <= byte && byte <= 90)
 }
 
-/// Whether a byte may stand in a name.
+/// Returns whether a name may contain `byte`.
 fn is_name_byte(byte: u8) -> bool
     ensures { result ≡ is_name_byte byte }
 {
     is_letter(byte) || byte.is_ascii_digit() || byte == b'_' || byte == b'-' || byte == b'.'
 }
 
-/// Whether all bytes may stand in a name.
+/// Returns whether a name may contain all of `bytes`.
 fn are_name_bytes(bytes: &[u8]) -> bool
     ensures { result ≡ list_all is_name_byte bytes.now }
 {
     bytes.iter().all(|byte| is_name_byte(*byte))
 }
 
-/// Whether the bytes are a name.
+/// Returns whether `bytes` are a name.
 fn is_name(bytes: &[u8]) -> bool
     ensures { result ≡ is_name bytes.now }
 {

@@ -1,4 +1,4 @@
-//! Lists of fixed room.
+//! Lists with a fixed room.
 ghost use Rattle.std.specs.Prelude.{◌≡◌, [], ◌∷◌, ◌++◌, length, ◌<◌, ◌≤◌};
 
 use crate::copied::Copied;
@@ -20,14 +20,14 @@ impl<T, const N: usize> Model for Short<T, N> {
 }
 
 impl<T: Default, const N: usize> Default for Short<T, N> {
-    /// The empty list.
+    /// Returns the empty list.
     fn default() -> Short<T, N> {
         Short::new()
     }
 }
 
 impl<T: Default, const N: usize> Short<T, N> {
-    /// The empty list.
+    /// Returns the empty list.
     pub fn new() -> Short<T, N>
         ensures { result ≡ [] }
     {
@@ -38,7 +38,7 @@ impl<T: Default, const N: usize> Short<T, N> {
 }
 
 impl<T: Drop, const N: usize> Short<T, N> {
-    /// Appends an item, for which there is room.
+    /// Appends an item. The list has fewer than `N`.
     pub fn push(&mut self, x: T)
         requires { length self.old < N }
         ensures { self.new ≡ self.old ++ x ∷ [] }
@@ -46,7 +46,7 @@ impl<T: Drop, const N: usize> Short<T, N> {
         self.items.push(x);
     }
 
-    /// The items in order.
+    /// Returns the items in order, at most `N`.
     pub fn items(&self) -> &[T]
         ensures value { result.now ≡ self.now }
         ensures fits { length result.now ≤ N }
@@ -54,7 +54,7 @@ impl<T: Drop, const N: usize> Short<T, N> {
         self.items.as_slice()
     }
 
-    /// The items in order, by value.
+    /// Returns the items in order, by value.
     pub fn into_items(self) -> ArrayVec<T, N>
         ensures value { result.items ≡ self }
         ensures fits { length self ≤ N }
@@ -64,7 +64,7 @@ impl<T: Drop, const N: usize> Short<T, N> {
 }
 
 impl<T: Copied, const N: usize> Copied for Short<T, N> {
-    /// A copy: the same items in the same order.
+    /// Returns a copy, with equal items in the same order.
     fn copy(&self) -> Short<T, N> {
         let items = self.items();
         let mut copy = Short::new();

@@ -1,9 +1,10 @@
 #![tactic(auto)]
-//! What a row needs of whatever answers its tests (its oracle), and in which words it says what it has come to.
+//! The interface of a row to its oracle, which answers its tests, and to the forms of names and lots; and the reasons
+//! why a row has no result.
 //!
-//! A row is the walk of a command: its tests, one after the other, each of which may lead to another next one.
-//! [`Oracle`] counts and answers them and keeps forms, [`Named`] knows the forms of names and lots. A call that makes a
-//! walk comes to the result of the walk, or is [`Stopped`] where that is. Calls that answer `AllocError` do so only for
+//! A row is the walk of a command: its tests, one after the other, of which each may decide the next one. [`Oracle`]
+//! counts and answers them and stores forms; [`Named`] knows the forms of names and lots. A call that makes a walk
+//! returns the result of the walk, or [`Stopped`] iff the walk stops. Calls that return `AllocError` do so only for
 //! want of memory.
 
 mod limits;

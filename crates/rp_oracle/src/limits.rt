@@ -1,4 +1,4 @@
-//! The limits that every walk keeps.
+//! The limits of every walk.
 
 /// The most tests that a command may count.
 pub const MAX_TESTS: u32 = 65_536;

@@ -1,4 +1,4 @@
-//! How tests are counted and answered.
+//! The count of tests, and the answers to them.
 ghost use Rattle.std.specs.Prelude.{◌≡◌, ◌≤◌, ◌++◌, ◌∷◌, [], List, IfOk, length, map, true};
 ghost use Rattle.rp_geometry.specs.Geometry.{is_cube_point};
 ghost use Rattle.rp_geometry.specs.sets.Prism.{IsPrism};
@@ -14,11 +14,12 @@ use crate::stopped::Stopped;
 use rp_space::{Corner, Half, Halves, Point};
 use std::alloc::{AllocError, Global};
 
-/// What counts tests and answers them: a search, which tells its certificates, or a report, whose next lines are read.
+/// An oracle that counts tests and answers them: a search, which writes its certificates, or a report, whose next lines
+/// are read.
 ///
-/// A contract sees in `tester` how it does, and in `seen` a part and in `parts_of` a form as the model has it.
+/// A contract sees its definition in `tester`, and in `seen` a part and in `parts_of` a form as the model has them.
 pub trait Oracle: Sized {
-    /// A part, with what is known of every part.
+    /// A part, with the properties of every part.
     type Part: Drop;
 
     /// A list of parts.
@@ -30,44 +31,45 @@ pub trait Oracle: Sized {
 
     ghost parts_of: { Self.Form → List Part };
 
-    /// The parts in order.
+    /// Returns the parts of `form` in order.
     fn parts(form: &Self::Form) -> &[Self::Part]
         ensures { map seen result.now ≡ parts_of form.now };
 
-    /// The parts in order, without the form. Takes no memory.
+    /// Returns the parts of `form` in order. Takes no memory.
     fn into_parts(form: Self::Form) -> Vec<Self::Part>
         ensures { map seen result.items ≡ parts_of form };
 
-    /// The half-spaces of a part, which holds the points that all of them hold. Takes no memory.
+    /// Returns the half-spaces of `part`. The points of the part are the points in all of them. Takes no memory.
     fn into_halves(part: Self::Part) -> Halves
         ensures { result.items ≡ (seen part).cell };
 
-    /// The whole cube: one part without half-spaces.
+    /// Returns the whole cube: one part without half-spaces.
     fn whole(alloc: Global) -> Result<Self::Form, AllocError>
         ensures { IfOk result (λ form. parts_of form ≡ whole_part ∷ []) };
 
-    /// A form without parts. Takes no memory.
+    /// Returns a form without parts. Takes no memory.
     fn none(alloc: Global) -> Self::Form
         ensures { parts_of result ≡ [] };
 
-    /// A copy of `form`: the same parts in the same order.
+    /// Returns a copy of `form`, with equal parts in the same order.
     fn copy(alloc: Global, form: &Self::Form) -> Result<Self::Form, AllocError>
         ensures { IfOk result (λ copy. parts_of copy ≡ parts_of form.now) };
 
-    /// Whether `point`, of the cube, lies in `form`, by signs.
+    /// Returns whether `point`, of the cube, is in `form`, by signs.
     fn holds(form: &Self::Form, point: &Point) -> bool
         requires { is_cube_point point.now ≡ true }
         ensures { result ≡ passes (shape_of_parts (parts_of form.now)) point.now };
 
-    /// Counts `n` more tests. `false` exactly where their number would be above 65,536; then all is as before.
+    /// Counts `n` more tests and returns true. Returns false iff their number would be above 65,536; then nothing
+    /// changes.
     fn count(&mut self, n: u64) -> bool
         ensures { tester.count n self.old ≡ counted result self.new };
 
-    /// Whether `part` has a point, by a strict test of it, which isn't counted.
+    /// Returns whether `part` has a point, by a strict test, which is not counted.
     fn has_point(&mut self, alloc: Global, part: &Self::Part) -> Result<bool, Stopped>
         ensures { Refines (λ is_so. is_so) result self.new (tester.strict (seen part.now).cell self.old) };
 
-    /// Whether `first` and `second` are in contact, by a weak test of them together, which isn't counted.
+    /// Returns whether `first` and `second` are in contact, by a weak test of both together, which is not counted.
     fn are_in_contact(
         &mut self,
         alloc: Global,
@@ -76,15 +78,15 @@ pub trait Oracle: Sized {
     ) -> Result<bool, Stopped>
         ensures { Refines (λ is_so. is_so) result self.new (tester.weak ((seen first.now).cell ++ (seen second.now).cell) self.old) };
 
-    /// Whether `a` and `b` share a point, by all pairs of their parts, which are counted.
+    /// Returns whether `a` and `b` share a point, by tests of pairs of their parts. All pairs are counted.
     fn overlap(&mut self, alloc: Global, a: &Self::Form, b: &Self::Form) -> Result<bool, Stopped>
         ensures { Refines (λ is_so. is_so) result self.new (common_in_full tester (parts_of a.now) (parts_of b.now) self.old) };
 
-    /// Whether `a` and `b` are in contact, by all pairs of their parts, which are counted.
+    /// Returns whether `a` and `b` are in contact, by tests of pairs of their parts. All pairs are counted.
     fn contact(&mut self, alloc: Global, a: &Self::Form, b: &Self::Form) -> Result<bool, Stopped>
         ensures { Refines (λ is_so. is_so) result self.new (touch_in_full tester (parts_of a.now) (parts_of b.now) self.old) };
 
-    /// What is left of `a` outside `b`.
+    /// Returns the difference of `a` and `b`: the rest of `a` outside `b`.
     fn minus(
         &mut self,
         alloc: Global,
@@ -93,7 +95,7 @@ pub trait Oracle: Sized {
     ) -> Result<Self::Form, Stopped>
         ensures { Refines parts_of result self.new (subtract tester (parts_of a.now) (parts_of b.now) self.old) };
 
-    /// What is left of `first` outside `other`, as `minus` finds it; those parts of `first` that stay as they are are
+    /// Returns the difference of `first` and `other`, as [`Oracle::minus`] does. Parts of `first` that do not change are
     /// moved.
     fn into_minus(
         &mut self,
@@ -103,21 +105,25 @@ pub trait Oracle: Sized {
     ) -> Result<Self::Form, Stopped>
         ensures { Refines parts_of result self.new (subtract tester (parts_of first) (parts_of other.now) self.old) };
 
-    /// What `a` and `b` have in common: a part test of each part of `a` with each part of `b`, which are counted.
+    /// Returns the intersection of `a` and `b`, by a part test of each part of `a` with each part of `b`. The tests are
+    /// counted.
     fn both(&mut self, alloc: Global, a: &Self::Form, b: &Self::Form) -> Result<Self::Form, Stopped>
         ensures { Refines parts_of result self.new (join tester (parts_of a.now) (parts_of b.now) self.old) };
 
-    /// `first` and `second` together: the parts of `first`, and then those of `second`, which are moved. `Limit`
-    /// exactly where these are more than 1,024.
+    /// Returns the union of `first` and `second`: the parts of `first`, and then those of `second`, which are moved.
+    ///
+    /// # Errors
+    ///
+    /// `Limit` iff there are more than 1,024 parts together.
     fn either(&mut self, first: Self::Form, second: Self::Form) -> Result<Self::Form, Stopped>
         ensures { Refines parts_of result self.new (if_at_most most_parts (parts_of first ++ parts_of second) self.old) };
 
-    /// The form of `cell`, of at most 64 half-spaces, by one part test, which isn't counted.
+    /// Returns the form of `cell`, of at most 64 half-spaces, by one part test, which is not counted.
     fn of_cell(&mut self, alloc: Global, cell: &[Half]) -> Result<Self::Form, Stopped>
         requires { length cell.now ≤ 64 }
         ensures { Refines parts_of result self.new (parts_of_cell tester cell.now self.old) };
 
-    /// The form of the polygon over `corners` raised from `low` to below `high`.
+    /// Returns the form of the polygon over `corners` raised from `low` to below `high`.
     fn of_prism(
         &mut self,
         alloc: Global,

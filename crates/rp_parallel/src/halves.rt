@@ -1,4 +1,4 @@
-//! Work that is split in halves.
+//! Work that is split into halves.
 ghost use Rattle.std.specs.Prelude.{◌≡◌, ◌-◌, ◌≤◌, IfOk};
 ghost use Rattle.std.specs.Thread.{IsSync};
 ghost use Rattle.rp_parallel.specs.Meanings.{meanings_from, meanings_of};
@@ -7,14 +7,18 @@ use crate::judge::Judge;
 use std::alloc::{AllocError, Global};
 use std::thread::{Threads, join};
 
-/// How many threads judge at once, at most. Each wants a stack of its own, so that many of them would leave no memory
-/// where there is little.
+/// The greatest number of threads that judge at once. Each needs a stack of its own, so more of them could leave no
+/// memory on a small machine.
 const MOST_THREADS: usize = 8;
 
-/// The meanings of all items, in order.
+/// Returns the meanings of all items of `judge`, in order.
 ///
-/// A run of at most `grain` items is judged in one thread. A longer one is split in the middle, and its halves are
-/// judged in two threads, where two can be had and no more than 8 run; else it is judged in one thread too.
+/// A run of at most `grain` items is judged in one thread. A longer run is split in the middle, and its halves are
+/// judged in two threads, if two are available and no more than 8 run; otherwise it is judged in one thread.
+///
+/// # Errors
+///
+/// `AllocError` for want of memory.
 pub fn judge_all<R: Threads + Sync, J: Judge>(
     rt: &R,
     alloc: Global,
@@ -27,8 +31,8 @@ pub fn judge_all<R: Threads + Sync, J: Judge>(
     judge_run(rt, alloc, grain, MOST_THREADS, judge, 0, judge.count())
 }
 
-/// The meanings of the items from `first` to below `end`, split in halves down to runs of at most `grain` items, as
-/// long as there are threads for both halves.
+/// Returns the meanings of the items from `first` to below `end`. The run is split into halves down to runs of at most
+/// `grain` items, as long as there are threads for both halves.
 fn judge_run<R: Threads + Sync, J: Judge>(
     rt: &R,
     alloc: Global,
@@ -65,7 +69,7 @@ fn judge_run<R: Threads + Sync, J: Judge>(
     Ok(outs)
 }
 
-/// The meanings of the items from `first` to below `end`, judged one after the other.
+/// Returns the meanings of the items from `first` to below `end`, judged one after the other.
 fn judge_in_order<J: Judge>(
     alloc: Global,
     judge: &J,

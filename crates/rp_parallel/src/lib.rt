@@ -1,8 +1,8 @@
 #![tactic(auto)]
-//! Work in halves: items are judged in several threads, and the answers are those of one thread, in order.
+//! Work in halves: items are judged in several threads, and the results are those of one thread, in order.
 //!
-//! [`judge_all`] finds the meanings of all items in order, for every grain. How the work is split no contract tells.
-//! Calls that answer `AllocError` do so only for want of memory.
+//! [`judge_all`] returns the meanings of all items in order, for every grain. No contract says how the work is split.
+//! Calls that return `AllocError` do so only for want of memory.
 
 mod halves;
 mod judge;

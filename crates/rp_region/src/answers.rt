@@ -1,4 +1,4 @@
-//! How a search answers the tests of a row.
+//! The answers of a search to the tests of a row.
 ghost use Rattle.rp_semantics.specs.Walk.{first_tester};
 
 use crate::fault::OpFault;

@@ -1,4 +1,4 @@
-//! How many pairs of parts of two regions may meet.
+//! The number of pairs of parts of two regions that may meet.
 ghost use Rattle.std.specs.Prelude.{◌≡◌, ◌≤◌, ◌*◌, length, sum_by, count_by};
 ghost use Rattle.rp_geometry.specs.parts.Parts.{most_parts};
 ghost use Rattle.rp_semantics.specs.Form.{near_pair, touching_pair};
@@ -9,8 +9,8 @@ use crate::witness::Witness;
 use rp_space::{Inside, Point};
 
 impl Region {
-    /// How many pairs of a part of this region and one of another have boxes that share more than boundary: those that
-    /// `first_common` tests, with `near`, where it finds none.
+    /// Returns how many pairs of a part of this region and a part of `other` have boxes that share more than boundary.
+    /// These are the pairs that [`Region::first_common`] tests, with `near`, if it finds none.
     pub fn near_pairs(&self, other: &Region) -> u64
         ensures value { result ≡ sum_by (λ p. count_by (λ q. near_pair p q) other.now) self.now }
         ensures few { result ≤ most_parts * most_parts }
@@ -18,8 +18,8 @@ impl Region {
         meeting_pairs::<Inside>(self.parts(), other.parts())
     }
 
-    /// How many pairs of a part of this region and one of another have boxes that share a point, the boundary included:
-    /// those that `first_touch` tests, with `near`, where it finds none.
+    /// Returns how many pairs of a part of this region and a part of `other` have boxes that share a point, the
+    /// boundary included. These are the pairs that [`Region::first_touch`] tests, with `near`, if it finds none.
     pub fn touching_pairs(&self, other: &Region) -> u64
         ensures value { result ≡ sum_by (λ p. count_by (λ q. touching_pair p q) other.now) self.now }
         ensures few { result ≤ most_parts * most_parts }
@@ -28,7 +28,7 @@ impl Region {
     }
 }
 
-/// How many pairs of a part of a list and one of a second list have boxes that let them meet.
+/// Returns how many pairs of one of `parts` and one of `others` have boxes that let them meet.
 fn meeting_pairs<W: Witness>(parts: &[Part], others: &[Part]) -> u64
     requires first { length parts.now ≤ most_parts }
     requires second { length others.now ≤ most_parts }
@@ -42,7 +42,7 @@ fn meeting_pairs<W: Witness>(parts: &[Part], others: &[Part]) -> u64
     count
 }
 
-/// How many parts of a list have boxes that let them meet a part.
+/// Returns how many of `others` have boxes that let them meet `part`.
 fn meeting_parts<W: Witness>(part: &Part, others: &[Part]) -> u64
     ensures value { result ≡ count_by (λ q. W.may_meet part.now q) others.now }
     ensures few { result ≤ length others.now }

@@ -1,4 +1,4 @@
-//! What is left of a list of parts outside a second one, test by test.
+//! The difference of two lists of parts, test by test.
 ghost use Rattle.std.specs.Prelude.{◌≡◌, ◌≤◌, ◌<◌, [], ◌++◌, true, length, List, IfOk};
 ghost use Rattle.rp_geometry.specs.Geometry.{HalfSpace};
 ghost use Rattle.rp_geometry.specs.parts.Parts.{most_half_spaces};
@@ -16,7 +16,7 @@ use rp_space::Half;
 use rp_oracle::MAX_PARTS;
 use std::alloc::Global;
 
-/// The parts of a list without those of a second list, one after the other.
+/// Returns `parts` without `others`, which are subtracted one after the other by tests of `work`.
 pub(crate) fn subtract(
     alloc: Global,
     parts: Listed<Part>,
@@ -31,8 +31,13 @@ pub(crate) fn subtract(
     Ok(left)
 }
 
-/// `parts` without `others`, one after the other. Each part that is carved is held in `front` in turn, whatever was
-/// held before.
+/// Returns `parts` without `others`, which are subtracted one after the other. `front` stores each part that is carved
+/// in turn, in place of its content before.
+///
+/// # Errors
+///
+/// - `Limit` if more than 1,024 parts are left after one of `others`, or a step has it.
+/// - `Memory` for want of memory.
 fn subtract_each(
     alloc: Global,
     parts: Listed<Part>,
@@ -52,7 +57,7 @@ fn subtract_each(
     Ok(current)
 }
 
-/// The parts of a list without one part.
+/// Returns `parts` without the part `other`.
 fn subtract_part(
     alloc: Global,
     parts: Listed<Part>,
@@ -69,8 +74,8 @@ fn subtract_part(
     Ok(left)
 }
 
-/// What is left of one part outside another, behind what is left already: the part itself, without a test, where the
-/// boxes do not meet.
+/// Appends to `left` the rest of `part` outside `other`. If their boxes do not meet, it is `part` itself, without a
+/// test.
 fn subtract_pair(
     alloc: Global,
     left: &mut Listed<Part>,
@@ -88,8 +93,8 @@ fn subtract_pair(
     Ok(())
 }
 
-/// Whether two parts share a point, and then the cell of the first is held. One test is made, and counted, where their
-/// boxes meet.
+/// Returns whether `part` and `other` share a point; if so, `front` then stores the cell of `part`. One test is made,
+/// and counted, if their boxes meet.
 fn meet_if_near(
     part: &Part,
     other: &Part,
@@ -106,7 +111,8 @@ fn meet_if_near(
     Ok(front.meets(part, other, work)?)
 }
 
-/// What is left of the held cell outside some half-spaces, piece by piece: outside each of them, inside those before.
+/// Appends to `left` the rest of the cell of `front` outside `halves`, piece by piece: outside each of `halves`, inside
+/// those before it.
 fn carve(
     alloc: Global,
     left: &mut Listed<Part>,
@@ -125,7 +131,7 @@ fn carve(
     Ok(())
 }
 
-/// What is left of the held cell outside one half-space.
+/// Appends to `left` the rest of the cell of `front` outside `half`, if it has a point.
 fn carve_one(
     alloc: Global,
     left: &mut Listed<Part>,
@@ -146,6 +152,10 @@ fn carve_one(
 }
 
 /// Counts one test.
+///
+/// # Errors
+///
+/// `Limit` if the count would be above 65,536.
 fn count_test(work: &mut Work) -> Result<(), OpFault>
     ensures { Makes (λ x. x) result work.old work.new (count_tests 1) }
 {

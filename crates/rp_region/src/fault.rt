@@ -1,9 +1,9 @@
-//! Why an operation has no result.
+//! The reasons why an operation has no result.
 
 use std::alloc::AllocError;
 use thiserror::Error;
 
-/// Why an operation on regions has no result.
+/// The reason why an operation on regions has no result.
 #[derive(Clone, Copy, Debug, PartialEq, Eq, Drop, Error)]
 pub enum OpFault {
     /// More tests than a command may count, or more parts than a region or more half-spaces than a part may have.

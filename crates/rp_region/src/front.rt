@@ -1,4 +1,4 @@
-//! A cell that stays while others are made of it.
+//! A stored cell from which other cells are made.
 ghost use Rattle.std.specs.Prelude.{◌≡◌, ◌+◌, ◌<◌, ◌≤◌, [], ◌∷◌, ◌++◌, true, length, IfOk};
 ghost use Rattle.rp_geometry.specs.parts.Parts.{IsPart};
 ghost use Rattle.rp_semantics.specs.FormLaws.{IsMadeOf};
@@ -16,9 +16,9 @@ use rp_space::Half;
 use std::alloc::{AllocError, Global};
 use std::marker::Model;
 
-/// A cell that is held with its vertices, to be tested with further half-spaces behind its own: what it shares with
-/// these cells is held once. A contract sees its half-spaces. Takes no memory. It is large, so a work keeps one and
-/// lends it.
+/// A stored cell with its vertices, which is tested with further half-spaces after its own: the data that it shares
+/// with the longer cells are stored once. A contract sees its half-spaces. It takes no memory. It is large, so a work
+/// keeps one and lends it.
 #[derive(Drop)]
 pub(crate) struct Front {
     cell: Held,
@@ -36,7 +36,7 @@ impl Model for Front {
 }
 
 impl Front {
-    /// The cell without half-spaces.
+    /// Returns a front with the cell without half-spaces.
     pub(crate) fn new() -> Front
         ensures { result ≡ [] }
     {
@@ -46,7 +46,7 @@ impl Front {
         }
     }
 
-    /// Holds another cell, which has at most 64 half-spaces.
+    /// Stores `cell`, which has at most 64 half-spaces, in place of the stored cell.
     pub(crate) fn hold(&mut self, cell: &[Half])
         requires { length cell.now ≤ 64 }
         ensures { self.new ≡ cell.now }
@@ -54,7 +54,7 @@ impl Front {
         self.cell.hold(cell);
     }
 
-    /// Holds a cell, and answers whether it has a point as `decide_strict` does.
+    /// Stores `cell`, of at most 64 half-spaces, and decides whether it has a point, as `decide_strict` does.
     pub(crate) fn decide_strict(&mut self, cell: &[Half]) -> Strict
         requires { length cell.now ≤ 64 }
         ensures decides { DecidesStrict cell.now result }
@@ -64,7 +64,8 @@ impl Front {
         self.cell.strict()
     }
 
-    /// Holds a cell, and answers whether its weak system has a point as `decide_weak` does.
+    /// Stores `cell`, of at most 64 half-spaces, and decides whether its weak system has a point, as `decide_weak`
+    /// does.
     pub(crate) fn decide_weak(&mut self, cell: &[Half]) -> Weak
         requires { length cell.now ≤ 64 }
         ensures decides { DecidesWeak cell.now result }
@@ -74,7 +75,7 @@ impl Front {
         self.cell.weak()
     }
 
-    /// Holds a cell, and makes a part test of it. As for `part_with`.
+    /// Stores `cell`, of at most 64 half-spaces, and makes a part test of it, as [`Front::part_with`] does.
     pub(crate) fn part_of(
         &mut self,
         alloc: Global,
@@ -89,7 +90,7 @@ impl Front {
         work.held_part(alloc, &self.cell)
     }
 
-    /// Puts a half-space behind those of the cell, of which there are fewer than 64.
+    /// Appends `half` to the half-spaces of the cell, of which there are fewer than 64.
     pub(crate) fn push(&mut self, half: Half)
         requires { length self.old < 64 }
         ensures { self.new ≡ self.old ++ half ∷ [] }
@@ -97,8 +98,8 @@ impl Front {
         self.cell.push(half);
     }
 
-    /// A strict test of two parts together. Whether they share a point, and then the cell of the first is held. Its
-    /// line is appended; it isn't counted.
+    /// Returns whether `part` and `other` share a point, by a strict test of both together; if so, the cell of `part`
+    /// is then stored. The line of the test is appended to `work`; the test is not counted.
     pub(crate) fn meets(
         &mut self,
         part: &Part,
@@ -108,7 +109,7 @@ impl Front {
         ensures makes { Makes (λ has_one. has_one) (op_result result) work.old work.new (strict_test (part.now.cell ++ other.now.cell)) }
         ensures held { IfOk result (λ has_one. has_one ≡ true → self.new ≡ part.now.cell) }
     {
-        // Two half-spaces tell most neighbours apart, and then the cell need not be held.
+        // Two half-spaces separate most neighbours, and then the cell need not be stored.
         if let Some(terms) = part.refute_with(other) {
             work.tell(Proof::Out(terms))?;
             return Ok(false);
@@ -117,8 +118,8 @@ impl Front {
         work.held_test(&self.cell, other.halves(), &mut self.longer)
     }
 
-    /// A part test of the cell with `half` behind its own half-spaces, of which there are fewer than 64, as `part_with`
-    /// makes it. Where `half` refutes alone or with one other, no further cell is held.
+    /// Makes a part test of the cell with `half` after its own half-spaces, of which there are fewer than 64, as
+    /// [`Front::part_with`] does. If `half` refutes alone or with one other, the cell is not copied.
     pub(crate) fn part_behind(
         &mut self,
         alloc: Global,
@@ -136,9 +137,13 @@ impl Front {
         self.part_with(alloc, &[*half], work)
     }
 
-    /// A part test of the cell with further half-spaces behind its own: at most 64 together. The part of its slim cell,
-    /// and `None` exactly where it has no point. Its lines are appended; it isn't counted. `Limit` exactly where the
-    /// slim cell has more than 32 half-spaces.
+    /// Makes a part test of the cell with `more` after its own half-spaces, at most 64 together. Returns the part of
+    /// its slim cell; `None` iff it has no point. The lines of the test are appended to `work`; the test is not
+    /// counted.
+    ///
+    /// # Errors
+    ///
+    /// `Limit` iff the slim cell has more than 32 half-spaces.
     pub(crate) fn part_with(
         &mut self,
         alloc: Global,

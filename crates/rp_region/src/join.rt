@@ -1,4 +1,4 @@
-//! What two lists of parts have in common, test by test.
+//! The intersection of two lists of parts, test by test.
 ghost use Rattle.std.specs.Prelude.{◌≡◌, ◌≤◌, length};
 ghost use Rattle.rp_geometry.specs.sets.Shape.{Part as ModelPart};
 ghost use Rattle.rp_geometry.specs.parts.Parts.{most_half_spaces};
@@ -14,7 +14,7 @@ use rp_lists::Listed;
 use rp_oracle::MAX_PARTS;
 use std::alloc::Global;
 
-/// Each part of a list with each part of a second list: what they have in common comes behind the parts made already.
+/// Appends to `made` the intersection of each of `parts` with each of `others` that has a point.
 pub(crate) fn join_each(
     alloc: Global,
     made: &mut Listed<Part>,
@@ -30,8 +30,8 @@ pub(crate) fn join_each(
     Ok(())
 }
 
-/// Each of `parts` with each of `others`, behind the parts `made`. Each of `parts` is held in `front` in turn, whatever
-/// was held before.
+/// Appends to `made` the intersection of each of `parts` with each of `others` that has a point. `front` stores each of
+/// `parts` in turn, in place of its content before.
 fn join_in_turn(
     alloc: Global,
     made: &mut Listed<Part>,
@@ -48,7 +48,7 @@ fn join_in_turn(
     Ok(())
 }
 
-/// One part with each part of a list.
+/// Appends to `made` the intersection of `part` with each of `others` that has a point.
 fn join_with_part(
     alloc: Global,
     made: &mut Listed<Part>,
@@ -66,7 +66,11 @@ fn join_with_part(
     Ok(())
 }
 
-/// One part test of two parts together, of which the first is held.
+/// Appends to `made` the intersection of the part in `front` with `other` if it has a point, by one part test.
+///
+/// # Errors
+///
+/// `Limit` if `made` then has more than 1,024 parts, or the new part more than 32 half-spaces.
 fn join_pair(
     alloc: Global,
     made: &mut Listed<Part>,

@@ -1,12 +1,16 @@
 #![tactic(auto)]
 //! Regions of space as lists of parts, and their algebra: intersection, union, difference and complement, test by test.
 //!
-//! A [`Region`] is by its type a list of at most 1,024 parts, each a cell of at most 32 half-spaces that has a member,
-//! with its least box. Each operation makes exactly the tests, the proof lines and the parts of its definition, meets a
-//! limit exactly where that says so, and has exactly the members; so does the region of a prism. The first pair of
-//! parts that share a point, and the first that are in contact, are found by exactly the tests of the definitions, over
-//! all pairs or over those alone whose boxes meet; there is none exactly where the regions share no point, or are not
-//! in contact. Calls that answer `AllocError` do so only for want of memory.
+//! A [`Region`] is by its type a list of at most 1,024 parts. Each part is a cell of at most 32 half-spaces that has a
+//! member, with its least box.
+//!
+//! - Each operation makes exactly the tests, the proof lines and the parts of its definition. It meets a limit iff the
+//!   definition does, and its result has exactly the members that the definition says. This is true of the region of a
+//!   prism as well.
+//! - The first pair of parts that share a point, and the first pair in contact, are found by exactly the tests of the
+//!   definitions: over all pairs, or over only those whose boxes meet. There is none iff the regions share no point, or
+//!   are not in contact.
+//! - Calls that return `AllocError` do so only for want of memory.
 
 mod answers;
 mod count;

@@ -1,4 +1,4 @@
-//! The first pair of parts of two lists that meet, test by test.
+//! The search for the first pair of parts of two lists that meet, test by test.
 ghost use Rattle.std.specs.Prelude.{is_some, IfOk, IfSome};
 ghost use Rattle.rp_semantics.specs.Form.{test_pair_if, first_with_part, first_pair};
 ghost use Rattle.rp_region.specs.Makes.{Makes};
@@ -9,8 +9,8 @@ use crate::part::Part;
 use crate::witness::Witness;
 use crate::work::Work;
 
-/// Each part of a list with each part of a second list, up to the first pair that meets. Where `near`, only the pairs
-/// are tested whose boxes let them meet.
+/// Returns a witness of the first pair of one of `parts` and one of `others` that meets, if there is one. If `near`,
+/// only the pairs are tested whose boxes let them meet.
 pub(crate) fn first_pair<W: Witness>(
     parts: &[Part],
     others: &[Part],
@@ -28,7 +28,8 @@ pub(crate) fn first_pair<W: Witness>(
     Ok(None)
 }
 
-/// One part with each part of a list, up to the first that it meets.
+/// Returns a witness that `part` meets the first of `others` that it meets, if there is one. If `near`, only those are
+/// tested whose boxes let them meet.
 fn first_with_part<W: Witness>(
     part: &Part,
     others: &[Part],
@@ -46,7 +47,8 @@ fn first_with_part<W: Witness>(
     Ok(None)
 }
 
-/// One test of two parts, if the pair is to be tested at all.
+/// Returns a witness that `part` and `other` meet, if there is one, by one test. If `near` and their boxes do not let
+/// them meet, no test is made.
 fn test_pair<W: Witness>(
     part: &Part,
     other: &Part,

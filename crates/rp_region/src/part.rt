@@ -1,4 +1,4 @@
-//! Parts: cells with a member, each with the least box round its members.
+//! Parts: cells with a member, each with the least box around its members.
 ghost use Rattle.std.specs.Prelude.{◌≡◌, ◌≤◌, ◌++◌, false, length, IfOk, IfSome};
 ghost use Rattle.rp_geometry.specs.Geometry.{RationalPoint, boxes_meet, closed_boxes_meet};
 ghost use Rattle.rp_geometry.specs.sets.Shape.{shape_of_cell};
@@ -14,7 +14,7 @@ use rp_space::{Half, IntBox, Outside};
 use std::alloc::{AllocError, Global};
 use std::marker::Model;
 
-/// A part of a region: a cell of at most 32 half-spaces with a member, and the least box with whole corners round its
+/// A part of a region: a cell of at most 32 half-spaces with a member, and the least box with whole corners around its
 /// members.
 #[derive(Drop)]
 pub struct Part {
@@ -35,7 +35,7 @@ impl Model for Part {
 }
 
 impl Part {
-    /// The whole cube, which has no half-space. Takes no memory.
+    /// Returns the whole cube, which has no half-space. Takes no memory.
     pub(crate) fn whole(alloc: Global) -> Part
         ensures { result ≡ whole_part }
     {
@@ -45,7 +45,7 @@ impl Part {
         }
     }
 
-    /// The part of a slim cell and its least box.
+    /// Returns the part of the slim cell `halves` and its least box `bounds`.
     pub(crate) fn of_slim(halves: Cell, bounds: IntBox) -> Part
         requires { IsPart (record { cell = halves.items; bounds = integer_box bounds }) }
         ensures { result ≡ record { cell = halves.items; bounds = integer_box bounds } }
@@ -53,7 +53,7 @@ impl Part {
         Part { halves, bounds }
     }
 
-    /// The half-spaces in order, at most 32. The members are the points of the cube that all of them hold.
+    /// Returns the half-spaces in order, at most 32. The members are the points of the cube that are in all of them.
     pub fn halves(&self) -> &[Half]
         ensures value { result.now ≡ self.now.cell }
         ensures few { length result.now ≤ most_half_spaces }
@@ -61,21 +61,21 @@ impl Part {
         self.halves.items()
     }
 
-    /// The half-spaces in order, without the part. Takes no memory.
+    /// Returns the half-spaces in order and drops the box. Takes no memory.
     pub fn into_halves(self) -> Cell
         ensures { result.items ≡ self.cell }
     {
         self.halves
     }
 
-    /// The least box round the members: on each axis the greatest whole lower and the least whole upper bound.
+    /// Returns the least box around the members: on each axis the greatest whole lower and the least whole upper bound.
     pub fn bounds(&self) -> &IntBox
         ensures { integer_box result.now ≡ self.now.bounds }
     {
         &self.bounds
     }
 
-    /// A copy: the same half-spaces and the same box.
+    /// Returns a copy, with equal half-spaces and an equal box.
     pub(crate) fn copy(&self, alloc: Global) -> Result<Part, AllocError>
         ensures { IfOk result (λ part. part ≡ self.now) }
     {
@@ -85,23 +85,23 @@ impl Part {
         })
     }
 
-    /// The first outside certificate of two parts together, where it has at most two terms, one of each: then they
-    /// share no point. With `None` that is not known.
+    /// Returns the first outside certificate of this part and `other` together, if it has two terms, one of each. Then
+    /// they share no point. After `None` it is open whether they do.
     pub(crate) fn refute_with(&self, other: &Part) -> Option<Outside>
         ensures { IfSome result (λ terms. out_line terms ≡ strict_line (self.now.cell ++ other.now.cell)) }
     {
         refute_between(self.halves.items(), other.halves.items())
     }
 
-    /// The first outside certificate of the weak systems of two parts together, where it has at most two terms, one of
-    /// each: then the parts are not in contact. With `None` that is not known.
+    /// Returns the first outside certificate of the weak systems of this part and `other` together, if it has two
+    /// terms, one of each. Then the parts are not in contact. After `None` it is open whether they are.
     pub(crate) fn refute_contact_with(&self, other: &Part) -> Option<Outside>
         ensures { IfSome result (λ terms. apart_line terms ≡ weak_line (self.now.cell ++ other.now.cell)) }
     {
         refute_weak_between(self.halves.items(), other.halves.items())
     }
 
-    /// Whether the boxes of two parts share more than boundary. Else the parts share no point.
+    /// Returns whether the boxes of this part and `other` share more than boundary. Otherwise the parts share no point.
     pub(crate) fn may_overlap(&self, other: &Part) -> bool
         ensures value { result ≡ boxes_meet self.now.bounds other.now.bounds }
         ensures apart { result ≡ false → IsEmpty (shape_of_cell (self.now.cell ++ other.now.cell)) }
@@ -109,7 +109,8 @@ impl Part {
         self.bounds.meets(&other.bounds)
     }
 
-    /// Whether the boxes of two parts share a point, the boundary included. Else the parts are not in contact.
+    /// Returns whether the boxes of this part and `other` share a point, the boundary included. Otherwise the parts are
+    /// not in contact.
     pub(crate) fn may_touch(&self, other: &Part) -> bool
         ensures value { result ≡ closed_boxes_meet self.now.bounds other.now.bounds }
         ensures apart { result ≡ false → (p : RationalPoint) → ¬ IsSolution false (self.now.cell ++ other.now.cell) p }

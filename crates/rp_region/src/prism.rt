@@ -1,4 +1,4 @@
-//! The region of a prism: the trapezoids of its edges, exchanged one after the other.
+//! The region of a prism. The trapezoids of its edges are combined one after the other by symmetric difference.
 ghost use Rattle.std.specs.Prelude.{◌≡◌, ◌∷◌, [], IfOk};
 ghost use Rattle.rp_geometry.specs.sets.Prism.{IsPrism};
 ghost use Rattle.rp_geometry.specs.sets.Shape.{Shape, shape_of_parts};
@@ -16,12 +16,18 @@ use rp_space::{Corner, Half};
 use std::alloc::Global;
 
 impl Region {
-    /// The region of the polygon over `corners` raised from `z1` to below `z2`. A part test of `work` makes the part of
-    /// the trapezoid of each edge whose ends have two x, and this part is exchanged with the parts so far: what is left
-    /// of these outside it comes first, and then what is left of it outside them. The part tests aren't counted, those
-    /// of the differences are. There are from 1 to 256 corners, and all numbers are within their bounds. `Limit`
-    /// exactly where too many tests are counted, where a part would have more than 32 half-spaces, or where more than
-    /// 1,024 parts are left behind an edge or in the course of a difference.
+    /// Returns the region of the polygon over `corners` raised from `z1` to below `z2`, by tests of `work`. There are
+    /// from 1 to 256 corners, and all numbers are within their bounds.
+    ///
+    /// A part test makes the part of the trapezoid of each edge whose ends differ in x. Then the parts so far are
+    /// replaced by their symmetric difference with this part: first the rest of them outside it, and then its rest
+    /// outside them. The part tests are not counted; the tests of the differences are.
+    ///
+    /// # Errors
+    ///
+    /// - `Limit` iff too many tests are counted, a part would have more than 32 half-spaces, or more than 1,024 parts
+    ///   are left: after an edge, or in the course of a difference.
+    /// - `Memory` for want of memory.
     pub fn of_prism(
         alloc: Global,
         z1: i32,
@@ -41,7 +47,8 @@ impl Region {
         Ok(current)
     }
 
-    /// The part of a cell, if there is one with a point, exchanged with the parts of a region.
+    /// Returns the symmetric difference of the region and the part of `cell`. If there is no `cell`, or it has no
+    /// point, the region stays as it is.
     fn exchange_cell(
         self,
         alloc: Global,
@@ -60,8 +67,8 @@ impl Region {
         self.exchange(alloc, made, work)
     }
 
-    /// What is in one of two regions and not in the other: what is left of the first outside the second, and then what
-    /// is left of the second outside the first.
+    /// Returns the symmetric difference of the region and `made`: first the rest of the region outside `made`, and then
+    /// the rest of `made` outside the region.
     fn exchange(self, alloc: Global, made: Region, work: &mut Work) -> Result<Region, OpFault>
         ensures { Makes (λ region. region) result work.old work.new (exchange_lists first_tester self made) }
     {

@@ -26,7 +26,7 @@ use rp_oracle::MAX_PARTS;
 use std::alloc::{AllocError, Global};
 use std::marker::Model;
 
-/// A region of space: a list of at most 1,024 parts, whose members are those of any part.
+/// A region of space: a list of at most 1,024 parts. Its members are the members of all parts.
 #[derive(Drop)]
 pub struct Region {
     parts: Listed<Part>,
@@ -45,7 +45,7 @@ impl Model for Region {
 }
 
 impl Region {
-    /// The region without parts. Takes no memory.
+    /// Returns the region without parts. Takes no memory.
     pub fn none(alloc: Global) -> Region
         ensures { result ≡ [] }
     {
@@ -54,7 +54,11 @@ impl Region {
         }
     }
 
-    /// The whole cube: one part without half-spaces.
+    /// Returns the whole cube: one part without half-spaces.
+    ///
+    /// # Errors
+    ///
+    /// `AllocError` for want of memory.
     pub fn all(alloc: Global) -> Result<Region, AllocError>
         ensures { IfOk result (λ region. region ≡ whole_part ∷ []) }
     {
@@ -63,7 +67,7 @@ impl Region {
         Ok(Region { parts })
     }
 
-    /// The region of one part.
+    /// Returns the region of one part.
     pub(crate) fn of_part(alloc: Global, part: Part) -> Result<Region, AllocError>
         ensures { IfOk result (λ region. region ≡ part ∷ []) }
     {
@@ -72,9 +76,13 @@ impl Region {
         Ok(Region { parts })
     }
 
-    /// The region of `cell`, of at most 64 half-spaces: the part that one part test of `work` makes of it, or no part
-    /// where the cell has no point. The test isn't counted. `Limit` exactly where more than 32 half-spaces are left of
-    /// the cell without those that add nothing.
+    /// Returns the region of `cell`, of at most 64 half-spaces: the part that one part test of `work` makes of it, or
+    /// no part if the cell has no point. The test is not counted.
+    ///
+    /// # Errors
+    ///
+    /// - `Limit` iff more than 32 half-spaces are left of the cell without the redundant ones.
+    /// - `Memory` for want of memory.
     pub fn of_cell(alloc: Global, cell: &[Half], work: &mut Work) -> Result<Region, OpFault>
         requires { length cell.now ≤ 64 }
         ensures makes { Makes (λ region. region) result work.old work.new (parts_of_cell first_tester cell.now) }
@@ -87,9 +95,14 @@ impl Region {
         Ok(Region { parts })
     }
 
-    /// What the region and `other` have in common: a part test of `work` of each part of the region with each part of
-    /// `other`. As many tests are counted as there are pairs. `Limit` exactly where too many tests are counted, where a
-    /// part would have more than 32 half-spaces or where more than 1,024 parts are made.
+    /// Returns the intersection of the region and `other`, by a part test of `work` of each part of the region with
+    /// each part of `other`. As many tests are counted as there are pairs.
+    ///
+    /// # Errors
+    ///
+    /// - `Limit` iff too many tests are counted, a part would have more than 32 half-spaces, or more than 1,024 parts
+    ///   are made.
+    /// - `Memory` for want of memory.
     pub fn both(&self, alloc: Global, other: &Region, work: &mut Work) -> Result<Region, OpFault>
         ensures makes { Makes (λ region. region) result work.old work.new (join first_tester self.now other.now) }
         ensures members { IfOk result (λ region. SameMembers (shape_of_parts region) (Shape.intersection (shape_of_parts self.now) (shape_of_parts other.now))) }
@@ -104,8 +117,13 @@ impl Region {
         Ok(Region { parts })
     }
 
-    /// The region and `other` together: its parts, and then those of `other`. It rests on no test of `work`. `Limit`
-    /// exactly where these are more than 1,024.
+    /// Returns the union of the region and `other`: the parts of the region, and then the parts of `other`. No test of
+    /// `work` is made.
+    ///
+    /// # Errors
+    ///
+    /// - `Limit` iff the two have more than 1,024 parts together.
+    /// - `Memory` for want of memory.
     pub fn either(&self, alloc: Global, other: &Region, work: &mut Work) -> Result<Region, OpFault>
         ensures makes { Makes (λ region. region) result work.old work.new (if_at_most most_parts (self.now ++ other.now)) }
         ensures members { IfOk result (λ region. SameMembers (shape_of_parts region) (Shape.union (shape_of_parts self.now) (shape_of_parts other.now))) }
@@ -114,8 +132,13 @@ impl Region {
         first.into_either(other.copy(alloc)?, work)
     }
 
-    /// The region and `other` together, as `either` joins them, with the parts of both moved. It rests on no test of
-    /// `work`.
+    /// Returns the union of the region and `other`, as [`Region::either`] does, with the parts of both moved. No test
+    /// of `work` is made.
+    ///
+    /// # Errors
+    ///
+    /// - `Limit` iff the two have more than 1,024 parts together.
+    /// - `Memory` for want of memory.
     pub fn into_either(self, other: Region, work: &mut Work) -> Result<Region, OpFault>
         ensures makes { Makes (λ region. region) result work.old work.new (if_at_most most_parts (self ++ other)) }
         ensures members { IfOk result (λ region. SameMembers (shape_of_parts region) (Shape.union (shape_of_parts self) (shape_of_parts other))) }
@@ -131,9 +154,14 @@ impl Region {
         Ok(Region { parts })
     }
 
-    /// What is left of the region outside `other`: each part of `other` is taken away in turn, by tests of `work`.
-    /// `Limit` exactly where too many tests are counted, where a part would have more than 32 half-spaces, or where
-    /// more than 1,024 parts are left behind a part of `other`.
+    /// Returns the difference of the region and `other`: each part of `other` is subtracted in turn, by tests of
+    /// `work`.
+    ///
+    /// # Errors
+    ///
+    /// - `Limit` iff too many tests are counted, a part would have more than 32 half-spaces, or more than 1,024 parts
+    ///   are left after a part of `other`.
+    /// - `Memory` for want of memory.
     pub fn minus(&self, alloc: Global, other: &Region, work: &mut Work) -> Result<Region, OpFault>
         ensures makes { Makes (λ region. region) result work.old work.new (subtract first_tester self.now other.now) }
         ensures members { IfOk result (λ region. SameMembers (shape_of_parts region) (Shape.difference (shape_of_parts self.now) (shape_of_parts other.now))) }
@@ -142,8 +170,12 @@ impl Region {
         first.into_minus(alloc, other, work)
     }
 
-    /// What is left of the region outside `other`, by tests of `work`, as `minus` finds it; those parts of the region
-    /// that stay as they are are moved.
+    /// Returns the difference of the region and `other`, by tests of `work`, as [`Region::minus`] does. Parts of the
+    /// region that do not change are moved.
+    ///
+    /// # Errors
+    ///
+    /// The errors of [`Region::minus`].
     pub fn into_minus(
         self,
         alloc: Global,
@@ -157,7 +189,11 @@ impl Region {
         Ok(Region { parts })
     }
 
-    /// What is left of the cube outside the region, by tests of `work`. `Limit` as for `minus`.
+    /// Returns the complement of the region: the rest of the cube outside it, by tests of `work`.
+    ///
+    /// # Errors
+    ///
+    /// The errors of [`Region::minus`] for the cube and the region.
     pub fn outside(&self, alloc: Global, work: &mut Work) -> Result<Region, OpFault>
         ensures makes { Makes (λ region. region) result work.old work.new (subtract_from_whole first_tester self.now) }
         ensures members { IfOk result (λ region. SameMembers (shape_of_parts region) (Shape.complement (shape_of_parts self.now))) }
@@ -166,11 +202,16 @@ impl Region {
         whole.into_minus(alloc, self, work)
     }
 
-    /// What shows that two regions share a point: an inside certificate of the first two parts that do, and `None`
-    /// exactly where the regions share none. Each part of the first is tested with each part of the other, up to the
-    /// first pair that is found. With `near` only the pairs are tested whose boxes share more than boundary, and
-    /// nothing is counted; else as many tests are counted as there are pairs, and `Limit` comes exactly where these are
-    /// too many.
+    /// Returns an inside certificate of the first pair of parts that share a point; `None` iff the region and `other`
+    /// share none. Each part of the region is tested with each part of `other`, up to the first pair that is found.
+    ///
+    /// With `near`, only the pairs are tested whose boxes share more than boundary, and nothing is counted. Otherwise
+    /// as many tests are counted as there are pairs.
+    ///
+    /// # Errors
+    ///
+    /// - `Limit` iff too many tests are counted.
+    /// - `Memory` for want of memory.
     pub fn first_common(
         &self,
         _alloc: Global,
@@ -185,11 +226,16 @@ impl Region {
         self.first_pair(other, near, work)
     }
 
-    /// What shows that two regions are in contact: a weak point of the first two parts that are, and `None` exactly
-    /// where the regions are not. Each part of the first is tested with each part of the other, up to the first pair
-    /// that is found. With `near` only the pairs are tested whose boxes share a point, the boundary included, and
-    /// nothing is counted; else as many tests are counted as there are pairs, and `Limit` comes exactly where these are
-    /// too many.
+    /// Returns a weak point of the first pair of parts that are in contact; `None` iff the region and `other` are not
+    /// in contact. Each part of the region is tested with each part of `other`, up to the first pair that is found.
+    ///
+    /// With `near`, only the pairs are tested whose boxes share a point, the boundary included, and nothing is counted.
+    /// Otherwise as many tests are counted as there are pairs.
+    ///
+    /// # Errors
+    ///
+    /// - `Limit` iff too many tests are counted.
+    /// - `Memory` for want of memory.
     pub fn first_touch(
         &self,
         _alloc: Global,
@@ -204,7 +250,11 @@ impl Region {
         self.first_pair(other, near, work)
     }
 
-    /// What shows that two regions meet, of the first two parts that do.
+    /// Returns a witness of the first pair of a part of the region and a part of `other` that meet, if there is one.
+    ///
+    /// # Errors
+    ///
+    /// `Limit` iff, without `near`, too many tests are counted: as many as there are pairs.
     fn first_pair<W: Witness>(
         &self,
         other: &Region,
@@ -224,7 +274,11 @@ impl Region {
         first_pair(first, second, near, work)
     }
 
-    /// A copy: the same parts in the same order.
+    /// Returns a copy, with equal parts in the same order.
+    ///
+    /// # Errors
+    ///
+    /// `AllocError` for want of memory.
     pub fn copy(&self, alloc: Global) -> Result<Region, AllocError>
         ensures { IfOk result (λ region. region ≡ self.now) }
     {
@@ -235,7 +289,7 @@ impl Region {
         Ok(Region { parts })
     }
 
-    /// The parts in order.
+    /// Returns the parts in order, at most 1,024.
     pub fn parts(&self) -> &[Part]
         ensures value { result.now ≡ self.now }
         ensures few { length result.now ≤ most_parts }
@@ -244,14 +298,14 @@ impl Region {
         self.parts.items()
     }
 
-    /// The parts in order, without the region. Takes no memory.
+    /// Returns the parts in order. Takes no memory.
     pub fn into_parts(self) -> Vec<Part>
         ensures { result.items ≡ self }
     {
         self.parts.into_items()
     }
 
-    /// Whether the point is a member: it is in the cube and in a part.
+    /// Returns whether `p` is a member: it is in the cube and in a part.
     pub fn holds(&self, p: &Point) -> bool
         ensures { result ≡ is_member (shape_of_parts self.now) p.now }
     {
@@ -259,14 +313,14 @@ impl Region {
     }
 }
 
-/// Whether the half-spaces of one of the parts all hold the point.
+/// Returns whether `p` is in all half-spaces of one of `parts`.
 fn is_in_some(parts: &[Part], p: &Point) -> bool
     ensures { result ≡ list_any (λ part. all_hold part.cell p.now) parts.now }
 {
     parts.iter().any(|part| all_hold(part.halves(), p))
 }
 
-/// Whether all half-spaces hold the point.
+/// Returns whether `p` is in all of `halves`.
 fn all_hold(halves: &[Half], p: &Point) -> bool
     ensures { result ≡ all_hold halves.now p.now }
 {

@@ -1,4 +1,4 @@
-//! What shows that two parts meet, and how it is looked for.
+//! The witnesses that two parts meet, and the search for them.
 ghost use Rattle.std.specs.Prelude.{◌≡◌, ◌++◌, Bool, false, List, is_some, IfOk, IfSome};
 ghost use Rattle.rp_geometry.specs.Geometry.{RationalPoint, HalfSpace};
 ghost use Rattle.rp_geometry.specs.sets.Shape.{Part, shape_of_cell};
@@ -16,8 +16,8 @@ use crate::work::Work;
 use rp_space::{Inside, Point};
 use std::alloc::AllocError;
 
-/// What shows that two parts meet: an inside certificate of both together shows a common member, a weak point shows
-/// that they touch.
+/// A witness that two parts meet. An inside certificate of both together shows a common member; a weak point shows that
+/// they touch.
 pub(crate) trait Witness: Sized {
     ghost may_meet: { Part → Part → Bool };
 
@@ -27,18 +27,18 @@ pub(crate) trait Witness: Sized {
 
     ghost has_none: { List HalfSpace → Type 0 };
 
-    /// Whether the boxes of two parts let them meet.
+    /// Returns whether the boxes of `first` and `second` let them meet. Otherwise they have no witness.
     fn may_meet(first: &Part, second: &Part) -> bool
         ensures value { result ≡ may_meet first.now second.now }
         ensures apart { result ≡ false → has_none (first.now.cell ++ second.now.cell) };
 
-    /// Looks for a witness of two parts together, by one test.
+    /// Looks for a witness of `first` and `second` together, by one test.
     fn find(work: &mut Work, first: &Part, second: &Part) -> Result<Option<Self>, AllocError>
         ensures makes { Makes is_some (op_result result) work.old work.new (test (first.now.cell ++ second.now.cell)) }
         ensures told { IfOk result (λ o. IfSome o (λ x. IsLast (line x) work.new.proofs)) };
 
-    /// The test of `first` and `second` together, as `find` makes it, where they are known to have no witness: none is
-    /// looked for.
+    /// Appends the line of the test of `first` and `second` together, as [`Witness::find`] does. It is known that they
+    /// have no witness, so none is looked for.
     fn refute(work: &mut Work, first: &Part, second: &Part) -> Result<(), AllocError>
         requires { has_none (first.now.cell ++ second.now.cell) }
         ensures { Makes (λ _. false) (op_result result) work.old work.new (test (first.now.cell ++ second.now.cell)) };

@@ -1,4 +1,4 @@
-//! What a command has done so far: the number of tests counted, and the proof lines of its tests.
+//! The results of a command so far: the number of tests counted, and the proof lines of its tests.
 ghost use Rattle.std.specs.Prelude.{◌≡◌, ◌+◌, ◌≤◌, ◌↔◌, ◌++◌, ◌∷◌, [], false, length, map, is_some, Some, IfOk, IfSome, OnOk, OnErr, IsNone};
 ghost use Rattle.rp_geometry.specs.Geometry.{RationalPoint};
 ghost use Rattle.rp_geometry.specs.sets.Shape.{shape_of_cell};
@@ -34,12 +34,14 @@ use std::alloc::{AllocError, Global};
 use std::marker::Model;
 
 /// The number of tests that a command has counted, at most 65,536, and the proof lines of its tests so far.
-/// After `Limit` or want of memory the lines are those before with a front of the new ones, and it isn't used further.
+///
+/// After `Limit` or want of memory, some first lines of the failed call may follow the lines before; the work is not
+/// used further.
 #[derive(Drop)]
 pub struct Work {
     tests: u32,
     proofs: Proofs,
-    /// Room for cells with their vertices.
+    /// Memory for stored cells with their vertices.
     room: Scratch,
     alloc: Global,
 }
@@ -57,14 +59,14 @@ impl Model for Work {
 }
 
 impl Work {
-    /// Nothing done yet. Takes no memory.
+    /// Returns a work without tests and lines. Takes no memory.
     pub fn new(alloc: Global) -> Work
         ensures { result ≡ no_work }
     {
         Work::over(alloc, Scratch::new())
     }
 
-    /// Nothing done yet. Its tests are made over `room`, which another work has handed on. Takes no memory.
+    /// Returns a work without tests and lines. Its tests use `room`, which another work has handed on. Takes no memory.
     pub fn over(alloc: Global, room: Scratch) -> Work
         ensures { result ≡ no_work }
     {
@@ -76,14 +78,14 @@ impl Work {
         }
     }
 
-    /// Hands the room of its tests on to another work. In any case all is as before.
+    /// Returns the room of this work, for another work. Oracle and lines stay as they are.
     pub fn hand_on_room(&mut self) -> Scratch
         ensures { self.new ≡ self.old }
     {
         self.room.take()
     }
 
-    /// The number of tests counted.
+    /// Returns the number of tests counted, at most 65,536.
     pub fn tests(&self) -> u32
         ensures value { result ≡ self.now.tests }
         ensures few { result ≤ most_tests }
@@ -91,21 +93,22 @@ impl Work {
         self.tests
     }
 
-    /// The proof lines in order.
+    /// Returns the proof lines in order.
     pub fn proofs(&self) -> &[Proof]
         ensures { map line_of result.now ≡ self.now.proofs }
     {
         self.proofs.items()
     }
 
-    /// The proof lines in order, without the number of tests. Takes no memory.
+    /// Returns the proof lines in order and drops the number of tests. Takes no memory.
     pub fn into_proofs(self) -> Proofs
         ensures { map line_of result.items ≡ self.proofs }
     {
         self.proofs
     }
 
-    /// Counts n more tests. `false` exactly where their number would be above 65,536; then all is as before.
+    /// Counts `n` more tests and returns true. Returns false iff their number would be above 65,536; then nothing
+    /// changes.
     pub fn count(&mut self, n: u64) -> bool
         ensures { count_tests n self.old ≡ counted result self.new }
     {
@@ -117,7 +120,7 @@ impl Work {
         true
     }
 
-    /// Appends a proof line. After `AllocError` all is as before.
+    /// Appends a proof line. After `AllocError` nothing has changed.
     pub(crate) fn tell(&mut self, proof: Proof) -> Result<(), AllocError>
         ensures ok { OnOk result (self.new ≡ with_lines self.old (line_of proof ∷ [])) }
         ensures err { OnErr result (self.new ≡ self.old) }
@@ -125,15 +128,15 @@ impl Work {
         self.proofs.push(proof)
     }
 
-    /// Makes room for so many more proof lines. In any case all is as before.
+    /// Reserves memory for `lines` more proof lines. Oracle and lines stay as they are, even after `AllocError`.
     pub fn reserve(&mut self, lines: usize) -> Result<(), AllocError>
         ensures { self.new ≡ self.old }
     {
         self.proofs.reserve(lines)
     }
 
-    /// Adds what `other` has counted, and appends its proof lines in order; they are moved. The two numbers of tests
-    /// add up to at most 65,536. After `AllocError` all is as before.
+    /// Adds the tests that `other` has counted, and moves its proof lines here, after the lines of this work. The two
+    /// numbers of tests add up to at most 65,536. After `AllocError` nothing has changed.
     pub fn append(&mut self, _alloc: Global, other: Work) -> Result<(), AllocError>
         requires { self.old.tests + other.tests ≤ most_tests }
         ensures ok { OnOk result (self.new ≡ record { tests = self.old.tests + other.tests; proofs = self.old.proofs ++ other.proofs }) }
@@ -144,7 +147,7 @@ impl Work {
         Ok(())
     }
 
-    /// A work with as many tests counted, and no proof line yet. Takes no memory.
+    /// Returns a work with as many tests counted, and without proof lines. Takes no memory.
     pub fn fresh(&self, alloc: Global) -> Work
         ensures { result ≡ record { tests = self.now.tests; proofs = [] } }
     {
@@ -156,22 +159,28 @@ impl Work {
         }
     }
 
-    /// Lends the room for cells with their vertices, which is made where there is none. In any case all is as before.
+    /// Lends the room for stored cells with their vertices, and allocates it if there is none. Oracle and lines stay as
+    /// they are, even after `AllocError`.
     pub(crate) fn take_room(&mut self) -> Result<Box<Front>, AllocError>
         ensures { self.new ≡ self.old }
     {
         self.room.lend_or_make(self.alloc)
     }
 
-    /// Keeps the room for further tests.
+    /// Puts `room` back for further tests.
     pub(crate) fn keep_room(&mut self, room: Box<Front>)
         ensures { self.new ≡ self.old }
     {
         self.room.keep(room);
     }
 
-    /// What a row has come to (`came`) on `walked`, a work that was begun fresh: its count takes the place of the one
-    /// here, and its proof lines are moved behind those here. For want of memory, in the row or here, all is as before.
+    /// Returns the result `came` of a row on `walked`, a work that was begun fresh. The count of `walked` replaces the
+    /// count here, and its proof lines are moved here, after the lines of this work.
+    ///
+    /// # Errors
+    ///
+    /// - `Limit` if `came` is a stop other than `Memory`.
+    /// - `Memory` for want of memory, in the row or here. Then nothing has changed.
     pub fn take_over<A: Drop>(
         &mut self,
         walked: Work,
@@ -191,8 +200,13 @@ impl Work {
         }
     }
 
-    /// A strict test of the cell of `first` followed by `second`, at most 64 half-spaces together: the first inside
-    /// certificate, and `None` exactly where the cell has no point. Its line is appended; it isn't counted.
+    /// Makes a strict test of the cell of `first` followed by `second`, at most 64 half-spaces together. Returns the
+    /// first inside certificate; `None` iff the cell has no point. The line of the test is appended; the test is not
+    /// counted.
+    ///
+    /// # Errors
+    ///
+    /// `AllocError` for want of memory.
     pub fn strict(
         &mut self,
         _alloc: Global,
@@ -207,7 +221,8 @@ impl Work {
         self.strict_test(joined(first, second).as_slice())
     }
 
-    /// A strict test of a cell.
+    /// Makes a strict test of `cell`, of at most 64 half-spaces. Returns the first inside certificate; `None` iff the
+    /// cell has no point.
     pub(crate) fn strict_test(&mut self, cell: &[Half]) -> Result<Option<Inside>, AllocError>
         requires { length cell.now ≤ 64 }
         ensures makes { Makes is_some (op_result result) self.old self.new (strict_test cell.now) }
@@ -228,8 +243,13 @@ impl Work {
         }
     }
 
-    /// A weak test of the cell of `first` followed by `second`, at most 64 half-spaces together: the first weak point,
-    /// and `None` exactly where the weak system of the cell has no point. Its line is appended; it isn't counted.
+    /// Makes a weak test of the cell of `first` followed by `second`, at most 64 half-spaces together. Returns the
+    /// first weak point; `None` iff the weak system of the cell has no point. The line of the test is appended; the
+    /// test is not counted.
+    ///
+    /// # Errors
+    ///
+    /// `AllocError` for want of memory.
     pub fn weak(
         &mut self,
         _alloc: Global,
@@ -244,7 +264,8 @@ impl Work {
         self.weak_test(joined(first, second).as_slice())
     }
 
-    /// A weak test of a cell.
+    /// Makes a weak test of `cell`, of at most 64 half-spaces. Returns the first weak point; `None` iff the weak system
+    /// of the cell has no point.
     pub(crate) fn weak_test(&mut self, cell: &[Half]) -> Result<Option<Point>, AllocError>
         requires { length cell.now ≤ 64 }
         ensures makes { Makes is_some (op_result result) self.old self.new (weak_test cell.now) }
@@ -264,8 +285,12 @@ impl Work {
         }
     }
 
-    /// Whether `first` and `second` are in contact, by a weak test of them together. No point is searched for where
-    /// their boxes share none. The line is appended; the test isn't counted.
+    /// Returns whether `first` and `second` are in contact, by a weak test of them together. If their boxes share no
+    /// point, no common point is searched for. The line of the test is appended; the test is not counted.
+    ///
+    /// # Errors
+    ///
+    /// `AllocError` for want of memory.
     pub fn are_in_contact(&mut self, first: &Part, second: &Part) -> Result<bool, AllocError>
         ensures { Makes (λ is_so. is_so) (op_result result) self.old self.new (weak_test (first.now.cell ++ second.now.cell)) }
     {
@@ -277,7 +302,7 @@ impl Work {
         Ok(self.weak_test(cell.as_slice())?.is_some())
     }
 
-    /// A strict test of two parts together.
+    /// Makes a strict test of `first` and `second` together; returns an inside certificate if they share a point.
     pub(crate) fn strict_test_of(
         &mut self,
         first: &Part,
@@ -293,7 +318,8 @@ impl Work {
         self.strict_test_joined(first, second)
     }
 
-    /// The same, of the cell of both. It is apart, as the next ones are, so that nobody else makes room for that.
+    /// Joins the cells of `first` and `second` and runs [`Work::strict_test`]. It is a function of its own, as the next
+    /// ones are, so that no other function makes room for the joined cell.
     fn strict_test_joined(
         &mut self,
         first: &Part,
@@ -305,7 +331,8 @@ impl Work {
         self.strict_test(joined(first.halves(), second.halves()).as_slice())
     }
 
-    /// A strict test of two parts together that are known to share no point, which is not searched for.
+    /// Makes a strict test of `first` and `second` together. It is known that they share no point, so none is searched
+    /// for.
     pub(crate) fn refute_strict_of(&mut self, first: &Part, second: &Part) -> Result<(), AllocError>
         requires { IsEmpty (shape_of_cell (first.now.cell ++ second.now.cell)) }
         ensures { Makes (λ _. false) (op_result result) self.old self.new (strict_test (first.now.cell ++ second.now.cell)) }
@@ -316,7 +343,7 @@ impl Work {
         self.refute_strict_joined(first, second)
     }
 
-    /// The same, of the cell of both.
+    /// Joins the cells of `first` and `second`, which share no point, and runs [`Work::refute_strict`].
     fn refute_strict_joined(&mut self, first: &Part, second: &Part) -> Result<(), AllocError>
         requires { IsEmpty (shape_of_cell (first.now.cell ++ second.now.cell)) }
         ensures { Makes (λ _. false) (op_result result) self.old self.new (strict_test (first.now.cell ++ second.now.cell)) }
@@ -324,7 +351,7 @@ impl Work {
         self.refute_strict(joined(first.halves(), second.halves()).as_slice())
     }
 
-    /// A weak test of two parts together.
+    /// Makes a weak test of `first` and `second` together; returns a weak point if they are in contact.
     pub(crate) fn weak_test_of(
         &mut self,
         first: &Part,
@@ -340,7 +367,7 @@ impl Work {
         self.weak_test_joined(first, second)
     }
 
-    /// The same, of the cell of both.
+    /// Joins the cells of `first` and `second` and runs [`Work::weak_test`].
     fn weak_test_joined(&mut self, first: &Part, second: &Part) -> Result<Option<Point>, AllocError>
         ensures makes { Makes is_some (op_result result) self.old self.new (weak_test (first.now.cell ++ second.now.cell)) }
         ensures told { IfOk result (λ o. IfSome o (λ x. IsLast (at_line x) self.new.proofs)) }
@@ -348,8 +375,8 @@ impl Work {
         self.weak_test(joined(first.halves(), second.halves()).as_slice())
     }
 
-    /// A weak test of two parts together that are known to have no point of their weak systems in common, which is not
-    /// searched for.
+    /// Makes a weak test of `first` and `second` together. It is known that their weak systems have no common point, so
+    /// none is searched for.
     pub(crate) fn refute_weak_of(&mut self, first: &Part, second: &Part) -> Result<(), AllocError>
         requires { (p : RationalPoint) → ¬ IsSolution false (first.now.cell ++ second.now.cell) p }
         ensures { Makes (λ _. false) (op_result result) self.old self.new (weak_test (first.now.cell ++ second.now.cell)) }
@@ -360,7 +387,8 @@ impl Work {
         self.refute_weak_joined(first, second)
     }
 
-    /// The same, of the cell of both.
+    /// Joins the cells of `first` and `second`, whose weak systems have no common point, and runs
+    /// [`Work::refute_weak`].
     fn refute_weak_joined(&mut self, first: &Part, second: &Part) -> Result<(), AllocError>
         requires { (p : RationalPoint) → ¬ IsSolution false (first.now.cell ++ second.now.cell) p }
         ensures { Makes (λ _. false) (op_result result) self.old self.new (weak_test (first.now.cell ++ second.now.cell)) }
@@ -368,7 +396,8 @@ impl Work {
         self.refute_weak(joined(first.halves(), second.halves()).as_slice())
     }
 
-    /// A strict test of a cell that is known to have no point, which is not searched for one.
+    /// Makes a strict test of `cell`, of at most 64 half-spaces. It is known that it has no point, so none is searched
+    /// for.
     pub(crate) fn refute_strict(&mut self, cell: &[Half]) -> Result<(), AllocError>
         requires few { length cell.now ≤ 64 }
         requires empty { IsEmpty (shape_of_cell cell.now) }
@@ -377,7 +406,8 @@ impl Work {
         self.tell(Proof::Out(refute_strict(cell)))
     }
 
-    /// A weak test of a cell whose weak system is known to have no point, which is not searched for one.
+    /// Makes a weak test of `cell`, of at most 64 half-spaces. It is known that its weak system has no point, so none
+    /// is searched for.
     pub(crate) fn refute_weak(&mut self, cell: &[Half]) -> Result<(), AllocError>
         requires few { length cell.now ≤ 64 }
         requires empty { (p : RationalPoint) → ¬ IsSolution false cell.now p }
@@ -386,7 +416,8 @@ impl Work {
         self.tell(Proof::Apart(refute_weak(cell)))
     }
 
-    /// Whether a cell has a point, as `decide_strict` answers, over the room where there is one. All stays as it is.
+    /// Decides whether `cell`, of at most 64 half-spaces, has a point, as `decide_strict` does, in the room if there is
+    /// one. Oracle and lines stay as they are.
     fn decide_strict(&mut self, cell: &[Half]) -> Strict
         requires { length cell.now ≤ 64 }
         ensures same { self.new ≡ self.old }
@@ -404,8 +435,8 @@ impl Work {
         found
     }
 
-    /// Whether the weak system of a cell has a point, as `decide_weak` answers, over the room where there is one. All
-    /// stays as it is.
+    /// Decides whether the weak system of `cell`, of at most 64 half-spaces, has a point, as `decide_weak` does, in the
+    /// room if there is one. Oracle and lines stay as they are.
     fn decide_weak(&mut self, cell: &[Half]) -> Weak
         requires { length cell.now ≤ 64 }
         ensures same { self.new ≡ self.old }
@@ -423,8 +454,8 @@ impl Work {
         found
     }
 
-    /// A strict test of a cell that is held with `more` half-spaces behind its own, at most 64 together: whether it has
-    /// a point. It is made over `room`, whatever is held there. Its line is appended; it isn't counted.
+    /// Returns whether `cell` with `more` after its own half-spaces, at most 64 together, has a point, by a strict
+    /// test. The test overwrites `room`. Its line is appended; it is not counted.
     pub(crate) fn held_test(
         &mut self,
         cell: &Held,
@@ -446,7 +477,7 @@ impl Work {
         }
     }
 
-    /// A part test of a cell of at most 64 half-spaces, as of one that is held.
+    /// Makes a part test of `cell`, of at most 64 half-spaces, as [`Work::held_part`] does.
     pub(crate) fn part_test(
         &mut self,
         alloc: Global,
@@ -462,8 +493,12 @@ impl Work {
         Ok(part)
     }
 
-    /// A part test of a cell that is held: the part of its slim cell, and `None` exactly where the cell has no point.
-    /// Its lines are appended; it isn't counted. `Limit` exactly where the slim cell has more than 32 half-spaces.
+    /// Makes a part test of the stored cell `cell`. Returns the part of its slim cell; `None` iff the cell has no
+    /// point. The lines of the test are appended; the test is not counted.
+    ///
+    /// # Errors
+    ///
+    /// `Limit` iff the slim cell has more than 32 half-spaces.
     pub(crate) fn held_part(&mut self, alloc: Global, cell: &Held) -> Result<Option<Part>, OpFault>
         ensures makes { Makes (λ o. o) result self.old self.new (part_test cell.now) }
         ensures made { IfOk result (λ o. IsMadeOf IsPart cell.now o) }
@@ -480,8 +515,12 @@ impl Work {
         }
     }
 
-    /// The part of the slim cell of a cell in which a strict test has found these points. The lines of the test and of
-    /// the part are appended.
+    /// Returns the part of the slim cell of `cell`, in which a strict test has found `points`. The lines of the test
+    /// and of the part are appended.
+    ///
+    /// # Errors
+    ///
+    /// `Limit` iff the slim cell has more than 32 half-spaces.
     fn slim_part(&mut self, alloc: Global, cell: &Held, points: Inside) -> Result<Part, OpFault>
         requires found { first_inside cell.now ≡ Some points }
         requires line { in_line points ≡ strict_line cell.now }
@@ -499,7 +538,8 @@ impl Work {
         Ok(Part::of_slim(kept, bounds))
     }
 
-    /// Appends the line of the points that were found in a cell, and those of the half-spaces that were dropped from it.
+    /// Appends the line of the `points` that were found in a cell, and then a line for each redundant half-space of
+    /// `dropped`.
     fn tell_found(&mut self, points: Inside, dropped: Drops) -> Result<(), AllocError>
         ensures { Makes (λ x. x) (op_result result) self.old self.new (telling (in_line points ∷ map drop_line_of dropped.items)) }
     {
@@ -510,7 +550,7 @@ impl Work {
         Ok(())
     }
 
-    /// Appends the line of a box, and those of its sides.
+    /// Appends the line of the box `bounds`, and then the lines `proofs` of its sides.
     fn tell_box(&mut self, bounds: IntBox, proofs: SideProofs) -> Result<(), AllocError>
         ensures { Makes (λ x. x) (op_result result) self.old self.new (telling (box_line (integer_box bounds) ∷ map side_line_of proofs)) }
     {
@@ -522,7 +562,8 @@ impl Work {
     }
 }
 
-/// The slim cell of a cell, as `Held::slim` answers, in a list with room for no more: a part is kept for long.
+/// Returns the slim cell of `cell`, as `Held::slim` does, in a list with room for no more half-spaces: a part is stored
+/// for long.
 fn slim_exactly(alloc: Global, cell: &Held) -> Result<Slimmed, AllocError>
     ensures kept { IfOk result (λ slim. slim.kept.items ≡ (slimmed cell.now).kept) }
     ensures lines { IfOk result (λ slim. map drop_line_of slim.dropped.items ≡ (slimmed cell.now).lines) }

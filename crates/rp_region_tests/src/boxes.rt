@@ -7,7 +7,7 @@ use rp_space::{IntBox, box_halves};
 use std::alloc::Global;
 use std::process::Abort;
 
-/// The region of a box.
+/// Returns the region of the box `bounds`.
 pub fn box_region(rt: &impl Abort, alloc: Global, bounds: &IntBox, work: &mut Work) -> Region
     requires { is_box_in_bounds (integer_box bounds.now) ≡ true }
 {

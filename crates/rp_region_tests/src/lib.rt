@@ -1,7 +1,7 @@
 #![tactic(auto)]
-//! Tests of regions: what combines, compares, slices and groups them.
+//! Tests of regions: operations, comparisons, slices and groups.
 //!
-//! They use what the crates give to all, and stand apart so that no program's crate is proved with tests.
+//! They use public functions alone, and are in a crate of their own so that no program's crate is proved with tests.
 
 #[cfg(test)]
 mod boxes;

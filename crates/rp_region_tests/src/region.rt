@@ -15,7 +15,7 @@ fn types_cross_threads() {
     needs_send_sync::<OpFault>();
 }
 
-/// The larger of two boxes that have a part in common, and for each a part of its own.
+/// Returns the larger of two boxes that overlap, each with a part outside the other.
 fn large(rt: &impl Abort, alloc: Global, work: &mut Work) -> Region {
     let bounds = IntBox {
         lo: [0, 0, 0],
@@ -24,7 +24,7 @@ fn large(rt: &impl Abort, alloc: Global, work: &mut Work) -> Region {
     box_region(rt, alloc, &bounds, work)
 }
 
-/// The smaller of them.
+/// Returns the smaller of two boxes that overlap, each with a part outside the other.
 fn small(rt: &impl Abort, alloc: Global, work: &mut Work) -> Region {
     let bounds = IntBox {
         lo: [5, 5, 5],
@@ -33,7 +33,7 @@ fn small(rt: &impl Abort, alloc: Global, work: &mut Work) -> Region {
     box_region(rt, alloc, &bounds, work)
 }
 
-/// Whether a region has a point of both boxes, one of the larger alone, and one of the smaller alone.
+/// Returns whether `region` has a point of both boxes, a point of the larger alone, and a point of the smaller alone.
 fn has(rt: &impl Abort, region: &Region) -> [bool; 3] {
     let in_both = Point::new(6, 6, 6, 1).expect(rt, "no point");
     let in_large = Point::new(1, 1, 1, 1).expect(rt, "no point");

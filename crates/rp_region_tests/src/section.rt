@@ -15,7 +15,7 @@ type Cell = ArrayVec<Half, 32>;
 /// The sides of a square.
 const SQUARE: [Row; 4] = [(1, 0, 0, 5), (0, 1, 0, 5), (-1, 0, 0, 5), (0, -1, 0, 5)];
 
-/// The sides of a triangle, with others beside it, through its corners and along its edges.
+/// The sides of a triangle, with redundant sides outside it, through its corners and along its edges.
 const TRIANGLE: [Row; 10] = [
     (2, 1, 0, 9),
     (1, 0, 0, 0),
@@ -39,7 +39,7 @@ const HEXAGON: [Row; 6] = [
     (1, -1, 0, 9),
 ];
 
-/// A quarter of a round cell: the upright planes touch a circle, the others lean a little.
+/// A quarter of a round cell: the vertical planes touch a circle, the others lean a little.
 const QUARTER: [Row; 8] = [
     (998, 69, 1, 1000383),
     (965, 262, -2, 999935),
@@ -51,7 +51,7 @@ const QUARTER: [Row; 8] = [
     (127, 992, -8, 1000097),
 ];
 
-/// A step of a ring with these numbers.
+/// Returns a step of a ring with the edge `edge` and the end `end`.
 fn step(rt: &impl Abort, edge: (i32, i32, i64), end: (i128, i128, i128, i128)) -> RingStep {
     let (a, b, d) = edge;
     let (x, y, z, w) = end;
@@ -88,7 +88,7 @@ fn add(rt: &impl Abort, cell: &mut Cell, row: Row) {
     cell.try_push(half).expect(rt, "no room");
 }
 
-/// The cell of some half-spaces.
+/// Returns the cell of the half-spaces of `rows`.
 fn cell_of(rt: &impl Abort, rows: &[Row]) -> Cell {
     let mut cell = Cell::new();
     for row in rows {
@@ -97,7 +97,7 @@ fn cell_of(rt: &impl Abort, rows: &[Row]) -> Cell {
     cell
 }
 
-/// A round cell of 32 half-spaces: a quarter, turned three times.
+/// Returns a round cell of 32 half-spaces: a quarter, turned three times.
 fn round_cell(rt: &impl Abort) -> Cell {
     let mut cell = Cell::new();
     for (a, b, c, d) in QUARTER {
@@ -109,7 +109,8 @@ fn round_cell(rt: &impl Abort) -> Cell {
     cell
 }
 
-/// How many steps the ring of a cell has, which the guess has to be.
+/// Returns the number of steps of the ring of `cell`, of at most 32 half-spaces, at the height 3. The guess has to be
+/// this ring.
 fn steps_guessed(rt: &impl Abort, cell: &[Half]) -> usize
     requires { length cell.now ≤ 32 }
 {
@@ -130,7 +131,7 @@ fn the_guess_is_the_ring(rt: HostRuntime) {
         (&[(0, 0, 1, 0), (0, 0, -1, 9)], 4),
         (&[(1, 1, 0, 0)], 3),
         (&[(1, -2, 0, 7), (-1, 2, 0, 7)], 4),
-        // of the sides of the same angle the last, the middle or the first one is the furthest inside
+        // of the sides with equal angles the last, the middle or the first one is the furthest inside
         (&[(1, 0, 0, 5), (3, 0, 0, 7), (2, 0, 1, -7)], 4),
         (&[(1, 0, 0, 5), (2, 0, 1, -7), (3, 0, 0, 7)], 4),
         (&[(2, 0, 1, -7), (1, 0, 0, 5), (3, 0, 0, 7)], 4),

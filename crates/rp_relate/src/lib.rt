@@ -1,10 +1,11 @@
 #![tactic(auto)]
-//! How two regions of space stand to each other: overlap, inclusion, equality, contact, and the eight relations of the
-//! region connection calculus (Randell, Cui and Cohn, 1992); and what of one region hangs together.
+//! Relations of two regions of space: overlap, inclusion, equality, contact, and the eight relations of the region
+//! connection calculus (Randell, Cui and Cohn, 1992); and the pieces of one region.
 //!
-//! Each is answered as the sets of points stand, by exactly the tests of its definition. [`rcc`] tells a region without
-//! a point, the first one first, before any test. [`pieces`] answers lists of part numbers, each rising and in the
-//! order of their first numbers, that are each in one piece, no two in contact, and together all parts.
+//! Each result is true of the sets of points, and is found by exactly the tests of its definition. [`rcc`] refuses a
+//! region without a point, the first one first, before any test. [`pieces`] returns lists of part numbers, each rising,
+//! in the order of their first numbers. Each list is in one piece, no two are in contact, and together they have all
+//! parts.
 
 mod cover;
 mod linked;

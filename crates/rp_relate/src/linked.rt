@@ -11,15 +11,20 @@ use rp_region::{OpFault, Region, Work};
 use rp_unionfind::PieceList;
 use std::alloc::Global;
 
-/// The pieces of `region`, as lists of the numbers of its parts, counted from 1: each number stands in one list, each
-/// list rises, and the lists come in the order of their first numbers. Each two parts are tested for contact by `work`,
-/// in order. As many tests are counted as there are pairs of parts; `Limit` comes exactly where these are too many.
+/// Returns the pieces of `region`, as lists of the numbers of its parts, counted from 1. Each number is in one list,
+/// each list rises, and the lists are in the order of their first numbers. Each two parts are tested for contact by
+/// `work`, in order. As many tests are counted as there are pairs of parts.
+///
+/// # Errors
+///
+/// - `Limit` iff too many tests are counted.
+/// - `Memory` for want of memory.
 pub fn pieces(alloc: Global, region: &Region, work: &mut Work) -> Result<PieceList, OpFault>
     ensures makes { Makes numbers_of result work.old work.new (pieces_of_parts first_tester region.now) }
     ensures right { IfOk result (λ list. ArePieces region.now (numbers_of list)) }
     ensures few { IfOk result (λ list. length list.items ≤ most_parts) }
 {
-    // Only for what `parts` ensures, that the parts are those of a region, and few.
+    // The call makes it known that the parts are those of a region, and few.
     let _ = region.parts();
     let mut walked = work.fresh(alloc);
     let pieces = rp_eval::pieces(alloc, region, &mut walked);

@@ -13,10 +13,10 @@ use rp_region::{OpFault, Region, Work};
 use std::alloc::{AllocError, Global};
 use thiserror::Error;
 
-/// Why two regions stand in no relation that is told.
+/// The reason why there is no relation of two regions.
 #[derive(Clone, Copy, Debug, PartialEq, Eq, Drop, Error)]
 pub enum RccFault {
-    /// The first region (1) has no point; or the first has one and the second (2) has none.
+    /// A region has no point: the first region (1); or the second region (2), and the first has one.
     #[error("region {0} has no point")]
     EmptyRegion(u8),
     /// More tests than a command may count, or more parts than a region or more half-spaces than a part may have.
@@ -41,13 +41,22 @@ impl From<OpFault> for RccFault {
     }
 }
 
-/// In which of the eight relations `a` stands to `b`, by tests of `work`. `EmptyRegion(1)` exactly where `a` has no
-/// point, `EmptyRegion(2)` exactly where `a` has one and `b` has none; both come before any test. `Limit` comes exactly
-/// where it comes for one of the comparisons: common points first; without one, contact; with one, what is left of each
-/// outside the other, and, where one is a part of the other, its contact with the outside of the whole.
+/// Returns which of the eight relations `a` has to `b`, by tests of `work`. The comparisons are:
 ///
-/// A part touches the outside of its whole exactly where some region is in contact with both and shares a point with
-/// neither: that outside is such a region. The whole cube has no outside, so each proper part of it is `NTPP`.
+/// 1. whether `a` and `b` share a point;
+/// 2. if they share none, whether they are in contact;
+/// 3. if they share one, the difference of `a` and `b` and the difference of `b` and `a`;
+/// 4. if one is a part of the other, its contact with the outside of the whole.
+///
+/// A part touches the outside of its whole iff some region is in contact with both and shares a point with neither: the
+/// outside is one. The whole cube has no outside, so each proper part of it is `NTPP`.
+///
+/// # Errors
+///
+/// - `EmptyRegion(1)` iff `a` has no point, before any test.
+/// - `EmptyRegion(2)` iff `a` has a point and `b` has none, before any test.
+/// - `Limit` iff one of the comparisons has it.
+/// - `Memory` for want of memory.
 pub fn rcc(alloc: Global, a: &Region, b: &Region, work: &mut Work) -> Result<Rcc8, RccFault>
     ensures empty { IfSome (first_empty a.now b.now) (λ k. (result ≡ Err (RccFault.EmptyRegion k)) × (work.new ≡ work.old)) }
     ensures makes { IsNone (first_empty a.now b.now) → MakesRelation result work.old work.new (relation_of_parts first_tester a.now b.now) }
@@ -63,7 +72,7 @@ pub fn rcc(alloc: Global, a: &Region, b: &Region, work: &mut Work) -> Result<Rcc
     Ok(found_relation(alloc, a, b, work)?)
 }
 
-/// The relation of two regions that have parts.
+/// Returns the relation of `a` and `b`, which have parts.
 fn found_relation(alloc: Global, a: &Region, b: &Region, work: &mut Work) -> Result<Rcc8, OpFault>
     ensures { Makes relation_of result work.old work.new (relation_of_parts first_tester a.now b.now) }
 {

@@ -16,9 +16,9 @@ use rp_elim::{
 };
 use rp_space::{Half, Outside, Term, cube, joined};
 
-/// The first flat certificate of `cell` at the height `z`: the first few of its half-spaces and the cube's upright
-/// sides, by their number and then by their places, with positive multiples in lowest terms. `None` where there are
-/// none.
+/// Returns the first flat certificate of `cell` at the height `z`; `None` iff there is none. It is the first by the
+/// number of its half-spaces and then by their places, among those of `cell` and the cube's vertical sides. The
+/// multipliers are positive and in lowest terms. `cell` has at most 32 half-spaces.
 pub fn first_flat(cell: &[Half], z: i32) -> Option<Outside>
     requires height { IsHeight z }
     requires few { length cell.now ≤ 32 }
@@ -28,7 +28,7 @@ pub fn first_flat(cell: &[Half], z: i32) -> Option<Outside>
     first_in(list.as_slice(), z)
 }
 
-/// The first flat certificate among the half-spaces of a list.
+/// Returns the first flat certificate at the height `z` among `halves`; `None` iff there is none.
 fn first_in(halves: &[Half], z: i32) -> Option<Outside>
     requires { IsHeight z }
     ensures { result ≡ flat_in z halves.now }
@@ -42,7 +42,7 @@ fn first_in(halves: &[Half], z: i32) -> Option<Outside>
     first_three(halves, z)
 }
 
-/// The first flat certificate by one of several.
+/// Returns the first flat certificate at the height `z` by one of `hs`; `None` iff there is none.
 fn first_one(hs: &[Half], z: i32) -> Option<Outside>
     requires { IsHeight z }
     ensures { result ≡ first_of (flat_of_one z) hs.now }
@@ -55,7 +55,7 @@ fn first_one(hs: &[Half], z: i32) -> Option<Outside>
     None
 }
 
-/// The first flat certificate by two of several.
+/// Returns the first flat certificate at the height `z` by two of `gs`; `None` iff there is none.
 fn first_two(gs: &[Half], z: i32) -> Option<Outside>
     requires { IsHeight z }
     ensures { result ≡ first_of_pairs (flat_of_two z) gs.now }
@@ -68,7 +68,7 @@ fn first_two(gs: &[Half], z: i32) -> Option<Outside>
     None
 }
 
-/// The first flat certificate by one half-space and one of several.
+/// Returns the first flat certificate at the height `z` by `g` and one of `hs`; `None` iff there is none.
 fn first_two_with(g: &Half, hs: &[Half], z: i32) -> Option<Outside>
     requires { IsHeight z }
     ensures { result ≡ first_of (flat_of_two z g.now) hs.now }
@@ -81,7 +81,7 @@ fn first_two_with(g: &Half, hs: &[Half], z: i32) -> Option<Outside>
     None
 }
 
-/// The first flat certificate by three of several.
+/// Returns the first flat certificate at the height `z` by three of `fs`; `None` iff there is none.
 fn first_three(fs: &[Half], z: i32) -> Option<Outside>
     requires { IsHeight z }
     ensures { result ≡ first_of_triples (flat_of_three z) fs.now }
@@ -94,7 +94,7 @@ fn first_three(fs: &[Half], z: i32) -> Option<Outside>
     None
 }
 
-/// The first flat certificate by one half-space and two of several.
+/// Returns the first flat certificate at the height `z` by `f` and two of `gs`; `None` iff there is none.
 fn first_three_with(f: &Half, gs: &[Half], z: i32) -> Option<Outside>
     requires { IsHeight z }
     ensures { result ≡ first_of_pairs (flat_of_three z f.now) gs.now }
@@ -107,7 +107,7 @@ fn first_three_with(f: &Half, gs: &[Half], z: i32) -> Option<Outside>
     None
 }
 
-/// The first flat certificate by two half-spaces and one of several.
+/// Returns the first flat certificate at the height `z` by `f`, `g` and one of `hs`; `None` iff there is none.
 fn first_three_with_two(f: &Half, g: &Half, hs: &[Half], z: i32) -> Option<Outside>
     requires { IsHeight z }
     ensures { result ≡ first_of (flat_of_three z f.now g.now) hs.now }
@@ -120,7 +120,7 @@ fn first_three_with_two(f: &Half, g: &Half, hs: &[Half], z: i32) -> Option<Outsi
     None
 }
 
-/// The flat certificate by one half-space, if it is one.
+/// Returns the flat certificate at the height `z` by `h` alone, if it makes one.
 fn flat_of_one(h: &Half, z: i32) -> Option<Outside>
     requires { IsHeight z }
     ensures { result ≡ flat_of_one z h.now }
@@ -128,7 +128,7 @@ fn flat_of_one(h: &Half, z: i32) -> Option<Outside>
     positive_flat(&[Term { by: 1, half: *h }], z)
 }
 
-/// The flat certificate by two half-spaces, if they make one.
+/// Returns the flat certificate at the height `z` by `g` and `h`, if they make one.
 fn flat_of_two(g: &Half, h: &Half, z: i32) -> Option<Outside>
     requires { IsHeight z }
     ensures { result ≡ flat_of_two z g.now h.now }
@@ -136,7 +136,7 @@ fn flat_of_two(g: &Half, h: &Half, z: i32) -> Option<Outside>
     flat(&minors_of_two(g, h), z)
 }
 
-/// The flat certificate by three half-spaces, if they make one.
+/// Returns the flat certificate at the height `z` by `f`, `g` and `h`, if they make one.
 fn flat_of_three(f: &Half, g: &Half, h: &Half, z: i32) -> Option<Outside>
     requires { IsHeight z }
     ensures { result ≡ flat_of_three z f.now g.now h.now }
@@ -144,8 +144,8 @@ fn flat_of_three(f: &Half, g: &Half, h: &Half, z: i32) -> Option<Outside>
     flat(&minors_on_axes(f, g, h, Axis::X, Axis::Y), z)
 }
 
-/// The terms with positive multipliers in lowest terms, if they are a flat certificate; the multipliers may have either
-/// sign. `None` where two multipliers have different signs or one is 0.
+/// Returns the 1 to 3 `terms` with positive multipliers in lowest terms, if they are a flat certificate at the height
+/// `z`. The multipliers may have either sign; `None` if two have different signs or one is 0.
 fn flat(terms: &[Term], z: i32) -> Option<Outside>
     requires height { IsHeight z }
     requires some { 0 < length terms.now }
@@ -162,7 +162,8 @@ fn flat(terms: &[Term], z: i32) -> Option<Outside>
     None
 }
 
-/// The terms in lowest terms, if they are a flat certificate; all multipliers are positive.
+/// Returns the 1 to 3 `terms` in lowest terms, if they are a flat certificate at the height `z`. All multipliers are
+/// positive.
 fn positive_flat(terms: &[Term], z: i32) -> Option<Outside>
     requires height { IsHeight z }
     requires some { 0 < length terms.now }

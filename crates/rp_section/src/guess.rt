@@ -1,5 +1,6 @@
-//! A guess of the ring of a section, as half-planes are usually met: by the angles of their edges, each cuts off the
-//! ends of the chain of those before it. Where a cell has a ring, the guess is that; a check of it says whether it is.
+//! A guess of the ring of a section, by the usual intersection of half-planes: in the order of the angles of their
+//! edges, each half-plane cuts off the ends of the chain so far. If a cell has a ring, the guess is that ring; the
+//! caller checks it.
 ghost use Rattle.std.specs.Prelude.{◌≤◌, ◌^◌, length};
 ghost use Rattle.rp_algebra.specs.Within.{IsWithin};
 ghost use Rattle.rp_geometry.specs.sections.Trace.{IsHeight};
@@ -11,18 +12,18 @@ use rp_cert::{Edge, RingStep, RingSteps};
 use rp_space::{Half, Meeting, Pair};
 use std::cmp::Ordering;
 
-/// A side of the chain, and the point in which it meets the one before it. That of the first side says nothing.
+/// A side of the chain, and the point in which it meets the side before it. The point of the first side has no meaning.
 #[derive(Clone, Copy, Default)]
 struct Link {
     side: Side,
     start: Meeting,
 }
 
-/// At most 36 sides by the angles of their edges, which take no memory.
+/// At most 36 sides in the order of the angles of their edges, which take no memory.
 type Chain = ArrayVec<Link, 36>;
 
-/// Steps that are the ring of `cell` at the height `z`, if it has one, as a check is to say: `slice` has them checked.
-/// A cell without a ring gets some steps or none.
+/// Returns steps that are the ring of `cell` at the height `z`, if it has one. This is not proved: `slice` checks them.
+/// A cell without a ring gets some steps or none. `cell` has at most 32 half-spaces.
 pub fn quick_ring(cell: &[Half], z: i32) -> RingSteps
     requires height { IsHeight z }
     requires few { length cell.now ≤ 32 }
@@ -36,7 +37,8 @@ pub fn quick_ring(cell: &[Half], z: i32) -> RingSteps
     }
 }
 
-/// By the angles of the edges; of those of the same angle, the one that is further inside is less.
+/// Compares `s` and `t` by the angles of their edges; of two with equal angles, the side that is further inside is
+/// less.
 fn by_angle(s: &Side, t: &Side) -> Ordering {
     if is_before(s, t) {
         return Ordering::Less;
@@ -47,32 +49,33 @@ fn by_angle(s: &Side, t: &Side) -> Ordering {
     by_depth(&s.edge, &t.edge)
 }
 
-/// Of two edges of the same direction, the one that is further inside is less.
+/// Compares `s` and `t`, two edges with the same direction: the edge that is further inside is less.
 fn by_depth(s: &Edge, t: &Edge) -> Ordering {
     let first = s.d as i128 * size(t);
     let second = t.d as i128 * size(s);
     first.cmp(&second)
 }
 
-/// The size of an edge's direction: for edges along each other, the sizes are as the lengths.
+/// Returns |a| + |b| of `edge`, within 2^33. For parallel edges it is in the ratio of the lengths of their directions.
 fn size(edge: &Edge) -> i128
     ensures { IsWithin (2 ^ 33) result }
 {
     edge.a.unsigned_abs() as i128 + edge.b.unsigned_abs() as i128
 }
 
-/// Steps along the sides that are left of several. `None` where sides that follow each other are parallel, as in no
-/// ring.
+/// Returns steps along those of `sides` that bound the section. `None` if two sides in a row are parallel, as in no
+/// ring, or there is no side.
 fn steps_round(level: &Half, sides: &[Side]) -> Option<RingSteps> {
     let chain = chain_of(level, sides)?;
     steps_along(level, chain.as_slice())
 }
 
-/// The sides that are left of several, which stand by their angles.
+/// Returns those of `sides`, which are in the order of their angles, that bound the section. `None` if two of them in a
+/// row are parallel, or there is none.
 fn chain_of(level: &Half, sides: &[Side]) -> Option<Chain> {
     let mut chain = Chain::new();
     for i in 0..sides.len() {
-        // Of sides of the same angle, the first one is further inside.
+        // Of sides with equal angles, the first one is further inside.
         if i == 0 || is_before(&sides[i - 1], &sides[i]) {
             add(&mut chain, level, &sides[i])?;
         }
@@ -81,8 +84,8 @@ fn chain_of(level: &Half, sides: &[Side]) -> Option<Chain> {
     Some(chain)
 }
 
-/// Appends a side behind those of the chain that it leaves. `None` where it is parallel to the last one, or there is no
-/// room.
+/// Appends `side` to the sides of the chain that it does not cut off. `None` if it is parallel to the last side, or
+/// there is no room.
 fn add(chain: &mut Chain, level: &Half, side: &Side) -> Option<()> {
     drop_last(chain, side);
     drop_first(chain, side);
@@ -93,7 +96,7 @@ fn add(chain: &mut Chain, level: &Half, side: &Side) -> Option<()> {
     chain.try_push(Link { side: *side, start }).ok()
 }
 
-/// Drops from both ends of a chain what its other end cuts off.
+/// Drops from both ends of a chain the sides that its other end cuts off. `None` if the chain is empty.
 fn close(chain: &mut Chain) -> Option<()> {
     let first = chain.as_slice().first()?.side;
     drop_last(chain, &first);
@@ -102,7 +105,7 @@ fn close(chain: &mut Chain) -> Option<()> {
     Some(())
 }
 
-/// Drops the last sides of a chain that begin where another side is not positive, all but the first.
+/// Drops the last sides of a chain that begin at a point at which `side` is not positive, except the first.
 fn drop_last(chain: &mut Chain, side: &Side) {
     for _ in 1..chain.len() {
         if begins_inside(chain.as_slice().last(), side) {
@@ -112,7 +115,7 @@ fn drop_last(chain: &mut Chain, side: &Side) {
     }
 }
 
-/// Drops the first sides of a chain that end where another side is not positive, all but the last.
+/// Drops the first sides of a chain that end at a point at which `side` is not positive, except the last.
 fn drop_first(chain: &mut Chain, side: &Side) {
     for _ in 1..chain.len() {
         if begins_inside(chain.as_slice().get(1), side) {
@@ -122,7 +125,7 @@ fn drop_first(chain: &mut Chain, side: &Side) {
     }
 }
 
-/// Whether a side of the chain begins where another side is positive.
+/// Returns whether `link` begins at a point at which `side` is positive; true if there is no link.
 fn begins_inside(link: Option<&Link>, side: &Side) -> bool {
     match link {
         Some(link) => link.start.side(&side.half) > 0,
@@ -130,7 +133,8 @@ fn begins_inside(link: Option<&Link>, side: &Side) -> bool {
     }
 }
 
-/// A step along each side of a chain to the next one; after the last comes the first.
+/// Returns a step along each side of `chain`, at most 36, to the next one; after the last comes the first. `None` if
+/// the chain is empty, or its last and first side are parallel.
 fn steps_along(level: &Half, chain: &[Link]) -> Option<RingSteps>
     requires { length chain.now ≤ 36 }
 {
@@ -146,7 +150,7 @@ fn steps_along(level: &Half, chain: &[Link]) -> Option<RingSteps>
     Some(steps)
 }
 
-/// A step along a side of a chain to an end.
+/// Returns a step along the side of `link` to `end`.
 fn step(link: &Link, end: &Meeting) -> RingStep {
     RingStep {
         edge: link.side.edge,

@@ -1,11 +1,12 @@
 #![tactic(auto)]
-//! Horizontal sections (cross-sections): what a cell leaves at a height, as a ring of edges and ends with the inside on
-//! its left (a linear ring), or as the first certificate that it leaves nothing.
+//! Horizontal sections (cross-sections) of a cell: a ring of edges and ends with the inside on its left (a linear
+//! ring), or the first certificate that the section is empty.
 //!
-//! The slice of a cell of at most 32 half-spaces at a height of the cube is the one that is to be shown: its ring, or
-//! the first flat certificate, and this exactly where the cell has no point there. What a slice shows, as `check_slice`
-//! of `rp_cert` says, is said of it too. The slices of a region are those of its parts, in order. Calls that answer
-//! `AllocError` do so only for want of memory.
+//! - The slice of a cell of at most 32 half-spaces at a height of the cube is the one that the definition says: its
+//!   ring, or the first flat certificate iff the cell has no point there.
+//! - A slice shows what `check_slice` of `rp_cert` says.
+//! - The slices of a region are those of its parts, in order.
+//! - Calls that return `AllocError` do so only for want of memory.
 
 mod flat;
 mod guess;

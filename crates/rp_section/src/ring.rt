@@ -10,7 +10,8 @@ use crate::side::{Side, bounds_of, sides_of};
 use rp_cert::{RingStep, RingSteps};
 use rp_space::{Half, IntBox, Point, box_halves, meet};
 
-/// The ring of `cell` at the height `z`, if it has one. A cell without a point there gets some steps.
+/// Returns the ring of `cell` at the height `z`, if it has one. A cell without a point there gets some steps. `cell`
+/// has at most 32 half-spaces.
 pub fn ring(cell: &[Half], z: i32) -> RingSteps
     requires height { IsHeight z }
     requires few { length cell.now ≤ 32 }
@@ -22,7 +23,7 @@ pub fn ring(cell: &[Half], z: i32) -> RingSteps
     steps_along(&level, bounds.as_slice())
 }
 
-/// The half-space above a height, whose plane is that of the height.
+/// Returns the half-space above the height `z`, whose plane is that of the height.
 pub fn level_plane(z: i32) -> Half
     requires { IsHeight z }
     ensures { result ≡ level_plane z }
@@ -34,7 +35,7 @@ pub fn level_plane(z: i32) -> Half
     level
 }
 
-/// A step along each side to the next one; after the last comes the first.
+/// Returns a step along each of `sides`, at most 36, to the next one; after the last comes the first.
 fn steps_along(level: &Half, sides: &[Side]) -> RingSteps
     requires { length sides.now ≤ 36 }
     ensures { (other : RationalPoint) × (result ≡ side_steps level.now other sides.now) }
@@ -42,8 +43,8 @@ fn steps_along(level: &Half, sides: &[Side]) -> RingSteps
     steps_by(level, &Point::default(), sides)
 }
 
-/// A step along each of `sides` to the next one; after the last comes the first. Where two sides that follow each other
-/// are parallel, as in no ring, `other` is taken for the end.
+/// Returns a step along each of `sides`, at most 36, to the next one; after the last comes the first. If two sides in a
+/// row are parallel, as in no ring, the end is `other`.
 fn steps_by(level: &Half, other: &Point, sides: &[Side]) -> RingSteps
     requires { length sides.now ≤ 36 }
     ensures { result ≡ side_steps level.now other.now sides.now }
@@ -60,7 +61,7 @@ fn steps_by(level: &Half, other: &Point, sides: &[Side]) -> RingSteps
     steps
 }
 
-/// A step along the edge of a side to that of the next one.
+/// Returns a step along the edge of `side` to that of `next`.
 fn step(level: &Half, other: &Point, side: &Side, next: &Side) -> RingStep
     ensures { result ≡ side_step level.now other.now side.now next.now }
 {
@@ -70,7 +71,7 @@ fn step(level: &Half, other: &Point, side: &Side, next: &Side) -> RingStep
     }
 }
 
-/// The point of a horizontal plane on two sides; another point where they are parallel.
+/// Returns the point of the plane of `level` on `side` and `next`; `other` if they are parallel.
 fn end_of(level: &Half, other: &Point, side: &Side, next: &Side) -> Point
     ensures { result ≡ end_of level.now other.now side.now next.now }
 {

@@ -1,4 +1,4 @@
-//! The sides of a section: which half-spaces bound it, in the order of the angles of their traces.
+//! The sides of a section: the half-spaces that bound it, in the order of the angles of their traces.
 ghost use Rattle.std.specs.Prelude.{◌≡◌, ◌+◌, ◌<◌, ◌≤◌, ◌&&◌, [], ◌∷◌, ◌++◌, not, length, Some, MatchOption, IfSome};
 ghost use Rattle.std.specs.List.{insert, list_any};
 ghost use Rattle.arrayvec.specs.ArrayVec.{array_vec_len};
@@ -20,10 +20,11 @@ pub struct Side {
     pub edge: Edge,
 }
 
-/// At most 36 sides, which take no memory: those of a cell of 32 half-spaces and the cube's four upright ones.
+/// At most 36 sides, which take no memory: those of a cell of 32 half-spaces and the cube's four vertical ones.
 pub type Sides = ArrayVec<Side, 36>;
 
-/// The half-spaces of `cell` and the cube's upright sides that have a trace at the height `z`, each with it.
+/// Returns the half-spaces of `cell`, at most 32, and the cube's vertical sides that have a trace at the height `z`,
+/// each with its trace.
 pub fn sides_of(cell: &[Half], z: i32) -> Sides
     requires height { IsHeight z }
     requires few { length cell.now ≤ 32 }
@@ -35,7 +36,7 @@ pub fn sides_of(cell: &[Half], z: i32) -> Sides
     sides
 }
 
-/// Appends the half-spaces that have a trace, for which there is room.
+/// Appends those of `halves` that have a trace at the height `z`. `sides` has room for them.
 fn extend(sides: &mut Sides, halves: &[Half], z: i32)
     requires height { IsHeight z }
     requires room { array_vec_len sides.old + length halves.now ≤ 36 }
@@ -47,7 +48,7 @@ fn extend(sides: &mut Sides, halves: &[Half], z: i32)
     }
 }
 
-/// Appends a half-space, if it has a trace.
+/// Appends `half`, if it has a trace at the height `z`. `sides` has room for it.
 fn push(sides: &mut Sides, half: &Half, z: i32)
     requires height { IsHeight z }
     requires room { array_vec_len sides.old < 36 }
@@ -59,7 +60,8 @@ fn push(sides: &mut Sides, half: &Half, z: i32)
     }
 }
 
-/// The sides, out of `sides`, that bound the section on the horizontal plane `level`, by the angles of their edges.
+/// Returns those of `sides`, at most 36, that bound the section on the horizontal plane of `level`, in the order of the
+/// angles of their edges.
 pub fn bounds_of(level: &Half, sides: &[Side]) -> Sides
     requires { length sides.now ≤ 36 }
     ensures { result.items ≡ bounds_of level.now sides.now sides.now }
@@ -72,7 +74,7 @@ pub fn bounds_of(level: &Half, sides: &[Side]) -> Sides
     bounds
 }
 
-/// Sets a side into a list, if it bounds the section.
+/// Inserts `side` into `bounds`, which has room for it, if it bounds the section.
 fn add_bound(bounds: &mut Sides, level: &Half, sides: &[Side], side: Side)
     requires { array_vec_len bounds.old < 36 }
     ensures items { bounds.new.items ≡ add_bound level.now sides.now side bounds.old.items }
@@ -83,7 +85,7 @@ fn add_bound(bounds: &mut Sides, level: &Half, sides: &[Side], side: Side)
     }
 }
 
-/// Whether a side bounds the section: it meets the others in two different points at which no side is negative.
+/// Returns whether `f` bounds the section: it meets other sides in two different points at which no side is negative.
 fn is_bound(level: &Half, sides: &[Side], f: &Side) -> bool
     ensures { result ≡ is_bound level.now sides.now f.now }
 {
@@ -93,7 +95,7 @@ fn is_bound(level: &Half, sides: &[Side], f: &Side) -> bool
     }
 }
 
-/// The first point in which a side meets the others and at which no side is negative.
+/// Returns the first point in which `f` meets one of `sides` and at which no side is negative.
 fn first_spot(level: &Half, sides: &[Side], f: &Side) -> Option<Meeting>
     ensures { result ≡ first_of (spot_at level.now sides.now f.now) sides.now }
 {
@@ -105,28 +107,29 @@ fn first_spot(level: &Half, sides: &[Side], f: &Side) -> Option<Meeting>
     None
 }
 
-/// Whether a side meets one of the others in such a point that is not the first one.
+/// Returns whether `f` meets one of `sides` in a point other than `p` at which no side is negative.
 fn has_other(level: &Half, sides: &[Side], f: &Side, p: &Meeting) -> bool
     ensures { result ≡ list_any (is_other level.now sides.now f.now p.now) sides.now }
 {
     sides.iter().any(|g| is_other(level, sides, f, p, g))
 }
 
-/// Whether two sides meet in such a point that is not the first one: the second side does not pass through that.
+/// Returns whether `f` and `g` meet in a point other than `p` at which no side is negative: `g` does not pass through
+/// `p`.
 fn is_other(level: &Half, sides: &[Side], f: &Side, p: &Meeting, g: &Side) -> bool
     ensures { result ≡ is_other level.now sides.now f.now p.now g.now }
 {
     is_off(g, p) && spot(level, sides, f, g).is_some()
 }
 
-/// Whether a side is not 0 at a point.
+/// Returns whether `side` is not 0 at `p`.
 fn is_off(side: &Side, p: &Meeting) -> bool
     ensures { result ≡ not (is_zero (side_value side.now.half p.now)) }
 {
     p.side(&side.half) != 0
 }
 
-/// The point in which two sides meet, if no side is negative there.
+/// Returns the point in which `f` and `g` meet, if no side is negative there.
 fn spot(level: &Half, sides: &[Side], f: &Side, g: &Side) -> Option<Meeting>
     ensures { result ≡ spot_at level.now sides.now f.now g.now }
 {
@@ -136,28 +139,29 @@ fn spot(level: &Half, sides: &[Side], f: &Side, g: &Side) -> Option<Meeting>
     }
 }
 
-/// The point, if no side is negative there.
+/// Returns `p`, if no side is negative there.
 fn if_above(sides: &[Side], p: Meeting) -> Option<Meeting>
     ensures { result ≡ if_above sides.now (Some p) }
 {
     if are_above(sides, &p) { Some(p) } else { None }
 }
 
-/// Whether no side is negative at a point.
+/// Returns whether none of `sides` is negative at `p`.
 fn are_above(sides: &[Side], p: &Meeting) -> bool
     ensures { result ≡ are_above sides.now p.now }
 {
     sides.iter().all(|side| is_above(side, p))
 }
 
-/// Whether a side is not negative at a point.
+/// Returns whether `side` is not negative at `p`.
 fn is_above(side: &Side, p: &Meeting) -> bool
     ensures { result ≡ is_nonnegative (side_value side.now.half p.now) }
 {
     p.side(&side.half) >= 0
 }
 
-/// Sets a side into a list by the angle of its edge, where none of the same angle stands there.
+/// Inserts `side` in the order of the angles of the edges, if no side with an equal angle is there. `sides` has room
+/// for it.
 fn insert(sides: &mut Sides, side: Side)
     requires { array_vec_len sides.old < 36 }
     ensures items { sides.new.items ≡ insert_side side sides.old.items }
@@ -168,7 +172,7 @@ fn insert(sides: &mut Sides, side: Side)
     }
 }
 
-/// The place of a side among others by the angle of its edge. `None` where one of the same angle stands there.
+/// Returns the place of `side` in `sides` by the angle of its edge; `None` if a side with an equal angle is there.
 fn place_for(side: &Side, sides: &[Side]) -> Option<usize>
     ensures value { MatchOption result (insert_side side.now sides.now ≡ sides.now) (λ place. insert_side side.now sides.now ≡ insert sides.now place side.now) }
     ensures bound { IfSome result (λ place. place ≤ length sides.now) }
@@ -184,7 +188,7 @@ fn place_for(side: &Side, sides: &[Side]) -> Option<usize>
     Some(sides.len())
 }
 
-/// Whether the edge of `s` has a smaller angle than that of `t`.
+/// Returns whether the edge of `s` has a smaller angle than that of `t`.
 pub fn is_before(s: &Side, t: &Side) -> bool
     ensures { result ≡ is_angle_before s.now.edge t.now.edge }
 {

@@ -1,4 +1,4 @@
-//! Slices: what a cell leaves at a height.
+//! Slices: the sections of cells at a height.
 ghost use Rattle.std.specs.Prelude.{◌≡◌, ◌↔◌, ◌≤◌, IfOk, length, map};
 ghost use Rattle.rp_geometry.specs.sections.Trace.{IsHeight};
 ghost use Rattle.rp_geometry.specs.sections.Slice.{slice_of};
@@ -18,7 +18,11 @@ use std::alloc::{AllocError, Global};
 /// A list of slices.
 pub type Slices = Listed<Slice>;
 
-/// The slices of the parts of `r` at `z`, a height of the cube, in order.
+/// Returns the slices of the parts of `r` at `z`, a height of the cube, in order.
+///
+/// # Errors
+///
+/// `AllocError` for want of memory.
 pub fn section(alloc: Global, r: &Region, z: i32) -> Result<Slices, AllocError>
     requires { IsHeight z }
     ensures { IfOk result (λ slices. map slice_shown slices.items ≡ slices_of z r.now) }
@@ -32,8 +36,8 @@ pub fn section(alloc: Global, r: &Region, z: i32) -> Result<Slices, AllocError>
     Ok(slices)
 }
 
-/// The slice of `cell` at the height `z`: its ring, or, exactly where the cell has no point there, the first flat
-/// certificate. The cell has at most 32 half-spaces. This takes no memory.
+/// Returns the slice of `cell` at the height `z`: its ring, or the first flat certificate iff the cell has no point
+/// there. `cell` has at most 32 half-spaces. Takes no memory.
 pub fn slice(cell: &[Half], z: i32) -> Slice
     requires height { IsHeight z }
     requires few { length cell.now ≤ 32 }

@@ -10,7 +10,7 @@ use crate::point::Point;
 /// Half the edge of the domain cube, 2^24 units.
 pub const HALF_EDGE: i32 = 16777216;
 
-/// A box with whole corners, in the units of coordinates. It holds the points from `lo` to below `hi` on each axis.
+/// A box with whole corners, in the units of coordinates. It contains the points from `lo` to below `hi` on each axis.
 #[derive(Clone, Copy, Debug, PartialEq, Eq)]
 pub struct IntBox {
     /// The lower corner.
@@ -20,7 +20,7 @@ pub struct IntBox {
 }
 
 impl IntBox {
-    /// The box of the domain cube, which goes from -16777216 to below 16777216 on each axis.
+    /// Returns the box of the domain cube, from -16777216 to below 16777216 on each axis.
     pub fn cube() -> IntBox
         ensures { integer_box result ≡ cube_box }
     {
@@ -30,8 +30,8 @@ impl IntBox {
         }
     }
 
-    /// Whether each coordinate of `p` is from the lower side of the box to below the upper one: whether all six
-    /// half-spaces of the box hold it.
+    /// Returns whether each coordinate of `p` is from the lower side of the box to below the upper side. That is the
+    /// case iff `p` is in all six half-spaces of the box.
     pub fn holds(&self, p: &Point) -> bool
         ensures sides { result ≡ is_in_box (integer_box self.now) p.now }
         ensures half_spaces { result ≡ all_hold (box_half_spaces (integer_box self.now)) p.now }
@@ -45,7 +45,7 @@ impl IntBox {
         on_x & on_y & on_z
     }
 
-    /// Whether the box and `other` each begin before the other ends, on each axis.
+    /// Returns whether the box and `other` each begin before the other ends, on each axis.
     pub fn meets(&self, other: &IntBox) -> bool
         ensures { result ≡ boxes_meet (integer_box self.now) (integer_box other.now) }
     {
@@ -56,8 +56,8 @@ impl IntBox {
         (x1 < u2) & (u1 < x2) & (y1 < v2) & (v1 < y2) & (z1 < w2) & (w1 < z2)
     }
 
-    /// Whether the box and `other` each begin no later than the other ends, on each axis: whether they meet with their
-    /// boundaries.
+    /// Returns whether the box and `other` each begin no later than the other ends, on each axis: whether they share a
+    /// point, the boundaries included.
     pub fn meets_closed(&self, other: &IntBox) -> bool
         ensures { result ≡ closed_boxes_meet (integer_box self.now) (integer_box other.now) }
     {
@@ -68,7 +68,7 @@ impl IntBox {
         (x1 <= u2) & (u1 <= x2) & (y1 <= v2) & (v1 <= y2) & (z1 <= w2) & (w1 <= z2)
     }
 
-    /// The least box that holds the box and `other`.
+    /// Returns the least box that contains the box and `other`.
     pub fn union(&self, other: &IntBox) -> IntBox
         ensures { integer_box result ≡ box_union (integer_box self.now) (integer_box other.now) }
     {
@@ -83,7 +83,7 @@ impl IntBox {
     }
 }
 
-/// Whether the coordinate v / w is from `lo` to below `hi`.
+/// Returns whether the coordinate `v / w` is from `lo` to below `hi`.
 fn is_between(lo: i32, hi: i32, v: i128, w: i128) -> bool
     requires { unsigned_abs w < 2 ^ 75 }
     ensures { result ≡ is_between lo hi v w }
@@ -93,7 +93,7 @@ fn is_between(lo: i32, hi: i32, v: i128, w: i128) -> bool
     least <= v && v < limit
 }
 
-/// A whole number of units as a coordinate over the weight w.
+/// Returns the numerator of the coordinate `units` over the weight `w`: their product.
 fn scaled(units: i32, w: i128) -> i128
     requires { unsigned_abs w < 2 ^ 75 }
     ensures { result ≡ units *ℤ w }
@@ -101,8 +101,8 @@ fn scaled(units: i32, w: i128) -> i128
     units as i128 * w
 }
 
-/// The six half-spaces of a box: the lower and the upper side of x, then of y, then of z.
-/// All six numbers of the box are from -16777216 to 16777216.
+/// Returns the six half-spaces of the box `b`: the lower and the upper side of x, then of y, then of z. All six numbers
+/// of `b` are from -16777216 to 16777216.
 pub fn box_halves(b: &IntBox) -> [Half; 6]
     requires { is_box_in_bounds (integer_box b.now) ≡ true }
     ensures { result ≡ box_half_spaces (integer_box b.now) }
@@ -119,7 +119,7 @@ pub fn box_halves(b: &IntBox) -> [Half; 6]
     ]
 }
 
-/// The six half-spaces of the domain cube.
+/// Returns the six half-spaces of the domain cube.
 pub fn cube() -> [Half; 6]
     ensures { result ≡ cube_half_spaces }
 {

@@ -4,9 +4,9 @@ use rp_lists::Listed;
 /// A corner of a polygon, with whole coordinates.
 #[derive(Clone, Copy)]
 pub struct Corner {
-    /// Its x.
+    /// The x coordinate, in units.
     pub x: i32,
-    /// Its y.
+    /// The y coordinate, in units.
     pub y: i32,
 }
 

@@ -5,8 +5,8 @@ ghost use Rattle.rp_algebra.specs.Integer.{gcd, gcd_of, reduced_by};
 /// The greatest number of 64 bits.
 const SHORT: u128 = u64::MAX as u128;
 
-/// The greatest common divisor of `a` and `b`, by the binary method (Stein 1967): halving and taking away, where Euclid's
-/// rule divides.
+/// Returns the greatest common divisor of `a` and `b`, by the binary method (Stein, 1967). It halves and subtracts
+/// where Euclid's algorithm divides.
 pub fn greatest_common_divisor(a: u128, b: u128) -> u128
     ensures { result ≡ gcd a b }
 {
@@ -22,8 +22,8 @@ pub fn greatest_common_divisor(a: u128, b: u128) -> u128
     2 * greatest_common_divisor(a / 2, b / 2)
 }
 
-/// The greatest common divisor of an odd number and another. Where the odd one is 1, which the divisor of several numbers
-/// soon is, there is nothing to do; where it is short, one division makes the other one short too.
+/// Returns the greatest common divisor of `odd`, an odd number, and `other`. If `odd` is 1, as the divisor of several
+/// numbers soon is, no step is needed. If `odd` fits in 64 bits, one division makes `other` fit too.
 fn odd_divisor(odd: u128, other: u128) -> u128
     requires { odd % 2 ≡ 1 }
     ensures { result ≡ gcd odd other }
@@ -37,7 +37,8 @@ fn odd_divisor(odd: u128, other: u128) -> u128
     long_divisor(odd, other)
 }
 
-/// The same, whose steps are made in 128 bits until both numbers fit in 64.
+/// Returns the greatest common divisor of `odd`, an odd number, and `other`. The steps use 128 bits until both numbers
+/// fit in 64.
 fn long_divisor(odd: u128, other: u128) -> u128
     requires { odd % 2 ≡ 1 }
     ensures { result ≡ gcd odd other }
@@ -59,7 +60,7 @@ fn long_divisor(odd: u128, other: u128) -> u128
     short_divisor(high as u64, low as u64) as u128
 }
 
-/// The same for numbers of 64 bits.
+/// Returns the greatest common divisor of `odd`, an odd number, and `other`, in 64 bits.
 fn short_divisor(odd: u64, other: u64) -> u64
     requires { odd % 2 ≡ 1 }
     ensures { result ≡ gcd odd other }
@@ -78,7 +79,7 @@ fn short_divisor(odd: u64, other: u64) -> u64
     high
 }
 
-/// The greatest common divisor of `a`, `b`, `c` and `d`; 0 only where all are 0.
+/// Returns the greatest common divisor of `a`, `b`, `c` and `d`; 0 iff all are 0.
 pub fn common_divisor(a: i128, b: i128, c: i128, d: i128) -> u128
     ensures { result ≡ gcd_of (a ∷ b ∷ c ∷ d ∷ []) }
 {
@@ -87,8 +88,7 @@ pub fn common_divisor(a: i128, b: i128, c: i128, d: i128) -> u128
     greatest_common_divisor(middle, a.unsigned_abs())
 }
 
-/// The quotient of `v` by `divisor`, which is from 1 to 2^127 - 1: exact where that divides `v`, and else rounded
-/// towards 0.
+/// Returns the quotient of `v` by `divisor`, rounded towards 0. `divisor` is from 1 to 2^127 - 1.
 #[tactic(none)]
 pub fn quotient(v: i128, divisor: u128) -> i128
     requires positive { 0 < divisor }
@@ -105,8 +105,8 @@ pub fn quotient(v: i128, divisor: u128) -> i128
     v / divisor as i128
 }
 
-/// A number halved so many times, which are from 1 to 126, and rounded towards 0: a power of two is the most frequent
-/// divisor, and shifting takes a part of the time of a division.
+/// Returns `v` halved `times` times, from 1 to 126, and rounded towards 0. A power of two is the most frequent divisor,
+/// and a shift takes less time than a division.
 fn halved(v: i128, times: u32) -> i128
     requires some { 0 < times }
     requires few { times < 127 }
@@ -116,7 +116,7 @@ fn halved(v: i128, times: u32) -> i128
     if v < 0 { -(size as i128) } else { size as i128 }
 }
 
-/// The quotient of the coefficient `v` by `divisor`.
+/// Returns the quotient of the coefficient `v` by `divisor`, rounded towards 0. `divisor` is from 1 to 2^63 - 1.
 #[tactic(none)]
 pub fn short_quotient(v: i64, divisor: u128) -> i64
     requires positive { 0 < divisor }

@@ -16,10 +16,10 @@ const MAX_COEFFICIENT: i64 = 16777216;
 /// The greatest size of the offset.
 const MAX_OFFSET: i64 = 844424930131968;
 
-/// Why four numbers are no half-space.
+/// The reason why four numbers are not a half-space.
 #[derive(Clone, Copy, Debug, Drop, Error)]
 pub enum HalfFault {
-    /// A number passes its bound.
+    /// A number exceeds its bound.
     #[error("a coefficient passes 16777216 or the offset 844424930131968 in size")]
     Range,
     /// All four numbers are 0.
@@ -50,7 +50,7 @@ impl Model for Half {
 }
 
 impl Default for Half {
-    /// Some half-space.
+    /// Returns the half-space `x > 0`, whose boundary plane belongs to it.
     fn default() -> Half {
         Half {
             a: 1,
@@ -65,8 +65,13 @@ impl Default for Half {
 pub type Halves = Listed<Half>;
 
 impl Half {
-    /// The half-space of the numbers `a`, `b`, `c` and `d`, in lowest terms. The bounds are tested on the numbers as
-    /// given: `Range` where one is passed, `Zero` where none is and all four numbers are 0.
+    /// Returns the half-space of the numbers `a`, `b`, `c` and `d`, in lowest terms. The bounds are tested before the
+    /// numbers are reduced.
+    ///
+    /// # Errors
+    ///
+    /// - `Range` iff a number exceeds its bound.
+    /// - `Zero` iff all four numbers are 0.
     pub fn new(a: i64, b: i64, c: i64, d: i64) -> Result<Half, HalfFault>
         ensures { result ≡ made_half_space (half_space_of a b c d) }
     {
@@ -79,7 +84,7 @@ impl Half {
         Ok(reduced(a, b, c, d))
     }
 
-    /// The half-space of a side of a box: four numbers that are in lowest terms as they stand.
+    /// Returns the half-space of a side of a box, whose four numbers are in lowest terms already.
     pub(crate) fn of_side(a: i64, b: i64, c: i64, d: i64) -> Half
         requires { IsKeptHalfSpace (half_space_of a b c d) }
         ensures { result ≡ half_space_of a b c d }
@@ -87,7 +92,7 @@ impl Half {
         Half { a, b, c, d }
     }
 
-    /// The half-space that holds exactly the other points.
+    /// Returns the complement: the half-space of exactly the other points.
     pub fn not(&self) -> Half
         ensures { result ≡ complement self.now }
     {
@@ -99,7 +104,7 @@ impl Half {
         }
     }
 
-    /// The four kept numbers.
+    /// Returns the four numbers, in lowest terms.
     pub fn numbers(&self) -> (i64, i64, i64, i64)
         ensures numbers { half_space_of result.0 result.1 result.2 result.3 ≡ self.now }
         ensures small { IsHalfSpace (half_space_of result.0 result.1 result.2 result.3) }
@@ -108,7 +113,8 @@ impl Half {
         (self.a, self.b, self.c, self.d)
     }
 
-    /// The side value at `p`: positive inside, 0 on the boundary plane, negative outside. Its size is below 2^127.
+    /// Returns the side value at `p`: positive inside, 0 on the boundary plane, negative outside. Its size is below
+    /// 2^127.
     pub fn side(&self, p: &Point) -> i128
         ensures { result ≡ side_value self.now p.now }
     {
@@ -116,7 +122,7 @@ impl Half {
         self.side_at(x, y, z, w)
     }
 
-    /// The side value at a point of four numbers, which need not be in lowest terms.
+    /// Returns the side value at the point `(x, y, z, w)`, which need not be in lowest terms.
     pub(crate) fn side_at(&self, x: i128, y: i128, z: i128, w: i128) -> i128
         requires { IsSmallPoint (point_of x y z w) }
         ensures { result ≡ side_value self.now (point_of x y z w) }
@@ -124,14 +130,14 @@ impl Half {
         self.a as i128 * x + self.b as i128 * y + self.c as i128 * z + self.d as i128 * w
     }
 
-    /// Whether the half-space owns its boundary plane: the first of a, b and c that is not 0 is positive.
+    /// Returns whether the boundary plane belongs to the half-space: the first of a, b and c that is not 0 is positive.
     fn owns_boundary(&self) -> bool
         ensures { result ≡ owns_boundary self.now }
     {
         self.a > 0 || (self.a == 0 && (self.b > 0 || (self.b == 0 && self.c > 0)))
     }
 
-    /// Whether `p` belongs to the half-space, by Thompson's sign rule.
+    /// Returns whether `p` belongs to the half-space, by Thompson's sign rule.
     pub fn holds(&self, p: &Point) -> bool
         ensures { result ≡ holds self.now p.now }
     {
@@ -140,7 +146,7 @@ impl Half {
     }
 }
 
-/// Whether a number is at most the bound in size.
+/// Returns whether the size of `v` is at most `bound`.
 fn is_within(bound: i64, v: i64) -> bool
     requires { pos 0 ≤ℤ bound }
     ensures { result ≡ is_within_bound bound v }
@@ -148,7 +154,7 @@ fn is_within(bound: i64, v: i64) -> bool
     -bound <= v && v <= bound
 }
 
-/// Whether four numbers keep the bounds of a half-space.
+/// Returns whether `a`, `b`, `c` and `d` are within the bounds of a half-space.
 fn is_in_bounds(a: i64, b: i64, c: i64, d: i64) -> bool
     ensures { result ≡ is_half_space_in_bounds (half_space_of a b c d) }
 {
@@ -158,21 +164,21 @@ fn is_in_bounds(a: i64, b: i64, c: i64, d: i64) -> bool
         && is_within(MAX_OFFSET, d)
 }
 
-/// Whether a number is 0.
+/// Returns whether `v` is 0.
 fn is_zero(v: i64) -> bool
     ensures { result ≡ is_zero v }
 {
     v == 0
 }
 
-/// Whether all four numbers are 0.
+/// Returns whether `a`, `b`, `c` and `d` are all 0.
 fn are_zero(a: i64, b: i64, c: i64, d: i64) -> bool
     ensures { result ≡ is_zero_half_space (half_space_of a b c d) }
 {
     is_zero(a) && is_zero(b) && is_zero(c) && is_zero(d)
 }
 
-/// Four numbers divided by their greatest common divisor.
+/// Returns the half-space of the four numbers divided by their greatest common divisor.
 fn reduced(a: i64, b: i64, c: i64, d: i64) -> Half
     requires bounds { is_half_space_in_bounds (half_space_of a b c d) ≡ true }
     requires nonzero { is_zero_half_space (half_space_of a b c d) ≡ false }
@@ -187,7 +193,7 @@ fn reduced(a: i64, b: i64, c: i64, d: i64) -> Half
     }
 }
 
-/// The greatest common divisor of the four numbers of a half-space.
+/// Returns the greatest common divisor of the four numbers of a half-space, below 2^63.
 fn divisor_of(a: i64, b: i64, c: i64, d: i64) -> u128
     requires bounds { is_half_space_in_bounds (half_space_of a b c d) ≡ true }
     requires nonzero { is_zero_half_space (half_space_of a b c d) ≡ false }

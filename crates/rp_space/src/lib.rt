@@ -1,13 +1,15 @@
 #![tactic(auto)]
-//! Half-spaces and points (in homogeneous coordinates) with exact whole numbers: the sign rule (Thompson, 2007) gives
-//! every point to exactly one of a half-space and its complement.
+//! Half-spaces and points (in homogeneous coordinates) with exact whole numbers. By the sign rule (Thompson, 2007) each
+//! point belongs to exactly one of a half-space and its complement.
 //!
-//! Four numbers make a half-space in lowest terms, or are refused for a bound that they pass as given, or else for four
-//! zeros; and a point, or are refused for a weight below 1, or else for a bound. `holds` is the sign rule, `side` its
-//! value, `not` the complement; no product leaves 128 bits. The half-spaces of a box and of the cube, which points a
-//! box holds, whether two boxes meet and the least box that holds both are those of the definitions; a box holds a
-//! point exactly where its six half-spaces do. Three planes meet in the point of Cramer's rule, or not in one point. A set
-//! of places in a list is a number whose bits tell them.
+//! - Four numbers make a half-space in lowest terms. They are refused if one exceeds its bound as given, otherwise if
+//!   all are zero.
+//! - Four numbers make a point. They are refused if the weight is below 1, otherwise if one exceeds its bound.
+//! - `holds` is the sign rule, `side` its value, and `not` the complement. No product needs more than 128 bits.
+//! - The half-spaces of a box and of the cube, the points that a box contains, whether two boxes meet, and the least
+//!   box around two are those of the definitions. A box contains a point iff its six half-spaces do.
+//! - Three planes meet in the point of Cramer's rule, or not in exactly one point.
+//! - A set of places in a list is a number whose bits are the places.
 
 mod bounds;
 mod corner;

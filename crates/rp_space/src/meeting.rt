@@ -12,16 +12,16 @@ use crate::half::Half;
 use crate::point::{Point, reduced};
 use std::marker::Model;
 
-/// The common point of the planes of `f`, `g` and `h`, in lowest terms. `None` exactly where the planes do not have
-/// exactly one common point.
+/// Returns the common point of the planes of `f`, `g` and `h`, in lowest terms. Returns `None` iff the three planes do
+/// not have exactly one common point.
 pub fn meet(f: &Half, g: &Half, h: &Half) -> Option<Point>
     ensures { result ≡ meeting_point f.now g.now h.now }
 {
     Pair::new(f, g).meet(h)
 }
 
-/// A point such as the common point of three planes, with a positive weight and not yet in lowest terms, so that a side
-/// value can be asked before the divisor is.
+/// A point such as the common point of three planes, with a positive weight and not yet in lowest terms. So a side
+/// value is computed without a divisor.
 #[derive(Clone, Copy)]
 pub struct Meeting {
     x: i128,
@@ -43,7 +43,7 @@ impl Model for Meeting {
 }
 
 impl Default for Meeting {
-    /// Some point.
+    /// Returns the origin.
     fn default() -> Meeting {
         Meeting {
             x: 0,
@@ -55,7 +55,7 @@ impl Default for Meeting {
 }
 
 impl Meeting {
-    /// The point with the whole coordinates `x`, `y` and `z`.
+    /// Returns the point with the whole coordinates `x`, `y` and `z`.
     pub fn whole(x: i32, y: i32, z: i32) -> Meeting
         ensures { result ≡ point_of x y z (pos 1) }
     {
@@ -67,7 +67,7 @@ impl Meeting {
         }
     }
 
-    /// The four numbers of the point, not yet in lowest terms.
+    /// Returns the four numbers of the point, not yet in lowest terms.
     pub fn numbers(&self) -> (i128, i128, i128, i128)
         ensures numbers { point_of result.0 result.1 result.2 result.3 ≡ self.now }
         ensures small { IsSmallPoint self.now }
@@ -75,14 +75,14 @@ impl Meeting {
         (self.x, self.y, self.z, self.w)
     }
 
-    /// The point in lowest terms.
+    /// Returns the point in lowest terms.
     pub fn point(&self) -> Point
         ensures { result ≡ reduced_point self.now }
     {
         reduced(self.x, self.y, self.z, self.w)
     }
 
-    /// The side value of `h` at the point: its sign is that at the point in lowest terms. Its size is below 2^127.
+    /// Returns the side value of `h` at the point: its sign is that at the reduced point. Its size is below 2^127.
     pub fn side(&self, h: &Half) -> i128
         ensures { result ≡ side_value h.now self.now }
     {
@@ -90,8 +90,8 @@ impl Meeting {
     }
 }
 
-/// Two half-spaces, with what the common points of their planes with further planes share.
-/// A contract sees the two.
+/// Two half-spaces, with the values that the common points of their planes and further planes share. A contract sees
+/// the two half-spaces.
 #[derive(Drop)]
 pub struct Pair {
     first: Half,
@@ -117,7 +117,7 @@ impl Model for Pair {
 }
 
 impl Pair {
-    /// The pair of `f` and `g`.
+    /// Returns the pair of `f` and `g`.
     pub fn new(f: &Half, g: &Half) -> Pair
         ensures { result ≡ two_of f.now g.now }
     {
@@ -135,8 +135,8 @@ impl Pair {
         }
     }
 
-    /// The common point of the two planes and that of `h`, in lowest terms. `None` exactly where the three planes do
-    /// not have exactly one common point.
+    /// Returns the common point of the two planes and the plane of `h`, in lowest terms. Returns `None` iff the three
+    /// planes do not have exactly one common point.
     pub fn meet(&self, h: &Half) -> Option<Point>
         ensures { result ≡ meeting_point self.now.first self.now.second h.now }
     {
@@ -144,8 +144,8 @@ impl Pair {
         Some(meeting.point())
     }
 
-    /// The common point of the two planes and that of `h`, with a positive weight and not yet in lowest terms. `None`
-    /// exactly where the three planes do not have exactly one common point.
+    /// Returns the common point of the two planes and the plane of `h`, with a positive weight and not yet in lowest
+    /// terms. Returns `None` iff the three planes do not have exactly one common point.
     pub fn meeting(&self, h: &Half) -> Option<Meeting>
         ensures value { result ≡ positive_point (cramer_point self.now.first self.now.second h.now) }
         ensures point { IfSome result IsPoint }
@@ -158,7 +158,7 @@ impl Pair {
         Some(positive(self.x(h), self.y(h), self.z(h), weight))
     }
 
-    /// The first coordinate of the common point, times the weight.
+    /// Returns the first coordinate of the common point, times the weight.
     fn x(&self, h: &Half) -> i128
         ensures value { result ≡ (cramer_point self.now.first self.now.second h.now).x }
         ensures small { IsWithin (18 * 2 ^ 96) result }
@@ -167,7 +167,7 @@ impl Pair {
         c as i128 * self.bd - b as i128 * self.cd - d as i128 * self.bc
     }
 
-    /// The second coordinate of the common point, times the weight.
+    /// Returns the second coordinate of the common point, times the weight.
     fn y(&self, h: &Half) -> i128
         ensures value { result ≡ (cramer_point self.now.first self.now.second h.now).y }
         ensures small { IsWithin (18 * 2 ^ 96) result }
@@ -176,7 +176,7 @@ impl Pair {
         a as i128 * self.cd - c as i128 * self.ad + d as i128 * self.ac
     }
 
-    /// The third coordinate of the common point, times the weight.
+    /// Returns the third coordinate of the common point, times the weight.
     fn z(&self, h: &Half) -> i128
         ensures value { result ≡ (cramer_point self.now.first self.now.second h.now).z }
         ensures small { IsWithin (18 * 2 ^ 96) result }
@@ -185,7 +185,7 @@ impl Pair {
         b as i128 * self.ad - a as i128 * self.bd - d as i128 * self.ab
     }
 
-    /// The determinant of the coefficients: not 0 exactly where the three planes have exactly one common point.
+    /// Returns the determinant of the coefficients: not 0 iff the three planes have exactly one common point.
     fn weight(&self, h: &Half) -> i128
         ensures value { result ≡ (cramer_point self.now.first self.now.second h.now).w }
         ensures small { IsWithin (6 * 2 ^ 72) result }
@@ -195,7 +195,7 @@ impl Pair {
     }
 }
 
-/// The 2 by 2 determinant with the rows (a, b) and (c, d).
+/// Returns the 2 by 2 determinant with the rows (a, b) and (c, d).
 fn minor(a: i64, b: i64, c: i64, d: i64) -> i128
     requires { AreShort a b c d }
     ensures { result ≡ det2 a b c d }
@@ -203,7 +203,7 @@ fn minor(a: i64, b: i64, c: i64, d: i64) -> i128
     a as i128 * d as i128 - b as i128 * c as i128
 }
 
-/// The point of four numbers with a weight that is not 0, with a positive weight.
+/// Returns the point of four numbers, of which the weight `w` is not 0, with a positive weight.
 fn positive(x: i128, y: i128, z: i128, w: i128) -> Meeting
     requires x_small { IsWithin (18 * 2 ^ 96) x }
     requires y_small { IsWithin (18 * 2 ^ 96) y }

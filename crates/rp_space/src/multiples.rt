@@ -11,7 +11,7 @@ use crate::outside::Term;
 /// The greatest multiplier, 2^75 - 1.
 const MAX_MULTIPLIER: i128 = 37778931862957161709567;
 
-/// Which number of a half-space.
+/// A choice of one of the four numbers of a half-space.
 #[derive(Clone, Copy)]
 enum Number {
     A,
@@ -20,15 +20,15 @@ enum Number {
     D,
 }
 
-/// Whether a multiplier is from 1 to 2^75 - 1.
+/// Returns whether `by` is from 1 to 2^75 - 1.
 pub fn is_multiplier(by: i128) -> bool
     ensures { result ≡ is_multiplier by }
 {
     1 <= by && by <= MAX_MULTIPLIER
 }
 
-/// Whether the multiples of `a`, of `b` and of `c` each add up to 0. There are at most four terms, whose multipliers
-/// are from 1 to 2^75 - 1, so every sum stays within 128 bits.
+/// Returns whether the multiples of `a`, of `b` and of `c` each add up to 0. There are at most four `terms`, whose
+/// multipliers are from 1 to 2^75 - 1, so every sum stays within 128 bits.
 pub fn is_balanced(terms: &[Term]) -> bool
     requires few { length terms.now ≤ 4 }
     requires multipliers { list_all (λ t. is_multiplier t.factor) terms.now ≡ true }
@@ -39,8 +39,8 @@ pub fn is_balanced(terms: &[Term]) -> bool
         && weighted_sum(terms, Number::C) == 0
 }
 
-/// Whether the multiples of `d` add up to at most 0 (`strict`), or to less than 0. There are at most four terms, whose
-/// multipliers are from 1 to 2^75 - 1, so the sum stays within 128 bits.
+/// Returns whether the multiples of `d` add up to at most 0 (`strict`), or to less than 0. There are at most four
+/// `terms`, whose multipliers are from 1 to 2^75 - 1, so the sum stays within 128 bits.
 pub fn is_contradiction(terms: &[Term], strict: bool) -> bool
     requires few { length terms.now ≤ 4 }
     requires multipliers { list_all (λ t. is_multiplier t.factor) terms.now ≡ true }
@@ -50,7 +50,7 @@ pub fn is_contradiction(terms: &[Term], strict: bool) -> bool
     if strict { sum <= 0 } else { sum < 0 }
 }
 
-/// The sum of the multiples of one number.
+/// Returns the sum of the multiples of the number `which` of each half-space of `terms`.
 fn weighted_sum(terms: &[Term], which: Number) -> i128
     requires few { length terms.now ≤ 4 }
     requires multipliers { list_all (λ t. is_multiplier t.factor) terms.now ≡ true }
@@ -63,7 +63,7 @@ fn weighted_sum(terms: &[Term], which: Number) -> i128
     sum
 }
 
-/// The multiple of one number of a term's half-space.
+/// Returns the multiple of the number `which` of the half-space of `term`.
 fn multiple(term: &Term, which: Number) -> i128
     requires { is_multiplier term.now.factor ≡ true }
     ensures value { result ≡ term.now.factor *ℤ number_of which term.now.of }
@@ -72,7 +72,7 @@ fn multiple(term: &Term, which: Number) -> i128
     term.by * number_of(&term.half, which) as i128
 }
 
-/// One number of a half-space.
+/// Returns the number `which` of `half`.
 fn number_of(half: &Half, which: Number) -> i64
     ensures value { result ≡ number_of which half.now }
     ensures small { IsWithin (3 * 2 ^ 48) result }

@@ -2,7 +2,7 @@
 ghost use Rattle.std.specs.Prelude.{◌≡◌, ◌<◌, false, IfSome, IfNone};
 ghost use Rattle.rp_space.specs.Places.{IsLowestFrom, HasNoneFrom, HasNoTwo};
 
-/// The lowest of `places` from the place `from` on, which is below 128; `None` where there is none.
+/// Returns the lowest of `places` that is at least `from`, which is below 128; `None` iff there is none.
 pub fn lowest_from(places: u128, from: u32) -> Option<u32>
     requires { from < 128 }
     ensures some { IfSome result (λ place. IsLowestFrom places from place) }
@@ -15,7 +15,7 @@ pub fn lowest_from(places: u128, from: u32) -> Option<u32>
     Some(from + rest.trailing_zeros())
 }
 
-/// Whether `places` has two places or more: false where it has none or one.
+/// Returns whether `places` has two places or more.
 pub fn has_two(places: u128) -> bool
     ensures { result ≡ false → HasNoTwo places }
 {

@@ -16,13 +16,13 @@ const MAX_COORDINATE: i128 = 2535301200456458802993406410751;
 /// The greatest weight, 2^75 - 1.
 const MAX_WEIGHT: i128 = 37778931862957161709567;
 
-/// Why four numbers are no point.
+/// The reason why four numbers are not a point.
 #[derive(Clone, Copy, Debug, Drop, Error)]
 pub enum PointFault {
     /// The weight is below 1.
     #[error("the weight is below 1")]
     Weight,
-    /// A number passes its bound.
+    /// A number exceeds its bound.
     #[error("a coordinate passes 2^101 - 1 in size or the weight 2^75 - 1")]
     Range,
 }
@@ -49,7 +49,7 @@ impl Model for Point {
 }
 
 impl Default for Point {
-    /// Some point.
+    /// Returns the origin.
     fn default() -> Point {
         Point {
             x: 0,
@@ -70,8 +70,13 @@ impl Copied for Point {
 pub type Inside = Short<Point, 4>;
 
 impl Point {
-    /// The point of the numbers `x`, `y`, `z` and the weight `w`, in lowest terms. `Weight` where `w` < 1; `Range`
-    /// where `w` >= 1 and a bound is passed by the numbers as given.
+    /// Returns the point of the numbers `x`, `y`, `z` and the weight `w`, in lowest terms. The bounds are tested before
+    /// the numbers are reduced.
+    ///
+    /// # Errors
+    ///
+    /// - `Weight` iff `w` < 1.
+    /// - `Range` iff `w` >= 1 and a number exceeds its bound.
     pub fn new(x: i128, y: i128, z: i128, w: i128) -> Result<Point, PointFault>
         ensures { result ≡ made_point (point_of x y z w) }
     {
@@ -84,7 +89,7 @@ impl Point {
         Ok(reduced(x, y, z, w))
     }
 
-    /// The four kept numbers.
+    /// Returns the four numbers, in lowest terms.
     pub fn numbers(&self) -> (i128, i128, i128, i128)
         ensures numbers { point_of result.0 result.1 result.2 result.3 ≡ self.now }
         ensures small { IsSmallPoint (point_of result.0 result.1 result.2 result.3) }
@@ -92,14 +97,14 @@ impl Point {
         (self.x, self.y, self.z, self.w)
     }
 
-    /// Does nothing: a point is within its bounds and in lowest terms, and this makes it known.
+    /// Does nothing; makes it known that a point is within its bounds and in lowest terms.
     pub fn keep_lowest(&self)
         ensures { IsKeptPoint self.now }
     {
         let _weight = self.w;
     }
 
-    /// Whether the point lies in the domain cube, its upper sides left out.
+    /// Returns whether the point is in the domain cube, whose upper sides do not belong to it.
     pub fn is_in_cube(&self) -> bool
         ensures { result ≡ is_cube_point self.now }
     {
@@ -107,21 +112,21 @@ impl Point {
     }
 }
 
-/// Whether a coordinate is below 2^101 in size.
+/// Returns whether the size of `v` is below 2^101.
 fn is_coordinate(v: i128) -> bool
     ensures { result ≡ is_within_bound coordinate_bound v }
 {
     -MAX_COORDINATE <= v && v <= MAX_COORDINATE
 }
 
-/// Whether four numbers keep the upper bounds of a point.
+/// Returns whether `x`, `y`, `z` and `w` are within the upper bounds of a point.
 fn is_in_bounds(x: i128, y: i128, z: i128, w: i128) -> bool
     ensures { result ≡ is_point_in_bounds (point_of x y z w) }
 {
     is_coordinate(x) && is_coordinate(y) && is_coordinate(z) && w <= MAX_WEIGHT
 }
 
-/// Four numbers divided by their greatest common divisor.
+/// Returns the point of the four numbers divided by their greatest common divisor.
 pub(crate) fn reduced(x: i128, y: i128, z: i128, w: i128) -> Point
     requires { IsSmallPoint (point_of x y z w) }
     ensures { result ≡ reduced_point (point_of x y z w) }
@@ -135,7 +140,7 @@ pub(crate) fn reduced(x: i128, y: i128, z: i128, w: i128) -> Point
     }
 }
 
-/// The greatest common divisor of the four numbers of a point.
+/// Returns the greatest common divisor of the four numbers of a point, below 2^127.
 fn divisor_of(x: i128, y: i128, z: i128, w: i128) -> u128
     requires { IsSmallPoint (point_of x y z w) }
     ensures value { result ≡ gcd_of (x ∷ y ∷ z ∷ w ∷ []) }

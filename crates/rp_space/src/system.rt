@@ -11,7 +11,7 @@ use arrayvec::ArrayVec;
 /// A list of at most 70 half-spaces, which takes no memory: room for a cell of 64 and the cube's six.
 pub type System = ArrayVec<Half, 70>;
 
-/// The list of a cell: its half-spaces in order, then the cube's six. A cell has at most 64 half-spaces.
+/// Returns the half-spaces of `cell`, at most 64, in order, followed by the cube's six.
 pub fn with_cube(cell: &[Half]) -> System
     requires { length cell.now ≤ 64 }
     ensures items { result.items ≡ with_cube cell.now }
@@ -21,7 +21,7 @@ pub fn with_cube(cell: &[Half]) -> System
     joined(cell, &cube())
 }
 
-/// Does nothing: every half-space keeps its bounds, and this makes it known of all half-spaces of a list.
+/// Does nothing; makes it known that every half-space of `halves` is within its bounds.
 pub fn keep_bounds(halves: &[Half])
     ensures { AreHalfSpaces halves.now }
 {
@@ -30,7 +30,7 @@ pub fn keep_bounds(halves: &[Half])
     }
 }
 
-/// The half-spaces of `first` and then those of `second`: at most 70 together.
+/// Returns the half-spaces of `first` followed by those of `second`, at most 70 together.
 pub fn joined(first: &[Half], second: &[Half]) -> System
     requires { length first.now + length second.now ≤ 70 }
     ensures { result.items ≡ first.now ++ second.now }
@@ -41,7 +41,7 @@ pub fn joined(first: &[Half], second: &[Half]) -> System
     system
 }
 
-/// Appends half-spaces, for which there is room.
+/// Appends `halves` to `system`, which has room for them.
 fn extend(system: &mut System, halves: &[Half])
     requires { array_vec_len system.old + length halves.now ≤ 70 }
     ensures { system.new.items ≡ system.old.items ++ halves.now }

@@ -1,4 +1,4 @@
-//! Numbers in trees: those that links join stand in one tree, whose root is the least of them.
+//! Numbers in trees: linked numbers are in one tree, whose root is the least of them.
 ghost use Rattle.std.specs.Prelude.{◌≡◌, ℕ, ◌+◌, ◌<◌, ◌≤◌, List, [], ◌∷◌, ◌++◌, IfOk, length, slice_index};
 ghost use Rattle.std.specs.List.{AllByRecursion};
 ghost use Rattle.rp_geometry.specs.laws.PieceLaws.{IsJoined};
@@ -8,7 +8,12 @@ ghost use Rattle.rp_unionfind.specs.Forest.{AreLow, IsForest};
 
 use std::alloc::{AllocError, Global};
 
-/// For each number from 0 to `count` the number above it in its tree, and a root for itself. Links join the trees.
+/// Returns the parent of each number from 0 to `count`, at most 1,024, in the trees that `links` join. A root is its
+/// own parent.
+///
+/// # Errors
+///
+/// `AllocError` for want of memory.
 pub(crate) fn forest_of_links(
     alloc: Global,
     count: u32,
@@ -25,7 +30,7 @@ pub(crate) fn forest_of_links(
     Ok(parents)
 }
 
-/// Each number from 0 to `count` in a tree of its own.
+/// Returns each number from 0 to `count` in a tree of its own.
 fn single_trees(alloc: Global, count: u32) -> Result<Vec<u32>, AllocError>
     requires few { count ≤ most_parts }
     ensures { IfOk result (λ parents. IsForest [] count parents.items) }
@@ -37,7 +42,7 @@ fn single_trees(alloc: Global, count: u32) -> Result<Vec<u32>, AllocError>
     Ok(parents)
 }
 
-/// Makes one tree of those of two numbers: the greater root is put under the smaller one.
+/// Joins the trees of `first` and `second`: the greater root is put under the smaller one.
 fn join(parents: &mut [u32], first: u32, second: u32)
     requires low { AreLow parents.old }
     requires within { (first < length parents.old) × (second < length parents.old) }
@@ -53,7 +58,8 @@ fn join(parents: &mut [u32], first: u32, second: u32)
     }
 }
 
-/// The root of the tree of a number. On the way each second number is put under the one two above it.
+/// Returns the root of the tree of `number`. On the way, each second number is put under the number two above it (path
+/// halving).
 fn root_of(parents: &mut [u32], number: u32) -> u32
     requires low { AreLow parents.old }
     requires within { number < length parents.old }

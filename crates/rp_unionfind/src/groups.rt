@@ -9,11 +9,15 @@ use crate::forest::forest_of_links;
 use rp_lists::{Listed, Numbers};
 use std::alloc::{AllocError, Global};
 
-/// A list of pieces: each a list of part numbers from 1.
+/// A list of pieces. Each piece is a list of part numbers from 1.
 pub type PieceList = Listed<Numbers>;
 
-/// The groups into which links join the numbers from 1 to `count`, in the order of their first numbers: each root of a
-/// tree begins a group, and each other number comes into the group of the number above it.
+/// Returns the groups into which `links` join the numbers from 1 to `count`, at most 1,024, in the order of their first
+/// numbers. Each root of a tree begins a group, and each other number is added to the group of its parent.
+///
+/// # Errors
+///
+/// `AllocError` for want of memory.
 pub fn groups_of_links(
     alloc: Global,
     count: u32,
@@ -42,7 +46,7 @@ pub fn groups_of_links(
     listed(alloc, groups)
 }
 
-/// Puts a number behind those of the group at a place, or into a new group behind all.
+/// Appends `number` to the group at `place`, or to a new last group if `place` is the number of groups.
 fn put(
     alloc: Global,
     groups: &mut Vec<Numbers>,
@@ -58,7 +62,7 @@ fn put(
     groups[place].push(number)
 }
 
-/// The list of `groups`, in their order.
+/// Returns the list of `groups`, in their order.
 fn listed(alloc: Global, groups: Vec<Numbers>) -> Result<PieceList, AllocError>
     ensures { IfOk result (λ list. list.items ≡ groups.items) }
 {

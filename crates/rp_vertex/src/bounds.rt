@@ -1,4 +1,4 @@
-//! The least box with whole corners that holds the vertices of a cell.
+//! The least box with whole corners that contains the vertices of a cell.
 ghost use Rattle.std.specs.Prelude.{◌≡◌, ◌≤◌, ◌<◌, ◌^◌, true, None, length, map, filter_map, option_map, pos, ◌<ℤ◌, unsigned_abs};
 ghost use Rattle.std.specs.Int.{int_max, int_min};
 ghost use Rattle.std.specs.List.{Contains};
@@ -19,9 +19,9 @@ use crate::order::Order;
 use crate::search::are_nonnegative;
 use rp_space::{Half, IntBox, Meeting, Pair, with_cube};
 
-/// The least box with whole corners that holds all vertices of a cell, with the domain cube's six half-spaces: each
-/// coordinate of each vertex is rounded down and up. Where there is no vertex, which is where the weak system has no
-/// point, it is the cube's box. A cell has at most 64 half-spaces. Takes no memory.
+/// Returns the least box with whole corners that contains all vertices of `cell` with the domain cube's six
+/// half-spaces. Each coordinate of each vertex is rounded down and up. If there is no vertex, which is iff the weak
+/// system has no point, it is the cube's box. `cell` has at most 64 half-spaces. Takes no memory.
 pub fn box_of_vertices(cell: &[Half]) -> IntBox
     requires { length cell.now ≤ 64 }
     ensures value { integer_box result ≡ box_of_vertices (vertices cell.now) }
@@ -32,22 +32,23 @@ pub fn box_of_vertices(cell: &[Half]) -> IntBox
     box_of_system(system.as_slice()).unwrap_or(IntBox::cube())
 }
 
-/// The least box with whole corners that holds points of the closed cube, which need not be in lowest terms: each
-/// coordinate of each is rounded down and up. Where there is none, it is the cube's box. Takes no memory.
+/// Returns the least box with whole corners that contains `points` of the closed cube, which need not be in lowest
+/// terms. Each coordinate of each point is rounded down and up. If there is no point, it is the cube's box. Takes no
+/// memory.
 pub fn box_of_points(points: &[Meeting]) -> IntBox
     requires { (p : RationalPoint) → Contains (map reduced_point points.now) p → is_closed_cube_point p ≡ true }
     ensures { integer_box result ≡ box_of_vertices (map reduced_point points.now) }
 {
     let mut bounds = None;
     for p in points {
-        // Only for what `numbers` ensures, that the weight is positive.
+        // The call makes it known that the weight is positive.
         let _ = p.numbers();
         bounds = Some(joined_with_point(bounds, p));
     }
     bounds.unwrap_or(IntBox::cube())
 }
 
-/// The least box that holds the vertices of a list of half-spaces; none where there is no vertex.
+/// Returns the least box that contains the vertices of `system`; `None` iff there is no vertex.
 fn box_of_system(system: &[Half]) -> Option<IntBox>
     requires { HasCube system.now }
     ensures { option_map integer_box result ≡ joined None (all_of_triples (vertex_at any_point system.now) system.now) }
@@ -60,7 +61,7 @@ fn box_of_system(system: &[Half]) -> Option<IntBox>
     bounds
 }
 
-/// The least box that holds a box and the vertices on the plane of `f` and two planes of `others`.
+/// Returns the least box that contains `bounds` and the vertices on the plane of `f` and two planes of `others`.
 fn joined_with_one(
     mut bounds: Option<IntBox>,
     system: &[Half],
@@ -78,7 +79,7 @@ fn joined_with_one(
     bounds
 }
 
-/// The least box that holds a box and the vertices on both planes of a pair and one of `others`.
+/// Returns the least box that contains `bounds` and the vertices on both planes of `pair` and a plane of `others`.
 fn joined_with_two(
     mut bounds: Option<IntBox>,
     system: &[Half],
@@ -96,8 +97,8 @@ fn joined_with_two(
     bounds
 }
 
-/// The least box that holds a box and the vertex of three planes, if there is one and it is not passed over on the line
-/// of two of them.
+/// Returns the least box that contains `bounds` and the vertex on the planes of `pair` and `h`, if there is one. If
+/// `line` shows that there is none, the planes are not intersected.
 fn joined_on(
     bounds: Option<IntBox>,
     system: &[Half],
@@ -115,8 +116,8 @@ fn joined_on(
     joined_with_three(bounds, system, pair, h)
 }
 
-/// The least box that holds a box and the meeting point of three planes, where it is a vertex. The point is not put
-/// into lowest terms, since its quotients are the same.
+/// Returns the least box that contains `bounds` and the meeting point of the planes of `pair` and `h`, if it is a
+/// vertex. The point is not reduced to lowest terms, since its quotients do not change.
 fn joined_with_three(
     bounds: Option<IntBox>,
     system: &[Half],
@@ -135,12 +136,12 @@ fn joined_with_three(
     Some(joined_with_point(bounds, &p))
 }
 
-/// The least box that holds a box, if there is one yet, and a point of the closed cube.
+/// Returns the least box that contains `bounds`, if it is there yet, and `p`, a point of the closed cube.
 fn joined_with_point(bounds: Option<IntBox>, p: &Meeting) -> IntBox
     requires { is_closed_cube_point p.now ≡ true }
     ensures { integer_box result ≡ join_vertex (option_map integer_box bounds) (reduced_point p.now) }
 {
-    // Only for what `numbers` ensures, that the weight is positive.
+    // The call makes it known that the weight is positive.
     let _ = p.numbers();
     match bounds {
         Some(others) => extended(&others, p),
@@ -148,7 +149,7 @@ fn joined_with_point(bounds: Option<IntBox>, p: &Meeting) -> IntBox
     }
 }
 
-/// The least box that holds a box and a point of the closed cube.
+/// Returns the least box that contains `others` and `p`, a point of the closed cube.
 fn extended(others: &IntBox, p: &Meeting) -> IntBox
     requires { is_closed_cube_point p.now ≡ true }
     ensures { integer_box result ≡ box_union (integer_box others.now) (box_of_vertex p.now) }
@@ -162,8 +163,8 @@ fn extended(others: &IntBox, p: &Meeting) -> IntBox
     }
 }
 
-/// The lesser of `low` and the coordinate `v / w` rounded down. Most points move no side of a box, so a product tells
-/// first whether there is anything to divide.
+/// Returns the lesser of `low` and the coordinate `v / w` rounded down. Most points move no side of a box, so a product
+/// shows first whether a division is needed.
 fn lower(low: i32, v: i128, w: i128) -> i32
     requires weight { pos 0 <ℤ w }
     requires size { unsigned_abs w < 2 ^ 75 }
@@ -177,7 +178,7 @@ fn lower(low: i32, v: i128, w: i128) -> i32
     }
 }
 
-/// The greater of `high` and the coordinate `v / w` rounded up.
+/// Returns the greater of `high` and the coordinate `v / w` rounded up.
 fn higher(high: i32, v: i128, w: i128) -> i32
     requires weight { pos 0 <ℤ w }
     requires weight_size { unsigned_abs w < 2 ^ 75 }
@@ -192,7 +193,7 @@ fn higher(high: i32, v: i128, w: i128) -> i32
     }
 }
 
-/// The least box with whole corners that holds a point of the closed cube.
+/// Returns the least box with whole corners that contains `p`, a point of the closed cube.
 fn box_of_vertex(p: &Meeting) -> IntBox
     requires { is_closed_cube_point p.now ≡ true }
     ensures { integer_box result ≡ box_of_vertex p.now }
@@ -204,7 +205,7 @@ fn box_of_vertex(p: &Meeting) -> IntBox
     }
 }
 
-/// The coordinate `v / w` of a point of the closed cube, rounded down.
+/// Returns the coordinate `v / w` of a point of the closed cube, rounded down.
 fn floor(v: i128, w: i128) -> i32
     requires weight { pos 0 <ℤ w }
     requires range { is_in_closed_range v w ≡ true }
@@ -214,7 +215,7 @@ fn floor(v: i128, w: i128) -> i32
     v.div_euclid(w) as i32
 }
 
-/// The coordinate `v / w` of a point of the closed cube, rounded up.
+/// Returns the coordinate `v / w` of a point of the closed cube, rounded up.
 fn ceiling(v: i128, w: i128) -> i32
     requires weight { pos 0 <ℤ w }
     requires size { unsigned_abs v < 2 ^ 101 }

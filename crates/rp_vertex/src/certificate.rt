@@ -13,11 +13,11 @@ use crate::order::Order;
 use crate::search::{Wanted, Way, first_vertex, vertex_on_few};
 use rp_space::{Half, Inside, Point, with_cube};
 
-/// From so many half-spaces on a cell is searched along lines. With fewer that is faster for some cells and slower for
-/// others.
+/// The fewest half-spaces of a cell that is searched along lines. With fewer half-spaces a search along lines is faster
+/// for some cells and slower for others.
 const FEW_HALVES: usize = 16;
 
-/// How a cell is searched. Either way finds the same.
+/// Returns the way in which `cell` is searched. All ways find the same vertices.
 fn way_of(cell: &[Half]) -> Way {
     if cell.len() < FEW_HALVES {
         Way::Triples
@@ -26,11 +26,13 @@ fn way_of(cell: &[Half]) -> Way {
     }
 }
 
-/// The first inside certificate of a cell: the first vertex of the cell with the domain cube, and then, as long as a
-/// half-space of the list is zero at all points taken, the first vertex that is positive on one of these. By
-/// Carathéodory's theorem there are at most four points. At each of them no half-space of the cell and of the cube is
-/// negative, and each half-space is positive at one, so that the average of the points is strictly inside.
-/// `None` exactly where the cell has no point. A cell has at most 64 half-spaces. Takes no memory.
+/// Returns the first inside certificate of `cell`; `None` iff the cell has no point. `cell` has at most 64 half-spaces.
+/// Takes no memory.
+///
+/// The certificate begins with the first vertex of the cell with the domain cube. As long as a half-space of the list
+/// is zero at all of its points, the first vertex at which such a half-space is positive is appended. By Carathéodory's
+/// theorem there are at most four points. At each of them no half-space of the cell and of the cube is negative, and
+/// each half-space is positive at one. So the average of the points is strictly inside.
 pub fn first_inside(cell: &[Half]) -> Option<Inside>
     requires { length cell.now ≤ 64 }
     ensures first { result ≡ first_inside cell.now }
@@ -41,9 +43,8 @@ pub fn first_inside(cell: &[Half]) -> Option<Inside>
     first_points(way_of(cell), system.as_slice())
 }
 
-/// The first inside certificate of a cell, as `first_inside` finds it, by a search over all triples of planes, which
-/// passes over none: to compare the times. `None` exactly where the cell has no point. A cell has at most 64
-/// half-spaces.
+/// Returns the first inside certificate of `cell`, as [`first_inside`] does, by a search over all triples of planes
+/// without a shortcut: to compare the times. `None` iff the cell has no point. `cell` has at most 64 half-spaces.
 pub fn first_inside_over_triples(cell: &[Half]) -> Option<Inside>
     requires { length cell.now ≤ 64 }
     ensures first { result ≡ first_inside cell.now }
@@ -54,8 +55,8 @@ pub fn first_inside_over_triples(cell: &[Half]) -> Option<Inside>
     first_points(Way::Plain, system.as_slice())
 }
 
-/// The first weak point of a cell: the first vertex of the cell with the domain cube. No half-space of the cell and of
-/// the cube is negative there. `None` exactly where there is no such point at all. A cell has at most 64 half-spaces.
+/// Returns the first weak point of `cell`: the first vertex of the cell with the domain cube. No half-space of the cell
+/// and of the cube is negative there. `None` iff there is no such point at all. `cell` has at most 64 half-spaces.
 /// Takes no memory.
 pub fn first_weak(cell: &[Half]) -> Option<Point>
     requires { length cell.now ≤ 64 }
@@ -72,9 +73,9 @@ pub fn first_weak(cell: &[Half]) -> Option<Point>
     )
 }
 
-/// The first inside certificate of a cell, if its first point is found on the first few lines of the first plane that
-/// may have it, and each further one on the first plane that may. `None` tells nothing, and comes soon.
-/// A cell has at most 64 half-spaces. Takes no memory.
+/// Returns the first inside certificate of `cell`, if a short search finds it: its first point on the first few lines
+/// of the first plane that may have it, and each further point on the first plane that may have it. After `None`, which
+/// comes soon, it is open whether the cell has a point. `cell` has at most 64 half-spaces. Takes no memory.
 pub fn inside_on_few_lines(cell: &[Half]) -> Option<Inside>
     requires { length cell.now ≤ 64 }
     ensures first { IfSome result (λ points. first_inside cell.now ≡ Some points) }
@@ -87,8 +88,9 @@ pub fn inside_on_few_lines(cell: &[Half]) -> Option<Inside>
     points_on_few(way, system.as_slice(), &mut order, first)
 }
 
-/// The first weak point of a cell, if it is found on the first few lines of the first plane that may have it. `None`
-/// tells nothing, and comes soon. A cell has at most 64 half-spaces. Takes no memory.
+/// Returns the first weak point of `cell`, if it is on the first few lines of the first plane that may have it. After
+/// `None`, which comes soon, it is open whether there is a weak point. `cell` has at most 64 half-spaces. Takes no
+/// memory.
 pub fn weak_on_few_lines(cell: &[Half]) -> Option<Point>
     requires { length cell.now ≤ 64 }
     ensures first { IfSome result (λ p. first_weak_point cell.now ≡ Some p) }
@@ -103,7 +105,7 @@ pub fn weak_on_few_lines(cell: &[Half]) -> Option<Point>
     )
 }
 
-/// The points that are taken of the vertices of a list of half-spaces.
+/// Returns the points of the first inside certificate of `system`, at most 70 half-spaces.
 fn first_points(way: Way, system: &[Half]) -> Option<Inside>
     requires few { length system.now ≤ 70 }
     requires cube { HasCube system.now }
@@ -114,7 +116,8 @@ fn first_points(way: Way, system: &[Half]) -> Option<Inside>
     points_from(way, system, &mut order, first)
 }
 
-/// The points that are taken from a first one on, which is the first vertex of the list.
+/// Returns the points of the first inside certificate of `system`. The first of them is `first`, the first vertex of
+/// the list.
 fn points_from(way: Way, system: &[Half], order: &mut Order, first: Point) -> Option<Inside>
     requires few { length system.now ≤ 70 }
     requires cube { HasCube system.now }
@@ -132,8 +135,9 @@ fn points_from(way: Way, system: &[Half], order: &mut Order, first: Point) -> Op
     Some(taken)
 }
 
-/// The points that are taken from `first` on, the first vertex of the list, if each further one is found on the first
-/// plane that may have it. `None` tells nothing.
+/// Returns the points of the first inside certificate of `system`, if each further point is found on the first plane
+/// that may have it. The first of them is `first`, the first vertex of the list. After `None` it is open whether there
+/// are such points.
 fn points_on_few(way: Way, system: &[Half], order: &mut Order, first: Point) -> Option<Inside>
     requires few { length system.now ≤ 70 }
     requires cube { HasCube system.now }

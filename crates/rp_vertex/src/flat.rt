@@ -1,11 +1,11 @@
-//! The half-spaces that are not yet positive at a point that was taken.
+//! The half-spaces that are positive at no point of a certificate yet.
 ghost use Rattle.std.specs.Prelude.{◌≡◌, ◌≤◌, [], ◌∷◌, not, length};
 ghost use Rattle.rp_geometry.specs.searches.Certificate.{is_positive_at_some};
 ghost use Rattle.rp_geometry.specs.searches.Vertex.{flat_half_spaces};
 
 use rp_space::{Half, Point, System};
 
-/// The half-spaces of a list that are not positive at the point.
+/// Returns the half-spaces of `halves` that are not positive at `p`.
 pub(crate) fn flat_at(halves: &[Half], p: &Point) -> System
     requires { length halves.now ≤ 70 }
     ensures { result.items ≡ flat_half_spaces halves.now (p.now ∷ []) }
@@ -19,7 +19,7 @@ pub(crate) fn flat_at(halves: &[Half], p: &Point) -> System
     flat
 }
 
-/// Whether the half-space is not positive at the point.
+/// Returns whether `half` is not positive at `p`.
 fn stays_flat(half: &Half, p: &Point) -> bool
     ensures { result ≡ not (is_positive_at_some (p.now ∷ []) half.now) }
 {

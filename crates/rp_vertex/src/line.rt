@@ -1,4 +1,4 @@
-//! What a list of half-spaces leaves of the line of two planes: where it can have a vertex.
+//! The part of the line of two planes that a list of half-spaces leaves: the part that can have a vertex.
 ghost use Rattle.std.specs.Prelude.{◌≡◌, ◌<ℤ◌, ◌≤ℤ◌, pos, true, IfSome};
 ghost use Rattle.rp_geometry.specs.Geometry.{side_value};
 ghost use Rattle.rp_vertex.specs.Joined.{HasCube};
@@ -7,18 +7,18 @@ ghost use Rattle.rp_vertex.specs.Line.{Cuts, HoldsVertices, IsBetween, IsInCube,
 use crate::order::Order;
 use rp_space::{Half, Meeting, Pair, cube};
 
-/// What is known of the points of the line of two planes at which no half-space of a list is negative.
+/// A bound on the points of the line of two planes at which no half-space of a list is negative.
 #[derive(Clone, Copy)]
 pub(crate) enum Line {
-    /// Nothing.
+    /// No bound is known.
     Unknown,
-    /// There are none.
+    /// There are no such points.
     Empty,
-    /// They lie between two points.
+    /// All such points are between two points.
     Between(Span),
 }
 
-/// Two points of a line, between which all its points lie at which no half-space of a list is negative.
+/// Two points of a line. All points of the line at which no half-space of a list is negative are between them.
 #[derive(Clone, Copy)]
 pub(crate) struct Span {
     /// The one end.
@@ -28,7 +28,8 @@ pub(crate) struct Span {
 }
 
 impl Line {
-    /// Whether no vertex on the line lies on the plane of the half-space, as the ends tell.
+    /// Returns true only if no vertex on the line is on the plane of `h`: the two ends are on one side of it, or the
+    /// line has no such points.
     pub(crate) fn passes(&self, h: &Half) -> bool
         ensures { result ≡ passes self.now h.now }
     {
@@ -40,7 +41,7 @@ impl Line {
     }
 }
 
-/// Whether two points lie on the same side of a plane, and not on it.
+/// Returns whether `p` and `q` are on the same side of the plane of `h`, and not on it.
 fn are_on_one_side(h: &Half, p: &Meeting, q: &Meeting) -> bool
     ensures { result ≡ are_on_one_side h.now p.now q.now }
 {
@@ -49,7 +50,7 @@ fn are_on_one_side(h: &Half, p: &Meeting, q: &Meeting) -> bool
     (one > 0 && two > 0) || (one < 0 && two < 0)
 }
 
-/// What a list of half-spaces, with the cube's, leaves of the line of two planes.
+/// Returns the bound on the vertices on the line of `pair` that the half-spaces of `system`, with the cube's, give.
 pub(crate) fn line_of(system: &[Half], pair: &Pair, order: &mut Order) -> Line
     requires { HasCube system.now }
     ensures { HoldsVertices system.now pair.now result }
@@ -60,7 +61,8 @@ pub(crate) fn line_of(system: &[Half], pair: &Pair, order: &mut Order) -> Line
     }
 }
 
-/// The part of the line of two planes between two sides of the domain cube. `None` where the planes are parallel.
+/// Returns the part of the line of `pair` between two opposite sides of the domain cube; `None` if the planes are
+/// parallel.
 fn span_in_cube(pair: &Pair) -> Option<Span>
     ensures { IfSome result (IsInCube pair.now) }
 {
@@ -74,7 +76,7 @@ fn span_in_cube(pair: &Pair) -> Option<Span>
     span_of(pair, &z1, &z2)
 }
 
-/// The part of the line of two planes between two further ones, if it meets both in one point.
+/// Returns the part of the line of `pair` between the planes of `f` and `g`, if it meets both in one point.
 fn span_of(pair: &Pair, f: &Half, g: &Half) -> Option<Span>
     ensures { IfSome result (IsBetween pair.now f.now g.now) }
 {
@@ -83,7 +85,7 @@ fn span_of(pair: &Pair, f: &Half, g: &Half) -> Option<Span>
     Some(Span { one, two })
 }
 
-/// What a list of half-spaces leaves of a part of the line of two planes.
+/// Clips `span`, a part of the line of `pair`, by the half-spaces of `system`.
 fn clipped(system: &[Half], pair: &Pair, order: &mut Order, mut span: Span) -> Line
     requires { IsSpan system.now pair.now span }
     ensures { HoldsVertices system.now pair.now result }
@@ -98,7 +100,7 @@ fn clipped(system: &[Half], pair: &Pair, order: &mut Order, mut span: Span) -> L
     Line::Between(span)
 }
 
-/// Leaves of a part of the line of two planes what a half-space leaves of it. False where that is nothing.
+/// Clips `span` by the half-space `h`. Returns false if nothing is left.
 fn cut(pair: &Pair, h: &Half, span: &mut Span) -> bool
     ensures { Cuts pair.now h.now span.old span.new result }
 {
@@ -117,7 +119,7 @@ fn cut(pair: &Pair, h: &Half, span: &mut Span) -> bool
     true
 }
 
-/// Puts the one end, at which a half-space is negative, on its plane.
+/// Moves the end `one`, at which `h` is negative, to the plane of `h`.
 fn cut_one(pair: &Pair, h: &Half, span: &mut Span)
     requires one { side_value h.now span.old.one <ℤ pos 0 }
     requires two { pos 0 ≤ℤ side_value h.now span.old.two }
@@ -128,7 +130,7 @@ fn cut_one(pair: &Pair, h: &Half, span: &mut Span)
     }
 }
 
-/// Puts the other end, at which a half-space is negative, on its plane.
+/// Moves the end `two`, at which `h` is negative, to the plane of `h`.
 fn cut_two(pair: &Pair, h: &Half, span: &mut Span)
     requires one { pos 0 ≤ℤ side_value h.now span.old.one }
     requires two { side_value h.now span.old.two <ℤ pos 0 }

@@ -1,4 +1,4 @@
-//! In which order the half-spaces of a list cut a line.
+//! The order in which the half-spaces of a list clip a line.
 ghost use Rattle.std.specs.Prelude.{◌<◌, length};
 ghost use Rattle.std.specs.List.{Contains};
 
@@ -7,15 +7,15 @@ use rp_space::Half;
 /// The most half-spaces of a list.
 const MOST: usize = 70;
 
-/// The places of a list, in the order in which its half-spaces cut a line. One that left nothing of a line comes to the
-/// front, since it often leaves nothing of the next one. No answer depends on the order.
+/// The places of a list, in the order in which its half-spaces clip a line. A half-space that left nothing of a line
+/// moves to the front, since it often leaves nothing of the next line. No result depends on the order.
 #[derive(Clone, Copy)]
 pub(crate) struct Order {
     places: [u8; MOST],
 }
 
 impl Order {
-    /// The order of the list.
+    /// Returns the order of the list itself.
     pub(crate) fn new() -> Order {
         let mut places = [0; MOST];
         for place in 0..MOST {
@@ -24,7 +24,7 @@ impl Order {
         Order { places }
     }
 
-    /// The half-space of a list that has a rank.
+    /// Returns the half-space of `system` with the rank `rank`.
     pub(crate) fn half<'a>(&self, system: &'a [Half], rank: usize) -> &'a Half
         requires { rank < length system.now }
         ensures { Contains system.now result.now }
@@ -37,7 +37,7 @@ impl Order {
         }
     }
 
-    /// The place that has a rank.
+    /// Returns the place with the rank `rank`.
     fn place(&self, rank: usize) -> usize {
         match self.places.get(rank) {
             Some(place) => *place as usize,
@@ -45,7 +45,7 @@ impl Order {
         }
     }
 
-    /// Brings what has a rank to the front.
+    /// Moves the place with the rank `rank` to the front.
     pub(crate) fn bring_forward(&mut self, rank: usize) {
         if rank < MOST {
             let place = self.places[rank];

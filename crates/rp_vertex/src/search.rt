@@ -14,11 +14,11 @@ use crate::order::Order;
 use crate::parallel::is_cut_off;
 use rp_space::{Half, Meeting, Pair, Point};
 
-/// How many lines of one plane are tried for the first vertex. Most often it is on one of these, where it is on the
-/// plane.
+/// The number of lines of one plane that are tried for the first vertex. If the first vertex is on the plane, it is
+/// most often on one of these.
 const FEW_LINES: usize = 8;
 
-/// Which vertices are wanted.
+/// The vertices that a search looks for.
 #[derive(Clone, Copy)]
 pub(crate) enum Wanted<'a> {
     /// Every vertex.
@@ -27,18 +27,18 @@ pub(crate) enum Wanted<'a> {
     Lifting(&'a [Half]),
 }
 
-/// How the search goes.
+/// The way of a search.
 #[derive(Clone, Copy)]
 pub(crate) enum Way {
     /// All triples of planes are tried.
     Plain,
     /// All third planes are tried for each two that may have a wanted vertex.
     Triples,
-    /// The third planes are tried that meet what the list leaves of the line of the two.
+    /// The third planes are tried that meet the part of the line of the two that the list leaves.
     Lines,
 }
 
-/// The first wanted vertex of a list of half-spaces.
+/// Returns the first wanted vertex of `system`; `None` iff there is none.
 #[tactic(auto, unfolding(rp_geometry::specs::searches::Vertex::first_vertex))]
 pub(crate) fn first_vertex(
     way: Way,
@@ -58,8 +58,8 @@ pub(crate) fn first_vertex(
     None
 }
 
-/// The first wanted vertex of a list of half-spaces, if it is on one of the first few lines on the first plane that may
-/// have one. `None` tells nothing.
+/// Returns the first wanted vertex of `system`, if it is on one of the first few lines of the first plane that may have
+/// one. After `None` it is open whether there is one.
 #[tactic(auto, unfolding(rp_geometry::specs::searches::Vertex::first_vertex))]
 pub(crate) fn vertex_on_few(
     way: Way,
@@ -80,14 +80,14 @@ pub(crate) fn vertex_on_few(
     None
 }
 
-/// Whether it is known at once that no vertex on the plane of `f` and two planes of `others` is wanted.
+/// Returns true only if no vertex on the plane of `f` and two planes of `others` is wanted. It tries no line.
 fn has_none(way: Way, wanted: Wanted, system: &[Half], f: &Half, others: &[Half]) -> bool
     ensures { result ≡ true → first_of_pairs (vertex_at (is_wanted wanted.entry) system.now f.now) others.now ≡ None }
 {
     is_passed_over(way, wanted, f, f) || is_left_out(way, system, f)
 }
 
-/// Whether the plane of `f` is left out, since a parallel half-space is negative on it.
+/// Returns true only if a parallel half-space of `system` is negative on the plane of `f`.
 fn is_left_out(way: Way, system: &[Half], f: &Half) -> bool
     ensures { result ≡ true → is_cut_off system.now f.now ≡ true }
 {
@@ -97,8 +97,8 @@ fn is_left_out(way: Way, system: &[Half], f: &Half) -> bool
     }
 }
 
-/// On how many lines of one plane a vertex is sought: the first one on a few, since there may be none on the plane, and
-/// a further one on all.
+/// Returns the number of lines of one plane on which a vertex is searched. For the first vertex they are few, since
+/// there may be none on the plane; for a further one they are all.
 fn most_lines(wanted: Wanted) -> usize {
     match wanted {
         Wanted::Any => FEW_LINES,
@@ -106,8 +106,8 @@ fn most_lines(wanted: Wanted) -> usize {
     }
 }
 
-/// The first wanted vertex on the plane of `f` and two planes of `others`, if it is on one of the first few of these.
-/// `None` tells nothing.
+/// Returns the first wanted vertex on the plane of `f` and two planes of `others`, if it is on one of the first few
+/// lines. After `None` it is open whether there is one.
 fn first_on_few(
     way: Way,
     wanted: Wanted,
@@ -132,7 +132,7 @@ fn first_on_few(
     None
 }
 
-/// The first wanted vertex on the plane of `f` and two planes of `others`.
+/// Returns the first wanted vertex on the plane of `f` and two planes of `others`; `None` iff there is none.
 fn first_with_one(
     way: Way,
     wanted: Wanted,
@@ -156,7 +156,7 @@ fn first_with_one(
     None
 }
 
-/// The first wanted vertex on the planes of `f` and `g` and one of `others`.
+/// Returns the first wanted vertex on the planes of `f` and `g` and a plane of `others`; `None` iff there is none.
 fn first_on_both(
     way: Way,
     wanted: Wanted,
@@ -177,7 +177,7 @@ fn first_on_both(
     first_with_two(wanted, system, &pair, &line, others)
 }
 
-/// Whether the line of two planes is passed over, since no vertex on both is wanted.
+/// Returns true only if no vertex on the planes of `f` and `g` is wanted, as [`lie_within`] finds.
 fn is_passed_over(way: Way, wanted: Wanted, f: &Half, g: &Half) -> bool
     ensures { result ≡ true → lie_within wanted.entry f.now g.now ≡ true }
 {
@@ -187,7 +187,8 @@ fn is_passed_over(way: Way, wanted: Wanted, f: &Half, g: &Half) -> bool
     }
 }
 
-/// Whether no vertex on both planes is wanted, since those wanted are to lift nothing but these two.
+/// Returns whether every half-space that a wanted vertex may lift is `f` or `g`. Then no vertex on both planes is
+/// wanted.
 fn lie_within(wanted: Wanted, f: &Half, g: &Half) -> bool
     ensures { result ≡ lie_within wanted.entry f.now g.now }
 {
@@ -197,14 +198,14 @@ fn lie_within(wanted: Wanted, f: &Half, g: &Half) -> bool
     }
 }
 
-/// Whether each of the half-spaces is one of two.
+/// Returns whether each of `halves` is `f` or `g`.
 fn are_among(halves: &[Half], f: &Half, g: &Half) -> bool
     ensures { result ≡ are_among halves.now f.now g.now }
 {
     halves.iter().all(|half| half == f || half == g)
 }
 
-/// What is known of the line of a pair.
+/// Returns a bound on the vertices on the line of `pair`, if the `way` of the search uses one.
 fn line_by(way: Way, system: &[Half], pair: &Pair, order: &mut Order) -> Line
     requires { HasCube system.now }
     ensures { HoldsVertices system.now pair.now result }
@@ -215,7 +216,8 @@ fn line_by(way: Way, system: &[Half], pair: &Pair, order: &mut Order) -> Line
     }
 }
 
-/// The first wanted vertex on both planes of a pair and one of `others`.
+/// Returns the first wanted vertex on both planes of `pair` and a plane of `others`; `None` iff there is none. `line`
+/// bounds the vertices on the line of `pair`.
 fn first_with_two(
     wanted: Wanted,
     system: &[Half],
@@ -235,7 +237,8 @@ fn first_with_two(
     None
 }
 
-/// The wanted vertex of three planes, if it is not passed over on the line of two of them.
+/// Returns the wanted vertex on the planes of `pair` and `h`; `None` iff there is none. The planes are intersected only
+/// if `line` does not rule it out.
 fn vertex_on(wanted: Wanted, system: &[Half], pair: &Pair, line: &Line, h: &Half) -> Option<Point>
     requires { HoldsVertices system.now pair.now line.now }
     ensures { result ≡ vertex_at (is_wanted wanted.entry) system.now pair.now.first pair.now.second h.now }
@@ -246,8 +249,8 @@ fn vertex_on(wanted: Wanted, system: &[Half], pair: &Pair, line: &Line, h: &Half
     vertex_at(wanted, system, pair, h)
 }
 
-/// The meeting point of three planes, where it is a wanted vertex. It is tested before it is put into lowest terms,
-/// since most meeting points fail.
+/// Returns the meeting point of the planes of `pair` and `h`, if it is a wanted vertex. It is tested before it is
+/// reduced to lowest terms, since most meeting points fail.
 fn vertex_at(wanted: Wanted, system: &[Half], pair: &Pair, h: &Half) -> Option<Point>
     ensures { result ≡ vertex_at (is_wanted wanted.entry) system.now pair.now.first pair.now.second h.now }
 {
@@ -258,21 +261,21 @@ fn vertex_at(wanted: Wanted, system: &[Half], pair: &Pair, h: &Half) -> Option<P
     Some(p.point())
 }
 
-/// Whether no half-space of the list is negative at the point, and it is a wanted one.
+/// Returns whether no half-space of `system` is negative at `p`, and `p` is wanted.
 fn passes(wanted: Wanted, system: &[Half], p: &Meeting) -> bool
     ensures { result ≡ (all_nonnegative system.now p.now && is_wanted wanted.entry p.now) }
 {
     are_nonnegative(system, p) && is_wanted(wanted, p)
 }
 
-/// Whether no half-space of the list is negative at the point.
+/// Returns whether no half-space of `system` is negative at `p`.
 pub(crate) fn are_nonnegative(system: &[Half], p: &Meeting) -> bool
     ensures { result ≡ all_nonnegative system.now p.now }
 {
     system.iter().all(|half| p.side(half) >= 0)
 }
 
-/// Whether a point is a wanted one.
+/// Returns whether `p` is wanted.
 fn is_wanted(wanted: Wanted, p: &Meeting) -> bool
     ensures { result ≡ is_wanted wanted.entry p.now }
 {
@@ -282,7 +285,7 @@ fn is_wanted(wanted: Wanted, p: &Meeting) -> bool
     }
 }
 
-/// Whether one of the half-spaces is positive at the point.
+/// Returns whether one of `flat` is positive at `p`.
 fn is_lifting(flat: &[Half], p: &Meeting) -> bool
     ensures { result ≡ lifts flat.now p.now }
 {
