@@ -11,9 +11,9 @@ use Rattle.rp_model.specs.commands.Checks.{refuse_if, check_new}
 use Rattle.rp_model.specs.commands.Reply.{Reply, check}
 use Rattle.rp_model.specs.commands.Parts.{lot_parts, count_with_each}
 use Rattle.rp_model.specs.commands.Register.{first_overlapped}
-use Rattle.rp_lotindex.specs.declared.near.Reach.TheVariants.{Overlap}
-use Rattle.rp_lotindex.specs.Near.{others_in, is_near, pairs_with}
-use Rattle.rp_lotindex.proofs.Skipped.{search_near, others_all}
+use Rattle.rp_proximity.specs.declared.reach.Reach.TheVariants.{Overlap}
+use Rattle.rp_proximity.specs.Near.{others_in, is_near, pairs_with}
+use Rattle.rp_proximity.proofs.Skipped.{search_near, others_all}
 use Rattle.rp_oracle.specs.declared.stopped.Stopped.{Stopped}
 use Rattle.rp_oracle.specs.Refines.{StopsBy}
 use Rattle.rp_oracle.proofs.Left.{stops_on}

@@ -3,3 +3,4 @@ pub mod Divided
 pub mod United
 pub mod Searched
 pub mod Alone
+pub mod Defined

@@ -7,9 +7,9 @@ use Rattle.rp_semantics.specs.Form.{common_nearby}
 use Rattle.rp_model.specs.states.State.{Lot}
 use Rattle.rp_model.specs.commands.Register.{first_overlapped}
 use Rattle.rp_oracle.proofs.Left.{IsLeft, left_as, next_left}
-use Rattle.rp_lotindex.specs.Near.{lots_at}
-use Rattle.rp_lotindex.proofs.Places.{lots_left}
-use Rattle.rp_lotindex.proofs.Skipped.{search_on}
+use Rattle.rp_proximity.specs.Near.{lots_at}
+use Rattle.rp_proximity.proofs.Places.{lots_left}
+use Rattle.rp_proximity.proofs.Skipped.{search_on}
 
 module _ {W : Type 0} (tester : Tester W) {start now : W} {whole : Walk W (Option Label)} (ps : List Part) (lots : List (Lot (Unit {0}))) (places : List ℕ) (i k : ℕ) (l : Lot (Unit {0})) (qs : List Part) (within : i < length places) (is : k ≡ get_or places i 0) (at : slice_get lots k ≡ Some l) (own : l.parts ≡ qs)
     (left : IsLeft start whole now (first_overlapped tester ps (lots_at lots (drop i places)))) where

@@ -10,7 +10,7 @@ ghost use Rattle.rp_model.specs.commands.Register.{first_overlapped, row_registe
 ghost use Rattle.rp_model.specs.commands.Parts.{new_lot};
 ghost use Rattle.rp_answer.specs.Replies.{GoesOn};
 ghost use Rattle.rp_history.specs.Lots.{lots_in};
-ghost use Rattle.rp_lotindex.specs.Near.{lots_at, AreWithin};
+ghost use Rattle.rp_proximity.specs.Near.{lots_at, AreWithin};
 ghost use Rattle.rp_oracle.specs.Refines.{Refines};
 ghost use Rattle.rp_lots.specs.Changes.{Changes, replaced_of};
 ghost use Rattle.rp_changes.specs.Steps.{lot_checked, lots_tested};
@@ -18,7 +18,7 @@ ghost use Rattle.rp_changes.specs.Steps.{lot_checked, lots_tested};
 use rp_answer::{Refusal, RowEnd};
 use rp_history::Birth;
 use rp_lists::{Listed, Name, Names};
-use rp_lotindex::Reach;
+use rp_proximity::Reach;
 use rp_lots::{
     Keeper, Overlaps, Replaced, check_room, count_parts, count_tests, form_at, lots_near,
 };

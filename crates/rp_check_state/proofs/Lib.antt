@@ -1,3 +1,2 @@
-pub mod Judged
 pub mod Limits
 pub mod Sliced

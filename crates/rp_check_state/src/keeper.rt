@@ -10,14 +10,14 @@ ghost use Rattle.rp_space.specs.Boxes.{integer_box};
 ghost use Rattle.rp_model.specs.states.State.{bare_lot, lots_of_layer, parts_in, parts_under_names, parts_under_lots, most_names, most_kept_parts};
 ghost use Rattle.rp_model.specs.commands.Parts.{lot_parts};
 ghost use Rattle.rp_model.specs.commands.At.{owner_line};
-ghost use Rattle.rp_lotindex.specs.Near.{others_in, is_near, lots_at, AreWithin};
-ghost use Rattle.rp_lotindex.specs.Owner.{is_there, owner_verdict};
+ghost use Rattle.rp_proximity.specs.Near.{others_in, is_near, lots_at, AreWithin};
+ghost use Rattle.rp_proximity.specs.There.{is_there, owner_verdict};
 ghost use Rattle.rp_oracle.specs.Short.{StandShort};
 
 use crate::register::Register;
 use rp_history::History;
 use rp_lists::{Listed, Name};
-use rp_lotindex::{Moment, Reach};
+use rp_proximity::{Moment, Reach};
 use rp_lots::{Keeper, Overlaps, Registry};
 use rp_space::{IntBox, Point};
 use rp_oracle::{Named, Stopped};

@@ -13,8 +13,8 @@ use Rattle.rp_model.specs.commands.Checks.{check_access}
 use Rattle.rp_model.specs.commands.Reply.{Reply, reply_lines, check}
 use Rattle.rp_model.specs.commands.Parts.{lot_parts, numbered_lists, count_among}
 use Rattle.rp_model.specs.commands.Access.{links_among_lists, access_by_links, row_access}
-use Rattle.rp_lotindex.specs.declared.near.Reach.TheVariants.{Touch}
-use Rattle.rp_lotindex.specs.Near.{lots_at}
+use Rattle.rp_proximity.specs.declared.reach.Reach.TheVariants.{Touch}
+use Rattle.rp_proximity.specs.Near.{lots_at}
 use Rattle.rp_row_soundness.proofs.Access.{places_below}
 use Rattle.rp_oracle.specs.declared.stopped.Stopped.{Stopped}
 use Rattle.rp_oracle.specs.Refines.{StopsBy}

@@ -12,9 +12,9 @@ use Rattle.rp_model.specs.commands.Audit.{count_in_layers, all_apart, all_apart_
 use Rattle.rp_oracle.specs.declared.stopped.Stopped.{Stopped}
 use Rattle.rp_oracle.specs.Refines.{StopsBy}
 use Rattle.rp_oracle.proofs.Left.{IsLeft, next_left, stop_left}
-use Rattle.rp_lotindex.specs.declared.near.Reach.TheVariants.{Overlap}
-use Rattle.rp_lotindex.specs.Near.{pairs_with, is_near, lots_at, AreWithin}
-use Rattle.rp_lotindex.proofs.Skipped.{apart_on, apart_near}
+use Rattle.rp_proximity.specs.declared.reach.Reach.TheVariants.{Overlap}
+use Rattle.rp_proximity.specs.Near.{pairs_with, is_near, lots_at, AreWithin}
+use Rattle.rp_proximity.proofs.Skipped.{apart_on, apart_near}
 use Rattle.rp_contacts.specs.declared.pair.Pair.{Pair}
 use Rattle.rp_contacts.specs.Meets.{pair_of, parts_at, meet_each}
 use Rattle.rp_contacts.specs.Behind.{lots_behind, tests_behind, ArePairsBehind}

@@ -11,9 +11,9 @@ use Rattle.rp_model.specs.commands.Checks.{check_live}
 use Rattle.rp_model.specs.commands.Reply.{Reply, reply_lines, check}
 use Rattle.rp_model.specs.commands.Parts.{lot_parts, parts_with_id}
 use Rattle.rp_model.specs.commands.Neighbours.{touched_lots, row_neighbours}
-use Rattle.rp_lotindex.specs.declared.near.Reach.TheVariants.{Touch}
-use Rattle.rp_lotindex.specs.Near.{others_in, is_near, pairs_with, lots_at, AreWithin}
-use Rattle.rp_lotindex.proofs.Skipped.{touch_near}
+use Rattle.rp_proximity.specs.declared.reach.Reach.TheVariants.{Touch}
+use Rattle.rp_proximity.specs.Near.{others_in, is_near, pairs_with, lots_at, AreWithin}
+use Rattle.rp_proximity.proofs.Skipped.{touch_near}
 use Rattle.rp_oracle.specs.declared.stopped.Stopped.{Stopped}
 use Rattle.rp_oracle.specs.Refines.{StopsBy}
 use Rattle.rp_oracle.proofs.Left.{IsLeft, all_left, left_as, next_left, stop_left}

@@ -6,7 +6,7 @@ use Rattle.std.proofs.lemmas.Option.{get_or_from_slice_get, slice_get-map}
 use Rattle.rp_language.specs.Name.{Label}
 use Rattle.rp_model.specs.states.State.{Lot}
 use Rattle.rp_model.specs.commands.Parts.{lot_parts}
-use Rattle.rp_lotindex.specs.Near.{lots_at}
+use Rattle.rp_proximity.specs.Near.{lots_at}
 use Rattle.rp_contacts.specs.Meets.{parts_at, id_at}
 
 module _ (lots : List (Lot (Unit {0}))) (k : ℕ) (l : Lot (Unit {0})) (at : slice_get lots k ≡ Some l) where

@@ -11,8 +11,8 @@ use Rattle.rp_oracle.specs.Refines.{StopsBy}
 use Rattle.rp_oracle.proofs.Left.{stops_on}
 use Rattle.rp_history.specs.declared.lot.LotLine.{LotLine}
 use Rattle.rp_history.specs.Lots.{lot_of}
-use Rattle.rp_lotindex.specs.declared.near.Reach.{Reach}
-use Rattle.rp_lotindex.specs.Near.{AreWithin}
+use Rattle.rp_proximity.specs.declared.reach.Reach.{Reach}
+use Rattle.rp_proximity.specs.Near.{AreWithin}
 use Rattle.rp_contacts.specs.declared.pair.Pair.{Pair}
 use Rattle.rp_contacts.specs.Meets.{meet_each, IsPairWithin}
 

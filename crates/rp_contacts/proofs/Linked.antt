@@ -11,9 +11,9 @@ use Rattle.rp_semantics.specs.Form.{touch_nearby, touching_pair}
 use Rattle.rp_model.specs.states.State.{Lot, ids_of}
 use Rattle.rp_model.specs.commands.Parts.{count_pairs, lot_parts, numbered_lists}
 use Rattle.rp_model.specs.commands.Access.{links_with_list, links_among_lists}
-use Rattle.rp_lotindex.specs.declared.near.Reach.TheVariants.{Touch}
-use Rattle.rp_lotindex.specs.Near.{lots_at, AreWithin}
-use Rattle.rp_lotindex.proofs.Skipped.{none_of_pairs}
+use Rattle.rp_proximity.specs.declared.reach.Reach.TheVariants.{Touch}
+use Rattle.rp_proximity.specs.Near.{lots_at, AreWithin}
+use Rattle.rp_proximity.proofs.Skipped.{none_of_pairs}
 use Rattle.rp_contacts.specs.declared.pair.Pair.{Pair}
 use Rattle.rp_contacts.specs.Meets.{pair_of, meet_each, parts_at, id_at}
 use Rattle.rp_contacts.specs.Numbers.{lists_at, is_touching, places_with, places_among, IsPairOf, AreBelow, placed, links_met}

@@ -14,10 +14,10 @@ use Rattle.rp_model.specs.commands.Parts.{lot_parts}
 use Rattle.rp_model.specs.commands.Neighbours.{touched_lots}
 use Rattle.rp_history.specs.declared.lot.LotLine.{LotLine}
 use Rattle.rp_history.specs.Lots.{lot_of}
-use Rattle.rp_lotindex.specs.declared.near.Reach.{Reach}
-use Rattle.rp_lotindex.specs.declared.near.Reach.TheVariants.{Touch}
-use Rattle.rp_lotindex.specs.Near.{lots_at, AreWithin}
-use Rattle.rp_lotindex.proofs.Skipped.{touched_by}
+use Rattle.rp_proximity.specs.declared.reach.Reach.{Reach}
+use Rattle.rp_proximity.specs.declared.reach.Reach.TheVariants.{Touch}
+use Rattle.rp_proximity.specs.Near.{lots_at, AreWithin}
+use Rattle.rp_proximity.proofs.Skipped.{touched_by}
 use Rattle.rp_contacts.specs.declared.pair.Pair.{Pair}
 use Rattle.rp_contacts.proofs.Items.{parts_there, id_there, first_there}
 use Rattle.rp_contacts.specs.Meets.{pair_of, pair_test, meet_each, id_at, contact_ids, IsPairWithin}

@@ -11,7 +11,7 @@ use Rattle.rp_access.specs.Chain.{IsBelow}
 use Rattle.rp_history.specs.declared.lot.LotLine.{LotLine}
 use Rattle.rp_history.specs.Lots.{lot_of}
 use Rattle.rp_history.proofs.Bare.{bare_ids}
-use Rattle.rp_lotindex.specs.Near.{lots_at}
+use Rattle.rp_proximity.specs.Near.{lots_at}
 use Rattle.rp_contacts.specs.declared.pair.Pair.{Pair}
 use Rattle.rp_contacts.specs.Meets.{id_at}
 use Rattle.rp_contacts.specs.Numbers.{AreBelow, links_met}

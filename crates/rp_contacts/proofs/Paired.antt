@@ -20,10 +20,10 @@ use Rattle.rp_history.proofs.Found.{there, one_place}
 use Rattle.rp_history.proofs.Places.{left_further, places_below}
 use Rattle.rp_history.specs.Places.{is_asked, is_live_in, live_places}
 use Rattle.rp_oracle.specs.declared.stopped.Stopped.{Stopped}
-use Rattle.rp_lotindex.specs.declared.near.Reach.{Reach}
-use Rattle.rp_lotindex.specs.declared.near.Reach.TheVariants.{Touch}
-use Rattle.rp_lotindex.specs.Near.{others_in, pairs_with, is_near, lots_at, AreWithin}
-use Rattle.rp_lotindex.proofs.Behind.{others_behind}
+use Rattle.rp_proximity.specs.declared.reach.Reach.{Reach}
+use Rattle.rp_proximity.specs.declared.reach.Reach.TheVariants.{Touch}
+use Rattle.rp_proximity.specs.Near.{others_in, pairs_with, is_near, lots_at, AreWithin}
+use Rattle.rp_proximity.proofs.Behind.{others_behind}
 use Rattle.rp_lots.specs.declared.near.Near.{Near}
 use Rattle.rp_contacts.specs.declared.pair.Pair.{Pair}
 use Rattle.rp_contacts.specs.Meets.{pair_of, parts_at, IsPairWithin}

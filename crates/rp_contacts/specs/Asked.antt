@@ -10,8 +10,8 @@ use Rattle.rp_model.specs.commands.Reply.{Reply, reply_lines}
 use Rattle.rp_model.specs.commands.Parts.{lot_parts}
 use Rattle.rp_model.specs.commands.Neighbours.{touched_lots}
 use Rattle.rp_model.specs.commands.Access.{access_by_links}
-use Rattle.rp_lotindex.specs.declared.near.Reach.TheVariants.{Touch}
-use Rattle.rp_lotindex.specs.Near.{pairs_with}
+use Rattle.rp_proximity.specs.declared.reach.Reach.TheVariants.{Touch}
+use Rattle.rp_proximity.specs.Near.{pairs_with}
 use Rattle.rp_answer.specs.declared.reply.RowEnd.{RowEnd}
 use Rattle.rp_answer.specs.Replies.{EndsBy}
 use Rattle.rp_oracle.specs.declared.stopped.Stopped.{Stopped}

@@ -1,8 +1,8 @@
 -- Live lots by their places, and those behind each, in its layer, that may meet it.
 use Rattle.std.specs.Prelude.{◌≡◌, ℕ, ◌+◌, List, [], ◌∷◌, ◌++◌, map, filter, drop, Some, None, slice_get}
 use Rattle.rp_model.specs.states.State.{Lot, live_lots, lots_of_layer}
-use Rattle.rp_lotindex.specs.declared.near.Reach.{Reach}
-use Rattle.rp_lotindex.specs.Near.{pairs_with, is_near, lots_at, AreWithin}
+use Rattle.rp_proximity.specs.declared.reach.Reach.{Reach}
+use Rattle.rp_proximity.specs.Near.{pairs_with, is_near, lots_at, AreWithin}
 use Rattle.rp_contacts.specs.declared.pair.Pair.{Pair}
 use Rattle.rp_contacts.specs.Meets.{pair_of, parts_at}
 

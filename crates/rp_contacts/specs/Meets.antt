@@ -6,8 +6,8 @@ use Rattle.rp_semantics.specs.Walk.{Walk, Tester, pass, ◌>>=◌}
 use Rattle.rp_semantics.specs.Form.{common_nearby, touch_nearby}
 use Rattle.rp_model.specs.states.State.{Lot}
 use Rattle.rp_model.specs.commands.Parts.{lot_parts}
-use Rattle.rp_lotindex.specs.declared.near.Reach.{Reach}
-use Rattle.rp_lotindex.specs.declared.near.Reach.TheVariants.{Overlap, Touch}
+use Rattle.rp_proximity.specs.declared.reach.Reach.{Reach}
+use Rattle.rp_proximity.specs.declared.reach.Reach.TheVariants.{Overlap, Touch}
 use Rattle.rp_contacts.specs.declared.pair.Pair.{Pair}
 
 -- two lots, by their places

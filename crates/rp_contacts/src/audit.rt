@@ -7,7 +7,7 @@ ghost use Rattle.rp_contacts.specs.Apart.{LeavesAudit};
 
 use crate::behind::{later_pairs, live_places};
 use crate::pair::Pair;
-use rp_lotindex::Reach;
+use rp_proximity::Reach;
 use rp_lots::{Keeper, count_tests};
 use rp_oracle::{Stopped, Oracle};
 use std::alloc::Global;

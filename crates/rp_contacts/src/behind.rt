@@ -2,7 +2,7 @@
 ghost use Rattle.std.specs.Prelude.{◌≡◌, ◌&&◌, ◌<◌, ◌≤◌, ◌++◌, length, map, IfOk, OnOk};
 ghost use Rattle.rp_history.specs.Lots.{lot_of};
 ghost use Rattle.rp_history.specs.Places.{is_asked, live_places};
-ghost use Rattle.rp_lotindex.specs.Near.{pairs_with, AreWithin};
+ghost use Rattle.rp_proximity.specs.Near.{pairs_with, AreWithin};
 ghost use Rattle.rp_contacts.specs.Meets.{pair_of, parts_at};
 ghost use Rattle.rp_lots.specs.Counted.{CountsUpTo};
 ghost use Rattle.rp_contacts.specs.Behind.{lots_behind, tests_behind, AreNearBehind, ArePairsBehind};
@@ -10,7 +10,7 @@ ghost use Rattle.rp_contacts.specs.Behind.{lots_behind, tests_behind, AreNearBeh
 use crate::pair::Pair;
 use rp_history::History;
 use rp_lists::Name;
-use rp_lotindex::Reach;
+use rp_proximity::Reach;
 use rp_lots::{Keeper, Near, form_at, lots_near};
 use rp_oracle::{MAX_TESTS, Stopped, Oracle};
 use std::alloc::{AllocError, Global};

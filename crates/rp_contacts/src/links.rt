@@ -4,7 +4,7 @@ ghost use Rattle.std.specs.List.{AllByRecursion};
 ghost use Rattle.rp_model.specs.states.State.{ids_of, most_kept_parts};
 ghost use Rattle.rp_history.specs.Lots.{lot_of};
 ghost use Rattle.rp_history.specs.Places.{AreRising, IsOneOf};
-ghost use Rattle.rp_lotindex.specs.Near.{lots_at, AreWithin};
+ghost use Rattle.rp_proximity.specs.Near.{lots_at, AreWithin};
 ghost use Rattle.rp_contacts.specs.Numbers.{IsPairOf, AreBelow, placed, links_met};
 
 use crate::pair::Pair;

@@ -4,7 +4,7 @@ ghost use Rattle.std.specs.List.{AllByRecursion};
 ghost use Rattle.rp_model.specs.states.State.{most_kept_parts};
 ghost use Rattle.rp_model.specs.commands.Neighbours.{row_neighbours};
 ghost use Rattle.rp_history.specs.Lots.{lot_of};
-ghost use Rattle.rp_lotindex.specs.Near.{others_in, AreWithin};
+ghost use Rattle.rp_proximity.specs.Near.{others_in, AreWithin};
 ghost use Rattle.rp_contacts.specs.Asked.{LeavesContacts, touch_counted, LeavesPairs};
 ghost use Rattle.rp_contacts.specs.Meets.{pair_of, parts_at, contact_ids, IsPairWithin};
 
@@ -12,7 +12,7 @@ use crate::pair::Pair;
 use rp_answer::RowEnd;
 use rp_history::LotLine;
 use rp_lists::{Listed, Name, Names};
-use rp_lotindex::Reach;
+use rp_proximity::Reach;
 use rp_lots::{Keeper, count_tests, form_at, lots_near};
 use rp_oracle::{Stopped, Oracle};
 use std::alloc::{AllocError, Global};

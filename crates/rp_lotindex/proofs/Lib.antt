@@ -1,4 +1,3 @@
-pub mod Places
 pub mod Put
 pub mod Layers
 pub mod Settled
@@ -8,7 +7,5 @@ pub mod Cubes
 pub mod Stretches
 pub mod Reached
 pub mod Passed
-pub mod Skipped
-pub mod Behind
 pub mod Owned
 pub mod Floored

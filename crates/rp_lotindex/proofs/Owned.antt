@@ -26,13 +26,14 @@ use Rattle.rp_states.proofs.Listing.{all_unmapped}
 use Rattle.rp_boxindex.specs.Boxes.{Boxes}
 use Rattle.rp_boxindex.specs.Meeting.{do_meet, meeting_ids, first_that}
 use Rattle.rp_boxindex.proofs.Exact.{meeting_ids_rise_spec}
-use Rattle.rp_lotindex.specs.declared.moment.Moment.{Moment}
-use Rattle.rp_lotindex.specs.declared.moment.Moment.TheVariants.{Now, After}
+use Rattle.rp_proximity.specs.declared.moment.Moment.{Moment}
+use Rattle.rp_proximity.specs.declared.moment.Moment.TheVariants.{Now, After}
 use Rattle.rp_lotindex.specs.Indexed.{boxes_of_parts, box_at, box_by, IsIndexOf}
 use Rattle.rp_lotindex.specs.Turns.{axis_of}
 use Rattle.rp_lotindex.specs.Cubes.{live_number, past_number, moved, moved_in, moved_past, in_turns}
 use Rattle.rp_lotindex.specs.Stretches.{stretch_of, stretches_with}
-use Rattle.rp_lotindex.specs.Owner.{is_there, is_there_at, boxes_past, boxes_asked, lesser_of, first_in, owner_verdict, IsLine, KnowsOwners, BoxesHold, IsOwner}
+use Rattle.rp_proximity.specs.There.{is_there, owner_verdict, IsLine, KnowsOwners, BoxesHold}
+use Rattle.rp_lotindex.specs.Owner.{is_there_at, boxes_past, boxes_asked, lesser_of, first_in, IsOwner}
 use Rattle.rp_lotindex.proofs.Hulls.{listed_image, part_boxed, wider_meet}
 use Rattle.rp_lotindex.proofs.Cubes.{moved_in_meet, turn_listed}
 use Rattle.rp_lotindex.proofs.Boxed.{none_meet, lot_box}

@@ -23,12 +23,13 @@ use Rattle.rp_boxindex.specs.Boxes.{Boxes}
 use Rattle.rp_boxindex.specs.Laws.{is_there_and_meets}
 use Rattle.rp_boxindex.specs.Meeting.{do_meet, meeting_ids}
 use Rattle.rp_boxindex.proofs.Exact.{meeting_ids_are_exact_spec}
-use Rattle.rp_lotindex.specs.declared.near.Reach.{Reach}
-use Rattle.rp_lotindex.specs.declared.near.Reach.TheVariants.{Overlap, Touch}
+use Rattle.rp_proximity.specs.declared.reach.Reach.{Reach}
+use Rattle.rp_proximity.specs.declared.reach.Reach.TheVariants.{Overlap, Touch}
 use Rattle.rp_lotindex.specs.Indexed.{boxes_of_parts, box_at, NoneBehind, IsIndexAt}
 use Rattle.rp_lotindex.specs.Turns.{axis_of}
 use Rattle.rp_lotindex.specs.Cubes.{live_number, moved, moved_in, in_turns}
-use Rattle.rp_lotindex.specs.Near.{may_meet, is_near, is_closed, places_by, places_each, places_met, is_listed, AreWithin}
+use Rattle.rp_proximity.specs.Near.{may_meet, is_near, AreWithin}
+use Rattle.rp_lotindex.specs.Near.{is_closed, places_by, places_each, places_met, is_listed}
 use Rattle.rp_lotindex.proofs.Hulls.{listed_image, part_boxed, wider_meet}
 use Rattle.rp_lotindex.proofs.Cubes.{moved_in_meet, turn_listed}
 use Rattle.rp_lotindex.proofs.Boxed.{none_meet, live_boxes, lot_box, none_behind_lots}

@@ -1,27 +1,18 @@
 -- Whose a point is.
-use Rattle.std.specs.Prelude.{◌≡◌, ℕ, ◌<◌, ◌^◌, Bool, false, ◌&&◌, cond, nat_lt, List, [], ◌∷◌, ◌++◌, map, filter, Option, Some, None, slice_get}
-use Rattle.std.specs.List.{AllByRecursion}
+use Rattle.std.specs.Prelude.{◌≡◌, ℕ, Bool, false, ◌&&◌, cond, nat_lt, List, [], ◌∷◌, ◌++◌, map, filter, Option, Some, None, slice_get}
 use Rattle.rp_geometry.specs.Geometry.{RationalPoint, IntegerBox}
-use Rattle.rp_geometry.specs.sets.Shape.{Part}
-use Rattle.rp_geometry.specs.parts.LeastBox.{BoxHoldsCell}
 use Rattle.rp_language.specs.Name.{Label, label_eq}
-use Rattle.rp_model.specs.states.State.{Lot, is_live, is_alive_after, lots_of_layer, bare_lot}
-use Rattle.rp_model.specs.commands.Verdict.{Verdict}
-use Rattle.rp_model.specs.commands.Parts.{is_in_parts}
+use Rattle.rp_model.specs.states.State.{Lot, lots_of_layer, bare_lot}
 use Rattle.rp_model.specs.commands.At.{owner_line}
 use Rattle.rp_boxindex.specs.Boxes.{Boxes}
 use Rattle.rp_boxindex.specs.Meeting.{first_that, meeting_ids}
-use Rattle.rp_lotindex.specs.declared.moment.Moment.{Moment}
+use Rattle.rp_proximity.specs.declared.moment.Moment.{Moment}
+use Rattle.rp_proximity.specs.There.{is_there, owner_verdict, KnowsOwners, BoxesHold}
 use Rattle.rp_lotindex.specs.declared.stretch.Stretch.{Stretch}
-use Rattle.rp_lotindex.specs.declared.moment.Moment.TheVariants.{Now, After}
+use Rattle.rp_proximity.specs.declared.moment.Moment.TheVariants.{Now, After}
 use Rattle.rp_lotindex.specs.Indexed.{IsIndexOf}
 use Rattle.rp_lotindex.specs.Cubes.{live_number, past_number, in_turns}
 use Rattle.rp_lotindex.specs.Stretches.{stretches_with}
-
--- a lot is there at a moment
-abbrev pub is_there : {S : Type 0} → Moment → Lot S → Bool
-is_there Now = is_live
-is_there (After n) = is_alive_after n
 
 -- the lot at a place is there at a moment, and of the layer
 abbrev pub is_there_at : {S : Type 0} → Moment → Label → List (Lot S) → ℕ → Bool
@@ -37,11 +28,6 @@ abbrev pub boxes_asked : Moment → IntegerBox → List IntegerBox
 boxes_asked Now unit = in_turns live_number unit
 boxes_asked (After n) unit = in_turns live_number unit ++ boxes_past unit (stretches_with n)
 
--- a moment is now, or after a line of a script
-abbrev pub IsLine : Moment → Type 0
-IsLine Now = Unit {0}
-IsLine (After n) = n < 2 ^ 32
-
 -- the lesser of two numbers, as far as they are there
 abbrev pub lesser_of : Option ℕ → Option ℕ → Option ℕ
 lesser_of None p = p
@@ -52,19 +38,6 @@ lesser_of (Some i) (Some k) = cond (nat_lt k i) (Some k) (Some i)
 abbrev pub first_in : (ℕ → Bool) → Boxes → List IntegerBox → Option ℕ → Option ℕ
 first_in passes boxes [] o = o
 first_in passes boxes (b ∷ bs) o = first_in passes boxes bs (lesser_of o (first_that passes (meeting_ids false b boxes)))
-
--- the verdict that tells an owner
-abbrev pub owner_verdict : Option Label → Verdict
-owner_verdict None = Verdict.nobody
-owner_verdict (Some x) = Verdict.parcel x
-
--- it is known of each lot whether it has the point
-abbrev pub KnowsOwners : {S : Type 0} → (ℕ → Bool) → List (Lot S) → RationalPoint → Type 0
-KnowsOwners {S} has lots p = (k : ℕ) (l : Lot S) → slice_get lots k ≡ Some l → has k ≡ is_in_parts l.parts p
-
--- the box of each part holds its members
-abbrev pub BoxesHold : {S : Type 0} → List (Lot S) → Type 0
-BoxesHold lots = AllByRecursion (λ l. AllByRecursion (λ (q : Part). BoxHoldsCell q.bounds q.cell) l.parts) lots
 
 -- of all lots that are kept in the history and the indexes, the owner is the first one of the layer that is there at the moment and has the point
 abbrev pub IsOwner : (ℕ → Bool) → Label → Moment → RationalPoint → List (Lot (Unit {0})) → (Label → Boxes) → Option Label → Type 0

@@ -18,13 +18,11 @@ mod axis;
 mod bounded;
 mod boxes;
 mod cube;
-mod moment;
 mod near;
 mod owner;
 mod stretch;
+mod there;
 
 pub use bounded::Bounded;
 pub use boxes::LotBoxes;
-pub use moment::{Moment, is_there};
-pub use near::Reach;
 pub use owner::Holder;

@@ -6,7 +6,8 @@ ghost use Rattle.rp_space.specs.Boxes.{integer_box};
 ghost use Rattle.rp_history.specs.Lots.{lot_of};
 ghost use Rattle.rp_lotindex.specs.Indexed.{index_of, NoneBehind};
 ghost use Rattle.rp_lotindex.specs.Cubes.{live_number, in_turns};
-ghost use Rattle.rp_lotindex.specs.Near.{is_other_in, is_other_at, places_by, places_each, places_met, AreOthers, AreWithin, AreNear};
+ghost use Rattle.rp_proximity.specs.Near.{is_other_in, is_other_at, AreWithin};
+ghost use Rattle.rp_lotindex.specs.Near.{places_by, places_each, places_met, AreOthers, AreNear};
 
 use crate::axis::Axis;
 use crate::bounded::Bounded;
@@ -15,19 +16,11 @@ use crate::cube::{LIVE, moved_in};
 use rp_boxindex::{Index, Steps, Watch};
 use rp_history::{History, LotLine};
 use rp_lists::{Listed, Name};
+use rp_proximity::Reach;
 use rp_space::IntBox;
 use std::alloc::{AllocError, Global};
 use std::marker::Brand;
 use std::sync::ledger::{Blank, Ledger};
-
-/// Which boxes let two parts meet.
-#[derive(Clone, Copy)]
-pub enum Reach {
-    /// Those that share more than boundary.
-    Overlap,
-    /// Those that share a point, the boundary included.
-    Touch,
-}
 
 impl LotBoxes {
     /// Returns the places, in rising order and at or after `from`, of the live lots of `layer` in `history`, other than

@@ -14,11 +14,12 @@ ghost use Rattle.rp_lotindex.specs.Stretches.{stretches_with};
 use crate::axis::Axis;
 use crate::boxes::{LotBoxes, place_of};
 use crate::cube::{LIVE, moved_in, past_number};
-use crate::moment::{Moment, is_there};
 use crate::stretch::Stretch;
+use crate::there::{is_there, show_line};
 use rp_boxindex::{Choice, Index, Steps, Watch};
 use rp_history::History;
 use rp_lists::Name;
+use rp_proximity::Moment;
 use rp_space::{IntBox, Point};
 use std::marker::Brand;
 use std::sync::ledger::{Blank, Ledger};
@@ -80,7 +81,7 @@ impl LotBoxes {
             holder,
         };
         // The line of the moment is below 2^32.
-        moment.show_line();
+        show_line(moment);
         let id = self.first(watch, layer, moment, &unit_box(p), &owners)?;
         let place = place_of(id);
         Some(history.lots()[place].id)

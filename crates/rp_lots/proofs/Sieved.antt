@@ -10,9 +10,9 @@ use Rattle.rp_geometry.specs.sets.Shape.{Part}
 use Rattle.rp_geometry.specs.parts.Parts.{most_parts}
 use Rattle.rp_model.specs.states.State.{Lot}
 use Rattle.rp_model.specs.commands.Parts.{count_pairs, lot_parts}
-use Rattle.rp_lotindex.specs.declared.near.Reach.{Reach}
-use Rattle.rp_lotindex.specs.Near.{may_meet, pairs_with, is_near, lots_at}
-use Rattle.rp_lotindex.proofs.Places.{lots_left}
+use Rattle.rp_proximity.specs.declared.reach.Reach.{Reach}
+use Rattle.rp_proximity.specs.Near.{may_meet, pairs_with, is_near, lots_at}
+use Rattle.rp_proximity.proofs.Places.{lots_left}
 
 -- ---- one lot
 

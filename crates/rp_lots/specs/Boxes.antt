@@ -1,8 +1,8 @@
 -- Boxes of parts, which may let these meet.
 use Rattle.std.specs.Prelude.{Bool}
 use Rattle.rp_geometry.specs.Geometry.{IntegerBox, boxes_meet, closed_boxes_meet}
-use Rattle.rp_lotindex.specs.declared.near.Reach.{Reach}
-use Rattle.rp_lotindex.specs.declared.near.Reach.TheVariants.{Overlap, Touch}
+use Rattle.rp_proximity.specs.declared.reach.Reach.{Reach}
+use Rattle.rp_proximity.specs.declared.reach.Reach.TheVariants.{Overlap, Touch}
 
 -- two boxes let parts within them meet
 abbrev pub boxes_let : Reach → IntegerBox → IntegerBox → Bool

@@ -6,11 +6,11 @@ ghost use Rattle.rp_space.specs.Boxes.{integer_box};
 ghost use Rattle.rp_semantics.specs.Walk.{stopped, limit_met, most_tests};
 ghost use Rattle.rp_model.specs.states.State.{PlainState, bare_lot, parts_under_lots, most_kept_parts};
 ghost use Rattle.rp_model.specs.commands.Parts.{lot_parts};
-ghost use Rattle.rp_lotindex.specs.Near.{others_in, is_near, lots_at, AreWithin};
+ghost use Rattle.rp_proximity.specs.Near.{others_in, is_near, lots_at, AreWithin};
 
 use rp_history::History;
 use rp_lists::{Listed, Name};
-use rp_lotindex::Reach;
+use rp_proximity::Reach;
 use rp_space::IntBox;
 use rp_oracle::Oracle;
 use std::alloc::{AllocError, Global};

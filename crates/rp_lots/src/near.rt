@@ -3,7 +3,7 @@
 ghost use Rattle.std.specs.Prelude.{◌≡◌, ◌<◌, ◌≤◌, ◌*◌, IfOk, Some, count_by, length, map, drop, filter, slice_get, option_map};
 ghost use Rattle.rp_geometry.specs.parts.Parts.{most_parts};
 ghost use Rattle.rp_model.specs.commands.Parts.{count_pairs};
-ghost use Rattle.rp_lotindex.specs.Near.{may_meet, others_in, pairs_with, is_near, lots_at, AreWithin};
+ghost use Rattle.rp_proximity.specs.Near.{may_meet, others_in, pairs_with, is_near, lots_at, AreWithin};
 ghost use Rattle.rp_space.specs.Boxes.{integer_box};
 ghost use Rattle.rp_oracle.specs.Refines.{Refines};
 ghost use Rattle.rp_lots.specs.Boxes.{boxes_let};
@@ -11,7 +11,7 @@ ghost use Rattle.rp_lots.specs.Counted.{CountsUpTo};
 
 use crate::keeper::Keeper;
 use rp_lists::{Listed, Name};
-use rp_lotindex::Reach;
+use rp_proximity::Reach;
 use rp_space::IntBox;
 use rp_oracle::{MAX_TESTS, Stopped, Oracle};
 use std::alloc::Global;

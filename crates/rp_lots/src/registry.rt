@@ -3,12 +3,12 @@ ghost use Rattle.std.specs.Prelude.{◌≡◌, ◌+◌, ◌&&◌, filter, length
 ghost use Rattle.rp_semantics.specs.Form.{common_nearby};
 ghost use Rattle.rp_model.specs.states.State.{lots_of_layer, parts_in, parts_under_names, most_names, most_kept_parts};
 ghost use Rattle.rp_model.specs.commands.At.{owner_line};
-ghost use Rattle.rp_lotindex.specs.Owner.{is_there, owner_verdict};
+ghost use Rattle.rp_proximity.specs.There.{is_there, owner_verdict};
 ghost use Rattle.rp_oracle.specs.Refines.{Refines};
 
 use crate::keeper::Keeper;
 use rp_lists::Name;
-use rp_lotindex::Moment;
+use rp_proximity::Moment;
 use rp_space::Point;
 use rp_oracle::{Named, Stopped, Oracle};
 use std::alloc::Global;

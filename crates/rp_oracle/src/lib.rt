@@ -12,7 +12,7 @@ mod named;
 mod stopped;
 mod oracle;
 
-pub use limits::{MAX_HALVES, MAX_PARTS, MAX_TESTS};
+pub use limits::{MAX_HALVES, MAX_KEPT_PARTS, MAX_PARTS, MAX_TESTS};
 pub use named::Named;
 pub use stopped::Stopped;
 pub use oracle::Oracle;

@@ -17,7 +17,7 @@ use Rattle.rp_row_soundness.proofs.Points.{in_parts_is_member}
 use Rattle.rp_states.proofs.Labels.{label_is, label_same}
 use Rattle.rp_states.proofs.Listing.{all_passed, all_true, pairs_kept, pairs_unmapped}
 use Rattle.rp_states.proofs.Plain.{kept_images}
-use Rattle.rp_lotindex.specs.Owner.{owner_verdict}
+use Rattle.rp_proximity.specs.There.{owner_verdict}
 use Rattle.rp_parcels.specs.Kept.{AreSound}
 use Rattle.rp_parcels.specs.Points.{has_point}
 

@@ -26,7 +26,7 @@ use Rattle.rp_model.specs.commands.Access.{row_access}
 use Rattle.rp_row_soundness.proofs.Right.{first_walks_are_right}
 use Rattle.rp_states.proofs.Labels.{label_is}
 use Rattle.rp_history.specs.Lots.{lots_in}
-use Rattle.rp_lotindex.proofs.Skipped.{apart_on}
+use Rattle.rp_proximity.proofs.Skipped.{apart_on}
 use Rattle.rp_region.proofs.Behind.{ComesBehind}
 use Rattle.rp_parametricity.proofs.Kept.{FormedHave, ReplyHas}
 use Rattle.rp_checker_completeness.proofs.Commands.{Any, AnyLabel, any_parts, any_labels, any_state}

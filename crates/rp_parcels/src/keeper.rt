@@ -9,13 +9,13 @@ ghost use Rattle.rp_oracle.specs.Refines.{Refines};
 ghost use Rattle.rp_model.specs.states.State.{bare_lot, parts_under_lots, most_kept_parts};
 ghost use Rattle.rp_model.specs.commands.Parts.{lot_parts};
 ghost use Rattle.rp_history.specs.Lots.{lots_in};
-ghost use Rattle.rp_lotindex.specs.Near.{others_in, is_near, lots_at, AreWithin};
+ghost use Rattle.rp_proximity.specs.Near.{others_in, is_near, lots_at, AreWithin};
 
 use crate::parcels::Parcels;
 use rp_boxindex::VisitCount;
 use rp_history::History;
 use rp_lists::{Listed, Name};
-use rp_lotindex::Reach;
+use rp_proximity::Reach;
 use rp_lots::{Keeper, Overlaps};
 use rp_region::{Part, Region, Work};
 use rp_space::IntBox;

@@ -2,14 +2,14 @@
 ghost use Rattle.std.specs.Prelude.{◌≡◌, filter};
 ghost use Rattle.rp_model.specs.states.State.{live_lots, lots_of_layer, alive_after};
 ghost use Rattle.rp_model.specs.commands.At.{owner_line};
-ghost use Rattle.rp_lotindex.specs.Owner.{is_there, owner_verdict};
+ghost use Rattle.rp_proximity.specs.There.{is_there, owner_verdict};
 ghost use Rattle.rp_parcels.specs.Kept.{AreSound};
 ghost use Rattle.rp_parcels.specs.Points.{IsOnlyOwner};
 
 use crate::parcels::Parcels;
 use rp_boxindex::Quiet;
 use rp_lists::Name;
-use rp_lotindex::Moment;
+use rp_proximity::Moment;
 use rp_space::Point;
 
 impl Parcels {

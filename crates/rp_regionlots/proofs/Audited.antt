@@ -14,7 +14,7 @@ use Rattle.rp_states.proofs.PlainRows.{row_same}
 use Rattle.rp_row_soundness.proofs.Right.{first_walks_are_right}
 use Rattle.rp_row_soundness.proofs.RowStops.{row_stops, first_only_limits}
 use Rattle.rp_row_soundness.proofs.Stops.{StopsAtLimit}
-use Rattle.rp_lotindex.specs.declared.near.Reach.TheVariants.{Overlap}
+use Rattle.rp_proximity.specs.declared.reach.Reach.TheVariants.{Overlap}
 use Rattle.rp_contacts.specs.declared.pair.Pair.{Pair}
 use Rattle.rp_contacts.specs.Apart.{apart_each}
 use Rattle.rp_contacts.proofs.Apart.{none_meet}

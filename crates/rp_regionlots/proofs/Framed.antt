@@ -8,8 +8,8 @@ use Rattle.rp_semantics.specs.Walk.{Outcome, done, Walk, Work, no_work, with_lin
 use Rattle.rp_semantics.specs.Form.{near_pair, touching_pair, test_pair_if, first_with_part, first_pair}
 use Rattle.rp_region.specs.declared.fault.OpFault.TheVariants.{Limit}
 use Rattle.rp_region.specs.Makes.{work_after, IsFaultOf}
-use Rattle.rp_lotindex.specs.declared.near.Reach.{Reach}
-use Rattle.rp_lotindex.specs.declared.near.Reach.TheVariants.{Overlap, Touch}
+use Rattle.rp_proximity.specs.declared.reach.Reach.{Reach}
+use Rattle.rp_proximity.specs.declared.reach.Reach.TheVariants.{Overlap, Touch}
 use Rattle.rp_regionlots.specs.Shown.{pair_test, is_passed}
 
 -- a walk counts nothing and is never stopped: whatever the work, it comes to the same and appends the same lines

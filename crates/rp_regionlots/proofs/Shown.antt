@@ -4,7 +4,7 @@ use Rattle.std.specs.List.{AllByRecursion}
 use Rattle.rp_geometry.specs.sets.Shape.{Part}
 use Rattle.rp_semantics.specs.Walk.{Outcome, done, Work, no_work, with_lines, pass, after_first, first_tester}
 use Rattle.rp_region.specs.Makes.{work_after}
-use Rattle.rp_lotindex.specs.declared.near.Reach.{Reach}
+use Rattle.rp_proximity.specs.declared.reach.Reach.{Reach}
 use Rattle.rp_contacts.specs.declared.pair.Pair.{Pair}
 use Rattle.rp_contacts.specs.Meets.{meet_each}
 use Rattle.rp_regionlots.specs.declared.halves.Shown.{Shown}

@@ -3,7 +3,7 @@ use Rattle.std.specs.Prelude.{◌≡◌, ℕ, ◌<◌, Bool, false, List, [], �
 use Rattle.rp_geometry.specs.sets.Shape.{Part}
 use Rattle.rp_semantics.specs.Walk.{Outcome, done, stopped, Walk, Work, no_work, with_lines, first_tester}
 use Rattle.rp_region.specs.Makes.{work_after}
-use Rattle.rp_lotindex.specs.declared.near.Reach.{Reach}
+use Rattle.rp_proximity.specs.declared.reach.Reach.{Reach}
 use Rattle.rp_contacts.specs.declared.pair.Pair.{Pair}
 use Rattle.rp_contacts.specs.Meets.{pair_of, IsPairWithin, pair_test as tests_of_pair}
 use Rattle.rp_regionlots.specs.declared.halves.Shown.{Shown}

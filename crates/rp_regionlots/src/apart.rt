@@ -12,7 +12,7 @@ use crate::halves::meet_in_halves;
 use rp_answer::RowEnd;
 use rp_boxindex::Watch;
 use rp_contacts::audit_left;
-use rp_lotindex::Reach;
+use rp_proximity::Reach;
 use rp_lots::Keeper;
 use rp_region::Work;
 use std::alloc::Global;

@@ -14,7 +14,7 @@ use rp_answer::RowEnd;
 use rp_boxindex::Watch;
 use rp_contacts::{access_left, access_told, contact_ids, pending_contacts};
 use rp_lists::{Name, Names};
-use rp_lotindex::Reach;
+use rp_proximity::Reach;
 use rp_lots::Keeper;
 use rp_region::Work;
 use rp_rows::Access;

@@ -9,7 +9,7 @@ ghost use Rattle.rp_regionlots.specs.Shown.{pair_test, shown, shown_at, with_all
 
 use rp_boxindex::Watch;
 use rp_contacts::Pair;
-use rp_lotindex::Reach;
+use rp_proximity::Reach;
 use rp_parallel::{Judge, judge_all};
 use rp_region::{OpFault, Region, Work};
 use rp_oracle::Stopped;

@@ -10,7 +10,7 @@ use Rattle.rp_algebra.proofs.Lists.{images_twice}
 use Rattle.rp_geometry.specs.sets.Shape.{Shape, Part}
 use Rattle.rp_geometry.specs.sets.Sets.{IsNonempty}
 use Rattle.rp_language.specs.Name.{Label, label_eq, is_among}
-use Rattle.rp_model.specs.states.State.{Kept, Lot, NewLot, PlainState, kept_of_parts, lot_of_parts, state_of_parts, names_of, ids_of, changed, lots_replaced, parts_under_lots, most_names, most_kept_parts}
+use Rattle.rp_model.specs.states.State.{Kept, Lot, NewLot, PlainState, kept_of_parts, lot_of_parts, state_of_parts, names_of, ids_of, changed, lots_replaced, parts_under_lots, most_names, most_kept_parts, kept_under}
 use Rattle.rp_model.specs.states.Sound.{are_distinct, IsLaterThan}
 use Rattle.rp_states.proofs.Labels.{among_right, label_turned}
 use Rattle.rp_states.proofs.Listing.{all_unmapped}
@@ -18,7 +18,7 @@ use Rattle.rp_states.proofs.Plain.{image_sums}
 use Rattle.rp_states.proofs.Replaced.{ids_after}
 use Rattle.rp_history.specs.Lots.{AreBornBefore, AreNew}
 use Rattle.rp_history.proofs.Sizes.{as_many_parts}
-use Rattle.rp_store.specs.Kept.{kept_under, IsNewName, AreFew, state_with}
+use Rattle.rp_store.specs.Kept.{IsNewName, AreFew, state_with}
 use Rattle.rp_register_state.specs.Kept.{IsSoundByParts, ComesFromKnown}
 
 -- ---- labels that are distinct

@@ -5,7 +5,7 @@ ghost use Rattle.rp_answer.specs.Replies.{Tells};
 
 use rp_answer::{RowEnd, Verdicts, one_line};
 use rp_lists::Name;
-use rp_lotindex::Moment;
+use rp_proximity::Moment;
 use rp_lots::{Keeper, Registry};
 use rp_rows::{lineage, list, owner_verdict};
 use rp_space::Point;

@@ -12,7 +12,7 @@ use Rattle.rp_access.specs.Laws.{AreLinksOf}
 use Rattle.rp_access.proofs.Routes.{route_below}
 use Rattle.rp_access.proofs.Short.{chain_is_short}
 use Rattle.rp_access.proofs.Computed.{levels_are_computed_spec, chain_is_computed_spec}
-use Rattle.rp_lotindex.specs.Near.{AreWithin}
+use Rattle.rp_proximity.specs.Near.{AreWithin}
 use Rattle.rp_rows.specs.Access.{told_levels}
 
 -- ---- by their ids

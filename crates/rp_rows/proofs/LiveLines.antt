@@ -4,7 +4,7 @@ use Rattle.rp_model.specs.states.State.{Lot, is_live, live_lots}
 use Rattle.rp_model.specs.commands.Verdict.{Verdict, lot_lines}
 use Rattle.rp_history.specs.Places.{live_places}
 use Rattle.rp_history.proofs.Places.{left_further}
-use Rattle.rp_lotindex.specs.Near.{lots_at}
+use Rattle.rp_proximity.specs.Near.{lots_at}
 
 -- the line of a lot, and those of further ones
 pub line_more : (lines : List Verdict) (v : Verdict) (l : Lot (Unit {0})) (ls : List (Lot (Unit {0}))) → v ∷ [] ≡ lot_lines (l ∷ []) → (lines ++ v ∷ []) ++ lot_lines ls ≡ lines ++ lot_lines (l ∷ ls)

@@ -3,7 +3,7 @@ ghost use Rattle.std.specs.Prelude.{◌≡◌, ◌≤◌, ◌∷◌, ◌++◌, [
 ghost use Rattle.rp_model.specs.states.State.{lot_with_id, most_kept_parts};
 ghost use Rattle.rp_model.specs.commands.Verdict.{Verdict as ModelVerdict, neighbour_lines, lot_lines};
 ghost use Rattle.rp_history.specs.Lots.{lot_of};
-ghost use Rattle.rp_lotindex.specs.Owner.{owner_verdict};
+ghost use Rattle.rp_proximity.specs.There.{owner_verdict};
 ghost use Rattle.rp_answer.specs.Views.{verdict_of};
 ghost use Rattle.rp_rows.specs.Access.{told_access};
 ghost use Rattle.rp_rows.specs.Lots.{lots_under};

@@ -2,7 +2,7 @@
 ghost use Rattle.std.specs.Prelude.{◌≡◌, ◌<◌, ◌≤◌, IfOk, IfSome, length, option_map};
 ghost use Rattle.rp_model.specs.states.State.{place_among, most_kept_parts};
 ghost use Rattle.rp_model.specs.commands.Verdict.{chain_lines, level_lines};
-ghost use Rattle.rp_lotindex.specs.Near.{AreWithin};
+ghost use Rattle.rp_proximity.specs.Near.{AreWithin};
 ghost use Rattle.rp_rows.specs.Access.{told_chain, told_levels};
 
 use crate::access::Levels;

@@ -8,17 +8,9 @@ use Rattle.std.proofs.lemmas.List.Sums.{sum_by_push}
 use Rattle.indexmap.specs.IndexMap.{insert_entry}
 use Rattle.rp_geometry.specs.sets.Shape.{Part}
 use Rattle.rp_language.specs.Name.{Label, label_eq, is_among}
-use Rattle.rp_model.specs.states.State.{Kept, kept_named, parts_of_kept, names_of, most_names, most_kept_parts}
+use Rattle.rp_model.specs.states.State.{Kept, kept_named, parts_of_kept, names_of, most_names, most_kept_parts, kept_under}
 use Rattle.rp_states.proofs.Plain.{there_is_kept}
-use Rattle.rp_store.specs.Kept.{kept_under, AreNamed, IsNewName}
-
--- a name is there where a form is found under it
-pub there_as_found : {F : Type 0} (parts : F → List Part) (x : Label) (ks : List (Kept (Unit {0}))) (o : Option (Bor F)) (b : Bool) → option_map parts (option_copied o) ≡ parts_of_kept (kept_named x ks) → is_some o ≡ b → is_among x (names_of ks) ≡ b
-there_as_found {F} parts x ks o b found e = sym (there_is_kept x ks) ∙ ap is_some (sym found) ∙ copied o ∙ e
-  where
-    copied : (o : Option (Bor F)) → is_some (option_map parts (option_copied o)) ≡ is_some o
-    copied None = refl
-    copied (Some r) = refl
+use Rattle.rp_store.specs.Kept.{AreNamed, IsNewName}
 
 module _ {F : Type 0} (parts : F → List Part) where
   -- a name and what it stands for

@@ -2,4 +2,3 @@ pub mod Together
 pub mod Boxed
 pub mod Settled
 pub mod KeptNames
-pub mod Defined

@@ -15,7 +15,7 @@ use Rattle.rp_history.specs.Parts.{lots_with_parts, new_lots}
 use Rattle.rp_history.proofs.Together.{length-with_parts, bare-with_parts, ids-with_parts, parts_at, after_with_parts, all_ended_with_parts, still_bare, parts_after, new_parts}
 use Rattle.rp_boxindex.specs.Boxes.{Boxes}
 use Rattle.rp_lotindex.specs.Indexed.{IsIndexOf, AreKeptIn}
-use Rattle.rp_lotindex.specs.Owner.{KnowsOwners}
+use Rattle.rp_proximity.specs.There.{KnowsOwners}
 use Rattle.rp_lotindex.proofs.Boxed.{kept_in}
 use Rattle.rp_store.specs.Kept.{AreFew, AreLots, has_point}
 

@@ -12,10 +12,6 @@ use Rattle.rp_lotindex.specs.Indexed.{IsIndexOf}
 
 -- ---- names
 
--- parts under a name
-abbrev pub kept_under : Label → List Part → Kept (Unit {0})
-kept_under x ps = record { name = x; set = tt; parts = ps }
-
 -- few names with few parts, which are counted
 pub record AreNamed (parts : ℕ) (ks : List (Kept (Unit {0}))) : Type 0 where
   pub few_names : length ks ≤ most_names

@@ -15,6 +15,5 @@ mod names;
 mod settle;
 
 pub use forms::Forms;
-pub use limits::MAX_KEPT_PARTS;
 pub use lots::Lots;
 pub use names::NamedForms;

@@ -1,12 +1,13 @@
 //! What names stand for.
 ghost use Rattle.std.specs.Prelude.{◌≡◌, ◌+◌, ◌&&◌, [], ◌∷◌, ◌++◌, length, nat_le, option_copied, option_map, OnOk, OnErr};
-ghost use Rattle.rp_model.specs.states.State.{kept_named, parts_of_kept, parts_under_names, most_names, most_kept_parts};
-ghost use Rattle.rp_store.specs.Kept.{kept_under, IsNewName};
+ghost use Rattle.rp_model.specs.states.State.{kept_named, parts_of_kept, parts_under_names, most_names, most_kept_parts, kept_under};
+ghost use Rattle.rp_store.specs.Kept.{IsNewName};
 
 use crate::forms::Forms;
-use crate::limits::{MAX_KEPT_PARTS, MAX_NAMES};
+use crate::limits::MAX_NAMES;
 use indexmap::IndexMap;
 use rp_lists::Name;
+use rp_oracle::MAX_KEPT_PARTS;
 use std::alloc::{AllocError, Global};
 use std::fmt;
 use std::marker::Model;
@@ -29,7 +30,8 @@ impl<F: Forms> fmt::Debug for NamedForms<F> {
 impl<F: Forms> Model for NamedForms<F> {
     ghost use Rattle.std.specs.Prelude.{List, map};
     ghost use Rattle.rp_model.specs.states.State.{Kept};
-    ghost use Rattle.rp_store.specs.Kept.{kept_under, AreNamed};
+    ghost use Rattle.rp_model.specs.states.State.{kept_under};
+    ghost use Rattle.rp_store.specs.Kept.{AreNamed};
 
     ghost Value = { List (Kept (Unit {0})) };
 

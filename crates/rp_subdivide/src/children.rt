@@ -16,7 +16,7 @@ ghost use Rattle.rp_subdivide.specs.Steps.{inside_tested, apart_tested, cover_te
 use crate::child::Child;
 use rp_answer::{Refusal, RowEnd};
 use rp_lists::Names;
-use rp_lotindex::Reach;
+use rp_proximity::Reach;
 use rp_lots::{Keeper, Overlaps, count_pairs, count_parts, count_tests};
 use rp_eval::{is_empty, within};
 use rp_oracle::{Stopped, Oracle};

@@ -1,6 +1,5 @@
 use Rattle.std.proofs.Common.{true, false, sym, ap, ◌∙◌}
-use Rattle.rp_store.proofs.KeptNames.{there_as_found}
-use Rattle.rp_store.proofs.Defined.{known_name, no_room, new_name}
+use Rattle.rp_changes.proofs.Defined.{there_as_found, known_name, no_room, new_name}
 use Rattle.rp_changes.proofs.joining.define.Goals as goal
 
 pub returns-then-is_some : goal.returns-then-is_some

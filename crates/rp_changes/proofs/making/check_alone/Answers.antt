@@ -2,8 +2,8 @@ use Rattle.std.proofs.Common.{refl, ap, sym, ◌∙◌, subst}
 use Rattle.std.proofs.lemmas.Result.{err_from_is_err_and}
 use Rattle.rp_semantics.specs.Walk.{done, after_first}
 use Rattle.rp_model.specs.commands.Register.{first_overlapped}
-use Rattle.rp_lotindex.specs.declared.near.Reach.TheVariants.{Overlap}
-use Rattle.rp_lotindex.specs.Near.{others_in, pairs_with, lots_at}
+use Rattle.rp_proximity.specs.declared.reach.Reach.TheVariants.{Overlap}
+use Rattle.rp_proximity.specs.Near.{others_in, pairs_with, lots_at}
 use Rattle.rp_oracle.specs.Refines.{StopsBy}
 use Rattle.rp_oracle.proofs.Left.{stops_on}
 use Rattle.rp_lots.specs.declared.near.Near.{Near}

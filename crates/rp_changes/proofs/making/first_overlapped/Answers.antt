@@ -11,9 +11,9 @@ use Rattle.rp_oracle.proofs.Left.{all_left, left_as, stop_left}
 use Rattle.rp_history.specs.declared.lot.LotLine.{LotLine}
 use Rattle.rp_history.specs.Lots.{lot_of}
 use Rattle.rp_history.proofs.Bare.{line_at}
-use Rattle.rp_lotindex.specs.Near.{lots_at}
-use Rattle.rp_lotindex.proofs.Places.{place_within}
-use Rattle.rp_lotindex.proofs.Skipped.{search_on}
+use Rattle.rp_proximity.specs.Near.{lots_at}
+use Rattle.rp_proximity.proofs.Places.{place_within}
+use Rattle.rp_proximity.proofs.Skipped.{search_on}
 use Rattle.rp_lots.proofs.Sieved.{item_parts}
 use Rattle.rp_changes.proofs.Searched.{search_left, search_next}
 use Rattle.rp_changes.proofs.making.first_overlapped.Goals as goal

@@ -1,7 +1,7 @@
 use Rattle.std.proofs.Common.{drop}
 use Rattle.rp_model.specs.commands.Register.{first_overlapped}
 use Rattle.rp_oracle.proofs.Left.{IsLeft}
-use Rattle.rp_lotindex.specs.Near.{lots_at}
+use Rattle.rp_proximity.specs.Near.{lots_at}
 use Rattle.rp_changes.proofs.making.first_overlapped.Given as goal
 
 -- the lots at the places still to come are left

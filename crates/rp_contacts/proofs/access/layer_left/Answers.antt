@@ -4,8 +4,8 @@ use Rattle.std.proofs.lemmas.List.{length-map}
 use Rattle.std.proofs.lemmas.Result.{err_from_is_err_and}
 use Rattle.rp_language.specs.Name.{Label}
 use Rattle.rp_model.specs.states.State.{Lot, bare_lot, ids_of, place_among}
-use Rattle.rp_lotindex.specs.declared.near.Reach.TheVariants.{Touch}
-use Rattle.rp_lotindex.specs.Near.{lots_at, AreWithin}
+use Rattle.rp_proximity.specs.declared.reach.Reach.TheVariants.{Touch}
+use Rattle.rp_proximity.specs.Near.{lots_at, AreWithin}
 use Rattle.rp_contacts.specs.declared.behind.NearPairs.{NearPairs}
 use Rattle.rp_contacts.specs.Meets.{IsPairWithin}
 use Rattle.rp_contacts.specs.Numbers.{places_among, IsPairOf, AreBelow, placed}

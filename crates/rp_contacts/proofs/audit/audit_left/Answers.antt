@@ -2,8 +2,8 @@ use Rattle.std.proofs.Common.{ℕ, List, length, None, sym, ap, ◌∙◌, subst
 use Rattle.std.proofs.lemmas.List.{length-map}
 use Rattle.std.proofs.lemmas.Result.{err_from_is_err_and}
 use Rattle.rp_model.specs.states.State.{bare_lot}
-use Rattle.rp_lotindex.specs.declared.near.Reach.TheVariants.{Overlap}
-use Rattle.rp_lotindex.specs.Near.{AreWithin}
+use Rattle.rp_proximity.specs.declared.reach.Reach.TheVariants.{Overlap}
+use Rattle.rp_proximity.specs.Near.{AreWithin}
 use Rattle.rp_contacts.specs.declared.behind.NearPairs.{NearPairs}
 use Rattle.rp_contacts.specs.Behind.{tests_behind, ArePairsBehind}
 use Rattle.rp_contacts.proofs.Apart.{audit_stops, audit_leaves}

@@ -1,7 +1,7 @@
 use Rattle.std.proofs.Common.{◌+◌, List, drop, ap₂, sym, subst}
 use Rattle.rp_geometry.specs.sets.Shape.{Part}
 use Rattle.rp_model.specs.states.State.{Lot}
-use Rattle.rp_lotindex.specs.Near.{pairs_with, others_in}
+use Rattle.rp_proximity.specs.Near.{pairs_with, others_in}
 use Rattle.rp_lots.specs.declared.near.Near.{Near}
 use Rattle.rp_lots.specs.Counted.{CountsUpTo}
 use Rattle.rp_contacts.proofs.Contacts.{parts_item}

@@ -6,8 +6,8 @@ use Rattle.rp_history.specs.Lots.{lot_of}
 use Rattle.rp_history.specs.Places.{is_asked}
 use Rattle.rp_history.proofs.Placed.{lot_at}
 use Rattle.rp_history.proofs.Places.{places_below, places_few}
-use Rattle.rp_lotindex.specs.Near.{AreWithin}
-use Rattle.rp_lotindex.proofs.Places.{place_within}
+use Rattle.rp_proximity.specs.Near.{AreWithin}
+use Rattle.rp_proximity.proofs.Places.{place_within}
 use Rattle.rp_contacts.proofs.Paired.{is_asked_at, asked_line, asked_there}
 use Rattle.rp_contacts.proofs.behind.live_places.Goals as goal
 use Rattle.rp_contacts.proofs.behind.live_places.Goals.{then-is_asked+in_ok-push, else-is_asked}

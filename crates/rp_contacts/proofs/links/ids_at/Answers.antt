@@ -4,7 +4,7 @@ use Rattle.std.proofs.lemmas.List.{map_more, take_all, length-map}
 use Rattle.rp_language.specs.Name.{Label}
 use Rattle.rp_history.specs.declared.lot.LotLine.{LotLine}
 use Rattle.rp_history.specs.Lots.{lot_of}
-use Rattle.rp_lotindex.proofs.Places.{place_within}
+use Rattle.rp_proximity.proofs.Places.{place_within}
 use Rattle.rp_contacts.specs.Meets.{id_at}
 use Rattle.rp_contacts.proofs.Linked.{ids_of_places}
 use Rattle.rp_contacts.proofs.Numbers.{line_id}

@@ -1,7 +1,7 @@
 use Rattle.std.proofs.Common.{◌≡◌, ◌<◌, [], ◌∷◌, ◌++◌, length, get_or, refl, ap, ◌∙◌, arith}
 use Rattle.std.proofs.lemmas.List.{length-append}
 use Rattle.rp_history.specs.declared.lot.LotLine.{LotLine}
-use Rattle.rp_lotindex.proofs.Places.{place_within}
+use Rattle.rp_proximity.proofs.Places.{place_within}
 use Rattle.rp_contacts.proofs.Meeting.{id_taken, id_passed}
 use Rattle.rp_contacts.proofs.touching.contact_ids.Goals as goal
 use Rattle.rp_contacts.proofs.touching.contact_ids.Goals.{then-met-i+in_ok-push, else-met-i}

@@ -3,8 +3,8 @@ use Rattle.std.proofs.lemmas.List.{length-map}
 use Rattle.std.proofs.lemmas.Result.{err_from_is_err_and}
 use Rattle.rp_semantics.specs.Walk.{pass, after_first}
 use Rattle.rp_model.specs.commands.Parts.{lot_parts}
-use Rattle.rp_lotindex.specs.declared.near.Reach.TheVariants.{Touch}
-use Rattle.rp_lotindex.specs.Near.{others_in, pairs_with}
+use Rattle.rp_proximity.specs.declared.reach.Reach.TheVariants.{Touch}
+use Rattle.rp_proximity.specs.Near.{others_in, pairs_with}
 use Rattle.rp_lots.specs.declared.near.Near.{Near}
 use Rattle.rp_contacts.specs.declared.pair.Pair.{Pair}
 use Rattle.rp_contacts.specs.Meets.{pair_of, meet_each, contact_ids}

@@ -1,8 +1,8 @@
 use Rattle.std.proofs.Common.{[]}
 use Rattle.std.proofs.lemmas.Result.{err_from_is_err_and}
 use Rattle.rp_model.specs.commands.Parts.{lot_parts}
-use Rattle.rp_lotindex.specs.Near.{others_in}
-use Rattle.rp_lotindex.specs.declared.near.Reach.TheVariants.{Touch}
+use Rattle.rp_proximity.specs.Near.{others_in}
+use Rattle.rp_proximity.specs.declared.reach.Reach.TheVariants.{Touch}
 use Rattle.rp_oracle.proofs.Left.{stop_left}
 use Rattle.rp_contacts.specs.Asked.{touch_counted}
 use Rattle.rp_contacts.specs.Meets.{meet_each, contact_ids, parts_at}

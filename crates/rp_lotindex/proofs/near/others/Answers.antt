@@ -1,7 +1,7 @@
 use Rattle.std.proofs.Common.{Bool, List, ℕ, [], ◌∷◌, ◌++◌, cond, take, filter, get_or, refl, ap, sym, ◌∙◌, append-nil}
 use Rattle.std.proofs.lemmas.List.Elements.{filter_more}
-use Rattle.rp_lotindex.specs.Near.{is_other_at}
-use Rattle.rp_lotindex.proofs.Places.{place_within, other_line}
+use Rattle.rp_proximity.specs.Near.{is_other_at}
+use Rattle.rp_proximity.proofs.Places.{place_within, other_line}
 use Rattle.rp_lotindex.proofs.near.others.Goals as goal
 use Rattle.rp_lotindex.proofs.near.others.Goals.{then-is_other+in_ok-push, else-is_other}
 

@@ -1,5 +1,5 @@
 use Rattle.std.proofs.Common.{◌≡◌, filter, take}
-use Rattle.rp_lotindex.specs.Near.{is_other_at}
+use Rattle.rp_proximity.specs.Near.{is_other_at}
 use Rattle.rp_lotindex.proofs.near.others.Given as goal
 
 -- the places so far were looked at

@@ -1,7 +1,7 @@
 use Rattle.std.proofs.Common.{◌≡◌, ◌+◌, ◌≤◌, ◌*◌, map, drop}
 use Rattle.rp_geometry.specs.parts.Parts.{most_parts}
 use Rattle.rp_model.specs.commands.Parts.{count_pairs}
-use Rattle.rp_lotindex.specs.Near.{may_meet}
+use Rattle.rp_proximity.specs.Near.{may_meet}
 use Rattle.rp_lots.proofs.near.count_among.Given as goal
 
 -- the pairs of the parts still to come are not counted yet

@@ -5,8 +5,8 @@ use Rattle.rp_algebra.proofs.Listed.{all_append}
 use Rattle.rp_algebra.proofs.Lists.{get_some}
 use Rattle.rp_semantics.specs.Walk.{most_tests}
 use Rattle.rp_model.specs.commands.Parts.{count_pairs}
-use Rattle.rp_lotindex.specs.Near.{may_meet, pairs_with, is_near, lots_at, AreWithin}
-use Rattle.rp_lotindex.proofs.Places.{place_within}
+use Rattle.rp_proximity.specs.Near.{may_meet, pairs_with, is_near, lots_at, AreWithin}
+use Rattle.rp_proximity.proofs.Places.{place_within}
 use Rattle.rp_lots.specs.declared.near.Near.{Near}
 use Rattle.rp_lots.proofs.Sieved.{item_parts, short_at, pairs_left, near_taken, near_passed}
 use Rattle.rp_lots.proofs.near.count_at.Goals as goal

@@ -1,6 +1,6 @@
 use Rattle.std.proofs.Common.{◌≡◌, ◌+◌, ◌++◌, ◌≤◌, drop, filter, length}
 use Rattle.rp_semantics.specs.Walk.{most_tests}
-use Rattle.rp_lotindex.specs.Near.{pairs_with, is_near, lots_at, AreWithin}
+use Rattle.rp_proximity.specs.Near.{pairs_with, is_near, lots_at, AreWithin}
 use Rattle.rp_lots.proofs.near.count_at.Given as goal
 
 -- the pairs with the lots at the places still to come are not counted yet, and the near ones of these lots are left

@@ -1,5 +1,5 @@
 use Rattle.std.proofs.Common.{◌≡◌, ◌+◌, ◌≤◌, map, drop, count_by}
-use Rattle.rp_lotindex.specs.Near.{may_meet}
+use Rattle.rp_proximity.specs.Near.{may_meet}
 use Rattle.rp_lots.proofs.near.count_with_part.Given as goal
 
 -- the parts still to come are not counted yet

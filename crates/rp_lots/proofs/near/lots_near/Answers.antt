@@ -1,7 +1,7 @@
 use Rattle.std.proofs.Common.{ℕ, List, filter, drop, sym, ap, ◌∙◌, subst}
 use Rattle.std.proofs.lemmas.Result.{IfOk-weaker}
-use Rattle.rp_lotindex.specs.Near.{others_in, is_near, lots_at, AreWithin}
-use Rattle.rp_lotindex.proofs.Passed.{pairs_same}
+use Rattle.rp_proximity.specs.Near.{others_in, is_near, lots_at, AreWithin}
+use Rattle.rp_proximity.proofs.Pairs.{pairs_same}
 use Rattle.rp_lots.specs.declared.near.Near.{Near}
 use Rattle.rp_lots.specs.Counted.{CountsUpTo}
 use Rattle.rp_lots.proofs.near.lots_near.Goals as goal

@@ -4,7 +4,7 @@ use Rattle.rp_geometry.specs.sets.Shape.{Part}
 use Rattle.rp_semantics.specs.Walk.{first_tester}
 use Rattle.rp_model.specs.commands.Verdict.{clear}
 use Rattle.rp_model.specs.commands.Reply.{reply}
-use Rattle.rp_lotindex.specs.declared.near.Reach.TheVariants.{Overlap}
+use Rattle.rp_proximity.specs.declared.reach.Reach.TheVariants.{Overlap}
 use Rattle.rp_contacts.proofs.Judging.{within_forms, meet_pairs, judged_stops, judged_ends}
 use Rattle.rp_regionlots.proofs.Audited.{audit_met}
 use Rattle.rp_regionlots.proofs.Shown.{own_map}

@@ -4,7 +4,7 @@ use Rattle.rp_geometry.specs.sets.Shape.{Part}
 use Rattle.rp_semantics.specs.Walk.{done, first_tester}
 use Rattle.rp_model.specs.commands.Verdict.{Verdict}
 use Rattle.rp_model.specs.commands.Reply.{reply_lines}
-use Rattle.rp_lotindex.specs.declared.near.Reach.TheVariants.{Touch}
+use Rattle.rp_proximity.specs.declared.reach.Reach.TheVariants.{Touch}
 use Rattle.rp_contacts.specs.Asked.{access_reply}
 use Rattle.rp_contacts.proofs.Judging.{within_forms, meet_pairs, judged_stops, judged_ends}
 use Rattle.rp_regionlots.proofs.Shown.{own_map}

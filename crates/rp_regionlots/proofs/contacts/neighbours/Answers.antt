@@ -6,7 +6,7 @@ use Rattle.rp_semantics.specs.Walk.{done, first_tester}
 use Rattle.rp_model.specs.states.State.{Lot}
 use Rattle.rp_model.specs.commands.Verdict.{neighbour_lines}
 use Rattle.rp_model.specs.commands.Reply.{reply_lines}
-use Rattle.rp_lotindex.specs.declared.near.Reach.TheVariants.{Touch}
+use Rattle.rp_proximity.specs.declared.reach.Reach.TheVariants.{Touch}
 use Rattle.rp_contacts.specs.Asked.{contacts_reply}
 use Rattle.rp_contacts.specs.Meets.{contact_ids}
 use Rattle.rp_contacts.proofs.Contacts.{bare_met}

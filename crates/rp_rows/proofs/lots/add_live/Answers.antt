@@ -5,8 +5,8 @@ use Rattle.rp_model.specs.commands.Verdict.{Verdict, lot_lines}
 use Rattle.rp_history.specs.Lots.{lot_of}
 use Rattle.rp_history.proofs.Placed.{lot_at}
 use Rattle.rp_history.proofs.Places.{places_below}
-use Rattle.rp_lotindex.specs.Near.{lots_at, AreWithin}
-use Rattle.rp_lotindex.proofs.Places.{place_within, lots_left}
+use Rattle.rp_proximity.specs.Near.{lots_at, AreWithin}
+use Rattle.rp_proximity.proofs.Places.{place_within, lots_left}
 use Rattle.rp_answer.specs.Views.{verdict_of}
 use Rattle.rp_rows.proofs.LiveLines.{line_more, live_at}
 use Rattle.rp_rows.proofs.lots.add_live.Goals as goal

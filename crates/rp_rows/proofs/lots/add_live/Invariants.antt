@@ -1,7 +1,7 @@
 use Rattle.std.proofs.Common.{◌≡◌, ◌++◌, map, drop}
 use Rattle.rp_model.specs.states.State.{live_lots}
 use Rattle.rp_model.specs.commands.Verdict.{lot_lines}
-use Rattle.rp_lotindex.specs.Near.{lots_at}
+use Rattle.rp_proximity.specs.Near.{lots_at}
 use Rattle.rp_answer.specs.Views.{verdict_of}
 use Rattle.rp_rows.proofs.lots.add_live.Given as goal
 

@@ -6,8 +6,8 @@ use Rattle.std.proofs.lemmas.List.Elements.{filter_map-append}
 use Rattle.std.proofs.lemmas.Option.{slice_get_read}
 use Rattle.rp_language.specs.Name.{Label}
 use Rattle.rp_access.specs.Route.{Numbers}
-use Rattle.rp_lotindex.specs.Near.{AreWithin}
-use Rattle.rp_lotindex.proofs.Places.{place_within}
+use Rattle.rp_proximity.specs.Near.{AreWithin}
+use Rattle.rp_proximity.proofs.Places.{place_within}
 use Rattle.rp_rows.proofs.numbered.named_chain.Goals as goal
 
 pub loop-number-preserved : goal.loop-number-preserved

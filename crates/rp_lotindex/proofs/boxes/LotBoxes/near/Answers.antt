@@ -6,7 +6,8 @@ use Rattle.std.specs.Ordering.{nat_cmp}
 use Rattle.std.proofs.lemmas.Result.{IfOk-weaker}
 use Rattle.rp_lists.specs.Listed.{Listed}
 use Rattle.rp_lotindex.specs.Indexed.{index_of}
-use Rattle.rp_lotindex.specs.Near.{is_other_at, places_met, AreOthers, AreWithin, AreNear}
+use Rattle.rp_proximity.specs.Near.{is_other_at, AreWithin}
+use Rattle.rp_lotindex.specs.Near.{places_met, AreOthers, AreNear}
 use Rattle.rp_lotindex.proofs.Passed.{in_order, others_are, others_near, others_places}
 use Rattle.rp_lotindex.proofs.Reached.{AreInOrder, met_within}
 use Rattle.rp_lotindex.proofs.boxes.LotBoxes.near.Goals as goal

@@ -1,7 +1,7 @@
 use Rattle.std.proofs.Common.{List, filter, ap, sym, ◌∙◌, subst}
 use Rattle.rp_model.specs.states.State.{Lot, lots_of_layer}
 use Rattle.rp_model.specs.commands.At.{owner_line}
-use Rattle.rp_lotindex.specs.Owner.{is_there, BoxesHold}
+use Rattle.rp_proximity.specs.There.{is_there, BoxesHold}
 use Rattle.rp_lotindex.proofs.Owned.{kept_boxes_hold}
 use Rattle.rp_parcels.proofs.parcels.Parcels.owner.Goals as goal
 

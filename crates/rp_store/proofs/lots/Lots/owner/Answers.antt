@@ -1,5 +1,5 @@
 use Rattle.std.proofs.Common.{List, map, sym, subst}
-use Rattle.rp_lotindex.specs.Owner.{KnowsOwners}
+use Rattle.rp_proximity.specs.There.{KnowsOwners}
 use Rattle.rp_lotindex.specs.Indexed.{index_of}
 use Rattle.rp_store.specs.Kept.{has_point}
 use Rattle.rp_store.proofs.Together.{lots_bare, lots_indexed, lists_know}

@@ -1,6 +1,7 @@
 use Rattle.std.proofs.Common.{◌++◌, ◌∷◌, [], ℕ, ◌+◌, length, sym, ap, subst, ◌∙◌}
 use Rattle.std.proofs.lemmas.List.{length-map}
-use Rattle.rp_store.specs.Kept.{kept_under, AreNamed}
+use Rattle.rp_model.specs.states.State.{kept_under}
+use Rattle.rp_store.specs.Kept.{AreNamed}
 use Rattle.rp_store.proofs.KeptNames.{kept_last, named_with}
 use Rattle.rp_store.proofs.names.NamedForms.keep.Goals as goal
 

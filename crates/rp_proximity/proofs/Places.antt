@@ -9,7 +9,7 @@ use Rattle.rp_language.specs.Name.{Label}
 use Rattle.rp_model.specs.states.State.{Lot}
 use Rattle.rp_history.specs.declared.lot.LotLine.{LotLine}
 use Rattle.rp_history.specs.Lots.{lot_of}
-use Rattle.rp_lotindex.specs.Near.{is_other_in, is_other_at, lots_at, AreWithin}
+use Rattle.rp_proximity.specs.Near.{is_other_in, is_other_at, lots_at, AreWithin}
 
 -- a place of a list is within
 pub place_within : {A : Type 0} (lots : List A) (places : List ℕ) → AreWithin lots places → (i k : ℕ) → i < length places → k ≡ get_or places i 0 → k < length lots

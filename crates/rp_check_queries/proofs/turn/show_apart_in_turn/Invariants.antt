@@ -2,7 +2,7 @@ use Rattle.std.proofs.Common.{map, drop}
 use Rattle.rp_reports.specs.Check.{line_tester}
 use Rattle.rp_oracle.proofs.Left.{IsLeft}
 use Rattle.rp_contacts.specs.Apart.{apart_each}
-use Rattle.rp_check_state.proofs.turn.show_apart_in_turn.Given as goal
+use Rattle.rp_check_queries.proofs.turn.show_apart_in_turn.Given as goal
 
 -- the pairs still to come are left
 abbrev pub invariant-loop-i : goal.invariant-loop-i

@@ -4,8 +4,8 @@ use Rattle.std.proofs.lemmas.Result.{err_from_is_err_and}
 use Rattle.rp_semantics.specs.Walk.{pass}
 use Rattle.rp_reports.specs.Check.{line_tester}
 use Rattle.rp_oracle.proofs.Left.{stop_left, stops_on}
-use Rattle.rp_check_state.proofs.Judged.{within_at, met_with, met_from, pair_left, rest_left, none_left}
-use Rattle.rp_check_state.proofs.turn.meet_in_turn.Goals as goal
+use Rattle.rp_check_queries.proofs.Judged.{within_at, met_with, met_from, pair_left, rest_left, none_left}
+use Rattle.rp_check_queries.proofs.turn.meet_in_turn.Goals as goal
 
 pub loop-i-preserved : goal.loop-i-preserved
 loop-i-preserved c =

@@ -6,8 +6,8 @@ use Rattle.rp_algebra.proofs.Lists.{drop_item}
 use Rattle.rp_model.specs.states.State.{Lot, live_lots, lots_of_layer, ids_of}
 use Rattle.rp_model.specs.states.Sound.{are_distinct}
 use Rattle.rp_history.proofs.Found.{first_alone, rest_distinct}
-use Rattle.rp_lotindex.specs.Near.{others_in}
-use Rattle.rp_lotindex.proofs.Skipped.{others_all}
+use Rattle.rp_proximity.specs.Near.{others_in}
+use Rattle.rp_proximity.proofs.Skipped.{others_all}
 
 -- what is left of a list begins with the lot at the place
 pub left_at : (lots : List (Lot (Unit {0}))) (k : ℕ) (l : Lot (Unit {0})) → k < length lots → slice_get lots k ≡ Some l → drop k lots ≡ l ∷ drop (k + 1) lots

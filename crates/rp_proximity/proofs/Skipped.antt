@@ -13,9 +13,9 @@ use Rattle.rp_model.specs.commands.Register.{first_overlapped}
 use Rattle.rp_model.specs.commands.Neighbours.{touched_lot, touched_lots}
 use Rattle.rp_model.specs.commands.Audit.{all_apart_from}
 use Rattle.rp_history.proofs.Found.{picked_not_there}
-use Rattle.rp_lotindex.specs.declared.near.Reach.{Reach}
-use Rattle.rp_lotindex.specs.declared.near.Reach.TheVariants.{Overlap, Touch}
-use Rattle.rp_lotindex.specs.Near.{may_meet, others_in, is_near}
+use Rattle.rp_proximity.specs.declared.reach.Reach.{Reach}
+use Rattle.rp_proximity.specs.declared.reach.Reach.TheVariants.{Overlap, Touch}
+use Rattle.rp_proximity.specs.Near.{may_meet, others_in, is_near}
 
 -- ---- pairs that do not meet
 

@@ -7,14 +7,14 @@ ghost use Rattle.rp_contacts.specs.Meets.{pair_test, meet_each, IsPairWithin};
 ghost use Rattle.rp_contacts.specs.Apart.{apart_each};
 
 use rp_contacts::Pair;
-use rp_lotindex::Reach;
+use rp_proximity::Reach;
 use rp_oracle::Stopped;
 use rp_trail::{Form, Trail, common, touching};
 use std::alloc::{AllocError, Global};
 
-/// Of each of `pairs`, in order, whether the two lots meet whose forms stand in `forms` at its places, as `reach` says,
-/// on the next lines of `trail`. Only those pairs of parts are tested whose boxes let them meet, up to the first that
-/// does; nothing is counted.
+/// Returns, for each of `pairs` in order, whether its two lots meet, as `reach` says, on the next lines of `trail`. The
+/// numbers of a pair are places in `forms`. Only pairs of parts are tested whose boxes let them meet, up to the first
+/// that does; nothing is counted.
 pub(crate) fn meet_in_turn(
     alloc: Global,
     forms: &[Form],
@@ -35,9 +35,9 @@ pub(crate) fn meet_in_turn(
     Ok(met)
 }
 
-/// The two lots of each of `pairs`, in order, whose forms stand in `forms` at its places, are shown to share no point,
-/// on the next lines of `trail`. Only those pairs of parts are tested whose boxes share more than boundary; nothing is
-/// counted. `TakenWrong` at the first line that shows a common point.
+/// Follows the next lines of `trail`, which show for each of `pairs`, in order, that its two lots share no point. The
+/// numbers of a pair are places in `forms`. Only pairs of parts are tested whose boxes share more than boundary;
+/// nothing is counted. `TakenWrong` at the first line that shows a common point.
 pub(crate) fn show_apart_in_turn(
     forms: &[Form],
     pairs: &[Pair],
@@ -55,7 +55,7 @@ pub(crate) fn show_apart_in_turn(
     Ok(())
 }
 
-/// Puts an answer behind others.
+/// Appends an answer to others.
 fn put(met: &mut Vec<bool>, meets: bool) -> Result<(), AllocError>
     ensures { OnOk result (met.new.items ≡ met.old.items ++ meets ∷ []) }
 {

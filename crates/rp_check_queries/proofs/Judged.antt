@@ -5,7 +5,7 @@ use Rattle.std.proofs.lemmas.List.{get_or-map, drop_more, at_drop_all}
 use Rattle.rp_geometry.specs.sets.Shape.{Part}
 use Rattle.rp_semantics.specs.Walk.{Walk, Tester, pass, done, after_first, ◌>>=◌}
 use Rattle.rp_oracle.proofs.Left.{IsLeft, left_as, next_left, end_left}
-use Rattle.rp_lotindex.specs.declared.near.Reach.{Reach}
+use Rattle.rp_proximity.specs.declared.reach.Reach.{Reach}
 use Rattle.rp_contacts.specs.declared.pair.Pair.{Pair}
 use Rattle.rp_contacts.specs.Meets.{pair_of, pair_test, meet_each, IsPairWithin}
 

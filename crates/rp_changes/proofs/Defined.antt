@@ -1,15 +1,16 @@
 -- What the row of a definition comes to, whatever answers its tests: it makes none.
-use Rattle.std.proofs.Common.{◌≡◌, ◌+◌, Bool, true, false, ◌&&◌, List, length, refl, ap, ◌∙◌}
-use Rattle.std.specs.Prelude.{nat_le}
+use Rattle.std.proofs.Common.{◌≡◌, ◌+◌, Bool, true, false, ◌&&◌, List, length, Option, Some, None, is_some, refl, sym, ap, ◌∙◌}
+use Rattle.std.specs.Prelude.{nat_le, option_map, option_copied}
+use denote.Ref.{Bor}
 use Rattle.rp_geometry.specs.sets.Shape.{Part}
 use Rattle.rp_language.specs.Name.{Label, is_among}
 use Rattle.rp_semantics.specs.Walk.{Walk, done, stopped, limit_met, pass, stop, ◌>>◌}
-use Rattle.rp_model.specs.states.State.{PlainState, name_added, names_of, parts_under_names, most_names, most_kept_parts}
+use Rattle.rp_model.specs.states.State.{Kept, PlainState, kept_named, kept_under, parts_of_kept, name_added, names_of, parts_under_names, most_names, most_kept_parts}
 use Rattle.rp_model.specs.commands.Verdict.{known}
 use Rattle.rp_model.specs.commands.Checks.{refuse_if}
 use Rattle.rp_model.specs.commands.Reply.{Reply, refusal, accepted, check}
 use Rattle.rp_model.specs.commands.Let.{row_define}
-use Rattle.rp_store.specs.Kept.{kept_under}
+use Rattle.rp_states.proofs.Plain.{there_is_kept}
 
 -- the row of a definition, by its three tests
 abbrev define_by : {W : Type 0} → Label → List Part → Bool → Bool → Bool → Walk W Reply
@@ -47,3 +48,11 @@ new_name s x ps e room w = ap (λ there. define_by x ps there (room_for_name s) 
     by true true h = refl
     by true false h = absurd (cc)
     by false parts h = absurd (cc)
+
+-- a name is there where a form is found under it
+pub there_as_found : {F : Type 0} (parts : F → List Part) (x : Label) (ks : List (Kept (Unit {0}))) (o : Option (Bor F)) (b : Bool) → option_map parts (option_copied o) ≡ parts_of_kept (kept_named x ks) → is_some o ≡ b → is_among x (names_of ks) ≡ b
+there_as_found {F} parts x ks o b found e = sym (there_is_kept x ks) ∙ ap is_some (sym found) ∙ copied o ∙ e
+  where
+    copied : (o : Option (Bor F)) → is_some (option_map parts (option_copied o)) ≡ is_some o
+    copied None = refl
+    copied (Some r) = refl

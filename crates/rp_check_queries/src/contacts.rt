@@ -11,12 +11,11 @@ ghost use Rattle.rp_answer.specs.Views.{verdict_of};
 ghost use Rattle.rp_contacts.specs.Asked.{IsReady};
 ghost use Rattle.rp_contacts.specs.Numbers.{links_met};
 
-use crate::register::Register;
 use crate::turn::{meet_in_turn, show_apart_in_turn};
 use rp_answer::{RowEnd, Verdict, Verdicts, one_line};
 use rp_contacts::{AccessLeft, access_left, access_told, audit_left, contact_ids, pending_contacts};
 use rp_lists::Name;
-use rp_lotindex::Reach;
+use rp_proximity::Reach;
 use rp_lots::Keeper;
 use rp_rows::{access_lines, neighbour_lines};
 use rp_trail::Trail;
@@ -24,33 +23,33 @@ use std::alloc::{AllocError, Global};
 
 /// Answers `neighbours`: the other live lots in contact with the lot `id`, of its layer, as the next lines of `trail`
 /// show.
-pub fn neighbours(
+pub fn neighbours<'a, K: Keeper<Trail<'a>>>(
     alloc: Global,
-    register: &Register,
+    keeper: &K,
     id: Name,
-    trail: &mut Trail<'_>,
+    trail: &mut Trail<'a>,
 ) -> Result<Verdicts, RowEnd>
-    ensures { Tells result trail.new (row_neighbours line_tester register.now id trail.old) }
+    ensures { Tells result trail.new (row_neighbours line_tester (K.state keeper.now) id trail.old) }
 {
-    let left = pending_contacts::<Trail<'_>, Register>(alloc, register, id, trail)?;
-    let met = meet_in_turn(alloc, register.forms(), &left.pairs, Reach::Touch, trail)?;
-    let ids = contact_ids(alloc, register.history().lots(), left.places.items(), &met)?;
+    let left = pending_contacts::<Trail<'a>, K>(alloc, keeper, id, trail)?;
+    let met = meet_in_turn(alloc, keeper.forms(), &left.pairs, Reach::Touch, trail)?;
+    let ids = contact_ids(alloc, keeper.history().lots(), left.places.items(), &met)?;
     Ok(neighbour_lines(alloc, ids.items())?)
 }
 
 /// Answers `access`: a shortest chain of live lots of one layer from `from` to `to`, each in contact with the next, and
 /// the level of each lot of the layer that has one, as the next lines of `trail` show.
-pub fn access(
+pub fn access<'a, K: Keeper<Trail<'a>>>(
     alloc: Global,
-    register: &Register,
+    keeper: &K,
     from: Name,
     to: Name,
-    trail: &mut Trail<'_>,
+    trail: &mut Trail<'a>,
 ) -> Result<Verdicts, RowEnd>
-    ensures { Tells result trail.new (row line_tester register.now (ask_access from to) trail.old) }
+    ensures { Tells result trail.new (row line_tester (K.state keeper.now) (ask_access from to) trail.old) }
 {
-    let left = access_left::<Trail<'_>, Register>(alloc, register, from, to, trail)?;
-    let met = meet_in_turn(alloc, register.forms(), &left.pairs, Reach::Touch, trail)?;
+    let left = access_left::<Trail<'a>, K>(alloc, keeper, from, to, trail)?;
+    let met = meet_in_turn(alloc, keeper.forms(), &left.pairs, Reach::Touch, trail)?;
     Ok(access_answer(alloc, &left, &met)?)
 }
 
@@ -64,12 +63,16 @@ fn access_answer(alloc: Global, left: &AccessLeft, met: &[bool]) -> Result<Verdi
     access_lines(alloc, &access)
 }
 
-/// Answers `audit`: how many live lots `register` has, of which no two of one layer share a point, as the next lines of
+/// Answers `audit`: how many live lots `keeper` has, of which no two of one layer share a point, as the next lines of
 /// `trail` show. `TakenWrong` where a line shows that two do.
-pub fn audit(alloc: Global, register: &Register, trail: &mut Trail<'_>) -> Result<Verdicts, RowEnd>
-    ensures { Tells result trail.new (row_audit line_tester register.now trail.old) }
+pub fn audit<'a, K: Keeper<Trail<'a>>>(
+    alloc: Global,
+    keeper: &K,
+    trail: &mut Trail<'a>,
+) -> Result<Verdicts, RowEnd>
+    ensures { Tells result trail.new (row_audit line_tester (K.state keeper.now) trail.old) }
 {
-    let left = audit_left::<Trail<'_>, Register>(alloc, register, trail)?;
-    show_apart_in_turn(register.forms(), &left.pairs, trail)?;
+    let left = audit_left::<Trail<'a>, K>(alloc, keeper, trail)?;
+    show_apart_in_turn(keeper.forms(), &left.pairs, trail)?;
     Ok(one_line(alloc, Verdict::Clear(left.live))?)
 }
